@@ -1,0 +1,113 @@
+-- Laws that follow from the definitions: looks that leave no trace, and predicates that are dropped.
+use Rattle.std.proofs.Common.{◌≡◌, refl, ℕ, ◌<◌, Bool, true, false, List, [], ◌∷◌, Option, Some, None, Result, Ok, Err, ap, sym, ◌∙◌, subst, inl, inr, MatchBool, arith}
+use Rattle.std.specs.Prelude.{Contains, slice_get, remove}
+use Rattle.std.specs.FinMap as finite
+use Rattle.moka_parts.specs.declared.records.Record.{Record}
+use Rattle.moka_parts.specs.declared.records.Registered.{Registered}
+use Rattle.moka_parts.specs.declared.error.OutOfMemory.{OutOfMemory}
+use Rattle.std.specs.Option.{option_map_or}
+use Rattle.std.proofs.lemmas.Option.{slice_get_within, get_or_from_slice_get}
+use Rattle.std.proofs.lemmas.List.Elements.{Contains-append_cases, Contains-push_cases}
+use Rattle.std.proofs.lemmas.List.Sorted.{Contains-permutation, IsPermutation-remove}
+use Rattle.moka_parts.specs.declared.policy.EvictionPolicy.{EvictionPolicy}
+use Rattle.moka_parts.specs.declared.records.Ticketed.{Ticketed}
+use Rattle.moka_parts.specs.declared.records.Operation.{Operation}
+use Rattle.moka_parts.specs.declared.records.Operation.TheVariants.{Upsert, Removal}
+use Rattle.moka_parts.specs.declared.records.ReadOperation.{ReadOperation}
+use Rattle.moka_parts.specs.declared.records.ReadOperation.TheVariants.{Hit, Miss}
+use Rattle.moka_parts.specs.Reads.{after_read, after_reads}
+use Rattle.moka_parts.specs.Writes.{Fate, Ignored, Overtaken, Counted, Admitted, TooHeavy, Preferred, Refused, fate, after_fate, after_write, after_writes}
+use Rattle.moka_parts.specs.Records.{record_of_key}
+use Rattle.moka_parts.specs.State.{State, Contents, contents, is_disabled}
+use Rattle.moka_parts.specs.Visibility.{Covers}
+use Rattle.moka_parts.specs.Maintenance.{Choice, Removes, Passes, Drops, Choices, after_choice, after_choices, after_queued_reads, before_steps, AreJustified}
+use Rattle.moka_parts.specs.Calls.{PeeksAt}
+use Rattle.moka_parts.specs.Laws.{LeavesNoTrace, PeeksQuietly, DropsOnlyIdle}
+use Rattle.moka_parts.proofs.RunKeeps.{keeps_choices}
+
+module _ {K V X P : Type 0} (W : Type 0) (eq : K → K → Bool) (says : P → K → V → Bool → Type 0) (read : X → K → V → ℕ → Option ℕ → ℕ → Option ℕ) where
+  no_trace : (s t : State K V X P W) → t ≡ s → LeavesNoTrace s t
+  no_trace s t same = record {
+    reads = ap (λ (x : State K V X P W). x.reads) same;
+    writes = ap (λ (x : State K V X P W). x.writes) same;
+    outstanding = ap (λ (x : State K V X P W). x.outstanding) same;
+    access = ap (λ (x : State K V X P W). x.access) same;
+    report = (ap (λ (x : State K V X P W). x.count) same, ap (λ (x : State K V X P W). x.weight) same);
+    housekeeping = ap (λ (x : State K V X P W). x.housekeeping) same;
+  }
+
+  -- a get that records nothing leaves no trace but in the record
+  pub peeks_quietly : PeeksQuietly W eq says read
+  peeks_quietly s key ignored now a t step = go (is_disabled s.capacity) step
+    where
+      at : (o : Option (Record K V)) (a : Result (Option V) OutOfMemory) → PeeksAt says read s o ignored now a t → LeavesNoTrace s t
+      at None a (none, same) = no_trace s t same
+      at (Some r) (Ok None) (missed, same) = no_trace s t same
+      at (Some r) (Ok (Some value)) (hit, is, same) = subst (LeavesNoTrace s) (sym same) (record { reads = refl; writes = refl; outstanding = refl; access = refl; report = (refl, refl); housekeeping = refl })
+      at (Some r) (Err x) (hit, same) = no_trace s t same
+
+      go : (b : Bool) → MatchBool b ((a ≡ Ok None) × (t ≡ s)) (PeeksAt says read s (record_of_key eq s.records key) ignored now a t) → LeavesNoTrace s t
+      go true (none, same) = no_trace s t same
+      go false step = at (record_of_key eq s.records key) a step
+
+-- one of a list that loses another element is still there
+kept_by_remove : {A : Type 0} (xs : List A) (i : ℕ) (q p : A) → slice_get xs i ≡ Some q → (q ≡ p → ⊥) → Contains xs p → Contains (remove xs i) p
+kept_by_remove xs i q p at differ there =
+    let below = slice_get_within xs i q at in
+    elim (Contains-append_cases (q ∷ []) (remove xs i) p (Contains-permutation xs (q ∷ remove xs i) p (IsPermutation-remove xs i q below (sym (get_or_from_slice_get xs i q q at))) there)) [
+      | inl only ↦ elim (Contains-push_cases [] q p only) [ inl none ↦ let nothing : none.0 < 0 = none.1 in absurd (omega arith) | inr e ↦ absurd (differ e) ]
+      | inr c ↦ c
+    ]
+
+-- reads and writes leave the registry as it is
+module _ {K V P : Type 0} where
+  reads_leave_predicates : (c : Contents K V P) (rs : List ReadOperation) → (after_reads c rs).predicates ≡ c.predicates
+  reads_leave_predicates c [] = refl
+  reads_leave_predicates c (Hit n h renewed ∷ rs) = reads_leave_predicates (after_read c (Hit n h renewed)) rs
+  reads_leave_predicates c (Miss h ∷ rs) = reads_leave_predicates (after_read c (Miss h)) rs
+
+  fate_leaves_predicates : (c : Contents K V P) (n g w : ℕ) (moved : List ℕ) (r : Record K V) (f : Fate) → (after_fate c n g w moved r f).predicates ≡ c.predicates
+  fate_leaves_predicates c n g w moved r Ignored = refl
+  fate_leaves_predicates c n g w moved r Overtaken = refl
+  fate_leaves_predicates c n g w moved r Counted = refl
+  fate_leaves_predicates c n g w moved r Admitted = refl
+  fate_leaves_predicates c n g w moved r TooHeavy = refl
+  fate_leaves_predicates c n g w moved r (Preferred victims) = refl
+  fate_leaves_predicates c n g w moved r Refused = refl
+
+  found_leaves_predicates : (c : Contents K V P) (n g w : ℕ) (moved : List ℕ) (f : Fate) (o : Option (Record K V)) → (option_map_or (λ r. after_fate c n g w moved r f) o c).predicates ≡ c.predicates
+  found_leaves_predicates c n g w moved f None = refl
+  found_leaves_predicates c n g w moved f (Some r) = fate_leaves_predicates c n g w moved r f
+
+  write_leaves_predicates : (capacity : Option ℕ) (policy : EvictionPolicy) (c : Contents K V P) (o : Operation) (moved : List ℕ) → (after_write capacity policy c o moved).predicates ≡ c.predicates
+  write_leaves_predicates capacity policy c (Removal n g) moved = refl
+  write_leaves_predicates capacity policy c (Upsert n g w h) moved = found_leaves_predicates c n g w moved (fate capacity policy c (Upsert n g w h)) (finite.get c.records n)
+
+  writes_leave_predicates : (capacity : Option ℕ) (policy : EvictionPolicy) (c : Contents K V P) (hs : List Ticketed) (ms : List (List ℕ)) → (after_writes capacity policy c hs ms).predicates ≡ c.predicates
+  writes_leave_predicates capacity policy c [] ms = refl
+  writes_leave_predicates capacity policy c (h ∷ hs) [] = writes_leave_predicates capacity policy (after_write capacity policy c h.operation []) hs [] ∙ write_leaves_predicates capacity policy c h.operation []
+  writes_leave_predicates capacity policy c (h ∷ hs) (m ∷ ms) = writes_leave_predicates capacity policy (after_write capacity policy c h.operation m) hs ms ∙ write_leaves_predicates capacity policy c h.operation m
+
+-- before its steps a run has the predicates that it began with
+pub predicates_stay : {K V X P W : Type 0} (s : State K V X P W) (ch : Choices) → (before_steps s ch).predicates ≡ s.predicates
+predicates_stay s ch = writes_leave_predicates s.capacity s.settings.policy (after_queued_reads s) s.writes ch.moves ∙ reads_leave_predicates (contents s) s.reads
+
+module _ {K V X P W : Type 0} (says : P → K → V → Bool → Type 0) (s : State K V X P W) (now : ℕ) where
+  still_covered : (c : Contents K V P) (xs : List Choice) (p : Registered P) (n : ℕ) (r : Record K V) → finite.get (after_choices c xs).records n ≡ Some r → Covers says p r → (r' : Record K V) × (finite.get c.records n ≡ Some r') × Covers says p r'
+  still_covered c xs p n r there covers =
+      let old = keeps_choices c xs n r there in
+      (old.0, old.1, subst (λ (x : Record K V). Covers says p x) old.2.1 covers)
+
+  idle_steps : (c : Contents K V P) (xs : List Choice) (p : Registered P) (n : ℕ) (r : Record K V) → AreJustified says s now c xs → Contains c.predicates p → finite.get (after_choices c xs).records n ≡ Some r → Covers says p r → Contains (after_choices c xs).predicates p
+  idle_steps c [] p n r are here there covers = here
+  idle_steps c (Removes m cause ∷ xs) p n r are here there covers = idle_steps (after_choice c (Removes m cause)) xs p n r are.1 here there covers
+  idle_steps c (Passes m ∷ xs) p n r are here there covers = idle_steps (after_choice c (Passes m)) xs p n r are.1 here there covers
+  idle_steps c (Drops i ∷ xs) p n r are here there covers =
+      let old = still_covered c (Drops i ∷ xs) p n r there covers in
+      idle_steps (after_choice c (Drops i)) xs p n r are.1
+      (kept_by_remove c.predicates i are.0.0 p are.0.1 (λ same. are.0.2 n old.0 old.1 (subst (λ x. Covers says x old.0) (sym same) old.2)) here) there covers
+
+-- a predicate leaves only when it covers no record
+pub drops_only_idle : {K V X P W : Type 0} (says : P → K → V → Bool → Type 0) (s : State K V X P W) (now : ℕ) (ch : Choices) → DropsOnlyIdle says s now ch
+drops_only_idle says s now ch free p n r here there covers =
+    idle_steps says s now (before_steps s ch) ch.steps p n r free.1 (subst (λ ps. Contains ps p) (sym (predicates_stay s ch)) here) there covers

@@ -1,0 +1,122 @@
+-- A run keeps every field of the records that stay, except the applied generation.
+use Rattle.std.proofs.Common.{◌≡◌, refl, ℕ, Bool, true, false, cond, List, [], ◌∷◌, Option, Some, None, ap, sym, ◌∙◌, subst, ◌⊎◌, inl, inr, ◌==◌, unwrap_or, if◌then◌else◌}
+use Rattle.std.specs.Ordering.{nat_cmp, is_eq, eq_by_cmp}
+use Rattle.std.specs.declared.cmp.Ordering.{Ordering}
+use Rattle.std.specs.declared.cmp.Ordering.TheVariants.{Less, Equal, Greater}
+use Rattle.std.specs.Cmp.{nat_cmp_total}
+use Rattle.std.specs.Option.{option_map_or}
+use Rattle.std.specs.FinMap.{get, remove, get-insert, get-remove, nat_cmp-IsAntisymmetric}
+use Rattle.moka_parts.specs.declared.policy.EvictionPolicy.{EvictionPolicy}
+use Rattle.moka_parts.specs.declared.records.Record.{Record}
+use Rattle.moka_parts.specs.declared.records.Member.{Member}
+use Rattle.moka_parts.specs.declared.records.Ticketed.{Ticketed}
+use Rattle.moka_parts.specs.declared.records.Operation.{Operation}
+use Rattle.moka_parts.specs.declared.records.Operation.TheVariants.{Upsert, Removal}
+use Rattle.moka_parts.specs.declared.records.ReadOperation.{ReadOperation}
+use Rattle.moka_parts.specs.declared.records.ReadOperation.TheVariants.{Hit, Miss}
+use Rattle.moka_parts.specs.Records.{Records}
+use Rattle.moka_parts.specs.State.{State, Contents, contents}
+use Rattle.moka_parts.specs.Reads.{after_read, after_reads}
+use Rattle.moka_parts.specs.Writes.{Fate, Ignored, Overtaken, Counted, Admitted, TooHeavy, Preferred, Refused, fate, with_applied, without_records, rejected, after_fate, after_write, after_writes}
+use Rattle.moka_parts.specs.Maintenance.{Choice, Removes, Passes, Drops, Choices, after_choice, after_choices, at_end, before_steps, after_queued_reads}
+
+-- each new record is an old one but for the applied generation
+abbrev pub Keeps : {K V : Type 0} → Records K V → Records K V → Type 0
+Keeps {K} {V} old new = (n : ℕ) (q : Record K V) → get new n ≡ Some q → (r : Record K V) × (get old n ≡ Some r) × ((g : ℕ) × (q ≡ record r { applied = g }))
+
+same_some : {A : Type 0} (x y : A) → Some x ≡ Some y → x ≡ y
+same_some x y e = ap (λ o. unwrap_or o x) e
+
+found_in : {A : Type 0} (b : Bool) (v x : A) (o : Option A) → cond b (Some v) o ≡ Some x → ((b ≡ true) × (v ≡ x)) ⊎ (o ≡ Some x)
+found_in true v x o e = inl (refl, same_some v x e)
+found_in false v x o e = inr e
+
+left_in : {A : Type 0} (b : Bool) (x : A) (o : Option A) → cond b None o ≡ Some x → o ≡ Some x
+left_in true x o e = cc
+left_in false x o e = e
+
+is_Equal : (r : Ordering) → is_eq r ≡ true → r ≡ Equal
+is_Equal Less e = cc
+is_Equal Equal e = refl
+is_Equal Greater e = cc
+
+module _ {K V : Type 0} where
+  keeps_itself : (old : Records K V) → Keeps old old
+  keeps_itself old n q e = (q, e, (q.applied, refl))
+
+  keeps_on : (a b c : Records K V) → Keeps a b → Keeps b c → Keeps a c
+  keeps_on a b c h k n q e =
+      let l = k n q e in
+      let m = h n l.0 l.1 in
+      (m.0, m.1, (l.2.0, l.2.1 ∙ ap (λ (x : Record K V). record x { applied = l.2.0 }) m.2.1))
+
+  keeps_remove : (old : Records K V) (k : ℕ) → Keeps old (remove old k)
+  keeps_remove old k n q e = (q, left_in _ q _ (sym (get-remove nat_cmp_total old k n) ∙ e), (q.applied, refl))
+
+  keeps_put : (old mid : Records K V) (n : ℕ) (r : Record K V) (g : ℕ) → get old n ≡ Some r → Keeps old mid → Keeps old (with_applied mid n r g)
+  keeps_put old mid n r g there h k q e =
+      elim (found_in (eq_by_cmp nat_cmp k n) (record r { applied = g }) q (get mid k) (sym (get-insert nat_cmp_total mid n (record r { applied = g }) k) ∙ e)) [
+        | inl p ↦
+            let same : k ≡ n = nat_cmp-IsAntisymmetric k n (is_Equal (nat_cmp k n) (p.0)) in
+            (r, rw same there, (g, sym (p.1)))
+        | inr p ↦ h k q p
+      ]
+
+  keeps_without : (old : Records K V) (gone : List Member) → Keeps old (without_records gone old)
+  keeps_without old [] = keeps_itself old
+  keeps_without old (a ∷ gone) = keeps_on old (remove old a.number) _ (keeps_remove old a.number) (keeps_without (remove old a.number) gone)
+
+module _ {K V P : Type 0} where
+  keeps_rejected : (c : Contents K V P) (n g : ℕ) (r : Record K V) → get c.records n ≡ Some r → Keeps c.records (rejected n g r c).records
+  keeps_rejected c n g r there =
+      elim (r.generation == g) as (λ b. Keeps c.records (if b then remove c.records n else with_applied c.records n r g)) [
+        | true ↦ keeps_remove c.records n
+        | false ↦ keeps_put c.records c.records n r g there (keeps_itself c.records)
+      ]
+
+  keeps_fate : (c : Contents K V P) (n g w : ℕ) (moved : List ℕ) (r : Record K V) (f : Fate) → get c.records n ≡ Some r → Keeps c.records (after_fate c n g w moved r f).records
+  keeps_fate c n g w moved r Ignored there = keeps_itself c.records
+  keeps_fate c n g w moved r Overtaken there = keeps_itself c.records
+  keeps_fate c n g w moved r Counted there = keeps_put c.records c.records n r g there (keeps_itself c.records)
+  keeps_fate c n g w moved r Admitted there = keeps_put c.records c.records n r g there (keeps_itself c.records)
+  keeps_fate c n g w moved r TooHeavy there = keeps_rejected c n g r there
+  keeps_fate c n g w moved r (Preferred victims) there = keeps_put c.records _ n r g there (keeps_without c.records victims)
+  keeps_fate c n g w moved r Refused there = keeps_rejected c n g r there
+
+  keeps_found : (c : Contents K V P) (n g w : ℕ) (moved : List ℕ) (f : Fate) (o : Option (Record K V)) → get c.records n ≡ o → Keeps c.records (option_map_or (λ r. after_fate c n g w moved r f) o c).records
+  keeps_found c n g w moved f None there = keeps_itself c.records
+  keeps_found c n g w moved f (Some r) there = keeps_fate c n g w moved r f there
+
+  keeps_write : (capacity : Option ℕ) (policy : EvictionPolicy) (c : Contents K V P) (o : Operation) (moved : List ℕ) → Keeps c.records (after_write capacity policy c o moved).records
+  keeps_write capacity policy c (Removal n g) moved = keeps_itself c.records
+  keeps_write capacity policy c (Upsert n g w h) moved = keeps_found c n g w moved (fate capacity policy c (Upsert n g w h)) (get c.records n) refl
+
+  keeps_writes : (capacity : Option ℕ) (policy : EvictionPolicy) (c : Contents K V P) (hs : List Ticketed) (ms : List (List ℕ)) → Keeps c.records (after_writes capacity policy c hs ms).records
+  keeps_writes capacity policy c [] ms = keeps_itself c.records
+  keeps_writes capacity policy c (h ∷ hs) [] = keeps_on c.records _ _ (keeps_write capacity policy c h.operation []) (keeps_writes capacity policy (after_write capacity policy c h.operation []) hs [])
+  keeps_writes capacity policy c (h ∷ hs) (m ∷ ms) = keeps_on c.records _ _ (keeps_write capacity policy c h.operation m) (keeps_writes capacity policy (after_write capacity policy c h.operation m) hs ms)
+
+  -- reads change no record
+  pub reads_keep : (c : Contents K V P) (rs : List ReadOperation) → (after_reads c rs).records ≡ c.records
+  reads_keep c [] = refl
+  reads_keep c (Hit n h renewed ∷ rs) = reads_keep (after_read c (Hit n h renewed)) rs
+  reads_keep c (Miss h ∷ rs) = reads_keep (after_read c (Miss h)) rs
+
+  -- one step
+  pub keeps_choice : (c : Contents K V P) (x : Choice) → Keeps c.records (after_choice c x).records
+  keeps_choice c (Removes n cause) = keeps_remove c.records n
+  keeps_choice c (Passes n) = keeps_itself c.records
+  keeps_choice c (Drops i) = keeps_itself c.records
+
+  -- all steps
+  pub keeps_choices : (c : Contents K V P) (xs : List Choice) → Keeps c.records (after_choices c xs).records
+  keeps_choices c [] = keeps_itself c.records
+  keeps_choices c (x ∷ xs) = keeps_on c.records _ _ (keeps_choice c x) (keeps_choices (after_choice c x) xs)
+
+-- whatever a run chooses
+pub run_keeps : {K V X P W : Type 0} (s : State K V X P W) (ch : Choices) → Keeps s.records (at_end s ch).records
+run_keeps s ch =
+    let same : (after_queued_reads s).records ≡ s.records = reads_keep (contents s) s.reads in
+    let writes = keeps_writes s.capacity s.settings.policy (after_queued_reads s) s.writes ch.moves in
+    let all = keeps_on _ _ _ writes (keeps_choices (before_steps s ch) ch.steps) in
+    subst (λ x. Keeps x (at_end s ch).records) same all

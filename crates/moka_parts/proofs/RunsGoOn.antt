@@ -1,0 +1,78 @@
+-- A run of the reference cache goes on by one call.
+use Rattle.std.proofs.Common.{ℕ, MatchBool, true, false, ◌≡◌, refl, List, [], ◌∷◌, ◌++◌, map, Option, Some, None, ap, sym, ◌∙◌, append_assoc, append-nil, flat_map}
+use Rattle.moka_parts.specs.declared.calls.Call.{Call}
+use Rattle.moka_parts.specs.declared.calls.Reply.{Reply}
+use Rattle.moka_parts.specs.declared.notification.RemovalCause.{RemovalCause}
+use Rattle.moka_parts.specs.Records.{Notice}
+use Rattle.moka_parts.specs.State.{State, Meaning, is_disabled}
+use Rattle.moka_parts.specs.Maintenance.{Terms, Course, Choices, RunsBy, DoesNothing, MaintenanceRun}
+use Rattle.moka_parts.specs.Bounds.{IsBounded}
+use Rattle.moka_parts.specs.Surroundings.{Leads, NoticeStep, Heard}
+use Rattle.moka_parts.specs.Runs.{PromisedRun, Cache, Befalls, Step, CallStep, AreSteps, IsRun, passes_after, last_passes, last_state, notices_of, readings_of, ids_of}
+
+-- steps after steps
+pub Leads-append : {S A : Type 0} (step : S → A → S → Type 0) (a b c : S) (xs ys : List A) → Leads step a xs b → Leads step b ys c → Leads step a (xs ++ ys) c
+Leads-append step a b c [] ys h k = rw (← h) k
+Leads-append step a b c (x ∷ xs) ys h k = (h.0, h.1, Leads-append step h.0 b c xs ys h.2 k)
+
+-- notices after notices
+pub Heard-append : {K V L : Type 0} (tells : L → K → V → RemovalCause → L → Type 0) (a b c : Option L) (xs ys : List (Notice K V)) → Heard tells a xs b → Heard tells b ys c → Heard tells a (xs ++ ys) c
+Heard-append tells None None None xs ys h k = rw (h, k) refl
+Heard-append tells (Some a) (Some b) (Some c) xs ys h k = Leads-append (NoticeStep tells) a b c xs ys h k
+Heard-append tells None None (Some c) xs ys h k = absurd k
+Heard-append tells None (Some b) c xs ys h k = absurd h
+Heard-append tells (Some a) None c xs ys h k = absurd h
+Heard-append tells (Some a) (Some b) None xs ys h k = absurd k
+
+map_push : {A B : Type 0} (f : A → B) (xs : List A) (x : A) → map f (xs ++ x ∷ []) ≡ map f xs ++ f x ∷ []
+map_push f [] x = refl
+map_push f (y ∷ xs) x = ap (λ zs. f y ∷ zs) (map_push f xs x)
+
+flat_map_push : {A B : Type 0} (f : A → List B) (xs : List A) (x : A) → flat_map f (xs ++ x ∷ []) ≡ flat_map f xs ++ f x
+flat_map_push f [] x = append-nil (f x)
+flat_map_push f (y ∷ xs) x = ap (λ zs. f y ++ zs) (flat_map_push f xs x) ∙ sym (append_assoc (f y) (flat_map f xs) (f x))
+
+module _ {K V X P W : Type 0} where
+  last_state_push : (s : State K V X P W) (xs : List (Step K V X P W)) (x : Step K V X P W) → last_state s (xs ++ x ∷ []) ≡ x.after
+  last_state_push s [] x = refl
+  last_state_push s (y ∷ xs) x = last_state_push y.after xs x
+
+  last_passes_push : (before : ℕ) (xs : List (Step K V X P W)) (x : Step K V X P W) → last_passes before (xs ++ x ∷ []) ≡ passes_after (last_passes before xs) x.events.passes
+  last_passes_push before [] x = refl
+  last_passes_push before (y ∷ xs) x = last_passes_push (passes_after before y.events.passes) xs x
+
+module _ {K V X L P W C I : Type 0} (m : Meaning K V X L P W C I) (Runs : State K V X P W → Terms → Course → List (Notice K V) → State K V X P W → Type 0) where
+  AreSteps_push : (s : State K V X P W) (xs : List (Step K V X P W)) (x : Step K V X P W) → AreSteps m Runs s xs → CallStep m Runs (last_state s xs) x.call x.reply x.events x.after → AreSteps m Runs s (xs ++ x ∷ [])
+  AreSteps_push s [] x h k = (k, tt)
+  AreSteps_push s (y ∷ xs) x h k = (h.0, AreSteps_push y.after xs x h.1 k)
+
+-- one more call
+pub IsRun_push : {K V S X L P W C I : Type 0} (m : Meaning K V X L P W C I) (Runs : State K V X P W → Terms → Course → List (Notice K V) → State K V X P W → Type 0) (calls : List (Call K V P)) (replies : List (Reply K V P)) (steps : List (Step K V X P W)) (old mid new : Cache K V S X L P W) (c1 c2 c3 : C) (i1 i2 i3 : I) (x : Step K V X P W) →
+    IsRun m Runs calls replies steps old c1 i1 mid c2 i2 → CallStep m Runs mid.state x.call x.reply x.events x.after → x.after ≡ new.state →
+    Befalls m.tells x.events mid new → Leads m.reads c2 x.events.readings c3 → Leads m.gives i2 x.events.ids i3 →
+    IsRun m Runs (calls ++ x.call ∷ []) (replies ++ x.reply ∷ []) (steps ++ x ∷ []) old c1 i1 new c3 i3
+IsRun_push m Runs calls replies steps old mid new c1 c2 c3 i1 i2 i3 x h k same befalls read given =
+    let state : mid.state ≡ last_state old.state steps = ap (λ c. c.state) h.ends in
+    let name : mid.name ≡ old.name = ap (λ c. c.name) h.ends in
+    let hasher : mid.hasher ≡ old.hasher = ap (λ c. c.hasher) h.ends in
+    let passes : new.passes ≡ last_passes old.passes (steps ++ x ∷ []) = befalls.passes ∙ ap (λ p. passes_after p x.events.passes) (ap (λ c. c.passes) h.ends) ∙ sym (last_passes_push old.passes steps x) in
+    let after : new.state ≡ last_state old.state (steps ++ x ∷ []) = sym same ∙ sym (last_state_push old.state steps x) in
+    record {
+      calls_made = map_push (λ x. x.call) steps x ∙ ap (λ cs. cs ++ x.call ∷ []) h.calls_made;
+      replies_given = map_push (λ x. x.reply) steps x ∙ ap (λ rs. rs ++ x.reply ∷ []) h.replies_given;
+      are_steps = AreSteps_push m Runs old.state steps x h.are_steps (rw (← state) k);
+      ends = befalls.kept ∙ ap (λ n. record mid { name = n; state = new.state; listener = new.listener; passes = new.passes }) name ∙ ap (λ h. record old { hasher = h; state = new.state; listener = new.listener; passes = new.passes }) hasher ∙ ap (λ s. record old { state = s; listener = new.listener; passes = new.passes }) after ∙ ap (λ p. record old { state = last_state old.state (steps ++ x ∷ []); listener = new.listener; passes = p }) passes;
+      heard = rw (flat_map_push (λ x. x.events.notices) steps x) (Heard-append m.tells old.listener mid.listener new.listener (notices_of steps) x.events.notices h.heard befalls.heard);
+      read = rw (flat_map_push (λ x. x.events.readings) steps x) (Leads-append m.reads c1 c2 c3 (readings_of steps) x.events.readings h.read read);
+      given = rw (flat_map_push (λ x. x.events.ids) steps x) (Leads-append m.gives i1 i2 i3 (ids_of steps) x.events.ids h.given given);
+    }
+
+-- a run that keeps its promises is a run of the reference cache
+pub promised_is_run : {K V X L P W C I : Type 0} (m : Meaning K V X L P W C I) (s : State K V X P W) (terms : Terms) (course : Course) (ns : List (Notice K V)) (t : State K V X P W) → PromisedRun m s terms course ns t → MaintenanceRun m.says s terms course ns t
+promised_is_run m s terms course ns t h = (
+  elim (is_disabled s.capacity) as (λ b. MatchBool b (DoesNothing s course ns t) ((ch : Choices) × RunsBy m.says s terms ch course ns t × IsBounded s terms ch course) → MatchBool b (DoesNothing s course ns t) ((ch : Choices) × RunsBy m.says s terms ch course ns t × Unit {0})) [
+    | true ↦ λ h. h
+    | false ↦ λ x. (x.0, x.1, tt)
+  ] h.0,
+  tt,
+)

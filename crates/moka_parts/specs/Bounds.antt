@@ -1,0 +1,39 @@
+-- What a run costs, and which surplus it removes.
+use Rattle.std.specs.Prelude.{◌≡◌, ℕ, true, false, ◌+◌, ◌-◌, ◌<◌, ◌≤◌, List, [], ◌∷◌, length, take, Some, if◌then◌else◌}
+use Rattle.std.specs.List.{list_all}
+use Rattle.std.specs.FinMap.{get}
+use Rattle.moka_parts.specs.declared.records.Record.{Record}
+use Rattle.moka_parts.specs.declared.records.Member.{Member}
+use Rattle.moka_parts.specs.Records.{is_settled, numbers_of, total_weight}
+use Rattle.moka_parts.specs.State.{State, Contents}
+use Rattle.moka_parts.specs.Visibility.{has_lapsed}
+use Rattle.moka_parts.specs.Choice.{prefix}
+use Rattle.moka_parts.specs.Maintenance.{Choice, Choices, Removes, Passes, Drops, Terms, Course, is_timed, is_cut, before_steps}
+use Rattle.moka_parts.specs.Settling.{IsWhole}
+
+-- the numbers of the records that the steps remove, in order
+abbrev pub removed_by : List Choice → List ℕ
+removed_by [] = []
+removed_by (Removes n cause ∷ xs) = n ∷ removed_by xs
+removed_by (Passes n ∷ xs) = removed_by xs
+removed_by (Drops i ∷ xs) = removed_by xs
+
+-- once the queues are applied, weight is the only ground for a removal
+pub record IsPlainSurplus {K V X P W : Type 0} (s : State K V X P W) (now capacity : ℕ) (c : Contents K V P) : Type 0 where
+  pub limited : s.capacity ≡ Some capacity
+  pub over : capacity < total_weight c.access
+  pub settled : list_all (λ a. is_settled c.records a.number) c.access ≡ true
+  pub fresh : (n : ℕ) (r : Record K V) → get c.records n ≡ Some r → has_lapsed s.settings s.invalid_before r now ≡ false
+  pub no_predicate : c.predicates ≡ []
+
+-- what a run costs and removes
+pub record IsBounded {K V X P W : Type 0} (s : State K V X P W) (terms : Terms) (ch : Choices) (course : Course) : Type 0 where
+  -- at most one pass more than the records that the steps remove
+  pub passes : course.passes ≤ length (removed_by ch.steps) + 1
+  -- a reading a pass, and one more where the run is cut
+  pub timed : is_timed s.settings terms ≡ true → length course.readings ≡ course.passes + (if is_cut s.settings terms course then 1 else 0)
+  pub untimed : is_timed s.settings terms ≡ false → course.readings ≡ []
+  -- a whole run removes just enough from the front
+  pub surplus : (capacity : ℕ) → IsPlainSurplus s terms.now capacity (before_steps s ch) → IsWhole s terms course → (front : List Member) × (prefix (before_steps s ch).access (total_weight (before_steps s ch).access - capacity) ≡ Some front) × (removed_by ch.steps ≡ numbers_of front)
+  -- one that is cut after its first pass removes a batch from the front
+  pub cut_surplus : (capacity : ℕ) → IsPlainSurplus s terms.now capacity (before_steps s ch) → is_cut s.settings terms course ≡ true → course.passes ≡ 1 → removed_by ch.steps ≡ numbers_of (take terms.batch (before_steps s ch).access)

@@ -1,0 +1,175 @@
+-- Laws that users rely on, as facts of the reference cache.
+use Rattle.std.specs.Prelude.{◌≡◌, ℕ, Bool, true, false, ◌<◌, ◌≤◌, List, [], ◌∷◌, ◌++◌, map, Option, Some, None, option_map, Result, Ok, Err, Contains, IsPermutation, ⊤}
+use Rattle.std.specs.FinMap.{get, values}
+use Rattle.moka_parts.specs.declared.policy.Instant.{Instant}
+use Rattle.moka_parts.specs.declared.records.Record.{Record}
+use Rattle.moka_parts.specs.declared.records.Member.{Member}
+use Rattle.moka_parts.specs.declared.records.Registered.{Registered}
+use Rattle.moka_parts.specs.declared.calls.Call.{Call}
+use Rattle.moka_parts.specs.declared.calls.Call.TheVariants as call
+use Rattle.moka_parts.specs.declared.calls.Reply.{Reply}
+use Rattle.moka_parts.specs.declared.calls.Reply.TheVariants as reply
+use Rattle.moka_parts.specs.declared.error.OutOfMemory.{OutOfMemory}
+use Rattle.moka_parts.specs.declared.calls.Entry.{Entry}
+use Rattle.moka_parts.specs.declared.calls.KvEntry.{KvEntry}
+use Rattle.moka_parts.specs.declared.calls.Ticket.{Ticket}
+use Rattle.moka_parts.specs.Settling.{IsWellNumbered, IsValid}
+use Rattle.std.specs.Cmp.{IsEquivalence}
+use Rattle.moka_parts.specs.Time.{moment_of, is_before}
+use Rattle.moka_parts.specs.Records.{Records, Notice, record_of_key, total_weight}
+use Rattle.moka_parts.specs.State.{State, Contents, Meaning, Events}
+use Rattle.moka_parts.specs.Visibility.{Covers}
+use Rattle.moka_sketch.specs.Frequency.{frequency}
+use Rattle.moka_parts.specs.Choice.{frequency_of_all}
+use Rattle.moka_parts.specs.Writes.{fate_by_policy, Preferred}
+use Rattle.moka_parts.specs.Maintenance.{Choices, Terms, Course, AreFree, left_in_run, at_end, MaintenanceRun}
+use Rattle.moka_parts.specs.Calls.{GetStep, PeekStep, ContainsStep, RemoveStep, entry_of}
+use Rattle.moka_parts.specs.Runs.{Step, AreSteps, last_state}
+use Rattle.moka_parts.specs.declared.policy.EvictionPolicy.TheVariants.{TinyLfu}
+
+-- ---- gets and looks
+
+-- the get found a value
+abbrev pub is_found : {A E : Type 0} → Result (Option A) E → Bool
+is_found (Ok (Some x)) = true
+is_found (Ok None) = false
+is_found (Err _) = false
+
+-- memory was not wanting
+abbrev pub is_answered : {A E : Type 0} → Result A E → Bool
+is_answered (Ok x) = true
+is_answered (Err _) = false
+
+module _ {K V X P W : Type 0} (eq : K → K → Bool) (says : P → K → V → Bool → Type 0) (read : X → K → V → ℕ → Option ℕ → ℕ → Option ℕ) (Runs : State K V X P W → Terms → Course → List (Notice K V) → State K V X P W → Type 0) where
+  -- a get answers a value exactly where the key is contained, want of memory aside
+  abbrev pub GetsWhatIsContained : Type 0
+  GetsWhatIsContained = (s : State K V X P W) (key : K) (hash : ℕ) (need_key : Bool) (now : ℕ) (a : Result (Option (Entry K V)) OutOfMemory) (e : Events K V) (t : State K V X P W) (shown : Bool) →
+      IsWellNumbered eq s → GetStep says read Runs eq s key hash need_key false now a e t → ContainsStep says eq s key now shown → is_answered a ≡ true → is_found a ≡ shown
+
+-- ---- what is hidden stays hidden
+
+-- the moment that a call carries, if it shows or changes by it
+abbrev pub moment_in : {K V P : Type 0} → Call K V P → Option ℕ
+moment_in (call.Insert key hash value now) = Some now.0
+moment_in (call.Get key hash need_key now) = Some now.0
+moment_in (call.GetUnrecorded key hash now) = Some now.0
+moment_in (call.Contains key hash now) = Some now.0
+moment_in (call.Scan key now) = Some now.0
+moment_in (call.Remove key hash now) = moment_of now
+moment_in (call.InvalidateAll now) = Some now.0
+moment_in (call.InvalidateIf predicate now) = Some now.0
+moment_in (call.Run now limit repeats batch) = Some now.0
+moment_in (call.RunIfDue now) = Some now.0
+moment_in c = None
+
+-- the call is an insert of the key
+abbrev pub is_insert_of : {K V P : Type 0} → (K → K → Bool) → K → Call K V P → Bool
+is_insert_of eq key (call.Insert k hash value now) = eq k key
+is_insert_of eq key c = false
+
+-- no earlier than the moment
+abbrev pub IsNoEarlier : ℕ → Option ℕ → Type 0
+IsNoEarlier t None = ⊤
+IsNoEarlier t (Some u) = t ≤ u
+
+-- the later moment, where the call carries one
+abbrev pub later_of : ℕ → Option ℕ → ℕ
+later_of t None = t
+later_of t (Some u) = u
+
+-- the call is no invalidation of all that is earlier than the one that stands
+abbrev pub NeverLowers : {K V P : Type 0} → Call K V P → Option Instant → Type 0
+NeverLowers (call.InvalidateAll now) bound = is_before now.0 (moment_of bound) ≡ false
+NeverLowers c bound = ⊤
+
+module _ {K V X P W : Type 0} where
+  -- moments never go back, and no invalidation of all is earlier than the one that stands
+  abbrev pub NeverGoesBack : ℕ → State K V X P W → List (Step K V X P W) → Type 0
+  NeverGoesBack t s [] = Unit {0}
+  NeverGoesBack t s (x ∷ xs) = IsNoEarlier t (moment_in x.call) × NeverLowers x.call s.invalid_before × NeverGoesBack (later_of t (moment_in x.call)) x.after xs
+
+  -- no step inserts the key
+  abbrev pub InsertsNever : (K → K → Bool) → K → List (Step K V X P W) → Type 0
+  InsertsNever eq key [] = Unit {0}
+  InsertsNever eq key (x ∷ xs) = (is_insert_of eq key x.call ≡ false) × InsertsNever eq key xs
+
+  -- the last moment of the steps
+  abbrev pub last_moment : ℕ → List (Step K V X P W) → ℕ
+  last_moment t [] = t
+  last_moment t (x ∷ xs) = last_moment (later_of t (moment_in x.call)) xs
+
+module _ {K V X L P W C I : Type 0} (m : Meaning K V X L P W C I) where
+  -- a key that is not shown stays so until it is inserted again
+  abbrev pub StaysHidden : Type 0
+  StaysHidden = (s : State K V X P W) (steps : List (Step K V X P W)) (key : K) (now later : ℕ) (shown : Bool) →
+      IsEquivalence m.eq → IsValid m.eq s →
+      AreSteps m (MaintenanceRun m.says) s steps → NeverGoesBack now s steps → InsertsNever m.eq key steps → last_moment now steps ≤ later →
+      ContainsStep m.says m.eq s key now false → ContainsStep m.says m.eq (last_state s steps) key later shown → shown ≡ false
+
+-- ---- predicates, removals, admissions
+
+-- a predicate that a run drops covers no record that is left
+abbrev pub DropsOnlyIdle : {K V X P W : Type 0} → (P → K → V → Bool → Type 0) → State K V X P W → ℕ → Choices → Type 0
+DropsOnlyIdle {K} {V} {X} {P} {W} says s now ch = AreFree says s now ch → (p : Registered P) (n : ℕ) (r : Record K V) → Contains s.predicates p → get (at_end s ch).records n ≡ Some r → Covers says p r → Contains (at_end s ch).predicates p
+
+-- a removal gives the stored entry, shown or not, and every other key's record stays
+abbrev pub RemovesJustOne : {K V X P W : Type 0} → (K → K → Bool) → State K V X P W → Type 0
+RemovesJustOne {K} {V} {X} {P} {W} eq s = (key : K) (a : Option (KvEntry K V × Ticket)) (t : State K V X P W) → IsWellNumbered eq s → RemoveStep eq s key a t →
+    (option_map (λ x. x.0) a ≡ option_map entry_of (record_of_key eq s.records key)) × ((n : ℕ) (r : Record K V) → get s.records n ≡ Some r → eq key r.key ≡ false → get t.records n ≡ Some r)
+
+-- a candidate that TinyLFU admits was seen more often than its victims together, and they weigh enough
+abbrev pub AdmitsWell : {K V P : Type 0} → Contents K V P → ℕ → ℕ → List Member → Type 0
+AdmitsWell c weight hash victims = fate_by_policy TinyLfu c weight hash ≡ Preferred victims → (frequency_of_all c victims < frequency c.sketch hash) × (weight ≤ total_weight victims)
+
+-- ---- what leaves the map is told
+
+-- the value that a call put into the map
+abbrev pub values_put : {K V P : Type 0} → Call K V P → Reply K V P → List V
+values_put (call.Insert key hash value now) (reply.Insert (Ok a)) = value ∷ []
+values_put c r = []
+
+-- the value that a call handed back out of the map
+abbrev pub values_handed : {K V P : Type 0} → Reply K V P → List V
+values_handed (reply.Remove (Some removed) told) = removed.0.value ∷ []
+values_handed r = []
+
+-- the values that a call told of as they left the map: all but the clone that is told after a removal
+abbrev pub values_told : {K V P : Type 0} → Call K V P → List (Notice K V) → List V
+values_told (call.Remove key hash now) notices = []
+values_told c notices = map (λ n. n.1) notices
+
+-- the values of the records
+abbrev pub values_of : {K V : Type 0} → Records K V → List V
+values_of records = map (λ r. r.value) (values records)
+
+-- each value of the map, and the one put in, is told once or handed back, or is still there
+abbrev pub ConservesValues : {K V X P W : Type 0} → State K V X P W → Step K V X P W → Type 0
+ConservesValues s x = IsPermutation (values_of s.records ++ values_put x.call x.reply) (values_told x.call x.events.notices ++ (values_handed x.reply ++ values_of x.after.records))
+
+-- the same of each step
+abbrev pub AllConserveValues : {K V X P W : Type 0} → State K V X P W → List (Step K V X P W) → Type 0
+AllConserveValues s [] = Unit {0}
+AllConserveValues s (x ∷ xs) = ConservesValues s x × AllConserveValues x.after xs
+
+-- what a run takes out of the map is exactly what it tells a listener, each once
+abbrev pub TellsWhatLeaves : {K V X P W : Type 0} → State K V X P W → Choices → Type 0
+TellsWhatLeaves s ch = IsPermutation (values_of s.records) (map (λ n. n.1) (left_in_run s ch) ++ values_of (at_end s ch).records)
+
+-- where a listener is set, every call tells exactly what leaves the map in it, each once
+abbrev pub TellsEachOnce : {K V X L P W C I : Type 0} → Meaning K V X L P W C I → Type 0
+TellsEachOnce {K} {V} {X} {L} {P} {W} m = (s : State K V X P W) (steps : List (Step K V X P W)) → IsEquivalence m.eq → IsValid m.eq s → s.settings.listening ≡ true → AreSteps m (MaintenanceRun m.says) s steps → AllConserveValues s steps
+
+-- ---- looks that leave no trace
+
+-- queues, access list, report and housekeeper stay
+pub record LeavesNoTrace {K V X P W : Type 0} (s t : State K V X P W) : Type 0 where
+  pub reads : t.reads ≡ s.reads
+  pub writes : t.writes ≡ s.writes
+  pub outstanding : t.outstanding ≡ s.outstanding
+  pub access : t.access ≡ s.access
+  pub report : (t.count ≡ s.count) × (t.weight ≡ s.weight)
+  pub housekeeping : t.housekeeping ≡ s.housekeeping
+
+-- a get that records nothing changes no queue and starts no run
+abbrev pub PeeksQuietly : {K V X P : Type 0} → (W : Type 0) → (K → K → Bool) → (P → K → V → Bool → Type 0) → (X → K → V → ℕ → Option ℕ → ℕ → Option ℕ) → Type 0
+PeeksQuietly {K} {V} {X} {P} W eq says read = (s : State K V X P W) (key : K) (ignored : Bool) (now : ℕ) (a : Result (Option V) OutOfMemory) (t : State K V X P W) → PeekStep says read eq s key ignored now a t → LeavesNoTrace s t

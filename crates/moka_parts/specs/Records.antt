@@ -1,0 +1,96 @@
+-- The records by number, the access list, and what is asked of both.
+use Rattle.std.specs.Prelude.{ℕ, Bool, true, false, ◌==◌, not, nat_le, ◌+◌, List, [], ◌∷◌, ◌++◌, map, filter, find, sum_by, Option, Some, None, option_map, option_to_list, is_some, if◌then◌else◌}
+use Rattle.std.specs.Option.{option_map_or}
+use Rattle.std.specs.Ordering.{nat_cmp}
+use Rattle.std.specs.FinMap.{FinMap, get, insert, values}
+use Rattle.moka_parts.specs.declared.notification.RemovalCause.{RemovalCause}
+use Rattle.moka_parts.specs.declared.records.Record.{Record}
+use Rattle.moka_parts.specs.declared.records.Member.{Member}
+use Rattle.moka_parts.specs.declared.records.Operation.{Operation}
+
+-- the records, by number
+abbrev pub Records : Type 0 → Type 0 → Type 0
+Records K V = FinMap nat_cmp (Record K V)
+
+-- the operations handed out and not sent, by ticket
+abbrev pub Operations : Type 0
+Operations = FinMap nat_cmp Operation
+
+-- a notice: key, value and cause
+abbrev pub Notice : Type 0 → Type 0 → Type 0
+Notice K V = K × V × RemovalCause
+
+-- what is told where a listener is set
+abbrev pub when_listening : {N : Type 0} → Bool → List N → List N
+when_listening true notices = notices
+when_listening false notices = []
+
+-- ---- records
+
+-- the operation of the record's present generation was applied
+abbrev pub is_applied : {K V : Type 0} → Record K V → Bool
+is_applied r = r.applied == r.generation
+
+-- the record of a key, by the keys' own equality
+abbrev pub record_of_key : {K V : Type 0} → (K → K → Bool) → Records K V → K → Option (Record K V)
+record_of_key eq records key = find (λ r. eq key r.key) (values records)
+
+-- the records with this one at its number
+abbrev pub with_record : {K V : Type 0} → Records K V → Record K V → Records K V
+with_record records r = insert records r.number r
+
+-- ---- the access list
+
+-- a number with the weight that is counted for it
+abbrev pub member : ℕ → ℕ → Member
+member n weight = record { number = n; counted = weight }
+
+-- the weight that is counted for a number, if it stands in the list
+abbrev pub counted_of : ℕ → List Member → Option ℕ
+counted_of n [] = None
+counted_of n (a ∷ members) = if a.number == n then Some a.counted else counted_of n members
+
+-- the number stands in the list
+abbrev pub is_member : ℕ → List Member → Bool
+is_member n members = is_some (counted_of n members)
+
+-- the numbers in the list's order
+abbrev pub numbers_of : List Member → List ℕ
+numbers_of members = map (λ a. a.number) members
+
+-- the list without the number
+abbrev pub without_member : ℕ → List Member → List Member
+without_member n members = filter (λ a. not (a.number == n)) members
+
+-- the member of this number, if there is one, goes to the back
+abbrev pub to_back : ℕ → List Member → List Member
+to_back n members = without_member n members ++ option_to_list (option_map (member n) (counted_of n members))
+
+-- the members of these numbers go to the back, one after the other
+abbrev pub all_to_back : List ℕ → List Member → List Member
+all_to_back [] members = members
+all_to_back (n ∷ ns) members = all_to_back ns (to_back n members)
+
+-- the list without those members
+abbrev pub without_members : List Member → List Member → List Member
+without_members [] members = members
+without_members (a ∷ gone) members = without_members gone (without_member a.number members)
+
+-- the sum of the counted weights
+abbrev pub total_weight : List Member → ℕ
+total_weight members = sum_by (λ a. a.counted) members
+
+-- there is no capacity, or so much more weight stays within it
+abbrev pub has_room : Option ℕ → ℕ → ℕ → Bool
+has_room None total weight = true
+has_room (Some capacity) total weight = nat_le (total + weight) capacity
+
+-- ---- settled members
+
+-- the record of this number is in the map, and its present operation was applied
+abbrev pub is_settled : {K V : Type 0} → Records K V → ℕ → Bool
+is_settled records n = option_map_or is_applied (get records n) false
+
+-- the settled members, in order
+abbrev pub settled_members : {K V : Type 0} → Records K V → List Member → List Member
+settled_members records members = filter (λ a. is_settled records a.number) members

@@ -1,0 +1,160 @@
+//! What weighs entries and what tests them. moka: `common::concurrent` and `sync::invalidator`.
+ghost use Rattle.std.specs.Prelude.{◌≡◌};
+ghost use Rattle.moka_parts.specs.Closures.{CanAlwaysAsk, HasOneAnswer};
+
+use std::marker::{Model, PhantomData};
+
+/// Weighs an entry. moka: `common::concurrent::Weigher`.
+///
+/// The meaning, `weighs`, has at most one weight for the same key and value.
+pub trait Weigher<K, V> {
+    ghost use Rattle.std.specs.Prelude.{ℕ};
+    ghost use Rattle.moka_parts.specs.Closures.{HasOneAnswer};
+
+    /// The key and the value may have this weight.
+    ghost weighs: { Self → K → V → ℕ → Type 0 };
+
+    /// The weight of a key with its value.
+    fn weigh(&self, key: &K, value: &V) -> u32
+        ensures { weighs self.now key.now value.now result };
+
+    ghost one_weight: { (w : Self) → HasOneAnswer (weighs w) };
+}
+
+/// Tests an entry. moka: `sync::invalidator::PredicateFun`.
+///
+/// The meaning, `says`, has at most one answer for the same key and value.
+pub trait PredicateFn<K, V> {
+    ghost use Rattle.std.specs.Prelude.{Bool};
+    ghost use Rattle.moka_parts.specs.Closures.{HasOneAnswer};
+
+    /// The test of the key and the value may answer so.
+    ghost says: { Self → K → V → Bool → Type 0 };
+
+    /// Whether a key with its value passes the test.
+    fn applies(&self, key: &K, value: &V) -> bool
+        ensures { says self.now key.now value.now result };
+
+    ghost one_answer: { (p : Self) → HasOneAnswer (says p) };
+}
+
+/// Answers for a key and a value. Every `Fn(&K, &V) -> R` does.
+pub trait PairFn<K, V, R> {
+    /// The question may be put.
+    ghost can_ask: { Self → K → V → Type 0 };
+
+    /// This may be the answer.
+    ghost answers: { Self → K → V → R → Type 0 };
+
+    /// The answer for a key and a value.
+    fn ask(&self, key: &K, value: &V) -> R
+        requires { can_ask self.now key.now value.now }
+        ensures { answers self.now key.now value.now result };
+}
+
+impl<K, V, R, F: Fn(&K, &V) -> R> PairFn<K, V, R> for F {
+    ghost use Rattle.std.specs.Prelude.{◌≡◌};
+    ghost use Rattle.std.specs.Borrow.{Bor};
+
+    ghost can_ask = { λ f k v.
+        (p : Bor K) (q : Bor V) → p.now ≡ k → q.now ≡ v → F.pre f p q };
+
+    ghost answers = { λ f k v r.
+        (p : Bor K) × (q : Bor V) × (p.now ≡ k) × (q.now ≡ v) × F.post f p q r };
+
+    fn ask(&self, key: &K, value: &V) -> R {
+        self(key, value)
+    }
+}
+
+/// A weigher or a predicate made of a closure that may always be called and that has one answer
+/// for the same arguments; seen as the closure.
+///
+/// The closure is made by the caller and handed on to a function that is generic in it.
+#[derive(Drop)]
+pub struct ByClosure<K, V, R, F: PairFn<K, V, R>> {
+    closure: F,
+    marker: PhantomData<(K, V, R)>,
+}
+
+impl<K, V, R, F: PairFn<K, V, R>> Model for ByClosure<K, V, R, F> {
+    ghost use Rattle.moka_parts.specs.Closures.{CanAlwaysAsk, HasOneAnswer};
+
+    ghost Value = { F };
+
+    ghost view = { λ c. c.closure };
+
+    ghost invariant = { λ c.
+        CanAlwaysAsk (F.can_ask c.closure) × HasOneAnswer (F.answers c.closure) };
+}
+
+impl<K, V, R, F: PairFn<K, V, R>> ByClosure<K, V, R, F> {
+    pub fn new(closure: F) -> Self
+        requires callable { CanAlwaysAsk (F.can_ask closure) }
+        requires functional { HasOneAnswer (F.answers closure) }
+        ensures { result ≡ closure }
+    {
+        ByClosure {
+            closure,
+            marker: PhantomData,
+        }
+    }
+}
+
+impl<K, V, F: PairFn<K, V, u32>> Weigher<K, V> for ByClosure<K, V, u32, F> {
+    ghost use Rattle.std.specs.Prelude.{◌≡◌, ℕ};
+
+    // The closure gives this weight and no other.
+    ghost weighs = { λ c k v a. F.answers c k v a × ((b : ℕ) → F.answers c k v b → a ≡ b) };
+
+    fn weigh(&self, key: &K, value: &V) -> u32 {
+        self.closure.ask(key, value)
+    }
+
+    ghost one_weight = { λ c k v a b p q. p.1 b q.0 };
+}
+
+impl<K, V, F: PairFn<K, V, bool>> PredicateFn<K, V> for ByClosure<K, V, bool, F> {
+    ghost use Rattle.std.specs.Prelude.{◌≡◌, Bool};
+
+    // The closure gives this answer and no other.
+    ghost says = { λ c k v a. F.answers c k v a × ((b : Bool) → F.answers c k v b → a ≡ b) };
+
+    fn applies(&self, key: &K, value: &V) -> bool {
+        self.closure.ask(key, value)
+    }
+
+    ghost one_answer = { λ c k v a b p q. p.1 b q.0 };
+}
+
+#[cfg(test)]
+mod tests {
+    use super::*;
+
+    fn weight_by<F: PairFn<u64, u64, u32> + Drop>(closure: F, key: u64, value: u64) -> u32
+        requires callable { CanAlwaysAsk (F.can_ask closure) }
+        requires functional { HasOneAnswer (F.answers closure) }
+    {
+        ByClosure::new(closure).weigh(&key, &value)
+    }
+
+    fn passes_by<F: PairFn<u64, u64, bool> + Drop>(closure: F, key: u64, value: u64) -> bool
+        requires callable { CanAlwaysAsk (F.can_ask closure) }
+        requires functional { HasOneAnswer (F.answers closure) }
+    {
+        ByClosure::new(closure).applies(&key, &value)
+    }
+
+    #[test]
+    fn asks_closures(rt: HostRuntime) {
+        let heavy: u32 = 7;
+        for (value, weight, is_even) in [(2, 7, true), (3, 1, false)] {
+            let weighs = |_: &u64, v: &u64| if *v == 2 { heavy } else { 1 };
+            assert_eq!(rt; weight_by(weighs, 1, value), weight);
+            assert_eq!(rt;
+                passes_by(|_: &u64, v: &u64| *v % 2 == 0, 1, value),
+                is_even
+            );
+        }
+    }
+}

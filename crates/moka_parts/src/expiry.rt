@@ -1,0 +1,221 @@
+//! When entries expire: the tests by moments, what is left, and renewals.
+//! moka: the free functions of `sync::base_cache`.
+ghost use Rattle.std.specs.Prelude.{◌≡◌, ◌||◌, not, option_map, if◌then◌else◌};
+ghost use Rattle.std.specs.Duration.{as_nanos};
+ghost use Rattle.moka_parts.specs.Time.{has_passed, is_before, deadline, earlier as earlier_of};
+ghost use Rattle.moka_parts.specs.Time.{moment_of, is_same_duration};
+ghost use Rattle.moka_parts.specs.Expiry.{time_left, expires_after};
+
+use crate::policy::{ExpirationPolicy, Instant};
+use crate::records::Record;
+use std::time::Duration;
+
+/// Whether an entry's own moment of expiry has come.
+/// moka: `sync::base_cache::is_expired_by_per_entry_ttl`.
+pub fn is_expired_by_per_entry_ttl(expires: Option<Instant>, now: Instant) -> bool
+    ensures { result ≡ has_passed (moment_of expires) now.0 }
+{
+    expires.is_some_and(|moment| moment <= now)
+}
+
+/// Whether the time to live of an entry written then is over.
+/// moka: `sync::base_cache::is_expired_by_ttl`.
+pub fn is_expired_by_ttl(time_to_live: Option<Duration>, written: Instant, now: Instant) -> bool
+    ensures { result ≡ has_passed (deadline (option_map as_nanos time_to_live) written.0) now.0 }
+{
+    time_to_live.is_some_and(|duration| written.saturating_add(duration) <= now)
+}
+
+/// Whether the time to idle of an entry read then is over.
+/// moka: `sync::base_cache::is_expired_by_tti`.
+pub fn is_expired_by_tti(time_to_idle: Option<Duration>, read: Instant, now: Instant) -> bool
+    ensures { result ≡ has_passed (deadline (option_map as_nanos time_to_idle) read.0) now.0 }
+{
+    time_to_idle.is_some_and(|duration| read.saturating_add(duration) <= now)
+}
+
+/// Whether a moment lies before that from which entries are valid, where one is set.
+/// moka: `sync::base_cache::is_invalid_entry`.
+pub fn is_invalid_entry(valid_after: Option<Instant>, moment: Instant) -> bool
+    ensures { result ≡ is_before moment.0 (moment_of valid_after) }
+{
+    valid_after.is_some_and(|bound| moment < bound)
+}
+
+/// Whether one of the tests by moments hides a record, whatever predicates say.
+pub fn has_lapsed<K, V, X>(
+    entry: &Record<K, V>,
+    policy: &ExpirationPolicy<X>,
+    valid_after: Option<Instant>,
+    now: Instant,
+) -> bool
+    ensures { result ≡ (has_passed (moment_of entry.now.expires) now.0
+        || has_passed (deadline policy.now.time_to_live entry.now.written.0) now.0
+        || has_passed (deadline policy.now.time_to_idle entry.now.read.0) now.0
+        || is_before entry.now.written.0 (moment_of valid_after)
+        || is_before entry.now.read.0 (moment_of valid_after)) }
+{
+    is_expired_by_per_entry_ttl(entry.expires, now)
+        || is_expired_by_ttl(policy.time_to_live(), entry.written, now)
+        || is_expired_by_tti(policy.time_to_idle(), entry.read, now)
+        || is_invalid_entry(valid_after, entry.written)
+        || is_invalid_entry(valid_after, entry.read)
+}
+
+/// The moment so much later, where a duration is given.
+pub fn deadline_of(duration: Option<Duration>, moment: Instant) -> Option<Instant>
+    ensures { result ≡ expires_after (option_map as_nanos duration) moment.0 }
+{
+    duration.map(|duration| moment.saturating_add(duration))
+}
+
+/// The earlier of two moments, as far as they are given.
+fn earlier(one: Option<Instant>, other: Option<Instant>) -> Option<Instant>
+    ensures { moment_of result ≡ earlier_of (moment_of one) (moment_of other) }
+{
+    match (one, other) {
+        (Some(one), Some(other)) => Some(one.min(other)),
+        (Some(one), None) => Some(one),
+        (None, other) => other,
+    }
+}
+
+/// How long an entry still lasts at a moment, `None` where it does not expire.
+pub fn remaining(
+    expires: Option<Instant>,
+    written: Instant,
+    read: Instant,
+    time_to_live: Option<Duration>,
+    time_to_idle: Option<Duration>,
+    now: Instant,
+) -> Option<Duration>
+    ensures { option_map as_nanos result
+        ≡ time_left (option_map as_nanos time_to_live) (option_map as_nanos time_to_idle)
+        (moment_of expires) written.0 read.0 now.0 }
+{
+    let by_policy = earlier(
+        deadline_of(time_to_live, written),
+        deadline_of(time_to_idle, read),
+    );
+    earlier(expires, by_policy).map(|moment| moment.saturating_duration_since(now))
+}
+
+/// When an entry expires after an expiry's answer at a moment, and whether that is a change: an
+/// answer that equals the time that was left changes nothing.
+pub fn renewed(
+    expires: Option<Instant>,
+    left: Option<Duration>,
+    answer: Option<Duration>,
+    now: Instant,
+) -> (Option<Instant>, bool)
+    ensures expires { result.0
+        ≡ (if result.1 then expires_after (option_map as_nanos answer) now.0 else expires) }
+    ensures changed { result.1
+        ≡ not (is_same_duration (option_map as_nanos answer) (option_map as_nanos left)) }
+{
+    let is_same = match (answer, left) {
+        (Some(answer), Some(left)) => answer.as_nanos() == left.as_nanos(),
+        (None, None) => true,
+        _ => false,
+    };
+    if is_same {
+        (expires, false)
+    } else {
+        (deadline_of(answer, now), true)
+    }
+}
+
+#[cfg(test)]
+mod tests {
+    use super::*;
+    use crate::policy::NoExpiry;
+
+    fn seconds(number: u64) -> Option<Duration> {
+        Some(Duration::from_secs(number))
+    }
+
+    fn at(millis: u32) -> Instant {
+        Instant(u64::from(millis) * 1_000_000)
+    }
+
+    #[test]
+    fn expires_at_the_very_moment(rt: HostRuntime) {
+        for (now, is_over) in [(15_999, false), (16_000, true), (16_001, true)] {
+            assert_eq!(rt;
+                is_expired_by_per_entry_ttl(Some(at(16_000)), at(now)),
+                is_over
+            );
+            assert_eq!(rt; is_expired_by_ttl(seconds(16), at(0), at(now)), is_over);
+            assert_eq!(rt; is_expired_by_tti(seconds(7), at(9_000), at(now)), is_over);
+        }
+        assert!(rt; !is_expired_by_per_entry_ttl(None, at(16_000)));
+        assert!(rt; !is_expired_by_ttl(None, at(0), at(16_000)));
+        assert!(rt; !is_expired_by_tti(None, at(0), at(16_000)));
+    }
+
+    #[test]
+    fn invalidates_what_came_before(rt: HostRuntime) {
+        assert!(rt; is_invalid_entry(Some(at(5)), at(4)));
+        assert!(rt; !is_invalid_entry(Some(at(5)), at(5)));
+        assert!(rt; !is_invalid_entry(None, at(4)));
+    }
+
+    #[test]
+    fn hides_what_has_lapsed(rt: HostRuntime) {
+        let mut policy = ExpirationPolicy::<NoExpiry>::default();
+        policy.set_time_to_live(Duration::from_secs(16));
+        policy.set_time_to_idle(Duration::from_secs(7));
+        let record = Record {
+            number: 1,
+            key: 'k',
+            hash: 0,
+            value: 'v',
+            written: at(1_000),
+            read: at(2_000),
+            expires: None,
+            weight: 1,
+            generation: 1,
+            applied: 1,
+        };
+        for (valid_after, now, is_hidden) in [
+            (None, 8_999, false),
+            (None, 9_000, true),
+            (Some(at(1_000)), 8_999, false),
+            (Some(at(1_001)), 8_999, true),
+        ] {
+            assert_eq!(rt;
+                has_lapsed(&record, &policy, valid_after, at(now)),
+                is_hidden
+            );
+        }
+    }
+
+    /// An entry is created with 8 seconds, and reads at 5 and 11 seconds answer 9 and 10 seconds.
+    #[test]
+    fn renews(rt: HostRuntime) {
+        let expires = deadline_of(seconds(8), at(0));
+        assert_eq!(rt; expires, Some(at(8_000)));
+
+        let left = remaining(expires, at(0), at(0), seconds(16), seconds(7), at(5_000));
+        assert_eq!(rt; left, seconds(2));
+        let (expires, is_changed) = renewed(expires, left, seconds(9), at(5_000));
+        assert_eq!(rt; (expires, is_changed), (Some(at(14_000)), true));
+
+        let left = remaining(
+            expires,
+            at(0),
+            at(5_000),
+            seconds(16),
+            seconds(7),
+            at(11_000),
+        );
+        assert_eq!(rt; left, seconds(1));
+        assert_eq!(rt;
+            renewed(expires, left, seconds(1), at(11_000)),
+            (expires, false)
+        );
+        assert_eq!(rt; renewed(expires, left, None, at(11_000)), (None, true));
+        assert_eq!(rt; remaining(None, at(0), at(0), None, None, at(1)), None);
+        assert_eq!(rt; renewed(None, None, None, at(1)), (None, false));
+    }
+}

@@ -1,0 +1,157 @@
+//! Why values leave the cache, and who is told. moka: `notification`.
+ghost use Rattle.std.specs.Prelude.{◌≡◌};
+
+use std::marker::Model;
+
+/// Why a value left the cache. moka: `notification::RemovalCause`.
+#[derive(Clone, Copy, Debug, PartialEq, Eq)]
+pub enum RemovalCause {
+    /// The entry's time was over.
+    Expired,
+    /// The entry was invalidated by a caller.
+    Explicit,
+    /// The value was replaced by a caller; the entry itself stays.
+    Replaced,
+    /// There was no room for the entry.
+    Size,
+}
+
+impl RemovalCause {
+    ghost use Rattle.std.specs.Prelude.{◌≡◌};
+    ghost use Rattle.moka_parts.specs.Notification.{was_evicted};
+
+    /// Whether the cache itself took the value out.
+    pub fn was_evicted(&self) -> bool
+        ensures { result ≡ was_evicted self.now }
+    {
+        matches!(self, RemovalCause::Expired | RemovalCause::Size)
+    }
+}
+
+/// Is told of each value that leaves, and may keep key and value.
+/// moka: `notification::EvictionListener`.
+pub trait Listener<K, V> {
+    ghost use Rattle.std.specs.Prelude.{◌≡◌};
+    ghost use Rattle.moka_parts.specs.declared.notification.RemovalCause.{RemovalCause};
+
+    /// One notice may lead from the first state to the second.
+    ghost tells: { Self → K → V → RemovalCause → Self → Type 0 };
+
+    /// Takes the key, the value and the cause of one removal.
+    fn notify(&mut self, key: K, value: V, cause: RemovalCause)
+        ensures { tells self.old key value cause self.new };
+}
+
+/// Hears nothing, and lets key and value go.
+#[derive(Clone, Copy)]
+pub struct NoListener;
+
+impl<K: Drop, V: Drop> Listener<K, V> for NoListener {
+    ghost tells = { λ before _ _ _ after. after ≡ before };
+
+    fn notify(&mut self, _: K, _: V, _: RemovalCause) {}
+}
+
+/// A listener, if one is set; seen as that option. moka: `notification::notifier::RemovalNotifier`.
+#[derive(Drop)]
+pub struct RemovalNotifier<L> {
+    listener: Option<L>,
+}
+
+impl<L> Model for RemovalNotifier<L> {
+    ghost use Rattle.std.specs.Prelude.{Option};
+
+    ghost Value = { Option L };
+
+    ghost view = { λ n. n.listener };
+}
+
+impl<L> RemovalNotifier<L> {
+    ghost use Rattle.std.specs.Prelude.{◌≡◌, is_some, option_copied};
+    ghost use Rattle.moka_parts.specs.Notification.{HearsOnce};
+
+    pub fn new(listener: Option<L>) -> Self
+        ensures { result ≡ listener }
+    {
+        RemovalNotifier { listener }
+    }
+
+    /// Whether a listener is set.
+    pub fn is_enabled(&self) -> bool
+        ensures { result ≡ is_some self.now }
+    {
+        self.listener.is_some()
+    }
+
+    /// The listener, if one is set.
+    pub fn listener(&self) -> Option<&L>
+        ensures { option_copied result ≡ self.now }
+    {
+        self.listener.as_ref()
+    }
+
+    /// Tells the listener of one removal; where none is set, key and value are let go.
+    pub fn notify<K: Drop, V: Drop>(&mut self, key: K, value: V, cause: RemovalCause)
+    where
+        L: Listener<K, V>,
+        ensures { HearsOnce L.tells self.old key value cause self.new }
+    {
+        if let Some(listener) = &mut self.listener {
+            listener.notify(key, value, cause);
+        }
+    }
+}
+
+#[cfg(test)]
+mod tests {
+    use super::*;
+
+    /// Keeps the last value that it was told of, and counts.
+    #[derive(Clone, Copy, Debug, PartialEq, Eq)]
+    struct LastValue {
+        heard: Option<(u8, u64, RemovalCause)>,
+    }
+
+    impl Listener<u8, u64> for LastValue {
+        ghost use Rattle.std.specs.Prelude.{◌≡◌, Some};
+
+        ghost tells = { λ _ k v c after. after.heard ≡ Some (k, v, c) };
+
+        fn notify(&mut self, key: u8, value: u64, cause: RemovalCause) {
+            self.heard = Some((key, value, cause));
+        }
+    }
+
+    #[test]
+    fn tells_the_listener(rt: HostRuntime) {
+        let mut notifier = RemovalNotifier::new(Some(LastValue { heard: None }));
+        assert!(rt; notifier.is_enabled());
+        notifier.notify(1, 10, RemovalCause::Size);
+        notifier.notify(2, 20, RemovalCause::Expired);
+        let heard = Some((2, 20, RemovalCause::Expired));
+        assert_eq!(rt; notifier.listener(), Some(&LastValue { heard }));
+    }
+
+    #[test]
+    fn tells_nobody(rt: HostRuntime) {
+        let mut nobody = RemovalNotifier::<LastValue>::new(None);
+        nobody.notify(1, 10, RemovalCause::Explicit);
+        assert!(rt; !nobody.is_enabled() && nobody.listener().is_none());
+
+        let mut deaf = RemovalNotifier::new(Some(NoListener));
+        deaf.notify(1u8, 10u64, RemovalCause::Replaced);
+        assert!(rt; deaf.is_enabled());
+    }
+
+    #[test]
+    fn knows_evictions(rt: HostRuntime) {
+        for (cause, was_evicted) in [
+            (RemovalCause::Expired, true),
+            (RemovalCause::Explicit, false),
+            (RemovalCause::Replaced, false),
+            (RemovalCause::Size, true),
+        ] {
+            assert_eq!(rt; cause.was_evicted(), was_evicted, "{cause:?}");
+        }
+    }
+}

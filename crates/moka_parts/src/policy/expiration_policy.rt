@@ -1,0 +1,87 @@
+//! The settings of expiry. moka: `policy`.
+ghost use Rattle.std.specs.Prelude.{◌≡◌, Some, None, option_map, option_copied};
+ghost use Rattle.std.specs.Duration.{as_nanos};
+
+use std::marker::Model;
+use std::time::Duration;
+
+/// When entries expire. moka: `policy::ExpirationPolicy`.
+#[derive(Clone, Drop)]
+pub struct ExpirationPolicy<X> {
+    time_to_live: Option<Duration>,
+    time_to_idle: Option<Duration>,
+    expiry: Option<X>,
+}
+
+impl<X> Model for ExpirationPolicy<X> {
+    ghost use Rattle.std.specs.Prelude.{option_map};
+    ghost use Rattle.std.specs.Duration.{as_nanos};
+    ghost use Rattle.moka_parts.specs.Policy.{Expirations};
+
+    ghost Value = { Expirations X };
+
+    ghost view = { λ p. record {
+      time_to_live = option_map as_nanos p.time_to_live;
+      time_to_idle = option_map as_nanos p.time_to_idle;
+      expiry = p.expiry;
+    } };
+}
+
+impl<X> Default for ExpirationPolicy<X> {
+    ghost use Rattle.std.specs.Prelude.{◌≡◌, None};
+
+    ghost is_default = { λ p.
+        p ≡ record { time_to_live = None; time_to_idle = None; expiry = None } };
+
+    /// Nothing expires.
+    fn default() -> Self {
+        ExpirationPolicy {
+            time_to_live: None,
+            time_to_idle: None,
+            expiry: None,
+        }
+    }
+}
+
+impl<X> ExpirationPolicy<X> {
+    /// How long an entry stays after it was written.
+    pub fn time_to_live(&self) -> Option<Duration>
+        ensures { option_map as_nanos result ≡ self.now.time_to_live }
+    {
+        self.time_to_live
+    }
+
+    pub fn set_time_to_live(&mut self, duration: Duration)
+        ensures { self.new ≡ record self.old { time_to_live = Some (as_nanos duration) } }
+    {
+        self.time_to_live = Some(duration);
+    }
+
+    /// How long an entry stays after it was written or read.
+    pub fn time_to_idle(&self) -> Option<Duration>
+        ensures { option_map as_nanos result ≡ self.now.time_to_idle }
+    {
+        self.time_to_idle
+    }
+
+    pub fn set_time_to_idle(&mut self, duration: Duration)
+        ensures { self.new ≡ record self.old { time_to_idle = Some (as_nanos duration) } }
+    {
+        self.time_to_idle = Some(duration);
+    }
+
+    /// What decides when each entry expires.
+    pub fn expiry(&self) -> Option<&X>
+        ensures { option_copied result ≡ self.now.expiry }
+    {
+        self.expiry.as_ref()
+    }
+
+    pub fn set_expiry(&mut self, expiry: X)
+    where
+        X: Drop,
+        ensures { self.new ≡ record self.old { expiry = Some expiry } }
+    {
+        self.expiry = Some(expiry);
+    }
+}

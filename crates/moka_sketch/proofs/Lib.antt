@@ -1,0 +1,4 @@
+pub mod Word
+pub mod Counters
+pub mod Lengths
+pub mod Examples

@@ -1,0 +1,3 @@
+pub mod Frequency
+pub mod Packing
+pub mod Plain

@@ -1,0 +1,11 @@
+pub mod Gets
+pub mod Linked
+pub mod Lookups
+pub mod Nodes
+pub mod Orders
+pub mod Parts
+pub mod Plain
+pub mod Rings
+pub mod TableMaps
+pub mod TableCalls
+pub mod Tickets

@@ -1,0 +1,292 @@
+-- The slots of the ring and the free ones, after each write.
+use Rattle.std.proofs.Common.{◌≡◌, ◌≢◌, ℕ, ◌+◌, ◌-◌, ◌<◌, ◌≤◌, ◌^◌, List, [], ◌∷◌, ◌++◌, inl, inr, refl, sym, ap, ◌∙◌, arith, add-one, length, set, get_or, drop, length-set}
+use Rattle.std.proofs.lemmas.Bool.{cases_lt, cases_order}
+use Rattle.std.proofs.lemmas.List.{length_push, get_or_append_left, get_or_push, get_or_past, length-drop, get_or-drop}
+use Rattle.std.proofs.lemmas.List.Edits.{length-remove, get_or-remove_below, get_or-remove_above}
+use Rattle.std.specs.List.{remove}
+use Rattle.moka_structures.specs.declared.order_list.Node.{Node}
+use Rattle.moka_structures.specs.Rings.{Ring, Frees}
+use Rattle.moka_structures.specs.Links.{IsOrder, blank, at, with_behind, with_number, detached, attached, behinds, befores, ring_of, free_of}
+use Rattle.moka_structures.proofs.Rings.{Ring-detach, Ring-attach, Ring-same, Ring-within, Frees-same, Frees-push, Frees-pop}
+use Rattle.moka_structures.proofs.Nodes.{set-keeps, set-other, set-same, Detached-detached, Attached-attached}
+
+-- the ring past the sentinel is the list of slots
+pub ring-next : (xs : List ℕ) (i : ℕ) → ring_of xs (i + 1) ≡ get_or xs i 0
+ring-next xs i = rw add-one refl
+
+-- the ring without the slot at a place
+pub ring-remove : (f g f' g' : ℕ → ℕ) (xs : List ℕ) (size h : ℕ) → h < length xs → Ring f g (ring_of xs) (length xs) size
+    → ((i : ℕ) → i ≢ ring_of xs h → i ≢ ring_of xs (h + 1) → f' i ≡ f i) → f' (ring_of xs h) ≡ ring_of xs (h + 2)
+    → ((i : ℕ) → i ≢ ring_of xs (h + 2) → g' i ≡ g i) → g' (ring_of xs (h + 2)) ≡ ring_of xs h
+    → Ring f' g' (ring_of (remove xs h)) (length (remove xs h)) size
+ring-remove f g f' g' xs size h l ring fo fs go gs =
+    let e : length (remove xs h) + 1 ≡ length xs = length-remove xs h l in
+    let low : (i : ℕ) → i ≤ h → ring_of (remove xs h) i ≡ ring_of xs i = λ i q. elim (cases_order i 0) as (λ _. ring_of (remove xs h) i ≡ ring_of xs i) [
+      | inl z ↦ rw z refl
+      | inr (inl k) ↦ absurd (omega arith)
+      | inr (inr k) ↦ ap (ring_of (remove xs h)) (omega arith) ∙ ring-next (remove xs h) (i - 1) ∙ get_or-remove_below xs h 0 (i - 1) (omega arith) l ∙ sym (ring-next xs (i - 1)) ∙ ap (ring_of xs) (omega arith)
+    ] in
+    let high : (i : ℕ) → h < i → ring_of (remove xs h) i ≡ ring_of xs (i + 1) = λ i q.
+    ap (ring_of (remove xs h)) (omega arith) ∙ ring-next (remove xs h) (i - 1) ∙ get_or-remove_above xs h 0 (i - 1) (omega arith) l ∙ sym (ring-next xs (i - 1 + 1)) ∙ ap (ring_of xs) (omega arith) in
+    Ring-detach f g f' g' (ring_of xs) (ring_of (remove xs h)) (length (remove xs h)) size h (rw e ring) (omega arith) fo fs go gs low high
+
+-- a chain with one more slot before it
+pub ring-next-free : (s : ℕ) (fs : List ℕ) (i : ℕ) → free_of (s ∷ fs) (i + 1) ≡ free_of fs i
+ring-next-free s fs i = rw add-one refl
+
+-- the old places after a push
+pub push-low : (xs : List ℕ) (s i : ℕ) → i ≤ length xs → ring_of (xs ++ s ∷ []) i ≡ ring_of xs i
+push-low xs s i q = elim (cases_order i 0) as (λ _. ring_of (xs ++ s ∷ []) i ≡ ring_of xs i) [
+  | inl z ↦ rw z refl
+  | inr (inl k) ↦ absurd (omega arith)
+  | inr (inr k) ↦ ap (ring_of (xs ++ s ∷ [])) (omega arith) ∙ ring-next (xs ++ s ∷ []) (i - 1) ∙ get_or_append_left xs (s ∷ []) 0 (i - 1) (omega arith) ∙ sym (ring-next xs (i - 1)) ∙ ap (ring_of xs) (omega arith)
+]
+
+-- the new place after a push
+pub push-last : (xs : List ℕ) (s i : ℕ) → i ≡ length xs + 1 → ring_of (xs ++ s ∷ []) i ≡ s
+push-last xs s i e = ap (ring_of (xs ++ s ∷ [])) e ∙ ring-next (xs ++ s ∷ []) (length xs) ∙ get_or_push xs s 0 (length xs) refl
+
+-- the ring with one more slot at the back
+pub ring-push : (f g f' g' : ℕ → ℕ) (xs : List ℕ) (size s : ℕ) → Ring f g (ring_of xs) (length xs) size → s < size
+    → ((i : ℕ) → i ≤ length xs → ring_of xs i ≢ s)
+    → ((i : ℕ) → i ≢ ring_of xs (length xs) → i ≢ s → f' i ≡ f i) → f' (ring_of xs (length xs)) ≡ s → f' s ≡ 0
+    → ((i : ℕ) → i ≢ 0 → i ≢ s → g' i ≡ g i) → g' 0 ≡ s → g' s ≡ ring_of xs (length xs)
+    → Ring f' g' (ring_of (xs ++ s ∷ [])) (length (xs ++ s ∷ [])) size
+ring-push f g f' g' xs size s ring inside fresh fo fn fs go gn gs =
+    let here : ring_of (xs ++ s ∷ []) (length xs + 1) ≡ s = push-last xs s (length xs + 1) refl in
+    let past : ring_of (xs ++ s ∷ []) (length xs + 2) ≡ 0 =
+    ap (ring_of (xs ++ s ∷ [])) (omega arith) ∙ ring-next (xs ++ s ∷ []) (length xs + 1) ∙ get_or_past (xs ++ s ∷ []) (length xs + 1) 0 (omega (arith, length_push xs s)) in
+    rw length_push (Ring-attach f g f' g' (ring_of xs) (ring_of (xs ++ s ∷ [])) (length xs) size s ring inside fresh fo fn fs go gn gs (push-low xs s) here past)
+
+-- where a linked slot's neighbours are
+pub record Neighbours (ns : List Node) (xs : List ℕ) (s h : ℕ) : Type 0 where
+  pub within : s < length ns
+  pub positive : 0 < s
+  pub at_place : ring_of xs (h + 1) ≡ s
+  pub before : befores ns s ≡ ring_of xs h
+  pub behind : behinds ns s ≡ ring_of xs (h + 2)
+  pub before_within : befores ns s < length ns
+  pub behind_within : behinds ns s < length ns
+
+-- the ring says where they are
+pub neighbours : (ns : List Node) (xs : List ℕ) (s h : ℕ) → h < length xs → get_or xs h 0 ≡ s → Ring (behinds ns) (befores ns) (ring_of xs) (length xs) (length ns) → Neighbours ns xs s h
+neighbours ns xs s h l e ring =
+    let at_place : ring_of xs (h + 1) ≡ s = ring-next xs h ∙ e in
+    let before : befores ns s ≡ ring_of xs h = ap (befores ns) (sym at_place) ∙ ring.before h (omega arith) in
+    let behind : behinds ns s ≡ ring_of xs (h + 2) = ap (behinds ns) (sym at_place) ∙ ring.behind (h + 1) (omega arith) ∙ ap (ring_of xs) (omega arith) in
+    let ne : 0 ≢ s = λ z. ring.apart 0 (h + 1) (omega arith) (omega arith) (ring.start ∙ z ∙ sym at_place) in
+    let wraps : ring_of xs (h + 2) < length ns = elim (cases_order (h + 2) (length xs + 1)) as (λ _. ring_of xs (h + 2) < length ns) [
+      | inl last ↦ rw (last, ring.close) (omega (arith, ring.within 0 (omega arith)))
+      | inr (inl k) ↦ ring.within (h + 2) (omega arith)
+      | inr (inr k) ↦ absurd (omega arith)
+    ] in
+    record {
+      within = rw (← at_place) (ring.within (h + 1) (omega arith));
+      positive = omega arith;
+      at_place = at_place;
+      before = before;
+      behind = behind;
+      before_within = rw before (ring.within h (omega arith));
+      behind_within = rw behind wraps;
+    }
+
+-- two places have two slots
+pub ring-distinct : (f g r : ℕ → ℕ) (n size i j : ℕ) → Ring f g r n size → i ≤ n → j ≤ n → i ≢ j → r i ≢ r j
+ring-distinct f g r n size i j ring p q ne z = elim (cases_order i j) as (λ _. ⊥) [
+  | inl e ↦ ne e
+  | inr (inl k) ↦ ring.apart i j k q z
+  | inr (inr k) ↦ ring.apart j i k p (sym z)
+]
+
+-- a place of what is left is another place of what there was
+pub record From (xs : List ℕ) (h i : ℕ) : Type 0 where
+  pub place : ℕ
+  pub within : place ≤ length xs
+  pub other : place ≢ h + 1
+  pub same : ring_of (remove xs h) i ≡ ring_of xs place
+
+-- each place left is such a place
+pub from-of : (xs : List ℕ) (h i : ℕ) → h < length xs → i ≤ length (remove xs h) → From xs h i
+from-of xs h i l q =
+    let e : length (remove xs h) + 1 ≡ length xs = length-remove xs h l in
+    elim (cases_order i 0) as (λ _. From xs h i) [
+      | inl z ↦ record { place = 0; within = omega arith; other = λ y. omega arith; same = rw z refl }
+      | inr (inl k) ↦ absurd (omega arith)
+      | inr (inr k) ↦ elim (cases_lt h i) as (λ _. From xs h i) [
+        | inl past ↦ record {
+          place = i + 1;
+          within = omega arith;
+          other = λ y. omega arith;
+          same = ap (ring_of (remove xs h)) (omega arith) ∙ ring-next (remove xs h) (i - 1) ∙ get_or-remove_above xs h 0 (i - 1) (omega arith) l ∙ sym (ring-next xs (i - 1 + 1)) ∙ ap (ring_of xs) (omega arith);
+        }
+        | inr below ↦ record {
+          place = i;
+          within = omega arith;
+          other = λ y. omega arith;
+          same = ap (ring_of (remove xs h)) (omega arith) ∙ ring-next (remove xs h) (i - 1) ∙ get_or-remove_below xs h 0 (i - 1) (omega arith) l ∙ sym (ring-next xs (i - 1)) ∙ ap (ring_of xs) (omega arith);
+        }
+      ]
+    ]
+
+-- a slot that is no place of what is left
+pub left-apart : (f g : ℕ → ℕ) (xs : List ℕ) (s h size i : ℕ) → h < length xs → ring_of xs (h + 1) ≡ s → Ring f g (ring_of xs) (length xs) size → i ≤ length (remove xs h) → ring_of (remove xs h) i ≢ s
+left-apart f g xs s h size i l at_place ring q z =
+    let w = from-of xs h i l q in
+    ring-distinct f g (ring_of xs) (length xs) size w.place (h + 1) ring w.within (omega arith) w.other (sym w.same ∙ z ∙ sym at_place)
+
+-- the ring and the chain of free slots, whatever else is in the table
+pub record Parts (ns : List Node) (xs fs : List ℕ) (free : ℕ) : Type 0 where
+  pub ring : Ring (behinds ns) (befores ns) (ring_of xs) (length xs) (length ns)
+  pub chain : Frees (behinds ns) (free_of fs) (length fs) free (length ns)
+  pub apart : (i j : ℕ) → i ≤ length xs → j < length fs → ring_of xs i ≢ free_of fs j
+
+-- a slot that is neither in the ring nor free
+pub record Outside (ns : List Node) (xs fs : List ℕ) (s : ℕ) : Type 0 where
+  pub within : s < length ns
+  pub unplaced : (i : ℕ) → i ≤ length xs → ring_of xs i ≢ s
+  pub used : (j : ℕ) → j < length fs → free_of fs j ≢ s
+
+-- an order has both
+pub parts-of : (ns : List Node) (len free : ℕ) (o : IsOrder ns len free) → Parts ns o.slots o.frees free
+parts-of ns len free o = record { ring = o.ring; chain = o.chain; apart = o.apart }
+
+-- both make an order, where no slot is left out
+abbrev pub order-of : (ns : List Node) (len free : ℕ) (xs fs : List ℕ) → Parts ns xs fs free → len ≡ length xs → length xs + length fs + 1 ≡ length ns → length ns ≤ 2 ^ 32 → IsOrder ns len free
+order-of ns len free xs fs p counted total bounded = record { slots = xs; frees = fs; counted = counted; total = total; bounded = bounded; ring = p.ring; chain = p.chain; apart = p.apart }
+
+module _ (ns : List Node) (xs fs : List ℕ) (free : ℕ) (o : Parts ns xs fs free) where
+  -- what the sentinel has before it is the last slot
+  pub last-is : befores ns 0 ≡ ring_of xs (length xs)
+  last-is = ap (befores ns) (sym o.ring.close) ∙ o.ring.before (length xs) (omega arith)
+
+  pub last-in : befores ns 0 < length ns
+  last-in = rw last-is (o.ring.within (length xs) (omega arith))
+
+  -- the slot at a place leaves the ring
+  module _ (s h : ℕ) (l : h < length xs) (e : get_or xs h 0 ≡ s) where
+    pub parts-detached : Parts (detached ns s) (remove xs h) fs free
+    parts-detached =
+        let near = neighbours ns xs s h l e o.ring in
+        let d = Detached-detached ns s near.before_within near.behind_within in
+        let ms = detached ns s in
+        let left = length-remove xs h l in
+        record {
+          ring = rw d.size (ring-remove (behinds ns) (befores ns) (behinds ms) (befores ms) xs (length ns) h l o.ring
+              (λ i np nq. d.behind i (λ z. np (z ∙ near.before)))
+              (ap (behinds ms) (sym near.before) ∙ d.behind_at ∙ near.behind)
+              (λ i np. d.before i (λ z. np (z ∙ near.behind)))
+              (ap (befores ms) (sym near.behind) ∙ d.before_at ∙ near.before));
+          chain = Frees-same (behinds ns) (behinds ms) (free_of fs) (length fs) free (length ns) (length ms) o.chain (omega (arith, d.size))
+              (λ j p. d.behind (free_of fs j) (λ z. o.apart h j (omega arith) p (sym near.before ∙ sym z)));
+          apart = λ i j p q z. let w = from-of xs h i l p in o.apart w.place j w.within q (sym w.same ∙ z);
+        }
+
+    pub outside-detached : Outside (detached ns s) (remove xs h) fs s
+    outside-detached =
+        let near = neighbours ns xs s h l e o.ring in
+        let d = Detached-detached ns s near.before_within near.behind_within in
+        record {
+          within = omega (arith, near.within, d.size);
+          unplaced = λ i p. left-apart (behinds ns) (befores ns) xs s h (length ns) i l near.at_place o.ring p;
+          used = λ j p z. o.apart (h + 1) j (omega arith) p (near.at_place ∙ sym z);
+        }
+
+  module _ (s : ℕ) (u : Outside ns xs fs s) where
+    -- a slot comes behind all others
+    pub parts-attached : Parts (attached ns s) (xs ++ s ∷ []) fs free
+    parts-attached =
+        let a = Attached-attached ns s (omega (arith, u.within)) u.within last-in in
+        let ms = attached ns s in
+        let longer = length_push xs s in
+        let not_last : s ≢ befores ns 0 = λ z. u.unplaced (length xs) (omega arith) (sym last-is ∙ sym z) in
+        let not_start : s ≢ 0 = λ z. u.unplaced 0 (omega arith) (o.ring.start ∙ sym z) in
+        record {
+          ring = rw a.size (ring-push (behinds ns) (befores ns) (behinds ms) (befores ms) xs (length ns) s o.ring u.within u.unplaced
+              (λ i np nq. a.behind i (λ z. np (z ∙ last-is)) nq)
+              (ap (behinds ms) (sym last-is) ∙ a.behind_last)
+              (a.behind_at not_last)
+              a.before a.before_start (a.before_at not_start ∙ last-is));
+          chain = Frees-same (behinds ns) (behinds ms) (free_of fs) (length fs) free (length ns) (length ms) o.chain (omega (arith, a.size))
+              (λ j p. a.behind (free_of fs j) (λ z. o.apart (length xs) j (omega arith) p (sym last-is ∙ sym z)) (u.used j p));
+          apart = λ i j p q. elim (cases_order i (length xs + 1)) as (λ _. ring_of (xs ++ s ∷ []) i ≢ free_of fs j) [
+            | inl z ↦ λ y. u.used j q (sym y ∙ push-last xs s i z)
+            | inr (inl m) ↦ λ y. o.apart i j (omega arith) q (sym (push-low xs s i (omega arith)) ∙ y)
+            | inr (inr m) ↦ absurd (omega arith)
+          ];
+        }
+
+    -- a slot comes before the free ones
+    pub parts-released : Parts (with_behind ns s free) xs (s ∷ fs) s
+    parts-released =
+        let v : Node = record (at ns s) { behind = free } in
+        let ms = set ns s v in
+        let size : length ms ≡ length ns = length-set ns s v in
+        let f_is : (i : ℕ) → i ≢ s → behinds ms i ≡ behinds ns i = set-other (λ n. n.behind) ns s v in
+        let chain : Frees (behinds ms) (free_of (s ∷ fs)) (length fs + 1) s (length ms) =
+        rw size (Frees-push (behinds ns) (behinds ms) (free_of fs) (free_of (s ∷ fs)) (length fs) free (length ns) s o.chain u.within u.used
+        (λ i p. f_is (free_of fs i) (u.used i p)) (set-same (λ n. n.behind) ns s v u.within) refl (λ i. rw add-one refl)) in
+        record {
+          ring = Ring-same (behinds ns) (befores ns) (behinds ms) (befores ms) (ring_of xs) (length xs) (length ns) (length ms) o.ring (omega (arith, size))
+              (λ i p. f_is (ring_of xs i) (u.unplaced i p)) (λ i p. set-keeps (λ n. n.before) ns s v (ring_of xs (i + 1)) u.within refl);
+          chain = rw add-one at chain;
+          apart = λ i j p q. elim (cases_order j 0) as (λ _. ring_of xs i ≢ free_of (s ∷ fs) j) [
+            | inl z ↦ rw z (u.unplaced i p)
+            | inr (inl k) ↦ absurd (omega arith)
+            | inr (inr k) ↦ λ z. o.apart i (j - 1) p (omega arith) (z ∙ ap (free_of (s ∷ fs)) (omega arith) ∙ ring-next-free s fs (j - 1))
+          ];
+        }
+
+  -- the first free slot gets a number and is no longer free
+  module _ (n : ℕ) (some : 0 < length fs) where
+    first-in : free < length ns
+    first-in = rw (o.chain.first some) (o.chain.within 0 some)
+
+    rest-is : (i : ℕ) → free_of (drop 1 fs) i ≡ free_of fs (i + 1)
+    rest-is i = get_or-drop 1 fs i 0 ∙ ap (free_of fs) (omega arith)
+
+    pub parts-taken : Parts (with_number ns free n) xs (drop 1 fs) (behinds ns free)
+    parts-taken =
+        let v : Node = record (at ns free) { number = n } in
+        let ms = set ns free v in
+        let size : length ms ≡ length ns = length-set ns free v in
+        let f_is : (i : ℕ) → behinds ms i ≡ behinds ns i = λ i. set-keeps (λ k. k.behind) ns free v i first-in refl in
+        let shorter : length (drop 1 fs) + 1 ≡ length fs = omega (arith, length-drop 1 fs) in
+        record {
+          ring = Ring-same (behinds ns) (befores ns) (behinds ms) (befores ms) (ring_of xs) (length xs) (length ns) (length ms) o.ring (omega (arith, size))
+              (λ i p. f_is (ring_of xs i)) (λ i p. set-keeps (λ k. k.before) ns free v (ring_of xs (i + 1)) first-in refl);
+          chain = rw size (Frees-pop (behinds ns) (behinds ms) (free_of fs) (free_of (drop 1 fs)) (length (drop 1 fs)) free (behinds ns free) (length ns) (rw shorter o.chain) (λ i _ _. f_is (free_of fs i)) refl rest-is);
+          apart = λ i j p q z. o.apart i (j + 1) p (omega (arith, shorter)) (z ∙ rest-is j);
+        }
+
+    pub outside-taken : Outside (with_number ns free n) xs (drop 1 fs) free
+    outside-taken =
+        let first = o.chain.first some in
+        record {
+          within = omega (arith, first-in, length-set ns free (record (at ns free) { number = n }));
+          unplaced = λ i p z. o.apart i 0 p some (z ∙ first);
+          used = λ j q z. o.chain.apart 0 (j + 1) (omega arith) (omega (arith, length-drop 1 fs)) (sym first ∙ sym z ∙ rest-is j);
+        }
+
+  -- a new node
+  module _ (v : Node) where
+    old-node : (i : ℕ) → i < length ns → at (ns ++ v ∷ []) i ≡ at ns i
+    old-node i l = get_or_append_left ns (v ∷ []) blank i l
+
+    pub parts-grown : Parts (ns ++ v ∷ []) xs fs free
+    parts-grown =
+        let ms = ns ++ v ∷ [] in
+        let size : length ms ≡ length ns + 1 = length_push ns v in
+        record {
+          ring = Ring-same (behinds ns) (befores ns) (behinds ms) (befores ms) (ring_of xs) (length xs) (length ns) (length ms) o.ring (omega (arith, size))
+              (λ i p. ap (λ k. k.behind) (old-node (ring_of xs i) (o.ring.within i p)))
+              (λ i p. ap (λ k. k.before) (old-node (ring_of xs (i + 1)) (Ring-within (behinds ns) (befores ns) (ring_of xs) (length xs) (length ns) o.ring (i + 1) (omega arith))));
+          chain = Frees-same (behinds ns) (behinds ms) (free_of fs) (length fs) free (length ns) (length ms) o.chain (omega (arith, size)) (λ j p. ap (λ k. k.behind) (old-node (free_of fs j) (o.chain.within j p)));
+          apart = o.apart;
+        }
+
+    pub outside-grown : Outside (ns ++ v ∷ []) xs fs (length ns)
+    outside-grown = record {
+      within = omega (arith, length_push ns v);
+      unplaced = λ i p z. omega (arith, o.ring.within i p);
+      used = λ j q z. omega (arith, o.chain.within j q);
+    }

@@ -1,0 +1,166 @@
+-- The ring and the free chain, over plain functions.
+use Rattle.std.proofs.Common.{◌≡◌, ◌≢◌, ℕ, ◌+◌, ◌-◌, ◌<◌, ◌≤◌, inl, inr, sym, ap, ◌∙◌, arith}
+use Rattle.std.proofs.lemmas.Bool.{cases_order}
+use Rattle.moka_structures.specs.Rings.{Ring, Frees}
+
+-- the slot at place h + 1 leaves
+pub Ring-detach : (f g f' g' r r' : ℕ → ℕ) (n size h : ℕ) → Ring f g r (n + 1) size → h ≤ n
+    → ((i : ℕ) → i ≢ r h → i ≢ r (h + 1) → f' i ≡ f i) → f' (r h) ≡ r (h + 2)
+    → ((i : ℕ) → i ≢ r (h + 2) → g' i ≡ g i) → g' (r (h + 2)) ≡ r h
+    → ((i : ℕ) → i ≤ h → r' i ≡ r i) → ((i : ℕ) → h < i → r' i ≡ r (i + 1))
+    → Ring f' g' r' n size
+Ring-detach f g f' g' r r' n size h ring le fo fs go gs low high =
+    let behind_is : (i : ℕ) → i ≤ n → f' (r' i) ≡ r' (i + 1) = λ i q. elim (cases_order i h) as (λ _. f' (r' i) ≡ r' (i + 1)) [
+      | inl e ↦ ap f' (low i (omega arith)) ∙ ap (λ k. f' (r k)) e ∙ fs ∙ ap r (omega arith) ∙ sym (high (i + 1) (omega arith))
+      | inr (inl l) ↦ ap f' (low i (omega arith)) ∙ fo (r i) (ring.apart i h l (omega arith)) (ring.apart i (h + 1) (omega arith) (omega arith)) ∙ ring.behind i (omega arith) ∙ sym (low (i + 1) (omega arith))
+      | inr (inr l) ↦ ap f' (high i l) ∙ fo (r (i + 1)) (λ e. ring.apart h (i + 1) (omega arith) (omega arith) (sym e)) (λ e. ring.apart (h + 1) (i + 1) (omega arith) (omega arith) (sym e)) ∙ ring.behind (i + 1) (omega arith) ∙ sym (high (i + 1) (omega arith))
+    ] in
+    let to_start : (i : ℕ) → 0 < i → i ≤ n + 1 → (k : ℕ) → k ≡ n + 1 + 1 → r i ≢ r k = λ i p q k same e. ring.apart 0 i p q (ring.start ∙ sym (e ∙ ap r same ∙ ring.close)) in
+    let past : (i : ℕ) → 0 < i → i ≤ n + 1 + 1 → i ≢ h + 2 → r i ≢ r (h + 2) = λ i p q ne e. elim (cases_order i (h + 2)) as (λ _. ⊥) [
+      | inl same ↦ ne same
+      | inr (inl l) ↦ elim (cases_order h n) as (λ _. ⊥) [
+        | inl last ↦ to_start i p (omega arith) (h + 2) (omega arith) e
+        | inr (inl below) ↦ ring.apart i (h + 2) l (omega arith) e
+        | inr (inr above) ↦ omega arith
+      ]
+      | inr (inr l) ↦ elim (cases_order i (n + 1 + 1)) as (λ _. ⊥) [
+        | inl last ↦ to_start (h + 2) (omega arith) (omega arith) i last (sym e)
+        | inr (inl below) ↦ ring.apart (h + 2) i l (omega arith) (sym e)
+        | inr (inr above) ↦ omega arith
+      ]
+    ] in
+    let before_is : (i : ℕ) → i ≤ n → g' (r' (i + 1)) ≡ r' i = λ i q. elim (cases_order i h) as (λ _. g' (r' (i + 1)) ≡ r' i) [
+      | inl e ↦ ap g' (high (i + 1) (omega arith)) ∙ ap (λ k. g' (r k)) (omega arith) ∙ gs ∙ sym (ap r e) ∙ sym (low i (omega arith))
+      | inr (inl l) ↦ ap g' (low (i + 1) (omega arith)) ∙ go (r (i + 1)) (past (i + 1) (omega arith) (omega arith) (λ e. omega arith)) ∙ ring.before i (omega arith) ∙ sym (low i (omega arith))
+      | inr (inr l) ↦ ap g' (high (i + 1) (omega arith)) ∙ go (r (i + 1 + 1)) (past (i + 1 + 1) (omega arith) (omega arith) (λ e. omega arith)) ∙ ring.before (i + 1) (omega arith) ∙ sym (high i l)
+    ] in
+    let apart_is : (i j : ℕ) → i < j → j ≤ n → r' i ≢ r' j = λ i j l q. elim (cases_order i h) as (λ _. r' i ≢ r' j) [
+      | inl e ↦ rw (low i (omega arith), high j (omega arith)) (ring.apart i (j + 1) (omega arith) (omega arith))
+      | inr (inl k) ↦ elim (cases_order j h) as (λ _. r' i ≢ r' j) [
+        | inl e ↦ rw (low i (omega arith), low j (omega arith)) (ring.apart i j (omega arith) (omega arith))
+        | inr (inl m) ↦ rw (low i (omega arith), low j (omega arith)) (ring.apart i j (omega arith) (omega arith))
+        | inr (inr m) ↦ rw (low i (omega arith), high j (omega arith)) (ring.apart i (j + 1) (omega arith) (omega arith))
+      ]
+      | inr (inr k) ↦ rw (high i (omega arith), high j (omega arith)) (ring.apart (i + 1) (j + 1) (omega arith) (omega arith))
+    ] in
+    let within_is : (i : ℕ) → i ≤ n → r' i < size = λ i q. elim (cases_order i h) as (λ _. r' i < size) [
+      | inl e ↦ rw (low i (omega arith)) (ring.within i (omega arith))
+      | inr (inl k) ↦ rw (low i (omega arith)) (ring.within i (omega arith))
+      | inr (inr k) ↦ rw (high i (omega arith)) (ring.within (i + 1) (omega arith))
+    ] in
+    record {
+      start = low 0 (omega arith) ∙ ring.start;
+      close = high (n + 1) (omega arith) ∙ ring.close;
+      behind = behind_is;
+      before = before_is;
+      apart = apart_is;
+      within = within_is;
+    }
+
+-- the slot s, which is in no place, comes behind all others
+pub Ring-attach : (f g f' g' r r' : ℕ → ℕ) (n size s : ℕ) → Ring f g r n size → s < size
+    → ((i : ℕ) → i ≤ n → r i ≢ s)
+    → ((i : ℕ) → i ≢ r n → i ≢ s → f' i ≡ f i) → f' (r n) ≡ s → f' s ≡ 0
+    → ((i : ℕ) → i ≢ 0 → i ≢ s → g' i ≡ g i) → g' 0 ≡ s → g' s ≡ r n
+    → ((i : ℕ) → i ≤ n → r' i ≡ r i) → r' (n + 1) ≡ s → r' (n + 2) ≡ 0
+    → Ring f' g' r' (n + 1) size
+Ring-attach f g f' g' r r' n size s ring inside fresh fo fn fs go gn gs low here past =
+    let behind_is : (i : ℕ) → i ≤ n + 1 → f' (r' i) ≡ r' (i + 1) = λ i q. elim (cases_order i n) as (λ _. f' (r' i) ≡ r' (i + 1)) [
+      | inl e ↦ ap f' (low i (omega arith)) ∙ ap (λ k. f' (r k)) e ∙ fn ∙ sym here ∙ ap r' (omega arith)
+      | inr (inl l) ↦ ap f' (low i (omega arith)) ∙ fo (r i) (ring.apart i n l (omega arith)) (fresh i (omega arith)) ∙ ring.behind i (omega arith) ∙ sym (low (i + 1) (omega arith))
+      | inr (inr l) ↦ let e : i ≡ n + 1 = omega arith in ap (λ k. f' (r' k)) e ∙ ap f' here ∙ fs ∙ sym past ∙ ap r' (omega arith)
+    ] in
+    let before_is : (i : ℕ) → i ≤ n + 1 → g' (r' (i + 1)) ≡ r' i = λ i q. elim (cases_order i n) as (λ _. g' (r' (i + 1)) ≡ r' i) [
+      | inl e ↦ ap (λ k. g' (r' k)) (omega arith) ∙ ap g' here ∙ gs ∙ sym (ap r e) ∙ sym (low i (omega arith))
+      | inr (inl l) ↦ ap g' (low (i + 1) (omega arith)) ∙ go (r (i + 1)) (λ z. ring.apart 0 (i + 1) (omega arith) (omega arith) (ring.start ∙ sym z)) (fresh (i + 1) (omega arith)) ∙ ring.before i (omega arith) ∙ sym (low i (omega arith))
+      | inr (inr l) ↦ let e : i ≡ n + 1 = omega arith in ap (λ k. g' (r' k)) (omega arith) ∙ ap g' past ∙ gn ∙ sym here ∙ ap r' (sym e)
+    ] in
+    let apart_is : (i j : ℕ) → i < j → j ≤ n + 1 → r' i ≢ r' j = λ i j l q. elim (cases_order j (n + 1)) as (λ _. r' i ≢ r' j) [
+      | inl e ↦ λ same. fresh i (omega arith) (sym (low i (omega arith)) ∙ same ∙ ap r' e ∙ here)
+      | inr (inl k) ↦ rw (low i (omega arith), low j (omega arith)) (ring.apart i j l (omega arith))
+      | inr (inr k) ↦ absurd (omega arith)
+    ] in
+    let within_is : (i : ℕ) → i ≤ n + 1 → r' i < size = λ i q. elim (cases_order i (n + 1)) as (λ _. r' i < size) [
+      | inl e ↦ rw (e, here) inside
+      | inr (inl k) ↦ rw (low i (omega arith)) (ring.within i (omega arith))
+      | inr (inr k) ↦ absurd (omega arith)
+    ] in
+    record {
+      start = low 0 (omega arith) ∙ ring.start;
+      close = ap r' (omega arith) ∙ past;
+      behind = behind_is;
+      before = before_is;
+      apart = apart_is;
+      within = within_is;
+    }
+
+-- every place is in the table, also the last, which is the first again
+pub Ring-within : (f g r : ℕ → ℕ) (n size : ℕ) → Ring f g r n size → (i : ℕ) → i ≤ n + 1 → r i < size
+Ring-within f g r n size ring i q = elim (cases_order i (n + 1)) as (λ _. r i < size) [
+  | inl e ↦ rw (e, ring.close) (omega (arith, ring.within 0 (omega arith)))
+  | inr (inl l) ↦ ring.within i (omega arith)
+  | inr (inr l) ↦ absurd (omega arith)
+]
+
+-- links that agree at each place keep the ring
+pub Ring-same : (f g f' g' r : ℕ → ℕ) (n size size' : ℕ) → Ring f g r n size → size ≤ size'
+    → ((i : ℕ) → i ≤ n → f' (r i) ≡ f (r i)) → ((i : ℕ) → i ≤ n → g' (r (i + 1)) ≡ g (r (i + 1))) → Ring f' g' r n size'
+Ring-same f g f' g' r n size size' ring grown fs gs =
+    record {
+      start = ring.start;
+      close = ring.close;
+      behind = λ i q. fs i q ∙ ring.behind i q;
+      before = λ i q. gs i q ∙ ring.before i q;
+      apart = ring.apart;
+      within = λ i q. omega (arith, ring.within i q);
+    }
+
+-- links that agree at the free slots keep the chain
+pub Frees-same : (f f' q : ℕ → ℕ) (m free size size' : ℕ) → Frees f q m free size → size ≤ size'
+    → ((i : ℕ) → i < m → f' (q i) ≡ f (q i)) → Frees f' q m free size'
+Frees-same f f' q m free size size' frees grown fs =
+    record {
+      first = frees.first;
+      next = λ i l. fs i (omega arith) ∙ frees.next i l;
+      apart = frees.apart;
+      within = λ i l. omega (arith, frees.within i l);
+    }
+
+-- the slot s becomes the first free one
+pub Frees-push : (f f' q q' : ℕ → ℕ) (m free size s : ℕ) → Frees f q m free size → s < size
+    → ((i : ℕ) → i < m → q i ≢ s) → ((i : ℕ) → i < m → f' (q i) ≡ f (q i)) → f' s ≡ free
+    → q' 0 ≡ s → ((i : ℕ) → q' (i + 1) ≡ q i)
+    → Frees f' q' (m + 1) s size
+Frees-push f f' q q' m free size s frees inside fresh fs here zeroth later =
+    let at_least : (i : ℕ) → 0 < i → q' i ≡ q (i - 1) = λ i p. ap q' (omega arith) ∙ later (i - 1) in
+    record {
+      first = λ _. sym zeroth;
+      next = λ i l. elim (cases_order i 0) as (λ _. f' (q' i) ≡ q' (i + 1)) [
+        | inl e ↦ ap (λ k. f' (q' k)) e ∙ ap f' zeroth ∙ here ∙ frees.first (omega arith) ∙ ap q (sym e) ∙ sym (later i)
+        | inr (inl k) ↦ absurd (omega arith)
+        | inr (inr k) ↦ ap f' (at_least i k) ∙ fs (i - 1) (omega arith) ∙ frees.next (i - 1) (omega arith) ∙ ap q (omega arith) ∙ sym (later i)
+      ];
+      apart = λ i j l k. elim (cases_order i 0) as (λ _. q' i ≢ q' j) [
+        | inl e ↦ λ same. fresh (j - 1) (omega arith) (sym (at_least j (omega arith)) ∙ sym same ∙ ap q' e ∙ zeroth)
+        | inr (inl p) ↦ absurd (omega arith)
+        | inr (inr p) ↦ rw (at_least i p, at_least j (omega arith)) (frees.apart (i - 1) (j - 1) (omega arith) (omega arith))
+      ];
+      within = λ i l. elim (cases_order i 0) as (λ _. q' i < size) [
+        | inl e ↦ rw (e, zeroth) inside
+        | inr (inl p) ↦ absurd (omega arith)
+        | inr (inr p) ↦ rw (at_least i p) (frees.within (i - 1) (omega arith))
+      ];
+    }
+
+-- the first free slot is taken
+pub Frees-pop : (f f' q q' : ℕ → ℕ) (m free next size : ℕ) → Frees f q (m + 1) free size
+    → ((i : ℕ) → 0 < i → i < m + 1 → f' (q i) ≡ f (q i)) → next ≡ f free
+    → ((i : ℕ) → q' i ≡ q (i + 1))
+    → Frees f' q' m next size
+Frees-pop f f' q q' m free next size frees fs nexts later =
+    record {
+      first = λ p. nexts ∙ ap f (frees.first (omega arith)) ∙ frees.next 0 (omega arith) ∙ sym (later 0);
+      next = λ i l. ap f' (later i) ∙ fs (i + 1) (omega arith) (omega arith) ∙ frees.next (i + 1) (omega arith) ∙ sym (later (i + 1));
+      apart = λ i j l k. rw (later i, later j) (frees.apart (i + 1) (j + 1) (omega arith) (omega arith));
+      within = λ i l. rw (later i) (frees.within (i + 1) (omega arith));
+    }

@@ -1,0 +1,73 @@
+use Rattle.std.proofs.Common.{◌≡◌, ◌<◌, ◌^◌, length, nat_eq, arith, ap, ◌∙◌, refl}
+use Rattle.moka_structures.proofs.Orders.{reuse-leaves, fresh-leaves, added-reuse, added-fresh, free-fresh, new-fresh, length-members, distinct-members}
+use Rattle.moka_structures.proofs.Lookups.{lookup-pushed}
+use Rattle.std.specs.Map.{lookup}
+use Rattle.moka_structures.specs.declared.order_list.Node.{Node}
+use Rattle.moka_structures.proofs.order_list.OrderList.push_back.Goals as goal
+
+pub invariant_of-self : goal.invariant_of-self
+invariant_of-self c =
+    rw (c.reuse-self-inside.ensures.nodes, c.reuse-self-inside.ensures.next) (reuse-leaves _ _ _ c.args.number c.self.invariant (omega arith)).order
+
+pub returns-then-self-len-clause-fresh : goal.returns-then-self-len-clause-fresh
+returns-then-self-len-clause-fresh c = rw (← c.self.view_is) (free-fresh _ _ _ c.self.invariant (omega arith))
+
+pub returns-then-self-len-clause-members : goal.returns-then-self-len-clause-members
+returns-then-self-len-clause-members c = rw (c.reuse-self-inside.ensures.nodes, ← c.self.view_is) (added-reuse _ _ _ c.args.number c.self.invariant (omega arith))
+
+pub push_reserved-requires : goal.push_reserved-requires
+push_reserved-requires c =
+    let req = rw (← c.self.view_is) at c.requires in
+    omega (arith, req, length-members _ _ _ c.self.invariant)
+
+pub invariant_of-self-2 : goal.invariant_of-self-2
+invariant_of-self-2 c =
+    let req = rw (← c.self.view_is) at c.requires in
+    let small : length c.self.inside.nodes.items < 2 ^ 32 = omega arith in
+    let slot : c.len-slot.result ≡ length c.self.inside.nodes.items = omega arith in
+    rw (c.attach.ensures.nodes, c.push_reserved.ensures.items, slot) (fresh-leaves _ _ _ c.args.number c.self.invariant _ small refl).order
+
+pub returns-clause-fresh : goal.returns-clause-fresh
+returns-clause-fresh c =
+    let slot : c.len-slot.result ≡ length c.self.inside.nodes.items = omega arith in
+    rw (slot, ← c.self.view_is) (new-fresh _ _ _ c.self.invariant)
+
+pub returns-clause-members : goal.returns-clause-members
+returns-clause-members c =
+    let req = rw (← c.self.view_is) at c.requires in
+    let small : length c.self.inside.nodes.items < 2 ^ 32 = omega arith in
+    let slot : c.len-slot.result ≡ length c.self.inside.nodes.items = omega arith in
+    rw (c.attach.ensures.nodes, c.push_reserved.ensures.items, slot, ← c.self.view_is) (added-fresh _ _ _ c.args.number c.self.invariant _ small refl)
+
+pub returns-then-self-len-clause-lookups : goal.returns-then-self-len-clause-lookups
+returns-then-self-len-clause-lookups c k =
+    rw (c.reuse-self-inside.ensures.nodes, ← c.self.view_is)
+    (ap (lookup (nat_eq k)) (added-reuse _ _ _ c.args.number c.self.invariant (omega arith)) ∙ lookup-pushed _ _ c.args.number k (free-fresh _ _ _ c.self.invariant (omega arith)))
+
+pub returns-clause-lookups : goal.returns-clause-lookups
+returns-clause-lookups c k =
+    let req = rw (← c.self.view_is) at c.requires in
+    let small : length c.self.inside.nodes.items < 2 ^ 32 = omega arith in
+    let slot : c.len-slot.result ≡ length c.self.inside.nodes.items = omega arith in
+    rw (c.attach.ensures.nodes, c.push_reserved.ensures.items, slot, ← c.self.view_is)
+    (ap (lookup (nat_eq k)) (added-fresh _ _ _ c.args.number c.self.invariant _ small refl) ∙ lookup-pushed _ _ c.args.number k (new-fresh _ _ _ c.self.invariant))
+
+pub returns-then-self-len-clause-len : goal.returns-then-self-len-clause-len
+returns-then-self-len-clause-len c =
+    rw (c.reuse-self-inside.ensures.nodes, ← c.self.view_is)
+    (omega (arith, length-members _ _ _ (reuse-leaves _ _ _ c.args.number c.self.invariant (omega arith)).order, length-members _ _ _ c.self.invariant))
+
+pub returns-clause-len : goal.returns-clause-len
+returns-clause-len c =
+    let slot : c.len-slot.result ≡ length c.self.inside.nodes.items = omega arith in
+    let req = rw (← c.self.view_is) at c.requires in
+    let small : length c.self.inside.nodes.items < 2 ^ 32 = omega arith in
+    let v : Node = record { number = c.args.number; before = 0; behind = 0 } in
+    rw (c.attach.ensures.nodes, c.push_reserved.ensures.items, slot, ← c.self.view_is)
+    (omega (arith, length-members _ _ _ (fresh-leaves _ _ _ c.args.number c.self.invariant v small refl).order, length-members _ _ _ c.self.invariant))
+
+pub returns-then-self-len-clause-distinct : goal.returns-then-self-len-clause-distinct
+returns-then-self-len-clause-distinct c = rw (← c.self.view_is) (distinct-members _ _ _ c.self.invariant)
+
+pub returns-clause-distinct : goal.returns-clause-distinct
+returns-clause-distinct c = rw (← c.self.view_is) (distinct-members _ _ _ c.self.invariant)

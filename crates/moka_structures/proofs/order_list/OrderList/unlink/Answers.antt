@@ -1,0 +1,62 @@
+use Rattle.std.proofs.Common.{◌<◌, length, Some, nat_eq, arith, sym, ap, ◌∙◌}
+use Rattle.std.proofs.lemmas.List.{get_or_read}
+use Rattle.moka_structures.specs.declared.order_list.Node.{Node}
+use Rattle.moka_structures.specs.Links.{blank}
+use Rattle.moka_structures.proofs.Nodes.{numbers}
+use Rattle.moka_structures.proofs.Orders.{near, unlinked, unlinked-number, number-of, distinct-members, length-members, placed}
+use Rattle.moka_structures.proofs.Lookups.{lookup-without}
+use Rattle.std.specs.Map.{lookup}
+use Rattle.moka_structures.proofs.order_list.OrderList.unlink.Goals as goal
+
+pub release-requires-clause-slot : goal.release-requires-clause-slot
+release-requires-clause-slot c =
+    let req = rw (← c.self.view_is) at c.requires in
+    omega (arith, (near _ _ _ _ c.self.invariant req).within)
+
+pub release-requires-clause-before : goal.release-requires-clause-before
+release-requires-clause-before c =
+    let req = rw (← c.self.view_is) at c.requires in
+    omega (arith, (near _ _ _ _ c.self.invariant req).before_within)
+
+pub release-requires-clause-behind : goal.release-requires-clause-behind
+release-requires-clause-behind c =
+    let req = rw (← c.self.view_is) at c.requires in
+    omega (arith, (near _ _ _ _ c.self.invariant req).behind_within)
+
+pub index-requires : goal.index-requires
+index-requires c =
+    let req = rw (← c.self.view_is) at c.requires in
+    omega (arith, (near _ _ _ _ c.self.invariant req).within, (unlinked _ _ _ _ c.self.invariant req).size_is, ap length c.release.ensures.nodes)
+
+pub invariant_of-self : goal.invariant_of-self
+invariant_of-self c =
+    let req = rw (← c.self.view_is) at c.requires in
+    rw c.release.ensures.nodes (unlinked _ _ _ _ c.self.invariant req).order
+
+pub returns-clause-number : goal.returns-clause-number
+returns-clause-number c =
+    let req = rw (← c.self.view_is) at c.requires in
+    let inside : c.args.slot < length c.release.new.nodes.items = omega (arith, (near _ _ _ _ c.self.invariant req).within, (unlinked _ _ _ _ c.self.invariant req).size_is, ap length c.release.ensures.nodes) in
+    let read = ap (λ (n : Node). n.number) (get_or_read c.release.new.nodes.items c.args.slot c.index.result.now inside c.index.ensures blank) in
+    let kept = unlinked-number _ _ _ _ c.self.invariant req in
+    rw (← c.self.view_is) (number-of _ _ _ _ c.self.invariant req ∙ ap Some (sym (read ∙ ap (λ ns. numbers ns c.args.slot) c.release.ensures.nodes ∙ kept)))
+
+pub returns-clause-members : goal.returns-clause-members
+returns-clause-members c =
+    let req = rw (← c.self.view_is) at c.requires in
+    rw (c.release.ensures.nodes, ← c.self.view_is) (unlinked _ _ _ _ c.self.invariant req).members_are
+
+pub returns-clause-distinct : goal.returns-clause-distinct
+returns-clause-distinct c = rw (← c.self.view_is) (distinct-members _ _ _ c.self.invariant)
+
+pub returns-clause-lookups : goal.returns-clause-lookups
+returns-clause-lookups c k =
+    let req = rw (← c.self.view_is) at c.requires in
+    rw (c.release.ensures.nodes, ← c.self.view_is)
+    (ap (lookup (nat_eq k)) (unlinked _ _ _ _ c.self.invariant req).members_are ∙ lookup-without _ _ k (distinct-members _ _ _ c.self.invariant))
+
+pub returns-clause-len : goal.returns-clause-len
+returns-clause-len c =
+    let req = rw (← c.self.view_is) at c.requires in
+    rw (c.release.ensures.nodes, ← c.self.view_is)
+    (omega (arith, length-members _ _ _ (unlinked _ _ _ _ c.self.invariant req).order, length-members _ _ _ c.self.invariant, (placed _ _ _ _ c.self.invariant req).within, c.self.invariant.counted))

@@ -1,0 +1,27 @@
+use Rattle.std.proofs.Common.{ℕ, ◌<◌, IsSome, subst, ap, ◌∙◌, refl, arith}
+use Rattle.std.specs.FinMap as map
+use Rattle.moka_structures.specs.Tickets.{items_of}
+use Rattle.moka_structures.proofs.Tickets.{tied-handed, items-put, gets-updated, len-put, newest-of}
+use Rattle.moka_structures.proofs.outstanding.Outstanding.hand_out.Goals as goal
+
+pub invariant_of-self : goal.invariant_of-self
+invariant_of-self g c =
+    let newest : (q : ℕ) → IsSome (map.get (items_of c.self.inside.waiting) q) → q < c.args.ticket = rw (← c.self.view_is) at c.requires.newest in
+    let e = c.push_back-slot.ensures in
+    tied-handed _ _ _ _ c.self.invariant _ c.args.ticket _ refl e.distinct newest e.fresh e.members e.lookups c.in-Ok.ensures.updates.0
+
+pub returns-clause-items : goal.returns-clause-items
+returns-clause-items g c = rw (← c.self.view_is) (items-put c.self.inside.waiting c.insert.new.self c.args.ticket _ c.in-Ok.ensures.updates.0)
+
+pub returns-clause-gets : goal.returns-clause-gets
+returns-clause-gets g c q = rw (← c.self.view_is) (gets-updated c.self.inside.waiting c.insert.new.self c.args.ticket _ c.in-Ok.ensures.updates.0 q)
+
+pub returns-clause-len : goal.returns-clause-len
+returns-clause-len g c =
+    let newest : (q : ℕ) → IsSome (map.get (items_of c.self.inside.waiting) q) → q < c.args.ticket = rw (← c.self.view_is) at c.requires.newest in
+    rw (← c.self.view_is) (ap map.len (items-put c.self.inside.waiting c.insert.new.self c.args.ticket _ c.in-Ok.ensures.updates.0) ∙ len-put (items_of c.self.inside.waiting) c.args.ticket c.args.item (λ h. omega (arith, newest c.args.ticket h)))
+
+pub returns-clause-newest : goal.returns-clause-newest
+returns-clause-newest g c q h =
+    let newest : (q : ℕ) → IsSome (map.get (items_of c.self.inside.waiting) q) → q < c.args.ticket = rw (← c.self.view_is) at c.requires.newest in
+    newest-of c.args.ticket q _ (map.get (items_of c.self.inside.waiting) q) (newest q) (subst (λ o. IsSome o) (gets-updated c.self.inside.waiting c.insert.new.self c.args.ticket _ c.in-Ok.ensures.updates.0 q) h)

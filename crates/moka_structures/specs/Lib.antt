@@ -1,0 +1,9 @@
+pub mod Lending
+pub mod Linked
+pub mod Links
+pub mod Order
+pub mod Pending
+pub mod RecordTable
+pub mod Rings
+pub mod TableRows
+pub mod Tickets

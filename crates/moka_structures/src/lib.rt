@@ -1,0 +1,12 @@
+//! The structures that the cache engine keeps its records in.
+#![tactic(auto)]
+
+pub mod order_list;
+pub mod outstanding;
+#[cfg(test)]
+mod plain_order;
+pub mod record_table;
+
+pub use order_list::OrderList;
+pub use outstanding::Outstanding;
+pub use record_table::{Membership, RecordTable, Row};

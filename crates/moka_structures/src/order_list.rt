@@ -1,0 +1,299 @@
+// An order of numbers as linked nodes in one table.
+
+ghost use Rattle.std.specs.Prelude.{◌≡◌, ◌≢◌, ◌+◌, ◌<◌, ◌≤◌, ℕ, [], ◌∷◌, ◌++◌, length, ◌↔◌, OnOk, IfOk, IsOk, IfSome, IsSome, IsNone, None, Some, nat_eq, slice_get, vec_len, vec_capacity, if◌then◌else◌};
+ghost use Rattle.std.specs.Map.{lookup, remove_entry, keys_of};
+ghost use Rattle.std.specs.List.{IsDistinct};
+ghost use Rattle.moka_structures.specs.Links.{at, detached, attached, with_behind, with_number};
+ghost use Rattle.moka_structures.specs.Order.{next_after};
+
+use std::alloc::{AllocError, Global};
+use std::marker::Model;
+
+// A slot is a `u32`.
+const MOST_NODES: usize = 1 << 32;
+
+// A node of the ring, which begins and ends at the sentinel in slot 0, or a free node, whose `behind` is the next
+// free one.
+#[derive(Clone, Copy)]
+struct Node {
+    number: u64,
+    before: u32,
+    behind: u32,
+}
+
+// Takes the node at `slot` out of the ring.
+fn detach(nodes: &mut Vec<Node>, slot: u32)
+    requires slot { slot < vec_len nodes.old }
+    requires before { (at nodes.old.items slot).before < vec_len nodes.old }
+    requires behind { (at nodes.old.items slot).behind < vec_len nodes.old }
+    ensures nodes { nodes.new.items ≡ detached nodes.old.items slot }
+    ensures capacity { vec_capacity nodes.new ≡ vec_capacity nodes.old }
+{
+    let before = nodes[slot as usize].before;
+    let behind = nodes[slot as usize].behind;
+    nodes[before as usize].behind = behind;
+    nodes[behind as usize].before = before;
+}
+
+// Puts the node at `slot` before the sentinel, which is behind all others.
+fn attach(nodes: &mut Vec<Node>, slot: u32)
+    requires some { 0 < vec_len nodes.old }
+    requires slot { slot < vec_len nodes.old }
+    requires last { (at nodes.old.items 0).before < vec_len nodes.old }
+    ensures nodes { nodes.new.items ≡ attached nodes.old.items slot }
+    ensures capacity { vec_capacity nodes.new ≡ vec_capacity nodes.old }
+{
+    let last = nodes[0].before;
+    nodes[slot as usize].before = last;
+    nodes[slot as usize].behind = 0;
+    nodes[last as usize].behind = slot;
+    nodes[0].before = slot;
+}
+
+// Takes the node at `slot` out of the ring, and puts it before the free ones.
+fn release(nodes: &mut Vec<Node>, slot: u32, free: u32)
+    requires slot { slot < vec_len nodes.old }
+    requires before { (at nodes.old.items slot).before < vec_len nodes.old }
+    requires behind { (at nodes.old.items slot).behind < vec_len nodes.old }
+    ensures nodes { nodes.new.items ≡ with_behind (detached nodes.old.items slot) slot free }
+    ensures capacity { vec_capacity nodes.new ≡ vec_capacity nodes.old }
+{
+    detach(nodes, slot);
+    nodes[slot as usize].behind = free;
+}
+
+// Gives the free node at `slot` a number and attaches it. The answer is the slot that was free behind it.
+fn reuse(nodes: &mut Vec<Node>, slot: u32, number: u64) -> u32
+    requires slot { slot < vec_len nodes.old }
+    requires last { (at nodes.old.items 0).before < vec_len nodes.old }
+    ensures next { result ≡ (at nodes.old.items slot).behind }
+    ensures nodes { nodes.new.items ≡ attached (with_number nodes.old.items slot number) slot }
+    ensures capacity { vec_capacity nodes.new ≡ vec_capacity nodes.old }
+{
+    let next = nodes[slot as usize].behind;
+    nodes[slot as usize].number = number;
+    attach(nodes, slot);
+    next
+}
+
+/// Numbers in an order, each in a slot of its own by which it is found again. At most 2^32 - 1 numbers are in.
+/// No call takes longer in a longer list, and only `new` and `reserve` ask for memory.
+///
+/// moka: `common::deque::Deque`, whose nodes are reached by raw pointers; here a slot stands for the pointer.
+#[derive(Drop)]
+pub struct OrderList {
+    nodes: Vec<Node>,
+    len: usize,
+    free: u32,
+}
+
+impl Model for OrderList {
+    ghost use Rattle.std.specs.Prelude.{◌-◌, ◌^◌, min, vec_capacity};
+    ghost use Rattle.moka_structures.specs.Order.{Order};
+
+    ghost Value = { Order };
+
+    ghost use Rattle.moka_structures.specs.Links.{members_of, IsOrder};
+
+    ghost view = { λ a. record { members = members_of a.nodes.items a.len; room = min (vec_capacity a.nodes) (2 ^ 32) - 1 - a.len } };
+
+    ghost invariant = { λ a. IsOrder a.nodes.items a.len a.free };
+}
+
+impl OrderList {
+    /// An empty list, or an error where there is no memory for the sentinel.
+    ///
+    /// moka: `Deque::new`.
+    pub fn new(alloc: Global) -> Result<Self, AllocError>
+        ensures { IfOk result (λ o. o.members ≡ []) }
+    {
+        let mut nodes = Vec::with_capacity(alloc, 1)?;
+        nodes.push_reserved(Node {
+            number: 0,
+            before: 0,
+            behind: 0,
+        });
+        Ok(OrderList {
+            nodes,
+            len: 0,
+            free: 0,
+        })
+    }
+
+    /// How many numbers are in.
+    ///
+    /// moka: `Deque::len`.
+    pub fn len(&self) -> usize
+        ensures { result ≡ length self.now.members }
+    {
+        self.len
+    }
+
+    /// Whether no number is in.
+    pub fn is_empty(&self) -> bool
+        ensures { result ≡ nat_eq (length self.now.members) 0 }
+    {
+        self.len == 0
+    }
+
+    /// Makes room for `additional` more numbers. An error leaves the list as it was: there is no memory, or the
+    /// list would be longer than its slots can tell.
+    pub fn reserve(&mut self, additional: usize) -> Result<(), AllocError>
+        ensures room { OnOk result (additional ≤ self.new.room) }
+        ensures succeeds { additional ≤ self.old.room → IsOk result }
+        ensures members { self.new.members ≡ self.old.members }
+        ensures kept { self.old.room ≤ self.new.room }
+    {
+        let room = self.nodes.capacity().min(MOST_NODES) - 1 - self.len;
+        if additional <= room {
+            return Ok(());
+        }
+        if additional > MOST_NODES - 1 - self.len {
+            return Err(AllocError);
+        }
+        let more = additional - (self.nodes.len() - 1 - self.len);
+        self.nodes.reserve(more)
+    }
+
+    /// Puts a number behind all others, where there is room. The answer is its slot, which no other number has
+    /// while it is in.
+    ///
+    /// moka: `Deque::push_back`.
+    pub fn push_back(&mut self, number: u64) -> u32
+        requires { 0 < self.old.room }
+        ensures fresh { lookup (nat_eq result) self.old.members ≡ None }
+        ensures members { self.new.members ≡ self.old.members ++ (result, number) ∷ [] }
+        ensures len { length self.new.members ≡ length self.old.members + 1 }
+        ensures lookups { (s : ℕ) → lookup (nat_eq s) self.new.members ≡ (if nat_eq s result then Some number else lookup (nat_eq s) self.old.members) }
+        ensures distinct { IsDistinct nat_eq (keys_of self.old.members) }
+        ensures room { self.new.room + 1 ≡ self.old.room }
+    {
+        if self.len + 1 < self.nodes.len() {
+            let slot = self.free;
+            self.free = reuse(&mut self.nodes, slot, number);
+            self.len += 1;
+            return slot;
+        }
+        let slot = self.nodes.len() as u32;
+        self.nodes.push_reserved(Node {
+            number,
+            before: 0,
+            behind: 0,
+        });
+        attach(&mut self.nodes, slot);
+        self.len += 1;
+        slot
+    }
+
+    /// Moves the number in `slot` behind all others. It stays in its slot.
+    ///
+    /// moka: `Deque::move_to_back`.
+    pub fn move_to_back(&mut self, slot: u32)
+        requires { IsSome (lookup (nat_eq slot) self.old.members) }
+        ensures members { (number : ℕ) → lookup (nat_eq slot) self.old.members ≡ Some number → self.new.members ≡ remove_entry (nat_eq slot) self.old.members ++ (slot, number) ∷ [] }
+        ensures len { length self.new.members ≡ length self.old.members }
+        ensures lookups { (s : ℕ) → lookup (nat_eq s) self.new.members ≡ lookup (nat_eq s) self.old.members }
+        ensures distinct { IsDistinct nat_eq (keys_of self.old.members) }
+        ensures room { self.new.room ≡ self.old.room }
+    {
+        detach(&mut self.nodes, slot);
+        attach(&mut self.nodes, slot);
+    }
+
+    /// Takes the number in `slot` out and gives it back. The slot may be given to a later number.
+    ///
+    /// moka: `Deque::unlink_and_drop`.
+    pub fn unlink(&mut self, slot: u32) -> u64
+        requires { IsSome (lookup (nat_eq slot) self.old.members) }
+        ensures number { lookup (nat_eq slot) self.old.members ≡ Some result }
+        ensures members { self.new.members ≡ remove_entry (nat_eq slot) self.old.members }
+        ensures len { length self.new.members + 1 ≡ length self.old.members }
+        ensures lookups { (s : ℕ) → lookup (nat_eq s) self.new.members ≡ (if nat_eq slot s then None else lookup (nat_eq s) self.old.members) }
+        ensures distinct { IsDistinct nat_eq (keys_of self.old.members) }
+        ensures room { self.new.room ≡ self.old.room + 1 }
+    {
+        release(&mut self.nodes, slot, self.free);
+        self.free = slot;
+        self.len -= 1;
+        self.nodes[slot as usize].number
+    }
+
+    /// The slot of the first number, and that number.
+    ///
+    /// moka: `Deque::peek_front`.
+    pub fn front(&self) -> Option<(u32, u64)>
+        ensures front { result ≡ slice_get self.now.members 0 }
+        ensures found { IfSome result (λ m. lookup (nat_eq m.0) self.now.members ≡ Some m.1) }
+        ensures none { IsNone result ↔ (length self.now.members ≡ 0) }
+        ensures distinct { IsDistinct nat_eq (keys_of self.now.members) }
+    {
+        let slot = self.nodes[0].behind;
+        if slot == 0 {
+            return None;
+        }
+        Some((slot, self.nodes[slot as usize].number))
+    }
+
+    /// The slot of the number behind the one in `slot`, and that number.
+    ///
+    /// moka: `DeqNode::next_node_ptr`.
+    pub fn next(&self, slot: u32) -> Option<(u32, u64)>
+        requires { IsSome (lookup (nat_eq slot) self.now.members) }
+        ensures next { result ≡ next_after slot self.now.members }
+        ensures found { IfSome result (λ m. lookup (nat_eq m.0) self.now.members ≡ Some m.1) }
+        ensures other { IfSome result (λ m. m.0 ≢ slot) }
+        ensures distinct { IsDistinct nat_eq (keys_of self.now.members) }
+    {
+        let next = self.nodes[slot as usize].behind;
+        if next == 0 {
+            return None;
+        }
+        Some((next, self.nodes[next as usize].number))
+    }
+}
+
+#[cfg(test)]
+mod tests {
+    use super::*;
+    use std::test::Fail;
+
+    #[test]
+    fn moves_and_unlinks(rt: HostRuntime) -> Result<(), Fail> {
+        let mut list = OrderList::new(rt.alloc())?;
+        assert!(rt; list.is_empty());
+        list.reserve(3)?;
+        let a = list.push_back(10);
+        let b = list.push_back(20);
+        let c = list.push_back(30);
+        list.move_to_back(a);
+        assert_eq!(rt; list.front(), Some((b, 20)));
+        assert_eq!(rt; list.next(b), Some((c, 30)));
+        assert_eq!(rt; list.unlink(c), 30);
+        assert_eq!(rt; list.next(b), Some((a, 10)));
+        assert_eq!(rt; list.next(a), None);
+        let d = list.push_back(40);
+        assert_eq!(rt; list.next(a), Some((d, 40)));
+        assert_eq!(rt; list.len(), 3);
+        Ok(())
+    }
+
+    #[test]
+    fn a_refused_growth_changes_nothing(rt: HostRuntime) -> Result<(), Fail> {
+        let Ok(mut list) = OrderList::new(rt.alloc()) else {
+            return Ok(());
+        };
+        for additional in [1, 2, 100, usize::MAX] {
+            let grown = list.reserve(additional).is_ok();
+            assert!(rt; list.is_empty());
+            assert_eq!(rt; list.front(), None);
+            if grown {
+                let slot = list.push_back(7);
+                assert!(rt; list.reserve(usize::MAX).is_err());
+                assert_eq!(rt; list.front(), Some((slot, 7)));
+                assert_eq!(rt; list.next(slot), None);
+                assert_eq!(rt; list.unlink(slot), 7);
+            }
+        }
+        Ok(())
+    }
+}

@@ -1,0 +1,190 @@
+// Operations that were handed out and have not come back.
+
+ghost use Rattle.std.specs.Prelude.{◌≡◌, ◌+◌, ◌<◌, ◌≤◌, ◌↔◌, ℕ, OnOk, IfOk, IfSome, IsOk, IsSome, IsNone, None, Some, is_some, nat_eq, slice_get, if◌then◌else◌};
+ghost use Rattle.std.specs.FinMap as map;
+
+use crate::order_list::OrderList;
+use std::alloc::{AllocError, Global};
+use std::collections::HashMap;
+use std::marker::Model;
+
+// An item, and where its ticket stands in the order.
+#[derive(Clone, Copy)]
+struct Waiting<T: Copy> {
+    slot: u32,
+    item: T,
+}
+
+/// Items that were handed out under rising tickets and not taken back. They are taken by their ticket, in any
+/// order. Only `new` and `reserve` ask for memory.
+#[derive(Drop)]
+pub struct Outstanding<T: Copy> {
+    order: OrderList,
+    waiting: HashMap<u64, Waiting<T>>,
+}
+
+impl<T: Copy> Model for Outstanding<T> {
+    ghost use Rattle.std.specs.Prelude.{min};
+    ghost use Rattle.std.specs.HashMap.{spare};
+    ghost use Rattle.moka_structures.specs.Pending.{Pending, pending_code};
+
+    ghost Value = { Pending T };
+
+    ghost coded = { pending_code T.code };
+
+    ghost use Rattle.moka_structures.specs.Tickets.{items_of, IsTied};
+
+    ghost view = { λ a. record { items = items_of a.waiting; room = min a.order.room (spare a.waiting) } };
+
+    ghost invariant = { λ a. IsTied a.order.members a.waiting };
+}
+
+impl<T: Copy> Outstanding<T> {
+    /// Nothing is out, or an error where there is no memory.
+    pub fn new(alloc: Global) -> Result<Self, AllocError>
+        ensures items { IfOk result (λ o. o.items ≡ map.empty) }
+        ensures gets { IfOk result (λ o. (q : ℕ) → map.get o.items q ≡ None) }
+        ensures len { IfOk result (λ o. map.len o.items ≡ 0) }
+    {
+        Ok(Outstanding {
+            order: OrderList::new(alloc)?,
+            waiting: HashMap::new(alloc),
+        })
+    }
+
+    /// How many items are out.
+    pub fn len(&self) -> usize
+        ensures { result ≡ map.len self.now.items }
+    {
+        self.waiting.len()
+    }
+
+    /// Whether no item is out.
+    pub fn is_empty(&self) -> bool
+        ensures { result ≡ nat_eq (map.len self.now.items) 0 }
+    {
+        self.len() == 0
+    }
+
+    /// Makes room for `additional` more items. An error takes neither items nor room away.
+    pub fn reserve(&mut self, additional: usize) -> Result<(), AllocError>
+        ensures room { OnOk result (additional ≤ self.new.room) }
+        ensures succeeds { additional ≤ self.old.room → IsOk result }
+        ensures items { self.new.items ≡ self.old.items }
+        ensures kept { self.old.room ≤ self.new.room }
+    {
+        self.order.reserve(additional)?;
+        self.waiting.reserve(additional)
+    }
+
+    /// Hands an item out under a ticket above all that are out, where there is room.
+    pub fn hand_out(&mut self, ticket: u64, item: T)
+        requires room { 0 < self.old.room }
+        requires newest { (q : ℕ) → IsSome (map.get self.old.items q) → q < ticket }
+        ensures items { self.new.items ≡ map.insert self.old.items ticket item }
+        ensures gets { (q : ℕ) → map.get self.new.items q ≡ (if nat_eq ticket q then Some item else map.get self.old.items q) }
+        ensures newest { (q : ℕ) → IsSome (map.get self.new.items q) → q ≤ ticket }
+        ensures len { map.len self.new.items ≡ map.len self.old.items + 1 }
+        ensures room { self.old.room ≤ self.new.room + 1 }
+    {
+        let slot = self.order.push_back(ticket);
+        let waiting = Waiting { slot, item };
+        match self.waiting.insert(ticket, waiting) {
+            Ok(_) => {}
+            Err(_) => unreachable!(),
+        }
+    }
+
+    /// The item that is out under a ticket.
+    pub fn get(&self, ticket: u64) -> Option<T>
+        ensures { result ≡ map.get self.now.items ticket }
+    {
+        match self.waiting.get(&ticket) {
+            Some(waiting) => Some(waiting.item),
+            None => None,
+        }
+    }
+
+    /// Whether an item is out under a ticket.
+    pub fn contains(&self, ticket: u64) -> bool
+        ensures { result ≡ is_some (map.get self.now.items ticket) }
+    {
+        self.waiting.contains_key(&ticket)
+    }
+
+    /// Takes the item under a ticket back, if it is out. The room that this makes is not promised.
+    pub fn take(&mut self, ticket: u64) -> Option<T>
+        ensures item { result ≡ map.get self.old.items ticket }
+        ensures items { self.new.items ≡ map.remove self.old.items ticket }
+        ensures gets { (q : ℕ) → map.get self.new.items q ≡ (if nat_eq ticket q then None else map.get self.old.items q) }
+        ensures left { (q : ℕ) → IsSome (map.get self.new.items q) → IsSome (map.get self.old.items q) }
+        ensures len { map.len self.new.items + (if is_some result then 1 else 0) ≡ map.len self.old.items }
+        ensures room { self.old.room ≤ self.new.room }
+    {
+        match self.waiting.remove(&ticket) {
+            Some(waiting) => {
+                let _ticket = self.order.unlink(waiting.slot);
+                Some(waiting.item)
+            }
+            None => None,
+        }
+    }
+
+    /// The least ticket that is out.
+    pub fn oldest(&self) -> Option<u64>
+        ensures first { result ≡ slice_get (map.keys self.now.items) 0 }
+        ensures least { IfSome result (λ t. IsSome (map.get self.now.items t) × ((q : ℕ) → IsSome (map.get self.now.items q) → t ≤ q)) }
+        ensures none { IsNone result ↔ (self.now.items ≡ map.empty) }
+    {
+        match self.order.front() {
+            Some((_, ticket)) => Some(ticket),
+            None => None,
+        }
+    }
+}
+
+#[cfg(test)]
+mod tests {
+    use super::*;
+    use std::test::Fail;
+
+    #[test]
+    fn hands_out_and_takes(rt: HostRuntime) -> Result<(), Fail> {
+        let mut out: Outstanding<u32> = Outstanding::new(rt.alloc())?;
+        assert!(rt; out.is_empty());
+        assert_eq!(rt; out.oldest(), None);
+        out.reserve(3)?;
+        out.hand_out(4, 40);
+        out.hand_out(7, 70);
+        out.hand_out(9, 90);
+        assert_eq!(rt; out.len(), 3);
+        assert_eq!(rt; out.oldest(), Some(4));
+        assert_eq!(rt; out.get(7), Some(70));
+        assert_eq!(rt; out.take(4), Some(40));
+        assert_eq!(rt; out.take(4), None);
+        assert!(rt; !out.contains(4));
+        assert_eq!(rt; out.oldest(), Some(7));
+        assert_eq!(rt; out.take(9), Some(90));
+        assert_eq!(rt; out.len(), 1);
+        Ok(())
+    }
+
+    #[test]
+    fn a_refused_growth_changes_nothing(rt: HostRuntime) -> Result<(), Fail> {
+        let Ok(mut out) = Outstanding::<u8>::new(rt.alloc()) else {
+            return Ok(());
+        };
+        for additional in [1, 2, 100, usize::MAX] {
+            let grown = out.reserve(additional).is_ok();
+            assert!(rt; out.is_empty());
+            assert_eq!(rt; out.oldest(), None);
+            if grown {
+                out.hand_out(7, 70);
+                assert!(rt; out.reserve(usize::MAX).is_err());
+                assert_eq!(rt; out.oldest(), Some(7));
+                assert_eq!(rt; out.take(7), Some(70));
+            }
+        }
+        Ok(())
+    }
+}

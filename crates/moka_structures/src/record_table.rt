@@ -1,0 +1,406 @@
+//! Rows for the cache's entries, each at a place that the table picks.
+ghost use Rattle.std.specs.Prelude.{◌≡◌, ◌≢◌, ◌+◌, ◌<◌, ◌≤◌, ℕ, List, [], length, OnOk, IfSome, IsOk, IsSome, None, Some, is_some, count_by, option_copied};
+ghost use Rattle.std.specs.Borrow.{sem};
+ghost use Rattle.std.specs.FinMap as map;
+ghost use Rattle.std.specs.Option.{option_copied_mut, option_map, option_and_then};
+ghost use Rattle.moka_structures.specs.declared.record_table.Membership.{Membership};
+ghost use Rattle.moka_structures.specs.declared.record_table.Row.{Row};
+ghost use Rattle.moka_structures.specs.RecordTable.{row_at, number_at, stored_at, membership_at, find_at, ChangesAt, records_of, counted_of, places_of};
+ghost use Rattle.slab.specs.Slab.{slab_len};
+
+use slab::Slab;
+use std::alloc::{AllocError, Global};
+use std::marker::Model;
+use std::mem;
+
+/// A row's place in the cache's order.
+#[derive(Clone, Copy)]
+pub struct Membership {
+    /// The weight that is counted for it.
+    pub counted: u32,
+    /// Its handle in the access list.
+    pub access: u32,
+    /// Its handle in the write list, where that list is kept.
+    pub written: Option<u32>,
+}
+
+/// What the table keeps under a number.
+#[derive(Drop)]
+pub struct Row<R> {
+    pub number: u64,
+    /// The record, until it leaves the map.
+    pub stored: Option<R>,
+    /// Its place in the order, while it is a member.
+    pub membership: Option<Membership>,
+    /// Its handle in the timers, while it has one.
+    pub timer: Option<u32>,
+}
+
+/// Rows of records by place.
+///
+/// A number is never used twice, so a place and a number tell whether a record is still there, although the place of a row that was forgotten is given to a later one.
+#[derive(Drop)]
+pub struct RecordTable<R> {
+    rows: Rows<R>,
+}
+
+impl<R> Model for RecordTable<R> {
+    ghost use Rattle.std.specs.Prelude.{◌-◌, ◌≤◌};
+    ghost use Rattle.slab.specs.Slab.{slab_len};
+    ghost use Rattle.moka_structures.specs.RecordTable.{Table, table_code, row_at, IsNumbered};
+    ghost use Rattle.moka_structures.specs.TableRows.{IsTable};
+
+    ghost Value = { Table R };
+
+    ghost coded = { table_code R.code };
+
+    ghost view = { λ a. record { rows = a.rows.slab.slots; room = a.rows.slab.capacity - slab_len a.rows.slab } };
+
+    ghost invariant = { λ a. IsTable (row_at a.rows.slab.slots) (slab_len a.rows.slab) a.rows.slab.capacity };
+}
+
+impl<R> RecordTable<R> {
+    ghost use Rattle.moka_structures.specs.Lending.{lends_record};
+
+    /// An empty table, which takes no memory.
+    pub fn new(alloc: Global) -> Self
+        ensures rows { result.rows ≡ [] }
+        ensures records { records_of result.rows ≡ map.empty }
+        ensures counted { counted_of result.rows ≡ map.empty }
+        ensures places { places_of result.rows ≡ map.empty }
+        ensures room { result.room ≡ 0 }
+    {
+        RecordTable {
+            rows: Rows {
+                slab: Slab::new(alloc),
+            },
+        }
+    }
+
+    /// How many rows there are.
+    pub fn len(&self) -> usize
+        ensures value { result ≡ count_by is_some self.now.rows }
+        ensures fits { result + self.now.room ≤ usize.MAX }
+    {
+        let _capacity = self.rows.slab.capacity();
+        self.rows.slab.len()
+    }
+
+    /// Makes room for `additional` more rows.
+    pub fn reserve(&mut self, additional: usize) -> Result<(), AllocError>
+        ensures room { OnOk result (additional ≤ self.new.room) }
+        ensures succeeds { additional ≤ self.old.room → IsOk result }
+        ensures rows { self.new.rows ≡ self.old.rows }
+        ensures kept { self.old.room ≤ self.new.room }
+    {
+        self.rows.slab.reserve(additional)
+    }
+
+    /// A new row for a number that has none. The answer is its place.
+    pub fn insert(&mut self, number: u64, stored: R) -> usize
+        requires room { 0 < self.old.room }
+        requires fresh { map.get (places_of self.old.rows) number ≡ None }
+        ensures vacant { row_at self.old.rows result ≡ None }
+        ensures changes { ChangesAt (row_at self.old.rows) (row_at self.new.rows) result (Some (record { number = number; stored = Some stored; membership = None; timer = None })) }
+        ensures records { records_of self.new.rows ≡ map.insert (records_of self.old.rows) number stored }
+        ensures counted { counted_of self.new.rows ≡ counted_of self.old.rows }
+        ensures places { places_of self.new.rows ≡ map.insert (places_of self.old.rows) number result }
+        ensures len { count_by is_some self.new.rows ≡ count_by is_some self.old.rows + 1 }
+        ensures room { self.old.room ≡ self.new.room + 1 }
+    {
+        self.rows.slab.insert_reserved(Row {
+            number,
+            stored: Some(stored),
+            membership: None,
+            timer: None,
+        })
+    }
+
+    /// The row at this place.
+    pub fn row(&self, place: usize) -> Option<&Row<R>>
+        ensures { option_copied result ≡ row_at self.now.rows place }
+    {
+        self.rows.slab.get(place)
+    }
+
+    /// The record at this place, if it is the one of this number.
+    pub fn find(&self, place: usize, number: u64) -> Option<&R>
+        ensures value { option_copied result ≡ find_at self.now.rows place number }
+        ensures found { map.get (places_of self.now.rows) number ≡ Some place → option_copied result ≡ map.get (records_of self.now.rows) number }
+        ensures elsewhere { map.get (places_of self.now.rows) number ≢ Some place → option_copied result ≡ None }
+    {
+        self.rows.find(place, number)
+    }
+
+    /// The record at this place, for writing.
+    pub fn record_mut(&mut self, place: usize) -> Option<&mut R>
+        ensures* writes_back { sem 𝓛 (lends_record R.row self.entry place result) }
+        ensures value { option_copied_mut result ≡ stored_at self.old.rows place }
+    {
+        self.rows.stored_mut(place)
+    }
+
+    /// The record at this place leaves the map, and its row stays.
+    pub fn take(&mut self, place: usize) -> R
+        requires { IsSome (stored_at self.old.rows place) }
+        ensures taken { stored_at self.old.rows place ≡ Some result }
+        ensures changes { (row : Row R) → row_at self.old.rows place ≡ Some row → ChangesAt (row_at self.old.rows) (row_at self.new.rows) place (Some (record row { stored = None })) }
+        ensures records { records_of self.new.rows ≡ map.remove (records_of self.old.rows) (number_at self.old.rows place) }
+        ensures counted { counted_of self.new.rows ≡ counted_of self.old.rows }
+        ensures places { places_of self.new.rows ≡ places_of self.old.rows }
+        ensures len { count_by is_some self.new.rows ≡ count_by is_some self.old.rows }
+        ensures room { self.new.room ≡ self.old.room }
+    {
+        self.rows.take_stored(place)
+    }
+
+    /// The membership of the row at this place.
+    pub fn membership(&self, place: usize) -> Option<Membership>
+        ensures { result ≡ membership_at self.now.rows place }
+    {
+        self.row(place)?.membership
+    }
+
+    /// The weight that is counted for the member at this place.
+    pub fn counted(&self, place: usize) -> Option<u32>
+        ensures { result ≡ option_map (λ m. m.counted) (membership_at self.now.rows place) }
+    {
+        self.membership(place).map(|m| m.counted)
+    }
+
+    /// Another weight for the member at this place.
+    pub fn set_counted(&mut self, place: usize, weight: u32)
+        requires { IsSome (membership_at self.old.rows place) }
+        ensures changes { (row : Row R) (m : Membership) → row_at self.old.rows place ≡ Some row → row.membership ≡ Some m → ChangesAt (row_at self.old.rows) (row_at self.new.rows) place (Some (record row { membership = Some (record m { counted = weight }) })) }
+        ensures records { records_of self.new.rows ≡ records_of self.old.rows }
+        ensures counted { counted_of self.new.rows ≡ map.insert (counted_of self.old.rows) (number_at self.old.rows place) weight }
+        ensures places { places_of self.new.rows ≡ places_of self.old.rows }
+        ensures len { count_by is_some self.new.rows ≡ count_by is_some self.old.rows }
+        ensures room { self.new.room ≡ self.old.room }
+    {
+        self.rows.recount(place, weight);
+    }
+
+    /// The row at this place becomes a member, or gets another membership. The answer is the one that it had.
+    pub fn set_membership(&mut self, place: usize, membership: Membership) -> Option<Membership>
+        requires { IsSome (row_at self.old.rows place) }
+        ensures old { result ≡ membership_at self.old.rows place }
+        ensures changes { (row : Row R) → row_at self.old.rows place ≡ Some row → ChangesAt (row_at self.old.rows) (row_at self.new.rows) place (Some (record row { membership = Some membership })) }
+        ensures records { records_of self.new.rows ≡ records_of self.old.rows }
+        ensures counted { counted_of self.new.rows ≡ map.insert (counted_of self.old.rows) (number_at self.old.rows place) membership.counted }
+        ensures places { places_of self.new.rows ≡ places_of self.old.rows }
+        ensures len { count_by is_some self.new.rows ≡ count_by is_some self.old.rows }
+        ensures room { self.new.room ≡ self.old.room }
+    {
+        self.rows.replace_membership(place, Some(membership))
+    }
+
+    /// The row at this place is a member no longer. The answer is the membership that it had.
+    pub fn clear_membership(&mut self, place: usize) -> Option<Membership>
+        requires { IsSome (row_at self.old.rows place) }
+        ensures old { result ≡ membership_at self.old.rows place }
+        ensures changes { (row : Row R) → row_at self.old.rows place ≡ Some row → ChangesAt (row_at self.old.rows) (row_at self.new.rows) place (Some (record row { membership = None })) }
+        ensures records { records_of self.new.rows ≡ records_of self.old.rows }
+        ensures counted { counted_of self.new.rows ≡ map.remove (counted_of self.old.rows) (number_at self.old.rows place) }
+        ensures places { places_of self.new.rows ≡ places_of self.old.rows }
+        ensures len { count_by is_some self.new.rows ≡ count_by is_some self.old.rows }
+        ensures room { self.new.room ≡ self.old.room }
+    {
+        self.rows.replace_membership(place, None)
+    }
+
+    /// Another timer, or none, for the row at this place. The answer is the one that it had.
+    pub fn set_timer(&mut self, place: usize, timer: Option<u32>) -> Option<u32>
+        requires { IsSome (row_at self.old.rows place) }
+        ensures old { result ≡ option_and_then (λ row. row.timer) (row_at self.old.rows place) }
+        ensures changes { (row : Row R) → row_at self.old.rows place ≡ Some row → ChangesAt (row_at self.old.rows) (row_at self.new.rows) place (Some (record row { timer = timer })) }
+        ensures records { records_of self.new.rows ≡ records_of self.old.rows }
+        ensures counted { counted_of self.new.rows ≡ counted_of self.old.rows }
+        ensures places { places_of self.new.rows ≡ places_of self.old.rows }
+        ensures len { count_by is_some self.new.rows ≡ count_by is_some self.old.rows }
+        ensures room { self.new.room ≡ self.old.room }
+    {
+        self.rows.replace_timer(place, timer)
+    }
+
+    /// The row at this place goes. It has no record, no membership and no timer any more.
+    pub fn forget(&mut self, place: usize)
+    where
+        R: Drop,
+        requires { (row_at self.old.rows place) ≡ Some (record { number = number_at self.old.rows place; stored = None; membership = None; timer = None }) }
+        ensures changes { ChangesAt (row_at self.old.rows) (row_at self.new.rows) place None }
+        ensures records { records_of self.new.rows ≡ records_of self.old.rows }
+        ensures counted { counted_of self.new.rows ≡ counted_of self.old.rows }
+        ensures places { places_of self.new.rows ≡ map.remove (places_of self.old.rows) (number_at self.old.rows place) }
+        ensures len { count_by is_some self.new.rows + 1 ≡ count_by is_some self.old.rows }
+        ensures room { self.new.room ≡ self.old.room + 1 }
+    {
+        let _row = self.rows.slab.remove(place);
+    }
+}
+
+// The rows, of which nothing is known.
+#[derive(Drop)]
+struct Rows<R> {
+    slab: Slab<Row<R>>,
+}
+
+impl<R> Rows<R> {
+    ghost use Rattle.moka_structures.specs.Lending.{lends_stored};
+
+    // The record at this place, if its row has this number.
+    fn find(&self, place: usize, number: u64) -> Option<&R>
+        ensures { option_copied result ≡ find_at self.now.slab.slots place number }
+    {
+        match self.slab.get(place) {
+            Some(row) if row.number == number => row.stored.as_ref(),
+            _ => None,
+        }
+    }
+
+    // The record of the row at this place, for writing.
+    fn stored_mut(&mut self, place: usize) -> Option<&mut R>
+        ensures* writes_back { sem 𝓛 (lends_stored R.row self.entry place result) }
+        ensures value { option_copied_mut result ≡ stored_at self.old.slab.slots place }
+    {
+        match self.slab.get_mut(place) {
+            Some(row) => row.stored.as_mut(),
+            None => None,
+        }
+    }
+
+    // The record of the row at this place leaves.
+    fn take_stored(&mut self, place: usize) -> R
+        requires { IsSome (stored_at self.old.slab.slots place) }
+        ensures taken { stored_at self.old.slab.slots place ≡ Some result }
+        ensures changes { (row : Row R) → row_at self.old.slab.slots place ≡ Some row → ChangesAt (row_at self.old.slab.slots) (row_at self.new.slab.slots) place (Some (record row { stored = None })) }
+        ensures len { slab_len self.new.slab ≡ slab_len self.old.slab }
+        ensures capacity { self.new.slab.capacity ≡ self.old.slab.capacity }
+    {
+        let Some(row) = self.slab.get_mut(place) else {
+            unreachable!()
+        };
+        let Some(taken) = row.stored.take() else {
+            unreachable!()
+        };
+        taken
+    }
+
+    // Another weight for the member at this place.
+    fn recount(&mut self, place: usize, weight: u32)
+        requires { IsSome (membership_at self.old.slab.slots place) }
+        ensures changes { (row : Row R) (m : Membership) → row_at self.old.slab.slots place ≡ Some row → row.membership ≡ Some m → ChangesAt (row_at self.old.slab.slots) (row_at self.new.slab.slots) place (Some (record row { membership = Some (record m { counted = weight }) })) }
+        ensures len { slab_len self.new.slab ≡ slab_len self.old.slab }
+        ensures capacity { self.new.slab.capacity ≡ self.old.slab.capacity }
+    {
+        let Some(row) = self.slab.get_mut(place) else {
+            unreachable!()
+        };
+        let Some(membership) = &mut row.membership else {
+            unreachable!()
+        };
+        membership.counted = weight;
+    }
+
+    // Another membership, or none, for the row at this place. The answer is the old one.
+    fn replace_membership(
+        &mut self,
+        place: usize,
+        membership: Option<Membership>,
+    ) -> Option<Membership>
+        requires { IsSome (row_at self.old.slab.slots place) }
+        ensures old { result ≡ membership_at self.old.slab.slots place }
+        ensures changes { (row : Row R) → row_at self.old.slab.slots place ≡ Some row → ChangesAt (row_at self.old.slab.slots) (row_at self.new.slab.slots) place (Some (record row { membership = membership })) }
+        ensures len { slab_len self.new.slab ≡ slab_len self.old.slab }
+        ensures capacity { self.new.slab.capacity ≡ self.old.slab.capacity }
+    {
+        let Some(row) = self.slab.get_mut(place) else {
+            unreachable!()
+        };
+        mem::replace(&mut row.membership, membership)
+    }
+
+    // Another timer, or none, for the row at this place. The answer is the old one.
+    fn replace_timer(&mut self, place: usize, timer: Option<u32>) -> Option<u32>
+        requires { IsSome (row_at self.old.slab.slots place) }
+        ensures old { result ≡ option_and_then (λ row. row.timer) (row_at self.old.slab.slots place) }
+        ensures changes { (row : Row R) → row_at self.old.slab.slots place ≡ Some row → ChangesAt (row_at self.old.slab.slots) (row_at self.new.slab.slots) place (Some (record row { timer = timer })) }
+        ensures len { slab_len self.new.slab ≡ slab_len self.old.slab }
+        ensures capacity { self.new.slab.capacity ≡ self.old.slab.capacity }
+    {
+        let Some(row) = self.slab.get_mut(place) else {
+            unreachable!()
+        };
+        mem::replace(&mut row.timer, timer)
+    }
+}
+
+#[cfg(test)]
+mod tests {
+    use super::*;
+    use std::test::Fail;
+
+    #[test]
+    #[tactic(auto, using(crate::proofs::Gets::map_calls))]
+    fn keeps_a_row(rt: HostRuntime) -> Result<(), Fail> {
+        let mut table: RecordTable<u64> = RecordTable::new(rt.alloc());
+        table.reserve(2)?;
+        let first = table.insert(7, 70);
+        let second = table.insert(8, 80);
+        assert_eq!(rt; table.len(), 2);
+        assert_eq!(rt; table.find(first, 7).copied(), Some(70));
+        assert_eq!(rt; table.find(first, 8).copied(), None);
+        assert_eq!(rt; table.row(second).map(|row| row.number), Some(8));
+        if let Some(stored) = table.record_mut(second) {
+            *stored = 81;
+        }
+        assert_eq!(rt; table.find(second, 8).copied(), Some(81));
+        Ok(())
+    }
+
+    #[test]
+    #[tactic(auto, using(crate::proofs::Gets::map_calls))]
+    fn lets_a_row_go(rt: HostRuntime) -> Result<(), Fail> {
+        let mut table: RecordTable<u64> = RecordTable::new(rt.alloc());
+        table.reserve(1)?;
+        let place = table.insert(7, 70);
+        let before = table.set_membership(
+            place,
+            Membership {
+                counted: 3,
+                access: 1,
+                written: None,
+            },
+        );
+        assert!(rt; before.is_none());
+        table.set_counted(place, 4);
+        assert_eq!(rt; table.counted(place), Some(4));
+        assert_eq!(rt; table.set_timer(place, Some(5)), None);
+        assert_eq!(rt; table.take(place), 70);
+        let membership = table.clear_membership(place);
+        assert_eq!(rt; membership.map(|m| m.access), Some(1));
+        assert_eq!(rt; table.set_timer(place, None), Some(5));
+        table.forget(place);
+        assert_eq!(rt; table.len(), 0);
+        assert_eq!(rt; table.insert(8, 80), place);
+        assert_eq!(rt; table.find(place, 7).copied(), None);
+        Ok(())
+    }
+
+    #[test]
+    #[tactic(auto, using(crate::proofs::Gets::map_calls))]
+    fn a_refused_growth_changes_nothing(rt: HostRuntime) -> Result<(), Fail> {
+        for additional in [1, 2, 100, usize::MAX] {
+            let mut table: RecordTable<u64> = RecordTable::new(rt.alloc());
+            let grown = table.reserve(additional).is_ok();
+            assert_eq!(rt; table.len(), 0);
+            if grown {
+                let place = table.insert(7, 70);
+                assert!(rt; table.reserve(usize::MAX).is_err());
+                assert_eq!(rt; table.len(), 1);
+                assert_eq!(rt; table.find(place, 7).copied(), Some(70));
+            }
+        }
+        Ok(())
+    }
+}
