@@ -188,6 +188,17 @@ module _ {R : Type 0} (rows : List (Option (Row R))) (d : IsNumbered (row_at row
     | inr w ↦ ap (option_and_then (stored_if number)) w.1 ∙ stored_if-other number w.0 (λ e. h (sym (ap (get (places_of rows)) e) ∙ get-places place w.0 w.1))
   ]
 
+module _ {R : Type 0} (rows : List (Option (Row R))) (d : IsNumbered (row_at rows)) where
+  -- where a record is found, the number is placed
+  pub find_at-placed : (place number : ℕ) → IsSome (find_at rows place number) → get (places_of rows) number ≡ Some place
+  find_at-placed place number h = elim (option-cases (row_at rows place)) as (λ _. get (places_of rows) number ≡ Some place) [
+    | inl none ↦ absurd (false≢true (sym (ap (λ o. is_some (option_and_then (stored_if number) o)) none) ∙ h))
+    | inr w ↦ elim (cases_eq w.0.number number) as (λ _. get (places_of rows) number ≡ Some place) [
+      | inl e ↦ sym (ap (get (places_of rows)) e) ∙ get-places rows d place w.0 w.1
+      | inr ne ↦ absurd (false≢true (sym (ap is_some (ap (option_and_then (stored_if number)) w.1 ∙ stored_if-other rows d number w.0 ne)) ∙ h))
+    ]
+  ]
+
 -- ---- a record written through a reference
 
 count-some-set : {X : Type 0} (rows : List (Option X)) (place : ℕ) (was new : Option X) → slice_index_or rows place None ≡ was → is_some was ≡ is_some new → count_by is_some (slice_set rows place new) ≡ count_by is_some rows

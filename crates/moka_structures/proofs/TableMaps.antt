@@ -1,5 +1,5 @@
 -- What the maps of a table answer, and how they follow a change of one row.
-use Rattle.std.proofs.Common.{◌≡◌, ◌≢◌, ℕ, zero, suc, ◌<◌, true, false, List, Option, Some, None, length, ◌⊎◌, inl, inr, refl, sym, ap, subst, ◌∙◌, arith}
+use Rattle.std.proofs.Common.{Bor, option_copied, ◌≡◌, ◌≢◌, ℕ, zero, suc, ◌<◌, true, false, List, Option, Some, None, length, ◌⊎◌, inl, inr, refl, sym, ap, subst, ◌∙◌, arith}
 use Rattle.std.proofs.lemmas.List.{get_or_past}
 use Rattle.std.proofs.lemmas.Bool.{cases_lt, cases_eq, cond-true, cond-false, false≢true}
 use Rattle.std.specs.Prelude.{slice_index_or, IsSome}
@@ -338,3 +338,8 @@ module _ {R : Type 0} (rows new : List (Option (Row R))) (place : ℕ) (was : Ro
 pub some_is : {X : Type 0} (o : Option X) → IsSome o → (x : X) × (o ≡ Some x)
 some_is None h = absurd (false≢true h)
 some_is (Some x) h = (x, refl)
+
+-- what is behind a reference is there where the reference is
+pub copied-some : {T : Type 0} (o : Option (Bor T)) → IsSome o → IsSome (option_copied o)
+copied-some None h = h
+copied-some (Some x) h = refl

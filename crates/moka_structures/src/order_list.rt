@@ -1,5 +1,4 @@
-// An order of numbers as linked nodes in one table.
-
+//! An order of numbers as linked nodes in one table.
 ghost use Rattle.std.specs.Prelude.{◌≡◌, ◌≢◌, ◌+◌, ◌<◌, ◌≤◌, ℕ, [], ◌∷◌, ◌++◌, length, ◌↔◌, OnOk, IfOk, IsOk, IfSome, IsSome, IsNone, None, Some, nat_eq, slice_get, vec_len, vec_capacity, if◌then◌else◌};
 ghost use Rattle.std.specs.Map.{lookup, remove_entry, keys_of};
 ghost use Rattle.std.specs.List.{IsDistinct};

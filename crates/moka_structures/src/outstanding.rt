@@ -1,5 +1,4 @@
-// Operations that were handed out and have not come back.
-
+//! Operations that were handed out and have not come back.
 ghost use Rattle.std.specs.Prelude.{◌≡◌, ◌+◌, ◌<◌, ◌≤◌, ◌↔◌, ℕ, OnOk, IfOk, IfSome, IsOk, IsSome, IsNone, None, Some, is_some, nat_eq, slice_get, if◌then◌else◌};
 ghost use Rattle.std.specs.FinMap as map;
 

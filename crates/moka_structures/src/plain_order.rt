@@ -1,5 +1,4 @@
-// The same order as a plain vector, and a script of steps on both, for tests.
-
+//! The same order as a plain vector, and a script of steps on both, for tests.
 ghost use Rattle.std.specs.Prelude.{◌≡◌, ◌≢◌, ◌+◌, ◌<◌, ◌≤◌, ◌↔◌, ℕ, ◌∷◌, [], ◌++◌, length, OnOk, IsOk, IfSome, IsSome, IsNone, None, Some, nat_eq, slice_get, slice_index_or, vec_len, if◌then◌else◌};
 ghost use Rattle.std.specs.List.{IsDistinct, remove};
 ghost use Rattle.std.specs.Map.{lookup, remove_entry, keys_of};

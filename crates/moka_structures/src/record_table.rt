@@ -1,5 +1,5 @@
 //! Rows for the cache's entries, each at a place that the table picks.
-ghost use Rattle.std.specs.Prelude.{◌≡◌, ◌≢◌, ◌+◌, ◌<◌, ◌≤◌, ℕ, List, [], length, OnOk, IfSome, IsOk, IsSome, None, Some, is_some, count_by, option_copied};
+ghost use Rattle.std.specs.Prelude.{◌≡◌, ◌≢◌, ◌+◌, ◌<◌, ◌≤◌, [], OnOk, IsOk, IsSome, None, Some, is_some, count_by, option_copied};
 ghost use Rattle.std.specs.Borrow.{sem};
 ghost use Rattle.std.specs.FinMap as map;
 ghost use Rattle.std.specs.Option.{option_copied_mut, option_map, option_and_then};
@@ -47,7 +47,7 @@ pub struct RecordTable<R> {
 impl<R> Model for RecordTable<R> {
     ghost use Rattle.std.specs.Prelude.{◌-◌, ◌≤◌};
     ghost use Rattle.slab.specs.Slab.{slab_len};
-    ghost use Rattle.moka_structures.specs.RecordTable.{Table, table_code, row_at, IsNumbered};
+    ghost use Rattle.moka_structures.specs.RecordTable.{Table, table_code, row_at};
     ghost use Rattle.moka_structures.specs.TableRows.{IsTable};
 
     ghost Value = { Table R };
@@ -128,6 +128,7 @@ impl<R> RecordTable<R> {
         ensures value { option_copied result ≡ find_at self.now.rows place number }
         ensures found { map.get (places_of self.now.rows) number ≡ Some place → option_copied result ≡ map.get (records_of self.now.rows) number }
         ensures elsewhere { map.get (places_of self.now.rows) number ≢ Some place → option_copied result ≡ None }
+        ensures placed { IsSome result → map.get (places_of self.now.rows) number ≡ Some place }
     {
         self.rows.find(place, number)
     }

@@ -1,0 +1,27 @@
+-- Before the first call, and where nothing happens.
+use Rattle.std.proofs.Common.{◌≡◌, refl, ℕ, List, [], ◌∷◌, length, Option, Some, None}
+use Rattle.moka_parts.specs.declared.notification.RemovalCause.{RemovalCause}
+use Rattle.moka_parts.specs.Records.{Notice}
+use Rattle.moka_parts.specs.State.{State, Meaning}
+use Rattle.moka_parts.specs.Maintenance.{Terms, Course}
+use Rattle.moka_parts.specs.Surroundings.{Heard}
+use Rattle.moka_parts.specs.Calls.{no_events}
+use Rattle.moka_parts.specs.Runs.{Cache, Befalls, IsRun}
+
+-- a list of no length is empty
+pub empty_of_length : {A : Type 0} (xs : List A) → length xs ≡ 0 → xs ≡ []
+empty_of_length [] e = refl
+empty_of_length (x ∷ xs) e = cc
+
+-- who is told nothing stays the same
+nothing_heard : {K V L : Type 0} (tells : L → K → V → RemovalCause → L → Type 0) (l : Option L) → Heard tells l [] l
+nothing_heard tells None = refl
+nothing_heard tells (Some l) = refl
+
+-- no event befalls a cache that stays the same
+pub nothing_befalls : {K V S X L P W : Type 0} (tells : L → K → V → RemovalCause → L → Type 0) (c : Cache K V S X L P W) → Befalls tells no_events c c
+nothing_befalls tells c = record { kept = refl; heard = nothing_heard tells c.listener; passes = refl }
+
+-- before the first call
+pub no_calls : {K V S X L P W C I : Type 0} (m : Meaning K V X L P W C I) (Runs : State K V X P W → Terms → Course → List (Notice K V) → State K V X P W → Type 0) (c : Cache K V S X L P W) (clock : C) (ids : I) → IsRun m Runs [] [] [] c clock ids c clock ids
+no_calls m Runs c clock ids = record { calls_made = refl; replies_given = refl; are_steps = tt; ends = refl; heard = nothing_heard m.tells c.listener; read = refl; given = refl }

@@ -1,0 +1,50 @@
+use Rattle.std.proofs.Common.{rules, arith, refl, sym, ap, subst, ◌∙◌, ◌≡◌, [], ◌∷◌, ◌++◌, append_assoc, append-nil, length}
+use Rattle.std.specs.List.{AllByRecursion}
+use Rattle.std.specs.Vec.Iter.{into_iter_items}
+use Rattle.moka_parts.specs.Maintenance.{MaintenanceRun}
+use Rattle.moka_parts.proofs.RunsGoOn.{IsRun_push}
+use Rattle.moka_drive.specs.Served.{IsServed}
+use Rattle.moka_drive.proofs.Quiet.{no_calls, empty_of_length}
+use Rattle.moka_drive.proofs.driver.drive.Goals as goal
+
+pub loop-call-init : goal.loop-call-init
+loop-call-init g c = record {
+  can = tt;
+  finite = tt;
+  ran = ([], rw c.in-Ok.ensures.items (no_calls (record { eq = g.K.PartialEq.eq; tells = g.L.Listener.tells; says = g.P.PredicateFn.says; weighs = g.W.Weigher.weighs; reads = g.C.Clock.reads; gives = g.I.IdSource.gives; created = g.X.Expiry.created; read = g.X.Expiry.read; updated = g.X.Expiry.updated }) (MaintenanceRun g.P.PredicateFn.says) c.args.cache.now c.args.clock.now c.args.ids.now));
+  rest = search rules;
+  served = search rules;
+  room = search rules;
+}
+
+pub make-reply-requires-clause-served : goal.make-reply-requires-clause-served
+make-reply-requires-clause-served g c = (subst (AllByRecursion IsServed) c.in-Some.ensures.steps.0 c.loop-call.invariant.served).0
+
+pub push_reserved-requires : goal.push_reserved-requires
+push_reserved-requires g c = omega (arith, c.loop-call.invariant.room, ap length c.in-Some.ensures.steps.0)
+
+pub loop-call-preserved : goal.loop-call-preserved
+loop-call-preserved g c =
+    let h = c.loop-call.invariant.ran in
+    let k = c.make-reply.ensures in
+    let step = c.in-Some.ensures.steps in
+    record {
+      can = tt;
+      finite = tt;
+      ran = (
+        h.0 ++ record { call = c.in-Some.call; reply = c.make-reply.result; events = k.0; after = c.make-reply.new.cache.state } ∷ [],
+        rw c.push_reserved.ensures.items (IsRun_push (record { eq = g.K.PartialEq.eq; tells = g.L.Listener.tells; says = g.P.PredicateFn.says; weighs = g.W.Weigher.weighs; reads = g.C.Clock.reads; gives = g.I.IdSource.gives; created = g.X.Expiry.created; read = g.X.Expiry.read; updated = g.X.Expiry.updated }) (MaintenanceRun g.P.PredicateFn.says) c.loop-call.yielded c.loop-call.replies.items h.0 c.args.cache.now c.loop-call.cache c.make-reply.new.cache
+            c.args.clock.now c.loop-call.clock c.make-reply.new.clock c.args.ids.now c.loop-call.ids c.make-reply.new.ids
+            (record { call = c.in-Some.call; reply = c.make-reply.result; events = k.0; after = c.make-reply.new.cache.state }) h.1 k.1 refl k.2 k.3 k.4),
+      );
+      rest = c.loop-call.invariant.rest ∙ (ap (λ xs. c.loop-call.yielded ++ xs) step.0 ∙ sym (append_assoc c.loop-call.yielded (c.in-Some.call ∷ []) (into_iter_items c.next.new.self)));
+      served = (subst (AllByRecursion IsServed) step.0 c.loop-call.invariant.served).1;
+      room = omega (arith, c.push_reserved.ensures.len, c.push_reserved.ensures.capacity, c.loop-call.invariant.room, ap length step.0);
+    }
+
+pub returns-clause-run : goal.returns-clause-run
+returns-clause-run g c =
+    let h = c.loop-call.invariant.ran in
+    let none = empty_of_length (into_iter_items c.loop-call.call-iterator) (sym c.loop-call.call-iterator.rest.ok.0 ∙ c.in-None.ensures.steps.0) in
+    let all = c.loop-call.invariant.rest ∙ (ap (λ xs. c.loop-call.yielded ++ xs) none ∙ append-nil c.loop-call.yielded) in
+    (h.0, rw all h.1)

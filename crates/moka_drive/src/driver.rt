@@ -1,0 +1,122 @@
+//! Makes calls one after the other.
+ghost use Rattle.std.specs.Prelude.{◌≡◌, List, IfOk, IfErr, OnErr};
+ghost use Rattle.std.specs.List.{AllByRecursion};
+ghost use Rattle.moka_parts.specs.State.{Events, Meaning};
+ghost use Rattle.moka_parts.specs.Maintenance.{MaintenanceRun};
+ghost use Rattle.moka_parts.specs.Surroundings.{Leads};
+ghost use Rattle.moka_parts.specs.Runs.{Befalls, CallStep, ReferenceRun, Step};
+ghost use Rattle.moka_drive.specs.Served.{IsServed};
+
+use moka_engine::base_cache::BaseCache;
+use moka_parts::calls::{Call, DriveRefused, Reply};
+use moka_parts::closures::{PredicateFn, Weigher};
+use moka_parts::error::OutOfMemory;
+use moka_parts::housekeeper::Clock;
+use moka_parts::invalidator::IdSource;
+use moka_parts::notification::Listener;
+use moka_parts::policy::Expiry;
+use std::alloc::Global;
+use std::hash::{BuildHasher, Hash};
+
+/// Makes the calls one after the other, and answers each with the reply of the same name. So far these are inserts,
+/// sends, gets, runs and reports.
+///
+/// # Errors
+/// `OutOfMemory` where there is no room for the replies. The calls come back, and none was made. Where a single call is
+/// refused, that is its reply, and the next follows.
+pub fn drive<
+    K: Eq + Hash + Clone,
+    V: Clone,
+    S: BuildHasher,
+    X: Expiry<K, V>,
+    L: Listener<K, V>,
+    P: PredicateFn<K, V> + Drop,
+    W: Weigher<K, V>,
+    I: IdSource,
+    C: Clock,
+>(
+    alloc: Global,
+    cache: &mut BaseCache<K, V, S, X, L, P, W>,
+    calls: Vec<Call<K, V, P>>,
+    ids: &mut I,
+    clock: &mut C,
+) -> Result<Vec<Reply<K, V, P>>, DriveRefused<K, V, P>>
+    requires keys { (x y : K) → K.is_clone x y → y ≡ x }
+    requires values { (x y : V) → V.is_clone x y → y ≡ x }
+    requires served { AllByRecursion IsServed calls.items }
+    ensures run { IfOk result (λ replies. (steps : List (Step K V X P W))
+        × ReferenceRun (record { eq = K.eq; tells = L.tells; says = P.says; weighs = W.weighs; reads = C.reads; gives = I.gives; created = X.created; read = X.read; updated = X.updated })
+        calls.items replies.items steps cache.old clock.old ids.old cache.new clock.new ids.new) }
+    ensures refused { IfErr result (λ e. e.calls ≡ calls) }
+    ensures unchanged { OnErr result ((cache.new ≡ cache.old) × (clock.new ≡ clock.old) × (ids.new ≡ ids.old)) }
+{
+    let Ok(mut replies) = Vec::with_capacity(alloc, calls.len()) else {
+        let error = OutOfMemory;
+        return Err(DriveRefused { error, calls });
+    };
+    for call in calls {
+        let reply = make(cache, call, ids, clock);
+        replies.push_reserved(reply);
+    }
+    Ok(replies)
+}
+
+/// Makes one call.
+fn make<
+    K: Eq + Hash + Clone,
+    V: Clone,
+    S: BuildHasher,
+    X: Expiry<K, V>,
+    L: Listener<K, V>,
+    P: PredicateFn<K, V> + Drop,
+    W: Weigher<K, V>,
+    I: IdSource,
+    C: Clock,
+>(
+    cache: &mut BaseCache<K, V, S, X, L, P, W>,
+    call: Call<K, V, P>,
+    ids: &mut I,
+    clock: &mut C,
+) -> Reply<K, V, P>
+    requires keys { (x y : K) → K.is_clone x y → y ≡ x }
+    requires values { (x y : V) → V.is_clone x y → y ≡ x }
+    requires served { IsServed call }
+    ensures { (e : Events K V)
+        × CallStep (record { eq = K.eq; tells = L.tells; says = P.says; weighs = W.weighs; reads = C.reads; gives = I.gives; created = X.created; read = X.read; updated = X.updated }) (MaintenanceRun P.says) cache.old.state call result e cache.new.state
+        × Befalls L.tells e cache.old cache.new
+        × Leads C.reads clock.old e.readings clock.new
+        × Leads I.gives ids.old e.ids ids.new }
+{
+    match call {
+        Call::Insert {
+            key,
+            hash,
+            value,
+            now,
+        } => {
+            if cache.is_map_disabled() {
+                return Reply::Disabled { key, value };
+            }
+            Reply::Insert(cache.do_insert_with_hash(key, hash, value, now))
+        }
+        Call::Send { ticket } => Reply::Send(cache.send(ticket)),
+        Call::Get {
+            key,
+            hash,
+            need_key,
+            now,
+        } => Reply::Get(cache.get_with_hash(&key, hash, need_key, now, clock)),
+        Call::Run {
+            now,
+            limit,
+            repeats,
+            batch,
+        } => Reply::Run(cache.run_pending_tasks(now, clock, limit, repeats, batch)),
+        Call::Report => Reply::Report {
+            count: cache.entry_count(),
+            weight: cache.weighted_size(),
+            predicates: cache.invalidation_predicate_count(),
+        },
+        _ => unreachable!(),
+    }
+}

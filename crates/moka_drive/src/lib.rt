@@ -1,0 +1,6 @@
+//! Runs lists of calls on a cache.
+#![tactic(auto)]
+
+pub mod driver;
+
+pub use driver::drive;

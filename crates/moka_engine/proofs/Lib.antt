@@ -1,0 +1,16 @@
+pub mod Keys
+pub mod Nodes
+pub mod Ties
+pub mod Members
+pub mod Steps
+pub mod Places
+pub mod ValuesLemmas
+pub mod Gets
+pub mod Rows
+pub mod Queues
+pub mod Applied
+pub mod CacheSteps
+pub mod CacheReturns
+pub mod Weights
+pub mod InnerLemmas
+pub mod QueuesApplied

@@ -1,0 +1,13 @@
+pub mod Store
+pub mod StoreRows
+pub mod StoreTies
+pub mod Updates
+pub mod Values
+pub mod Interior
+pub mod Inner
+pub mod Sends
+pub mod Applied
+pub mod Inserts
+pub mod Lookups
+pub mod BaseCache
+pub mod Weights

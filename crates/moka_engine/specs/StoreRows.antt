@@ -1,0 +1,36 @@
+-- What a store reads from its rows. No public clause cites this module.
+use Rattle.std.specs.Prelude.{ℕ, Option, List}
+use Rattle.std.specs.Option.{option_map, option_and_then, option_map_or}
+use Rattle.moka_structures.specs.declared.record_table.Row.{Row}
+use Rattle.moka_structures.specs.RecordTable.{row_at}
+use Rattle.moka_parts.specs.declared.records.Record.{Record}
+use Rattle.moka_parts.specs.declared.records.Member.{Member}
+
+module _ {K V : Type 0} where
+  -- the key of a row's record
+  abbrev pub key_in : Row (Record K V) → Option K
+  key_in row = option_map (λ r. r.key) row.stored
+
+  -- the key of the record at a place
+  abbrev pub key_at : List (Option (Row (Record K V))) → ℕ → Option K
+  key_at rows place = option_and_then key_in (row_at rows place)
+
+  -- the slot in the access list of a row
+  abbrev pub access_in : Row (Record K V) → Option ℕ
+  access_in row = option_map (λ m. m.access) row.membership
+
+  -- the slot in the access list of the row at a place
+  abbrev pub access_at : List (Option (Row (Record K V))) → ℕ → Option ℕ
+  access_at rows place = option_and_then access_in (row_at rows place)
+
+  -- the timer of the row at a place
+  abbrev pub timer_at : List (Option (Row (Record K V))) → ℕ → Option ℕ
+  timer_at rows place = option_and_then (λ row. row.timer) (row_at rows place)
+
+  -- a row's number and its counted weight, 0 for one that is no member
+  abbrev pub member_in : Row (Record K V) → Member
+  member_in row = record { number = row.number; counted = option_map_or (λ m. m.counted) row.membership 0 }
+
+  -- what a node of the access list stands for: the member at the place that it holds
+  abbrev pub member_at : List (Option (Row (Record K V))) → (ℕ × ℕ) → Member
+  member_at rows node = option_map_or member_in (row_at rows node.1) (record { number = 0; counted = 0 })

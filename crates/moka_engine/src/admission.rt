@@ -1,0 +1,144 @@
+//! What a queued write makes of the records and their order.
+//!
+//! moka: `sync::base_cache::Inner::handle_upsert`, `Inner::apply_writes`.
+ghost use Rattle.std.specs.Prelude.{◌≡◌, ℕ, Some};
+ghost use Rattle.std.specs.FinMap as finite;
+ghost use Rattle.std.specs.Prelude.{[], ◌∷◌, ◌++◌};
+ghost use Rattle.moka_parts.specs.Records.{member, to_back, without_member};
+ghost use Rattle.moka_engine.specs.Store.{IsPlaced};
+ghost use Rattle.moka_parts.specs.Settling.{number_of};
+ghost use Rattle.moka_engine.specs.Interior.{IsAt};
+ghost use Rattle.moka_engine.specs.Weights.{IsWeighed};
+ghost use Rattle.moka_engine.specs.Applied.{records_after_write, access_after_write, records_after_upsert, access_after_upsert};
+
+use crate::inner::PlacedWrite;
+use crate::store::{Handle, Store};
+use moka_parts::records::Operation;
+use std::hash::{BuildHasher, Hash};
+
+/// Applies a queued write.
+pub(crate) fn apply_write<K: Eq + Hash + Drop, V: Drop, S: BuildHasher>(
+    store: &mut Store<K, V, S>,
+    weight: &mut u128,
+    write: PlacedWrite,
+)
+    requires at { IsAt store.old.places (number_of write.operation) write.place }
+    requires weighed { IsWeighed store.old.access weight.old }
+    ensures step { store.new ≡ record store.old { records = records_after_write store.old.records write.operation; access = access_after_write store.old.records store.old.access write.operation; places = store.new.places; room = store.new.room } }
+    ensures places { (n p : ℕ) → finite.get store.new.places n ≡ Some p → finite.get store.old.places n ≡ Some p }
+    ensures weighed { IsWeighed store.new.access weight.new }
+{
+    let place = write.place;
+    match write.operation {
+        Operation::Upsert {
+            number,
+            generation,
+            weight: own,
+            ..
+        } => apply_upsert(store, weight, Handle { number, place }, generation, own),
+        Operation::Removal { number, .. } => apply_removal(store, weight, Handle { number, place }),
+    }
+}
+
+/// Applies an upsert: of a record in the map, the member comes to the back, with the weight if the operation is newer
+/// than all that were applied.
+fn apply_upsert<K: Eq + Hash, V, S: BuildHasher>(
+    store: &mut Store<K, V, S>,
+    weight: &mut u128,
+    handle: Handle,
+    generation: u64,
+    own: u32,
+)
+    requires at { IsAt store.old.places handle.number handle.place }
+    requires weighed { IsWeighed store.old.access weight.old }
+    ensures step { store.new ≡ record store.old { records = records_after_upsert store.old.records handle.number generation (finite.get store.old.records handle.number); access = access_after_upsert store.old.access handle.number generation own (finite.get store.old.records handle.number) } }
+    ensures weighed { IsWeighed store.new.access weight.new }
+{
+    if !store.has_row(handle) {
+        return;
+    }
+    let Some(found) = store.find(handle) else {
+        return;
+    };
+    let newer = found.applied < generation;
+    if newer {
+        store.set_applied(handle, generation);
+        enter(store, weight, handle, own);
+    } else {
+        pass(store, handle);
+    }
+}
+
+/// The number comes to the back of the access list with this weight, whether it was there or not.
+fn enter<K: Eq + Hash, V, S: BuildHasher>(
+    store: &mut Store<K, V, S>,
+    weight: &mut u128,
+    handle: Handle,
+    own: u32,
+)
+    requires placed { IsPlaced store.old handle }
+    requires weighed { IsWeighed store.old.access weight.old }
+    ensures step { store.new ≡ record store.old { access = without_member handle.number store.old.access ++ member handle.number own ∷ [] } }
+    ensures weighed { IsWeighed store.new.access weight.new }
+{
+    // Fewer than 2^64 members of 32 bits each: the sum fits.
+    let _members = store.member_count();
+    match store.counted(handle) {
+        Some(counted) => {
+            store.recount(handle, own);
+            *weight = *weight - counted as u128 + own as u128;
+        }
+        None => {
+            store.admit(handle, own);
+            *weight += own as u128;
+        }
+    }
+}
+
+/// The member of this number, if there is one, comes to the back of the access list.
+pub(crate) fn pass<K: Eq + Hash, V, S: BuildHasher>(store: &mut Store<K, V, S>, handle: Handle)
+    requires { IsPlaced store.old handle }
+    ensures { store.new ≡ record store.old { access = to_back handle.number store.old.access } }
+{
+    if store.is_member(handle) {
+        store.move_to_back(handle);
+    }
+}
+
+/// Applies a removal: the number goes, if its member is still there.
+fn apply_removal<K: Eq + Hash + Drop, V: Drop, S: BuildHasher>(
+    store: &mut Store<K, V, S>,
+    weight: &mut u128,
+    handle: Handle,
+)
+    requires at { IsAt store.old.places handle.number handle.place }
+    requires weighed { IsWeighed store.old.access weight.old }
+    ensures step { store.new ≡ record store.old { access = without_member handle.number store.old.access; places = store.new.places; room = store.new.room } }
+    ensures places { (n p : ℕ) → finite.get store.new.places n ≡ Some p → finite.get store.old.places n ≡ Some p }
+    ensures weighed { IsWeighed store.new.access weight.new }
+{
+    if !store.has_row(handle) {
+        return;
+    }
+    leave(store, weight, handle);
+    if store.find(handle).is_none() {
+        store.forget(handle);
+    }
+}
+
+/// The member of this number, if there is one, leaves the access list.
+fn leave<K: Eq + Hash, V, S: BuildHasher>(
+    store: &mut Store<K, V, S>,
+    weight: &mut u128,
+    handle: Handle,
+)
+    requires placed { IsPlaced store.old handle }
+    requires weighed { IsWeighed store.old.access weight.old }
+    ensures step { store.new ≡ record store.old { access = without_member handle.number store.old.access } }
+    ensures weighed { IsWeighed store.new.access weight.new }
+{
+    if let Some(counted) = store.counted(handle) {
+        store.leave(handle);
+        *weight -= counted as u128;
+    }
+}

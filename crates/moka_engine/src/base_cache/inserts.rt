@@ -1,0 +1,107 @@
+//! Inserts into the inner part. moka: `sync::base_cache::BaseCache::do_insert_with_hash`.
+ghost use Rattle.std.specs.Prelude.{◌≡◌, Some, None};
+ghost use Rattle.std.specs.FinMap as finite;
+ghost use Rattle.moka_parts.specs.declared.records.Record.{Record};
+ghost use Rattle.moka_parts.specs.Records.{record_of_key};
+ghost use Rattle.moka_engine.specs.Interior.{LeadsTo};
+ghost use Rattle.moka_engine.specs.Inserts.{PutsAt};
+
+use crate::inner::{Inner, Written};
+use crate::store::Handle;
+use moka_parts::calls::Ticket;
+use moka_parts::error::{InsertError, InsertRefused};
+use moka_parts::policy::Instant;
+use std::hash::{BuildHasher, Hash};
+
+/// Each entry weighs the same.
+const WEIGHT: u32 = 1;
+
+/// The ticket of the operation and, of a key that was there, the key handed in with the value that it replaced.
+pub(super) type Put<K, V> = Result<(Ticket, Option<(K, V)>), InsertRefused<K, V>>;
+
+/// Puts a value under a key, whether that is there or not.
+pub(super) fn put<K: Eq + Hash + Clone, V, S: BuildHasher>(
+    inner: &mut Inner<K, V, S>,
+    key: K,
+    hash: u64,
+    value: V,
+    now: Instant,
+) -> Put<K, V>
+    requires clones { (x y : K) → K.is_clone x y → y ≡ x }
+    ensures { PutsAt inner.old (record_of_key K.eq inner.old.records key) key hash value now result inner.new }
+{
+    match inner.find(&key) {
+        None => insert_new(inner, key, hash, value, now),
+        Some((handle, found)) => {
+            let expires = found.expires;
+            update_known(inner, handle, expires, key, hash, value, now)
+        }
+    }
+}
+
+/// A new record for a key that has none. All room is made, and the key cloned, before anything changes.
+fn insert_new<K: Eq + Hash + Clone, V, S: BuildHasher>(
+    inner: &mut Inner<K, V, S>,
+    key: K,
+    hash: u64,
+    value: V,
+    now: Instant,
+) -> Put<K, V>
+    requires clones { (x y : K) → K.is_clone x y → y ≡ x }
+    requires fresh { record_of_key K.eq inner.old.records key ≡ None }
+    ensures { PutsAt inner.old None key hash value now result inner.new }
+{
+    if !inner.has_tickets(1) {
+        let error = InsertError::NumbersUsedUp;
+        return Err(InsertRefused { error, key, value });
+    }
+    let error = InsertError::OutOfMemory;
+    if inner.reserve_record().is_err() {
+        return Err(InsertRefused { error, key, value });
+    }
+    let Ok(kept) = key.clone() else {
+        return Err(InsertRefused { error, key, value });
+    };
+    let written = Written {
+        hash,
+        value,
+        now,
+        expires: None,
+        weight: WEIGHT,
+    };
+    Ok((inner.insert(key, kept, written), None))
+}
+
+/// A new value for the record at this handle, which goes on to expire as it did.
+fn update_known<K: Eq + Hash, V, S: BuildHasher>(
+    inner: &mut Inner<K, V, S>,
+    handle: Handle,
+    expires: Option<Instant>,
+    key: K,
+    hash: u64,
+    value: V,
+    now: Instant,
+) -> Put<K, V>
+    requires handle { LeadsTo inner.old handle }
+    requires expires { (r : Record K V) → finite.get inner.old.records handle.number ≡ Some r → expires ≡ r.expires }
+    ensures { (r : Record K V) → finite.get inner.old.records handle.number ≡ Some r → PutsAt inner.old (Some r) key hash value now result inner.new }
+{
+    if !inner.has_tickets(0) {
+        let error = InsertError::NumbersUsedUp;
+        return Err(InsertRefused { error, key, value });
+    }
+    if inner.reserve_operation().is_err() {
+        let error = InsertError::OutOfMemory;
+        return Err(InsertRefused { error, key, value });
+    }
+    inner.know();
+    let written = Written {
+        hash,
+        value,
+        now,
+        expires,
+        weight: WEIGHT,
+    };
+    let (old, ticket) = inner.update(handle, written);
+    Ok((ticket, Some((key, old))))
+}

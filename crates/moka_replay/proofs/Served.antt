@@ -1,0 +1,132 @@
+-- Each call of a script is one that the driver makes.
+use Rattle.std.proofs.Common.{◌≡◌, ℕ, ◌+◌, Bool, true, false, List, [], ◌∷◌, ◌++◌, Option, Some, None, Result, Ok, Err, subst, codes, if◌then◌else◌}
+use Rattle.std.specs.List.{AllByRecursion, list_all}
+use Rattle.std.specs.Option.{option_and_then, option_map, option_map_or, option_or}
+use Rattle.std.specs.Str.{bytes_eq}
+use Rattle.moka_drive.specs.Served.{IsServed}
+use Rattle.moka_replay.specs.declared.script.Settings.{Settings}
+use Rattle.moka_replay.specs.declared.script.Setting.{Setting}
+use Rattle.moka_replay.specs.declared.script.Line.{Line}
+use Rattle.moka_replay.specs.declared.script.Line.TheVariants as line
+use Rattle.moka_replay.specs.Words.{number_of, is_printable, words_of}
+use Rattle.moka_replay.specs.Script.{CallText, ScriptText, insert_of, send_of, get_of, run_of, report_of, call_of, setting_of, asked_by_name, asked_by, asked_in, is_comment, put_in, joined, with_line, lines_read, lines_of, no_text, script_of}
+
+-- ---- calls
+
+-- the call, if there is one, is served
+abbrev Serves : Option CallText → Type 0
+Serves None = Unit {0}
+Serves (Some call) = IsServed call
+
+serves_if : (b : Bool) (x : Option CallText) (y : Option CallText) → Serves x → Serves y → Serves (if b then x else y)
+serves_if true x y p q = p
+serves_if false x y p q = q
+
+serves_then : {A : Type 0} (o : Option A) (f : A → Option CallText) → ((a : A) → Serves (f a)) → Serves (option_and_then f o)
+serves_then None f each = tt
+serves_then (Some a) f each = each a
+
+serves_insert : (arguments : List (List ℕ)) → Serves (insert_of arguments)
+serves_insert [] = tt
+serves_insert (key ∷ []) = tt
+serves_insert (key ∷ value ∷ []) = tt
+serves_insert (key ∷ value ∷ now ∷ []) = serves_then (number_of 32 key) _ (λ k. serves_then (number_of 64 now) _ (λ n. tt))
+serves_insert (key ∷ value ∷ now ∷ more ∷ rest) = tt
+
+serves_send : (arguments : List (List ℕ)) → Serves (send_of arguments)
+serves_send [] = tt
+serves_send (ticket ∷ []) = serves_then (number_of 64 ticket) _ (λ n. tt)
+serves_send (ticket ∷ more ∷ rest) = tt
+
+serves_get : (arguments : List (List ℕ)) → Serves (get_of arguments)
+serves_get [] = tt
+serves_get (key ∷ []) = tt
+serves_get (key ∷ now ∷ []) = serves_then (number_of 32 key) _ (λ k. serves_then (number_of 64 now) _ (λ n. tt))
+serves_get (key ∷ now ∷ more ∷ rest) = tt
+
+serves_run : (arguments : List (List ℕ)) → Serves (run_of arguments)
+serves_run [] = tt
+serves_run (now ∷ []) = tt
+serves_run (now ∷ batch ∷ []) = serves_then (number_of 64 now) _ (λ n. serves_then (number_of 32 batch) _ (λ b. tt))
+serves_run (now ∷ batch ∷ more ∷ rest) = tt
+
+serves_report : (arguments : List (List ℕ)) → Serves (report_of arguments)
+serves_report [] = tt
+serves_report (more ∷ rest) = tt
+
+serves_call : (name : List ℕ) (arguments : List (List ℕ)) → Serves (call_of name arguments)
+serves_call name arguments =
+    let reported : Option CallText = if bytes_eq name (codes "report") then report_of arguments else None in
+    let run : Option CallText = if bytes_eq name (codes "run") then run_of arguments else reported in
+    let got : Option CallText = if bytes_eq name (codes "get") then get_of arguments else run in
+    let sent : Option CallText = if bytes_eq name (codes "send") then send_of arguments else got in
+    let reports = serves_if (bytes_eq name (codes "report")) (report_of arguments) None (serves_report arguments) tt in
+    let runs = serves_if (bytes_eq name (codes "run")) (run_of arguments) reported (serves_run arguments) reports in
+    let gets = serves_if (bytes_eq name (codes "get")) (get_of arguments) run (serves_get arguments) runs in
+    let sends = serves_if (bytes_eq name (codes "send")) (send_of arguments) got (serves_send arguments) gets in
+    serves_if (bytes_eq name (codes "insert")) (insert_of arguments) sent (serves_insert arguments) sends
+
+-- ---- lines
+
+-- the call that a line asks for, if it asks for one, is served
+abbrev ServesLine : Option Line → Type 0
+ServesLine None = Unit {0}
+ServesLine (Some line.Nothing) = Unit {0}
+ServesLine (Some (line.Setting setting)) = Unit {0}
+ServesLine (Some (line.Call call)) = IsServed call
+
+serves_line_if : (b : Bool) (x y : Option Line) → ServesLine x → ServesLine y → ServesLine (if b then x else y)
+serves_line_if true x y p q = p
+serves_line_if false x y p q = q
+
+serves_either : (setting : Option Setting) (call : Option CallText) → Serves call → ServesLine (option_or (option_map line.Setting setting) (option_map line.Call call))
+serves_either (Some setting) call p = tt
+serves_either None None p = tt
+serves_either None (Some call) p = p
+
+serves_words : (words : List (List ℕ)) → ServesLine (asked_by words)
+serves_words [] = tt
+serves_words (name ∷ arguments) = serves_line_if (is_comment name) (Some line.Nothing) (asked_by_name name arguments) tt (serves_either (setting_of name arguments) (call_of name arguments) (serves_call name arguments))
+
+serves_in : (text : List ℕ) → ServesLine (asked_in text)
+serves_in text = serves_line_if (list_all is_printable text) (asked_by (words_of text)) None (serves_words (words_of text)) tt
+
+-- ---- scripts
+
+-- each call of the script, if there is one, is served
+abbrev ServesAll : Option ScriptText → Type 0
+ServesAll None = Unit {0}
+ServesAll (Some script) = AllByRecursion IsServed script.1
+
+served_push : (calls : List CallText) (call : CallText) → AllByRecursion IsServed calls → IsServed call → AllByRecursion IsServed (calls ++ call ∷ [])
+served_push [] call all one = (one, tt)
+served_push (first ∷ calls) call all one = (all.0, served_push calls call all.1 one)
+
+serves_set : (b : Bool) (set : Option Settings) (calls : List CallText) → AllByRecursion IsServed calls → ServesAll (if b then option_map (λ settings. (settings, calls)) set else None)
+serves_set true None calls all = tt
+serves_set true (Some settings) calls all = all
+serves_set false set calls all = tt
+
+serves_joined : (script : ScriptText) (asked : Option Line) → AllByRecursion IsServed script.1 → ServesLine asked → ServesAll (option_and_then (joined script) asked)
+serves_joined script None all asks = tt
+serves_joined script (Some line.Nothing) all asks = all
+serves_joined script (Some (line.Setting setting)) all asks = serves_set _ (put_in script.0 setting) script.1 all
+serves_joined script (Some (line.Call call)) all asks = served_push script.1 call all asks
+
+-- each call of what was read is served
+abbrev ServesRead : Result ScriptText ℕ → Type 0
+ServesRead (Ok script) = AllByRecursion IsServed script.1
+ServesRead (Err number) = Unit {0}
+
+serves_next : (next : Option ScriptText) (number : ℕ) (read : ScriptText → Result ScriptText ℕ) → ServesAll next → ((more : ScriptText) → AllByRecursion IsServed more.1 → ServesRead (read more)) → ServesRead (option_map_or read next (Err number))
+serves_next None number read all each = tt
+serves_next (Some more) number read all each = each more all
+
+serves_lines : (number : ℕ) (script : ScriptText) (lines : List (List ℕ)) → AllByRecursion IsServed script.1 → ServesRead (lines_read number script lines)
+serves_lines number script [] all = all
+serves_lines number script (text ∷ lines) all =
+    serves_next (with_line script text) number _ (serves_joined script (asked_in text) all (serves_in text)) (λ more each. serves_lines (number + 1) more lines each)
+
+-- each call of a script that is right is served
+pub served_of_script : (text : List ℕ) (script : ScriptText) → script_of text ≡ Ok script → AllByRecursion IsServed script.1
+served_of_script text script read = subst ServesRead read (serves_lines 1 no_text (lines_of text) tt)

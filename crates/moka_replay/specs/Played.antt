@@ -1,0 +1,63 @@
+-- What comes of the calls of a script: a run of the reference cache.
+use Rattle.std.specs.Prelude.{◌≡◌, ℕ, ◌+◌, ◌-◌, ◌^◌, min, ◌&&◌, nat_eq, nat_le, false, List, None, unwrap_or}
+use Rattle.std.specs.Int.{w128, to_be_bytes}
+use Rattle.moka_parts.specs.declared.calls.Reply.{Reply}
+use Rattle.moka_parts.specs.declared.policy.EvictionPolicy.TheVariants.{TinyLfu}
+use Rattle.moka_parts.specs.declared.policy.NoExpiry.{NoExpiry}
+use Rattle.moka_parts.specs.declared.notification.NoListener.{NoListener}
+use Rattle.moka_parts.specs.State.{State, Meaning, new_state}
+use Rattle.moka_parts.specs.Housekeeping.{new_housekeeping, without_automatic}
+use Rattle.moka_parts.specs.Maintenance.{MaintenanceRun}
+use Rattle.moka_parts.specs.Runs.{Step, calls_of, replies_of, last_state, AreSteps}
+use Rattle.moka_replay.specs.declared.key_range.KeyRange.{KeyRange}
+use Rattle.moka_replay.specs.declared.print.Total.{Total}
+use Rattle.moka_replay.specs.declared.script.Settings.{Settings}
+use Rattle.moka_replay.specs.declared.sources.CountedIds.{CountedIds}
+use Rattle.moka_replay.specs.declared.sources.StoppedClock.{StoppedClock}
+use Rattle.moka_replay.specs.declared.weigher.NumberWeigher.{NumberWeigher}
+use Rattle.moka_replay.specs.Script.{ScriptText}
+use Rattle.moka_replay.specs.Words.{weight_of}
+
+-- keys are numbers, values are words
+abbrev pub ScriptState : Type 0
+ScriptState = State ℕ (List ℕ) NoExpiry KeyRange NumberWeigher
+
+abbrev pub ScriptStep : Type 0
+ScriptStep = Step ℕ (List ℕ) NoExpiry KeyRange NumberWeigher
+
+-- what the parts of a script mean
+abbrev pub script_meaning : Meaning ℕ (List ℕ) NoExpiry NoListener KeyRange NumberWeigher StoppedClock CountedIds
+script_meaning = record {
+  eq = nat_eq;
+  tells = λ before _ _ _ after. after ≡ before;
+  says = λ range key _ answer. answer ≡ (nat_le range.low key && nat_le key range.high);
+  weighs = λ _ _ value weight. weight ≡ weight_of value;
+  reads = λ before moment after. (moment.0 ≡ 0) × (after ≡ before);
+  gives = λ before id after. (after.given ≡ min (before.given + 1) (2 ^ 64 - 1)) × (id ≡ to_be_bytes w128 after.given);
+  created = λ _ _ _ _. None;
+  read = λ _ _ _ _ told _. told;
+  updated = λ _ _ _ _ told. told;
+}
+
+-- the cache that a script begins with: made at 0, with no bound, and no run starts by itself
+abbrev pub first_state : Settings → ScriptState
+first_state settings = record (new_state (record {
+  policy = TinyLfu;
+  time_to_live = None;
+  time_to_idle = None;
+  expiry = None;
+  weigher = None;
+  listening = false;
+  invalidator = false;
+  run_limit = 100000000;
+  run_repeats = 4;
+  run_batch = 384;
+}) None 0 (unwrap_or settings.first 1)) { housekeeping = without_automatic (new_housekeeping 0) }
+
+-- count and weight of the last run
+abbrev pub total_of : ScriptState → Total
+total_of state = record { count = state.count; weight = state.weight }
+
+-- the calls, made one after the other on a new reference cache, give the replies and leave that total
+abbrev pub AreReplies : ScriptText → List (Reply ℕ (List ℕ) KeyRange) → Total → Type 0
+AreReplies script replies total = (steps : List ScriptStep) × (calls_of steps ≡ script.1) × (replies_of steps ≡ replies) × AreSteps script_meaning (MaintenanceRun script_meaning.says) (first_state script.0) steps × (total ≡ total_of (last_state (first_state script.0) steps))

@@ -1,0 +1,102 @@
+ghost use Rattle.moka_drive.specs.Served.{IsServed};
+
+use super::*;
+use crate::script::{ScriptCall, ScriptReply};
+use moka_parts::calls::{Call, Reply, Ticket};
+use moka_parts::error::{InsertError, InsertRefused};
+use std::process::Abort;
+use std::test::Fail;
+
+/// A new cache; where memory is refused, at the second attempt.
+fn cache_at_last(alloc: Global) -> Result<ScriptCache, OutOfMemory> {
+    match new_cache(alloc, Settings { first: None }) {
+        Ok(cache) => Ok(cache),
+        Err(_) => new_cache(alloc, Settings { first: None }),
+    }
+}
+
+/// A word; where memory is refused, at the second attempt.
+fn word_at_last(alloc: Global, text: &str) -> Option<Word> {
+    match Word::new(alloc, text) {
+        Ok(word) => Some(word),
+        Err(_) => Word::new(alloc, text).ok(),
+    }
+}
+
+/// The reply to one call; where memory for the list or for the replies is refused, at the second attempt.
+fn reply_to(alloc: Global, cache: &mut ScriptCache, call: ScriptCall) -> Option<ScriptReply>
+    requires { IsServed call }
+{
+    let mut calls = match Vec::with_capacity(alloc, 1) {
+        Ok(calls) => calls,
+        Err(_) => Vec::with_capacity(alloc, 1).ok()?,
+    };
+    calls.push_reserved(call);
+    let (mut ids, mut clock) = (CountedIds::new(), StoppedClock);
+    let replies = match drive(alloc, cache, calls, &mut ids, &mut clock) {
+        Ok(replies) => replies,
+        Err(refused) => drive(alloc, cache, refused.calls, &mut ids, &mut clock).ok()?,
+    };
+    replies.into_iter().next()
+}
+
+/// What a look-up of key 1 shows; where memory for the clone is refused, at the second attempt.
+fn value_of_1(alloc: Global, cache: &mut ScriptCache) -> Option<Word> {
+    for _ in 0..2 {
+        let get = Call::Get {
+            key: 1,
+            hash: 1,
+            need_key: false,
+            now: Instant(0),
+        };
+        if let Reply::Get(Ok(found)) = reply_to(alloc, cache, get)? {
+            return found.map(|entry| entry.value);
+        }
+    }
+    None
+}
+
+/// Inserts a word under key 1. Where memory is refused, the key and the word come back, a look-up shows `before`, and
+/// the second attempt inserts them.
+fn insert_at_last<R: Abort + AllocGlobal>(
+    rt: &R,
+    cache: &mut ScriptCache,
+    text: &str,
+    before: Option<&str>,
+) -> Result<Ticket, Fail> {
+    let mut key = 1;
+    let mut value = word_at_last(rt.alloc(), text).ok_or("memory")?;
+    for _ in 0..2 {
+        let insert = Call::Insert {
+            key,
+            hash: 1,
+            value,
+            now: Instant(0),
+        };
+        match reply_to(rt.alloc(), cache, insert) {
+            Some(Reply::Insert(Ok((ticket, _)))) => return Ok(ticket),
+            Some(Reply::Insert(Err(refused))) => {
+                assert_eq!(rt; refused.error, InsertError::OutOfMemory);
+                assert_eq!(rt; (refused.key, refused.value.as_str()), (1, text));
+                let shown = value_of_1(rt.alloc(), cache);
+                assert_eq!(rt; shown.as_ref().map(Word::as_str), before);
+                key = refused.key;
+                value = refused.value;
+            }
+            _ => return Err("another reply".into()),
+        }
+    }
+    Err("refused twice".into())
+}
+
+#[test]
+fn goes_on_where_memory_was_refused_once(rt: HostRuntime) -> Result<(), Fail> {
+    let mut cache = cache_at_last(rt.alloc()).ok().ok_or("memory")?;
+    for (text, before, number) in [("a", None, 1), ("b", Some("a"), 2)] {
+        let ticket = insert_at_last(&rt, &mut cache, text, before)?;
+        assert_eq!(rt; ticket, Ticket(number));
+        let shown = value_of_1(rt.alloc(), &mut cache);
+        assert_eq!(rt; shown.as_ref().map(Word::as_str), Some(text));
+    }
+    Ok(())
+}

@@ -1,0 +1,53 @@
+//! The weigher of a script.
+use crate::word::Word;
+use crate::words::small_number;
+use moka_parts::closures::Weigher;
+
+/// The most digits of a weight.
+const MOST_DIGITS: usize = 10;
+
+/// A word of one to ten digits weighs the number that it says, if it fits in 32 bits; any other
+/// word weighs 1.
+#[derive(Clone, Copy, Debug)]
+pub struct NumberWeigher;
+
+impl Weigher<u32, Word> for NumberWeigher {
+    ghost use Rattle.std.specs.Prelude.{◌≡◌};
+    ghost use Rattle.moka_replay.specs.Words.{weight_of};
+    ghost use Rattle.std.proofs.Common.{◌∙◌, sym};
+
+    ghost weighs = { λ _ _ value weight. weight ≡ weight_of value };
+
+    fn weigh(&self, _key: &u32, value: &Word) -> u32 {
+        let word = value.as_str();
+        if word.len() > MOST_DIGITS {
+            return 1;
+        }
+        small_number(word).unwrap_or(1)
+    }
+
+    ghost one_weight = { λ _ _ _ _ _ first second. first ∙ sym second };
+}
+
+#[cfg(test)]
+mod tests {
+    use super::*;
+    use std::test::Fail;
+
+    #[test]
+    fn weighs_words(rt: HostRuntime) -> Result<(), Fail> {
+        for (word, weight) in [
+            ("0", 0),
+            ("4294967295", u32::MAX),
+            ("4294967296", 1),
+            ("0000000007", 7),
+            ("00000000007", 1),
+            ("a", 1),
+            ("+7", 1),
+        ] {
+            let value = Word::new(rt.alloc(), word)?;
+            assert_eq!(rt; NumberWeigher.weigh(&1, &value), weight, "of {word}");
+        }
+        Ok(())
+    }
+}

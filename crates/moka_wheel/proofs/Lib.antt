@@ -1,0 +1,16 @@
+pub mod Parts
+pub mod Bits
+pub mod Rings
+pub mod Fields
+pub mod Moves
+pub mod Sound
+pub mod Frames
+pub mod Walk
+pub mod Turns
+pub mod Writes
+pub mod Chains
+pub mod SlotMaps
+pub mod Maps
+pub mod Upkeep
+pub mod Heads
+pub mod Pairs

@@ -1,0 +1,17 @@
+use Rattle.std.proofs.Common.{arith}
+use Rattle.moka_wheel.proofs.Moves.{reach}
+use Rattle.moka_wheel.proofs.Sound.{reach-placed, early-placed}
+use Rattle.moka_wheel.proofs.buckets.Buckets.step.Goals as goal
+
+pub returns-then-now-start-clause-placed : goal.returns-then-now-start-clause-placed
+returns-then-now-start-clause-placed c =
+    early-placed _ _ c.args.self.now.moment c.args.now c.in-Some.bucket c.requires.placed c.requires.late c.in-Some.ensures.within c.in-Some.ensures.marked c.in-Some.ensures.first (omega (arith, c.start_of-start.ensures, c.if-now-start.true))
+
+pub spread-requires-clause-reached : goal.spread-requires-clause-reached
+spread-requires-clause-reached c =
+    rw c.start_of-start.ensures (reach-placed _ _ c.args.self.now.moment c.in-Some.bucket c.requires.placed c.in-Some.ensures.within c.in-Some.ensures.marked c.in-Some.ensures.first)
+
+pub returns-clause-moved : goal.returns-clause-moved
+returns-clause-moved c _ =
+    let r = reach c.args.self.now.moment c.in-Some.bucket (c.requires.placed.ahead c.in-Some.bucket c.in-Some.ensures.within (λ e. omega (arith, c.in-Some.ensures.within)) c.in-Some.ensures.marked) in
+    omega (arith, r.later, c.spread.ensures.moment, c.start_of-start.ensures)

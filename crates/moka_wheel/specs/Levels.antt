@@ -1,0 +1,27 @@
+-- Where a timer stands in the wheel, and which buckets are in use.
+use Rattle.std.specs.Prelude.{◌≡◌, ℕ, ◌*◌, ◌/◌, ◌%◌, ◌^◌, ◌<◌, ◌≤◌, List, slice_index_or}
+use Rattle.std.specs.Int.{bit_at}
+
+-- the bytes of a moment from a level on, as one number
+abbrev pub part : ℕ → ℕ → ℕ
+part x level = x / 2 ^ (8 * level)
+
+-- the bucket is that of the timer's byte at a level above which its moment agrees with the wheel's
+pub record IsNear (moment at bucket : ℕ) : Type 0 where
+  pub above : part at (bucket / 256) / 256 ≡ part moment (bucket / 256) / 256
+  pub byte : part at (bucket / 256) % 256 ≡ bucket % 256
+
+-- the bucket's byte is past the wheel's at its level
+abbrev pub IsAhead : ℕ → ℕ → Type 0
+IsAhead moment bucket = part moment (bucket / 256) % 256 < bucket % 256
+
+-- where a timer stands in a wheel: in the due list, or at the level of the highest byte in which its moment differs from the wheel's
+pub record IsHome (moment at bucket : ℕ) : Type 0 where
+  pub within : bucket < 2049
+  pub due : bucket ≡ 2048 → at ≤ moment
+  pub near : bucket < 2048 → IsNear moment at bucket
+  pub ahead : bucket < 2048 → IsAhead moment bucket
+
+-- the bit of a bucket
+abbrev pub bit_of : List ℕ → ℕ → ℕ
+bit_of words bucket = bit_at (slice_index_or words (bucket / 64) 0) (bucket % 64)

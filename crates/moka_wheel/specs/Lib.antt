@@ -1,0 +1,7 @@
+pub mod Wheel
+pub mod Slots
+pub mod Nodes
+pub mod Levels
+pub mod Buckets
+pub mod Invariant
+pub mod Plain
