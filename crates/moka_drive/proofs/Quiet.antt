@@ -1,12 +1,17 @@
 -- Before the first call, and where nothing happens.
-use Rattle.std.proofs.Common.{◌≡◌, refl, ℕ, List, [], ◌∷◌, length, Option, Some, None}
+use Rattle.std.proofs.Common.{◌≡◌, refl, ℕ, List, [], ◌∷◌, length, Option, Some, None, Result, Ok, Err, IfOk, IfErr, option_map}
+use Rattle.std.specs.declared.alloc.Global.{Global}
+use Rattle.std.specs.declared.vec.Vec.{Vec}
+use Rattle.moka_parts.specs.declared.calls.Call.TheVariants as call
+use Rattle.moka_parts.specs.declared.calls.Reply.TheVariants as reply
+use Rattle.moka_parts.specs.declared.error.OutOfMemory.{OutOfMemory}
 use Rattle.moka_parts.specs.declared.notification.RemovalCause.{RemovalCause}
 use Rattle.moka_parts.specs.Records.{Notice}
 use Rattle.moka_parts.specs.State.{State, Meaning}
 use Rattle.moka_parts.specs.Maintenance.{Terms, Course}
 use Rattle.moka_parts.specs.Surroundings.{Heard}
-use Rattle.moka_parts.specs.Calls.{no_events}
-use Rattle.moka_parts.specs.Runs.{Cache, Befalls, IsRun}
+use Rattle.moka_parts.specs.Calls.{no_events, KeysStep}
+use Rattle.moka_parts.specs.Runs.{Cache, Befalls, CallStep, IsRun}
 
 -- a list of no length is empty
 pub empty_of_length : {A : Type 0} (xs : List A) → length xs ≡ 0 → xs ≡ []
@@ -25,3 +30,9 @@ nothing_befalls tells c = record { kept = refl; heard = nothing_heard tells c.li
 -- before the first call
 pub no_calls : {K V S X L P W C I : Type 0} (m : Meaning K V X L P W C I) (Runs : State K V X P W → Terms → Course → List (Notice K V) → State K V X P W → Type 0) (c : Cache K V S X L P W) (clock : C) (ids : I) → IsRun m Runs [] [] [] c clock ids c clock ids
 no_calls m Runs c clock ids = record { calls_made = refl; replies_given = refl; are_steps = tt; ends = refl; heard = nothing_heard m.tells c.listener; read = refl; given = refl }
+
+-- a list of keys that changes nothing, as a call
+pub keys_step : {K V X L P W C I : Type 0} (m : Meaning K V X L P W C I) (Runs : State K V X P W → Terms → Course → List (Notice K V) → State K V X P W → Type 0) (s : State K V X P W) (segment : ℕ) (a : Result (Option (Vec K Global)) OutOfMemory) → IfOk a (λ keys. KeysStep s segment (Ok (option_map (λ v. v.items) keys))) → IfErr a (λ e. KeysStep s segment (Err e)) → CallStep m Runs s (call.Keys segment) (reply.Keys a) no_events s
+keys_step m Runs s segment (Ok (Some keys)) listed refused = (listed, (refl, refl))
+keys_step m Runs s segment (Ok None) listed refused = (listed, (refl, refl))
+keys_step m Runs s segment (Err e) listed refused = (refused, (refl, refl))

@@ -1,10 +1,11 @@
 //! Makes calls one after the other.
-ghost use Rattle.std.specs.Prelude.{◌≡◌, List, IfOk, IfErr, OnErr};
+ghost use Rattle.std.specs.Prelude.{◌≡◌, length, List, IfOk, IfErr, OnErr};
 ghost use Rattle.std.specs.List.{AllByRecursion};
 ghost use Rattle.moka_parts.specs.State.{Events, Meaning};
-ghost use Rattle.moka_parts.specs.Maintenance.{MaintenanceRun};
 ghost use Rattle.moka_parts.specs.Surroundings.{Leads};
-ghost use Rattle.moka_parts.specs.Runs.{Befalls, CallStep, ReferenceRun, Step};
+ghost use Rattle.moka_parts.specs.Calls.{KeyStep};
+ghost use Rattle.moka_parts.specs.Runs.{Befalls, CallStep, SettlingReferenceRun, SettlingRun, Step};
+ghost use Rattle.moka_parts.specs.declared.calls.Reply.TheVariants.{Report};
 ghost use Rattle.moka_drive.specs.Served.{IsServed};
 
 use moka_engine::base_cache::BaseCache;
@@ -19,7 +20,11 @@ use std::alloc::Global;
 use std::hash::{BuildHasher, Hash};
 
 /// Makes the calls one after the other, and answers each with the reply of the same name. So far these are inserts,
-/// sends, gets, runs and reports.
+/// sends, gets, look-ups that change nothing, removals that nobody is told of, runs, and lists of keys and reports.
+///
+/// Replies, records and notices are a run of the reference cache, whose runs of maintenance settle what was sent: one with
+/// a batch of at least one that begins with every operation sent ends with count and weight exactly the records', and the
+/// weight within the capacity.
 ///
 /// # Errors
 /// `OutOfMemory` where there is no room for the replies. The calls come back, and none was made. Where a single call is
@@ -45,7 +50,7 @@ pub fn drive<
     requires values { (x y : V) → V.is_clone x y → y ≡ x }
     requires served { AllByRecursion IsServed calls.items }
     ensures run { IfOk result (λ replies. (steps : List (Step K V X P W))
-        × ReferenceRun (record { eq = K.eq; tells = L.tells; says = P.says; weighs = W.weighs; reads = C.reads; gives = I.gives; created = X.created; read = X.read; updated = X.updated })
+        × SettlingReferenceRun (record { eq = K.eq; tells = L.tells; says = P.says; weighs = W.weighs; reads = C.reads; gives = I.gives; created = X.created; read = X.read; updated = X.updated })
         calls.items replies.items steps cache.old clock.old ids.old cache.new clock.new ids.new) }
     ensures refused { IfErr result (λ e. e.calls ≡ calls) }
     ensures unchanged { OnErr result ((cache.new ≡ cache.old) × (clock.new ≡ clock.old) × (ids.new ≡ ids.old)) }
@@ -82,23 +87,21 @@ fn make<
     requires values { (x y : V) → V.is_clone x y → y ≡ x }
     requires served { IsServed call }
     ensures { (e : Events K V)
-        × CallStep (record { eq = K.eq; tells = L.tells; says = P.says; weighs = W.weighs; reads = C.reads; gives = I.gives; created = X.created; read = X.read; updated = X.updated }) (MaintenanceRun P.says) cache.old.state call result e cache.new.state
+        × CallStep (record { eq = K.eq; tells = L.tells; says = P.says; weighs = W.weighs; reads = C.reads; gives = I.gives; created = X.created; read = X.read; updated = X.updated }) (SettlingRun P.says X.read) cache.old.state call result e cache.new.state
         × Befalls L.tells e cache.old cache.new
         × Leads C.reads clock.old e.readings clock.new
         × Leads I.gives ids.old e.ids ids.new }
 {
     match call {
+        Call::Insert { key, value, .. } if cache.is_map_disabled() => {
+            Reply::Disabled { key, value }
+        }
         Call::Insert {
             key,
             hash,
             value,
             now,
-        } => {
-            if cache.is_map_disabled() {
-                return Reply::Disabled { key, value };
-            }
-            Reply::Insert(cache.do_insert_with_hash(key, hash, value, now))
-        }
+        } => Reply::Insert(cache.do_insert_with_hash(key, hash, value, now)),
         Call::Send { ticket } => Reply::Send(cache.send(ticket)),
         Call::Get {
             key,
@@ -106,17 +109,66 @@ fn make<
             need_key,
             now,
         } => Reply::Get(cache.get_with_hash(&key, hash, need_key, now, clock)),
+        Call::Contains { key, hash, now } => {
+            Reply::Contains(cache.contains_key_with_hash(&key, hash, now))
+        }
+        Call::Key { key, hash } => Reply::Key(key_of(cache, &key, hash)),
+        Call::Remove { key, hash, .. } => Reply::Remove {
+            removed: cache.remove_entry(&key, hash),
+            told: None,
+        },
+        Call::Keys { segment } => Reply::Keys(cache.keys(segment)),
         Call::Run {
             now,
             limit,
             repeats,
             batch,
         } => Reply::Run(cache.run_pending_tasks(now, clock, limit, repeats, batch)),
-        Call::Report => Reply::Report {
-            count: cache.entry_count(),
-            weight: cache.weighted_size(),
-            predicates: cache.invalidation_predicate_count(),
-        },
+        Call::Report => report(cache),
         _ => unreachable!(),
     }
 }
+
+/// The report of the last run.
+fn report<
+    K: Eq + Hash,
+    V,
+    S: BuildHasher,
+    X: Expiry<K, V>,
+    L: Listener<K, V>,
+    P: PredicateFn<K, V>,
+    W: Weigher<K, V>,
+>(cache: &BaseCache<K, V, S, X, L, P, W>) -> Reply<K, V, P>
+    ensures { result ≡ Report cache.now.state.count cache.now.state.weight (length cache.now.state.predicates) }
+{
+    Reply::Report {
+        count: cache.entry_count(),
+        weight: cache.weighted_size(),
+        predicates: cache.invalidation_predicate_count(),
+    }
+}
+
+/// A clone of the key that the cache keeps.
+fn key_of<
+    K: Eq + Hash + Clone,
+    V,
+    S: BuildHasher,
+    X: Expiry<K, V>,
+    L: Listener<K, V>,
+    P: PredicateFn<K, V>,
+    W: Weigher<K, V>,
+>(cache: &BaseCache<K, V, S, X, L, P, W>, key: &K, hash: u64) -> Result<Option<K>, OutOfMemory>
+    requires keys { (x y : K) → K.is_clone x y → y ≡ x }
+    ensures { KeyStep K.eq cache.now.state key.now result }
+{
+    let Some(kept) = cache.get_key_with_hash(key, hash) else {
+        return Ok(None);
+    };
+    match kept.clone() {
+        Ok(key) => Ok(Some(key)),
+        Err(_) => Err(OutOfMemory),
+    }
+}
+
+#[cfg(test)]
+mod tests;

@@ -1,21 +1,22 @@
--- Without a capacity and a sketch, the queues applied as the reference cache says are the queues applied here.
-use Rattle.std.proofs.Common.{◌≡◌, refl, ℕ, Bool, true, false, nat_lt, List, [], ◌∷◌, ◌++◌, Option, Some, None, is_some, ap, sym, ◌∙◌, if◌then◌else◌}
+-- Where there is no capacity or the least recently used leaves, and without a sketch, the queues applied as the reference cache says are the queues applied here.
+use Rattle.std.proofs.Common.{◌≡◌, refl, ℕ, Bool, true, false, true≢false, nat_lt, List, [], ◌∷◌, ◌++◌, ◌⊎◌, inl, inr, Option, Some, None, ap, sym, ◌∙◌, arith, ◌||◌, if◌then◌else◌}
 use Rattle.std.specs.Option.{option_map_or}
-use Rattle.std.specs.FinMap.{get, insert}
+use Rattle.std.specs.FinMap.{get}
 use Rattle.moka_parts.specs.declared.policy.EvictionPolicy.{EvictionPolicy}
+use Rattle.moka_parts.specs.declared.policy.EvictionPolicy.TheVariants.{Lru}
 use Rattle.moka_parts.specs.declared.records.Record.{Record}
 use Rattle.moka_parts.specs.declared.records.Operation.{Operation}
 use Rattle.moka_parts.specs.declared.records.Operation.TheVariants.{Upsert, Removal}
 use Rattle.moka_parts.specs.declared.records.ReadOperation.{ReadOperation}
 use Rattle.moka_parts.specs.declared.records.ReadOperation.TheVariants.{Hit, Miss}
 use Rattle.moka_parts.specs.declared.records.Ticketed.{Ticketed}
-use Rattle.moka_parts.specs.Records.{Notice, member, is_member, counted_of, to_back, without_member}
-use Rattle.moka_parts.specs.Frequency.{Table, counted_once}
+use Rattle.moka_parts.specs.Records.{member, is_member, counted_of, total_weight, has_room, to_back}
 use Rattle.moka_parts.specs.State.{Contents}
-use Rattle.moka_parts.specs.Reads.{after_read, after_reads}
-use Rattle.moka_parts.specs.Writes.{Fate, Ignored, Overtaken, Counted, Admitted, fate, fate_of_record, after_fate, left_by_fate, after_write, after_writes, left_by_write, left_by_writes, AreMoves, AreAllMoves}
+use Rattle.moka_parts.specs.Reads.{after_reads}
+use Rattle.moka_parts.specs.Writes.{Ignored, Overtaken, Counted, Admitted, TooHeavy, fate_of_newcomer, fate_of_record, with_applied, after_fate, after_write, after_writes, AreAllMoves}
 use Rattle.moka_parts.proofs.AccessList.{absent_taken_out}
-use Rattle.moka_engine.specs.Applied.{access_after_read, access_after_reads, records_after_upsert, access_after_upsert, records_after_write, access_after_write, records_after_writes, access_after_writes}
+use Rattle.moka_engine.specs.Applied as here
+use Rattle.moka_engine.specs.Applied.{Held, access_after_read, access_after_reads}
 use Rattle.moka_engine.proofs.Gets.{none-of}
 use Rattle.moka_engine.proofs.Rows.{absent_to_back}
 
@@ -24,78 +25,76 @@ abbrev pub no_moves : List Ticketed → List (List ℕ)
 no_moves [] = []
 no_moves (h ∷ hs) = [] ∷ no_moves hs
 
+-- the contents with these records and this access list
+abbrev pub with_held : {K V P : Type 0} → Contents K V P → Held K V → Contents K V P
+with_held c h = record c { records = h.records; access = h.access }
+
 module _ {K V P : Type 0} where
+  -- all reads, where the sketch is off
+  reads_uncounted : (c : Contents K V P) (rs : List ReadOperation) → after_reads (record c { sketch = None }) rs ≡ record c { sketch = None; access = access_after_reads c.records c.access rs }
+  reads_uncounted c [] = refl
+  reads_uncounted c (Hit number hash renewed ∷ rs) = reads_uncounted (record c { access = access_after_read c.records c.access (Hit number hash renewed) }) rs
+  reads_uncounted c (Miss hash ∷ rs) = reads_uncounted c rs
+
   -- all reads
   pub reads_applied : (c : Contents K V P) (rs : List ReadOperation) → c.sketch ≡ None → after_reads c rs ≡ record c { access = access_after_reads c.records c.access rs }
-  reads_applied c [] none = refl
-  reads_applied c (Hit number hash renewed ∷ rs) none =
-      let same : counted_once c.sketch hash ≡ c.sketch = ap (λ s. counted_once s hash) none ∙ sym none in
-      reads_applied (after_read c (Hit number hash renewed)) rs (ap (λ s. counted_once s hash) none)
-      ∙ ap (λ (s : Option Table). record c { sketch = s; access = access_after_reads c.records (access_after_read c.records c.access (Hit number hash renewed)) rs }) same
-  reads_applied c (Miss hash ∷ rs) none =
-      let same : counted_once c.sketch hash ≡ c.sketch = ap (λ s. counted_once s hash) none ∙ sym none in
-      reads_applied (after_read c (Miss hash)) rs (ap (λ s. counted_once s hash) none)
-      ∙ ap (λ (s : Option Table). record c { sketch = s; access = access_after_reads c.records c.access rs }) same
+  reads_applied c rs none =
+      ap (λ s. after_reads (record c { sketch = s }) rs) none
+      ∙ reads_uncounted c rs
+      ∙ sym (ap (λ s. record c { sketch = s; access = access_after_reads c.records c.access rs }) none)
 
-module _ {K V P : Type 0} (policy : EvictionPolicy) where
-  -- an upsert of a record, newer or not, of a member or not
-  upsert_applied : (c : Contents K V P) (number generation weight hash : ℕ) (r : Record K V) →
-      after_fate c number generation weight [] r (fate_of_record None policy c number generation weight hash r)
-      ≡ record c { records = records_after_upsert c.records number generation (Some r); access = access_after_upsert c.access number generation weight (Some r) }
-  upsert_applied c number generation weight hash r = by (nat_lt r.applied generation) (is_member number c.access) refl
+-- where there is room beside others, there is room
+room_alone : (capacity : Option ℕ) (total weight : ℕ) → has_room capacity total weight ≡ true → has_room capacity 0 weight ≡ true
+room_alone None total weight h = refl
+room_alone (Some capacity) total weight h = grind arith
+
+module _ {K V P : Type 0} (capacity : Option ℕ) (policy : EvictionPolicy) where
+  -- another record enters where it alone is within the capacity
+  newcomer_enters : (policy ≡ Lru) ⊎ (capacity ≡ None) → (c : Contents K V P) (weight hash : ℕ) → fate_of_newcomer capacity policy c weight hash ≡ (if has_room capacity 0 weight then Admitted else TooHeavy)
+  newcomer_enters (inl lru) c weight hash = ap (λ p. fate_of_newcomer capacity p c weight hash) lru ∙ by (has_room capacity (total_weight c.access) weight) (has_room capacity 0 weight) refl refl
     where
-      by : (newer known : Bool) → is_member number c.access ≡ known →
-          after_fate c number generation weight [] r (if newer then (if known then Counted else Admitted) else (if known then Overtaken else Ignored))
-          ≡ record c { records = if newer then insert c.records number (record r { applied = generation }) else c.records; access = if newer then without_member number c.access ++ member number weight ∷ [] else to_back number c.access }
-      by true true is = refl
-      by true false is = ap (λ xs. record c { records = insert c.records number (record r { applied = generation }); access = xs ++ member number weight ∷ [] }) (sym (absent_taken_out number c.access (none-of (counted_of number c.access) is)))
-      by false true is = refl
-      by false false is = ap (λ xs. record c { access = xs }) (sym (absent_to_back number c.access (none-of (counted_of number c.access) is)))
+      by : (beside alone : Bool) → has_room capacity (total_weight c.access) weight ≡ beside → has_room capacity 0 weight ≡ alone → (if beside then Admitted else (if alone then Admitted else TooHeavy)) ≡ (if alone then Admitted else TooHeavy)
+      by true true room is = refl
+      by true false room is = absurd (true≢false (sym (room_alone capacity (total_weight c.access) weight room) ∙ is))
+      by false alone room is = refl
+  newcomer_enters (inr none) c weight hash = ap (λ o. fate_of_newcomer o policy c weight hash) none ∙ sym (ap (λ o. if has_room o 0 weight then Admitted else TooHeavy) none)
+
+  -- an upsert of a record, newer or not, of a member or not
+  upsert_applied : (policy ≡ Lru) ⊎ (capacity ≡ None) → (c : Contents K V P) (h : Held K V) (number generation weight hash : ℕ) (r : Record K V) →
+      after_fate (with_held c h) number generation weight [] r (fate_of_record capacity policy (with_held c h) number generation weight hash r)
+      ≡ with_held c (here.after_upsert capacity h number generation weight (Some r))
+  upsert_applied plain c h number generation weight hash r =
+      ap (λ f. after_fate (with_held c h) number generation weight [] r (if nat_lt r.applied generation then (if is_member number h.access then Counted else f) else (if is_member number h.access then Overtaken else Ignored))) (newcomer_enters plain (with_held c h) weight hash)
+      ∙ by (nat_lt r.applied generation) (is_member number h.access) (has_room capacity 0 weight) refl
+    where
+      by : (newer known fits : Bool) → is_member number h.access ≡ known →
+          after_fate (with_held c h) number generation weight [] r (if newer then (if known then Counted else (if fits then Admitted else TooHeavy)) else (if known then Overtaken else Ignored))
+          ≡ with_held c (if newer then (if known || fits then here.entered h number generation weight r else here.rejected h number generation r) else record h { access = to_back number h.access })
+      by true true fits is = refl
+      by true false true is = ap (λ xs. record c { records = with_applied h.records number r generation; access = xs ++ member number weight ∷ [] }) (sym (absent_taken_out number h.access (none-of (counted_of number h.access) is)))
+      by true false false is = refl
+      by false true fits is = refl
+      by false false fits is = ap (λ xs. record c { records = h.records; access = xs }) (sym (absent_to_back number h.access (none-of (counted_of number h.access) is)))
 
   -- one write
-  write_applied : (c : Contents K V P) (o : Operation) → after_write None policy c o [] ≡ record c { records = records_after_write c.records o; access = access_after_write c.records c.access o }
-  write_applied c (Removal number generation) = refl
-  write_applied c (Upsert number generation weight hash) = at (get c.records number)
+  write_applied : (policy ≡ Lru) ⊎ (capacity ≡ None) → (c : Contents K V P) (h : Held K V) (o : Operation) → after_write capacity policy (with_held c h) o [] ≡ with_held c (here.after_write capacity h o)
+  write_applied plain c h (Removal number generation) = refl
+  write_applied plain c h (Upsert number generation weight hash) = at (get h.records number)
     where
       at : (found : Option (Record K V)) →
-          option_map_or (λ r. after_fate c number generation weight [] r (option_map_or (fate_of_record None policy c number generation weight hash) found Ignored)) found c
-          ≡ record c { records = records_after_upsert c.records number generation found; access = access_after_upsert c.access number generation weight found }
+          option_map_or (λ r. after_fate (with_held c h) number generation weight [] r (option_map_or (fate_of_record capacity policy (with_held c h) number generation weight hash) found Ignored)) found (with_held c h)
+          ≡ with_held c (here.after_upsert capacity h number generation weight found)
       at None = refl
-      at (Some r) = upsert_applied c number generation weight hash r
+      at (Some r) = upsert_applied plain c h number generation weight hash r
 
   -- all writes
-  pub writes_applied : (c : Contents K V P) (hs : List Ticketed) → after_writes None policy c hs (no_moves hs) ≡ record c { records = records_after_writes c.records hs; access = access_after_writes c.records c.access hs }
-  writes_applied c [] = refl
-  writes_applied c (h ∷ hs) =
-      ap (λ d. after_writes None policy d hs (no_moves hs)) (write_applied c h.operation)
-      ∙ writes_applied (record c { records = records_after_write c.records h.operation; access = access_after_write c.records c.access h.operation }) hs
+  pub writes_applied : (policy ≡ Lru) ⊎ (capacity ≡ None) → (c : Contents K V P) (h : Held K V) (hs : List Ticketed) → after_writes capacity policy (with_held c h) hs (no_moves hs) ≡ with_held c (here.after_writes capacity h hs)
+  writes_applied plain c h [] = refl
+  writes_applied plain c h (x ∷ hs) =
+      ap (λ d. after_writes capacity policy d hs (no_moves hs)) (write_applied plain c h x.operation)
+      ∙ writes_applied plain c (here.after_write capacity h x.operation) hs
 
   -- a list of no moves is allowed for each
-  pub no_moves_allowed : (c : Contents K V P) (hs : List Ticketed) → AreAllMoves None policy c hs (no_moves hs)
+  pub no_moves_allowed : (c : Contents K V P) (hs : List Ticketed) → AreAllMoves capacity policy c hs (no_moves hs)
   no_moves_allowed c [] = tt
-  no_moves_allowed c (h ∷ hs) = (tt, no_moves_allowed (after_write None policy c h.operation []) hs)
-
-  -- no upsert takes a record out
-  nothing_left_by_record : (c : Contents K V P) (number generation weight hash : ℕ) (r : Record K V) → left_by_fate c generation r (fate_of_record None policy c number generation weight hash r) ≡ []
-  nothing_left_by_record c number generation weight hash r = by (nat_lt r.applied generation) (is_member number c.access)
-    where
-      by : (newer known : Bool) → left_by_fate c generation r (if newer then (if known then Counted else Admitted) else (if known then Overtaken else Ignored)) ≡ []
-      by true true = refl
-      by true false = refl
-      by false true = refl
-      by false false = refl
-
-  nothing_left_by_write : (c : Contents K V P) (o : Operation) → left_by_write None policy c o ≡ []
-  nothing_left_by_write c (Removal number generation) = refl
-  nothing_left_by_write c (Upsert number generation weight hash) = at (get c.records number)
-    where
-      at : (found : Option (Record K V)) → option_map_or (λ r. left_by_fate c generation r (option_map_or (fate_of_record None policy c number generation weight hash) found Ignored)) found [] ≡ []
-      at None = refl
-      at (Some r) = nothing_left_by_record c number generation weight hash r
-
-  -- nothing leaves the map
-  pub nothing_left : (c : Contents K V P) (hs : List Ticketed) → left_by_writes None policy c hs (no_moves hs) ≡ []
-  nothing_left c [] = refl
-  nothing_left c (h ∷ hs) =
-      ap (λ (ns : List (Notice K V)). ns ++ left_by_writes None policy (after_write None policy c h.operation []) hs (no_moves hs)) (nothing_left_by_write c h.operation)
-      ∙ nothing_left (after_write None policy c h.operation []) hs
+  no_moves_allowed c (h ∷ hs) = (tt, no_moves_allowed (after_write capacity policy c h.operation []) hs)

@@ -1,5 +1,5 @@
 -- How the facts of the inner part follow each kind of change.
-use Rattle.std.proofs.Common.{◌≡◌, ◌≢◌, ℕ, zero, suc, Bool, true, false, ◌+◌, ◌<◌, ◌≤◌, ◌^◌, List, [], ◌∷◌, ◌++◌, map, length, Option, Some, None, option_map, ◌⊎◌, inl, inr, Result, Ok, Err, IsOk, OnOk, IfErr, refl, sym, ap, subst, ◌∙◌, arith}
+use Rattle.std.proofs.Common.{◌≡◌, ℕ, zero, suc, Bool, false, ◌+◌, ◌-◌, ◌<◌, ◌≤◌, ◌^◌, List, [], ◌∷◌, ◌++◌, map, length, Some, None, option_map, ◌⊎◌, inl, inr, Result, Ok, Err, IsOk, OnOk, IfErr, refl, sym, ap, subst, ◌∙◌, arith}
 use Rattle.circular_buffer.specs.Buffer.{Buffer, buffer}
 use Rattle.std.specs.Prelude.{Contains, slice_index_or}
 use Rattle.std.proofs.lemmas.List.{length-append}
@@ -21,21 +21,23 @@ use Rattle.moka_structures.specs.Pending.{Pending}
 use Rattle.std.specs.List.{IsDistinct}
 use Rattle.std.proofs.lemmas.List.{map-append}
 use Rattle.moka_parts.specs.declared.records.Operation.{Operation}
-use Rattle.moka_parts.specs.declared.records.Operation.TheVariants.{Upsert}
+use Rattle.moka_parts.specs.declared.records.Operation.TheVariants.{Upsert, Removal}
 use Rattle.moka_parts.specs.declared.records.Ticketed.{Ticketed}
 use Rattle.moka_parts.specs.Settling.{IsWaitingIn, IsConsistent}
-use Rattle.moka_parts.proofs.Consistent.{insert_kept, replace_kept, renew_kept, waiting_alike}
+use Rattle.moka_parts.proofs.Consistent.{insert_kept, replace_kept, renew_kept, take_kept, waiting_alike}
+use Rattle.moka_parts.proofs.Values.{len_removed}
 use Rattle.moka_parts.proofs.Waiting.{hands_out, waits_sent}
 use Rattle.moka_engine.specs.Weights.{IsWeighed}
 use Rattle.moka_engine.proofs.Weights.{weighed-empty}
 use Rattle.moka_engine.specs.Interior.{operations_of, writes_of, handed_of}
 use Rattle.moka_engine.proofs.ValuesLemmas.{get-map_values, map_values-insert, map_values-remove, map_values-found}
 use Rattle.moka_engine.specs.Inner.{IsInner, AreKeyed, AreLocated, AreTicketed}
-use Rattle.moka_engine.proofs.Gets.{after_insert, after_remove, get-inserted, get-past_insert, len-fresh, len-kept, option-cases}
+use Rattle.moka_engine.proofs.RecordsLeft.{keyed-left, left-removed}
+use Rattle.moka_engine.proofs.Gets.{after_insert, after_remove, get-inserted, len-fresh, len-kept, option-cases}
 
 module _ {K V : Type 0} (eq : K → K → Bool) (laws : IsEquivalence eq) (records : Records K V) (t m : ℕ) where
   -- a record of a key that is not there
-  pub keyed-inserted : (r : Record K V) → AreKeyed eq records t m → r.number ≡ m → r.generation ≤ t + 1 → ((n : ℕ) (q : Record K V) → get records n ≡ Some q → eq r.key q.key ≡ false) → AreKeyed eq (insert records m r) (t + 1) (m + 1)
+  pub keyed-inserted : (r : Record K V) → AreKeyed eq records t m → r.number ≡ m → r.generation < t + 1 → ((n : ℕ) (q : Record K V) → get records n ≡ Some q → eq r.key q.key ≡ false) → AreKeyed eq (insert records m r) (t + 1) (m + 1)
   keyed-inserted r h number generation fresh = let n = m in record {
     given = λ m q at. elim (after_insert records n r m q at) [
       | inl same ↦ (let e = same.0 in omega arith)
@@ -56,13 +58,13 @@ module _ {K V : Type 0} (eq : K → K → Bool) (laws : IsEquivalence eq) (recor
       ]
     ];
     generations = λ m q at. elim (after_insert records n r m q at) [
-      | inl same ↦ subst (λ (q : Record K V). q.generation ≤ t + 1) (sym same.1) generation
-      | inr other ↦ (let le = h.generations m q other.1 in omega arith)
+      | inl same ↦ subst (λ (q : Record K V). q.generation < t + 1) (sym same.1) generation
+      | inr other ↦ (let lt = h.generations m q other.1 in omega arith)
     ];
   }
 
   -- a record with the same key and number in the place of one
-  pub keyed-changed : (n : ℕ) (old r : Record K V) (u : ℕ) → AreKeyed eq records t m → get records n ≡ Some old → r.number ≡ old.number → r.key ≡ old.key → t ≤ u → r.generation ≤ u → AreKeyed eq (insert records n r) u m
+  pub keyed-changed : (n : ℕ) (old r : Record K V) (u : ℕ) → AreKeyed eq records t m → get records n ≡ Some old → r.number ≡ old.number → r.key ≡ old.key → t ≤ u → r.generation < u → AreKeyed eq (insert records n r) u m
   keyed-changed n old r u h there number key later generation = record {
     given = λ k q at. elim (after_insert records n r k q at) [
       | inl same ↦ subst (λ k. k < m) (sym same.0) (h.given n old there)
@@ -83,8 +85,8 @@ module _ {K V : Type 0} (eq : K → K → Bool) (laws : IsEquivalence eq) (recor
       ]
     ];
     generations = λ m q at. elim (after_insert records n r m q at) [
-      | inl same ↦ subst (λ (q : Record K V). q.generation ≤ u) (sym same.1) generation
-      | inr other ↦ (let le = h.generations m q other.1 in omega arith)
+      | inl same ↦ subst (λ (q : Record K V). q.generation < u) (sym same.1) generation
+      | inr other ↦ (let lt = h.generations m q other.1 in omega arith)
     ];
   }
 
@@ -228,6 +230,29 @@ module _ {K V : Type 0} (eq : K → K → Bool) (laws : IsEquivalence eq) (kept 
         sized = (let e = h.sized in omega arith);
         tickets = omega arith;
         removals = omega arith;
+        write_queue = h.write_queue;
+        read_queue = h.read_queue;
+      }
+
+  -- a record taken out with its operation
+  pub inner-removed : (m : ℕ) (old : Record K V) (w : PlacedWrite) → IsInner eq kept out writes ws reads rs t n size weight → get kept.records m ≡ Some old → after.records ≡ remove kept.records m → after.access ≡ kept.access → after.places ≡ kept.places → handed.items ≡ insert out.items t w → (generation : ℕ) → w.operation ≡ Removal m generation → get kept.places m ≡ Some w.place → out.room ≤ handed.room + 1 → IsInner eq after handed writes ws reads rs (t + 1) n (size - 1) weight
+  inner-removed m old w h there records access places items generation operation placed room =
+      let count = ap len records in
+      let one = len_removed kept.records m old there in
+      let here : get kept.places (number_of w.operation) ≡ Some w.place = ap (λ o. get kept.places (number_of o)) operation ∙ placed in
+      let same = ap operations_of items ∙ (map_values-insert (λ (w : PlacedWrite). w.operation) out.items t w ∙ ap (λ o. insert (operations_of out.items) t o) operation) in
+      let kept_so = take_kept (IsWaitingIn (operations_of out.items) (writes_of writes)) (IsWaitingIn (insert (operations_of out.items) t (Removal m generation)) (writes_of writes)) kept.records kept.access h.consistent m generation
+      (hands_out (operations_of out.items) (writes_of writes) t (Removal m generation) (never_handed out writes t h.ticketed)) in
+      record {
+        consistent = subst (λ o. IsConsistent (IsWaitingIn o (writes_of writes)) after.records after.access) (sym same) (subst (λ a. IsConsistent (IsWaitingIn (insert (operations_of out.items) t (Removal m generation)) (writes_of writes)) after.records a) (sym access) (subst (λ rs. IsConsistent (IsWaitingIn (insert (operations_of out.items) t (Removal m generation)) (writes_of writes)) rs kept.access) (sym records) kept_so));
+        keyed = subst (λ rs. AreKeyed eq rs (t + 1) n) (sym records) (keyed-left eq kept.records (remove kept.records m) t (t + 1) n (left-removed kept.records m).kept (omega arith) h.keyed);
+        placed = subst (λ ps. AreLocated ps n handed.items writes reads) (sym places) (subst (λ is. AreLocated kept.places n is writes reads) (sym items) (placed_all-handed kept.places n out.items writes reads t w h.placed here));
+        ticketed = subst (λ is. AreTicketed is writes (t + 1)) (sym items) (ticketed-handed out.items writes t w h.ticketed);
+        numbers = (let n = h.numbers in (omega arith, omega arith));
+        weighed = subst (λ a. IsWeighed a weight) (sym access) h.weighed;
+        sized = (let e = h.sized in omega arith);
+        tickets = (let e = h.tickets in omega arith);
+        removals = (let e = h.removals in omega arith);
         write_queue = h.write_queue;
         read_queue = h.read_queue;
       }

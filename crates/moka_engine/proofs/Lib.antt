@@ -9,8 +9,13 @@ pub mod Gets
 pub mod Rows
 pub mod Queues
 pub mod Applied
+pub mod Evictions
+pub mod Turns
+pub mod Settled
 pub mod CacheSteps
 pub mod CacheReturns
 pub mod Weights
+pub mod RecordsLeft
 pub mod InnerLemmas
 pub mod QueuesApplied
+pub mod Listed

@@ -1,12 +1,12 @@
 -- What holds of a number that has no row, or no member.
-use Rattle.std.proofs.Common.{◌≡◌, ℕ, List, [], ◌++◌, Option, Some, None, IsSome, inl, inr, refl, sym, ap, ◌∙◌, append-nil, option_map, option_to_list}
+use Rattle.std.proofs.Common.{◌≡◌, ℕ, List, ◌++◌, Option, Some, None, IsSome, refl, ap, ◌∙◌, append-nil, option_map, option_to_list}
 use Rattle.std.specs.FinMap.{FinMap, get}
 use Rattle.std.specs.Ordering.{nat_cmp}
 use Rattle.moka_parts.specs.declared.records.Member.{Member}
 use Rattle.moka_parts.specs.Records.{counted_of, without_member, to_back, member}
 use Rattle.moka_parts.proofs.AccessList.{absent_taken_out}
 use Rattle.moka_engine.specs.Interior.{IsAt}
-use Rattle.moka_engine.proofs.Gets.{some-of, option-cases}
+use Rattle.moka_engine.proofs.Gets.{some-of}
 
 -- what is in no list stays where it is
 pub absent_to_back : (n : ℕ) (xs : List Member) → counted_of n xs ≡ None → to_back n xs ≡ xs

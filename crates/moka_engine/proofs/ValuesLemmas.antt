@@ -1,8 +1,8 @@
 -- What `map_values` answers, and how it follows an insertion and a removal.
-use Rattle.std.proofs.Common.{◌≡◌, ℕ, suc, Bool, true, false, cond, ◌&&◌, List, [], ◌∷◌, map, length, Option, Some, None, option_map, is_some, T, refl, sym, ap, subst, ◌∙◌}
+use Rattle.std.proofs.Common.{◌≡◌, ℕ, suc, Bool, true, false, cond, ◌&&◌, List, [], ◌∷◌, map, length, Option, Some, None, option_map, T, refl, sym, ap, subst, ◌∙◌}
 use Rattle.std.specs.Ordering.{nat_cmp, eq_by_cmp, is_lt}
 use Rattle.std.specs.Cmp.{nat_cmp_total}
-use Rattle.std.specs.FinMap.{FinMap, entries, entries_sorted, is_sorted, find, get, insert, remove, len, keys, values, empty, get-empty, get-entries, get-insert, get-remove, len-entries, entries-from_sorted, from_sorted, same_map, nat_cmp-IsAntisymmetric, contains_key}
+use Rattle.std.specs.FinMap.{FinMap, entries, entries_sorted, is_sorted, find, get, insert, remove, len, keys, empty, get-empty, get-entries, get-insert, get-remove, len-entries, entries-from_sorted, same_map, nat_cmp-IsAntisymmetric}
 use Rattle.std.specs.FinMap.Entries.{below_all}
 use Rattle.moka_engine.specs.Values.{map_entry, map_values}
 

@@ -1,5 +1,5 @@
 -- What always holds of the inner part.
-use Rattle.std.specs.Prelude.{◌≡◌, ℕ, Bool, true, ◌+◌, ◌^◌, ◌<◌, ◌≤◌, List, length, Option, Some, Contains}
+use Rattle.std.specs.Prelude.{◌≡◌, ℕ, Bool, true, ◌+◌, ◌^◌, ◌<◌, ◌≤◌, List, length, Some, Contains}
 use Rattle.std.specs.FinMap.{FinMap, get, len}
 use Rattle.std.specs.Ordering.{nat_cmp}
 use Rattle.moka_parts.specs.declared.records.Record.{Record}
@@ -19,7 +19,7 @@ pub record AreKeyed {K V : Type 0} (eq : K → K → Bool) (records : Records K 
   pub given : (n : ℕ) (r : Record K V) → get records n ≡ Some r → n < next_number
   pub one_each : (n m : ℕ) (p q : Record K V) → get records n ≡ Some p → get records m ≡ Some q → eq p.key q.key ≡ true → n ≡ m
   -- so that one more generation can be counted
-  pub generations : (n : ℕ) (r : Record K V) → get records n ≡ Some r → r.generation ≤ next_ticket
+  pub generations : (n : ℕ) (r : Record K V) → get records n ≡ Some r → r.generation < next_ticket
 
 -- each row's number was given out, and what waits leads to its record's row
 pub record AreLocated (places : FinMap nat_cmp ℕ) (next_number : ℕ) (items : FinMap nat_cmp PlacedWrite) (writes : List QueuedWrite) (reads : List QueuedRead) : Type 0 where

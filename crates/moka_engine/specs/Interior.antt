@@ -1,21 +1,17 @@
 -- What contracts see of the inner part of the cache, and what always holds of it.
-use Rattle.std.specs.Prelude.{◌≡◌, ℕ, Bool, true, ◌+◌, ◌-◌, ◌^◌, ◌<◌, ◌≤◌, min, List, map, length, Option, Some, None, IsSome, Contains}
-use Rattle.std.specs.FinMap.{FinMap, get, len}
+use Rattle.std.specs.Prelude.{◌≡◌, ℕ, ◌<◌, List, map, Some, IsSome}
+use Rattle.std.specs.FinMap.{FinMap, get}
 use Rattle.std.specs.Ordering.{nat_cmp}
-use Rattle.moka_parts.specs.declared.records.Record.{Record}
 use Rattle.moka_parts.specs.declared.records.Member.{Member}
-use Rattle.moka_parts.specs.declared.records.Operation.{Operation}
-use Rattle.moka_parts.specs.declared.records.Operation.TheVariants.{Upsert, Removal}
 use Rattle.moka_parts.specs.declared.records.ReadOperation.{ReadOperation}
 use Rattle.moka_parts.specs.declared.records.ReadOperation.TheVariants.{Hit, Miss}
 use Rattle.moka_parts.specs.declared.records.Ticketed.{Ticketed}
-use Rattle.moka_parts.specs.Records.{Records, Operations, is_member}
+use Rattle.moka_parts.specs.Records.{Records, Operations}
 use Rattle.moka_engine.specs.declared.store.Handle.{Handle}
 use Rattle.moka_engine.specs.declared.inner.PlacedWrite.{PlacedWrite}
 use Rattle.moka_engine.specs.declared.inner.QueuedWrite.{QueuedWrite}
 use Rattle.moka_engine.specs.declared.inner.QueuedRead.{QueuedRead}
 use Rattle.moka_engine.specs.Values.{map_values}
-use Rattle.moka_engine.specs.Store.{Kept}
 
 pub record Interior (K V : Type 0) : Type 0 where
   pub records : Records K V

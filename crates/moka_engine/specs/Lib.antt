@@ -7,6 +7,7 @@ pub mod Interior
 pub mod Inner
 pub mod Sends
 pub mod Applied
+pub mod Evictions
 pub mod Inserts
 pub mod Lookups
 pub mod BaseCache

@@ -1,5 +1,5 @@
 //! The cache. moka: `sync::base_cache`.
-ghost use Rattle.std.specs.Prelude.{◌≡◌, ℕ, ◌≤◌, false, [], ◌∷◌, length, map, min, is_some, Option, Some, None, IfOk, option_map, option_copied};
+ghost use Rattle.std.specs.Prelude.{◌≡◌, ℕ, ◌≤◌, false, [], ◌∷◌, length, map, min, is_some, Option, Some, None, Ok, Err, IfOk, IfErr, option_map, option_copied};
 ghost use Rattle.std.specs.List.{fold};
 ghost use Rattle.std.specs.FinMap as finite;
 ghost use Rattle.std.specs.Duration.{as_nanos};
@@ -7,17 +7,17 @@ ghost use Rattle.std.specs.String.{string_bytes};
 ghost use Rattle.moka_parts.specs.Time.{greatest};
 ghost use Rattle.moka_parts.specs.State.{Events, is_disabled, limits_of, new_state};
 ghost use Rattle.moka_parts.specs.Housekeeping.{new_housekeeping, without_automatic};
-ghost use Rattle.moka_parts.specs.Maintenance.{MaintenanceRun};
 ghost use Rattle.moka_parts.specs.Surroundings.{Leads};
-ghost use Rattle.moka_parts.specs.Exact.{IsExact};
-ghost use Rattle.moka_parts.specs.Calls.{no_events, InsertStep, SendStep, GetStep, RunStep};
-ghost use Rattle.moka_parts.specs.Runs.{Befalls};
-ghost use Rattle.moka_engine.specs.BaseCache.{no_expirations};
+ghost use Rattle.moka_parts.specs.Records.{record_of_key};
+ghost use Rattle.moka_parts.specs.Calls.{no_events, InsertStep, SendStep, RemoveStep, ContainsStep, KeysStep, GetStep, RunStep};
+ghost use Rattle.moka_parts.specs.Runs.{Befalls, SettlingRun};
+ghost use Rattle.moka_engine.specs.BaseCache.{no_expirations, IsLruWhereBounded};
 
 use crate::inner::Inner;
-use moka_parts::calls::{Entry, Ticket};
+use moka_parts::calls::{Entry, KvEntry, Ticket};
 use moka_parts::closures::{PredicateFn, Weigher};
 use moka_parts::error::{InsertRefused, OutOfMemory, SendError};
+use moka_parts::expiry::is_expired_by_per_entry_ttl;
 use moka_parts::housekeeper::{Clock, Housekeeper, HousekeeperConfig};
 use moka_parts::notification::{Listener, RemovalCause, RemovalNotifier};
 use moka_parts::policy::{EvictionPolicy, ExpirationPolicy, Expiry, Instant, Policy};
@@ -32,6 +32,9 @@ mod inserts;
 #[cfg(test)]
 mod tests;
 
+/// How many segments the map has.
+const SEGMENTS: usize = 1;
+
 /// A cache. moka: `sync::base_cache::BaseCache`.
 #[derive(Drop)]
 pub struct BaseCache<
@@ -43,6 +46,7 @@ pub struct BaseCache<
     P: PredicateFn<K, V>,
     W: Weigher<K, V>,
 > {
+    alloc: Global,
     name: Option<String>,
     build_hasher: S,
     inner: Inner<K, V, S>,
@@ -75,7 +79,7 @@ impl<
     ghost use Rattle.std.specs.Prelude.{None, is_some, option_map};
     ghost use Rattle.std.specs.String.{string_bytes};
     ghost use Rattle.moka_parts.specs.Runs.{Cache};
-    ghost use Rattle.moka_engine.specs.BaseCache.{IsPlain};
+    ghost use Rattle.moka_engine.specs.BaseCache.{IsCache};
     ghost use Rattle.std.specs.FinMap as finite;
     ghost use Rattle.std.specs.Coded.{codes, coded_ℕ};
 
@@ -118,7 +122,7 @@ impl<
       passes = c.passes;
     } };
 
-    ghost invariant = { λ c. IsPlain c.max_capacity c.expiration_policy c.weigher c.notifier c.valid_after c.predicates.items c.housekeeper.housekeeping };
+    ghost invariant = { λ c. IsCache c.max_capacity c.eviction_policy c.expiration_policy c.notifier c.valid_after c.predicates.items c.housekeeper.housekeeping c.inner.records c.inner.access c.entry_count c.weighted_size };
 }
 
 impl<
@@ -131,8 +135,8 @@ impl<
     W: Weigher<K, V>,
 > BaseCache<K, V, S, X, L, P, W> {
     /// A cache that keeps nothing yet, made at the moment `now`, with room for so many records at first. Its tickets
-    /// start with `first_ticket`. So far it has no capacity, no weigher, no listener, nothing that expires and no
-    /// predicates, and no run starts by itself.
+    /// start with `first_ticket`. So far a capacity other than 0 asks for the policy LRU, and the cache has no listener,
+    /// nothing that expires and no predicates, and no run starts by itself.
     ///
     /// # Errors
     /// `OutOfMemory` where memory for the tables or for a clone of the hasher is refused.
@@ -161,8 +165,7 @@ impl<
         P: Drop,
         W: Drop,
         requires first { 1 ≤ first_ticket }
-        requires unbounded { max_capacity ≡ None }
-        requires unweighed { weigher ≡ None }
+        requires bounded { IsLruWhereBounded max_capacity eviction_policy }
         requires unheard { eviction_listener ≡ None }
         requires lasting { expiration_policy ≡ no_expirations }
         requires no_predicates { invalidator_enabled ≡ false }
@@ -203,6 +206,7 @@ impl<
         let mut housekeeper = Housekeeper::new(notifier.is_enabled(), housekeeper_config, now);
         housekeeper.disable_auto_run();
         Ok(BaseCache {
+            alloc,
             name,
             build_hasher,
             inner,
@@ -304,7 +308,8 @@ impl<
         requires enabled { is_disabled self.old.state.capacity ≡ false }
         ensures { (e : Events K V) × InsertStep X.created X.updated W.weighs K.eq self.old.state key hash value now result e self.new.state × Befalls L.tells e self.old self.new }
     {
-        match inserts::put(&mut self.inner, key, hash, value, now) {
+        let weight = inserts::weigh(&self.weigher, &key, &value);
+        match inserts::put(&mut self.inner, key, hash, value, now, weight) {
             Ok((ticket, Some((key, old)))) => {
                 self.notifier.notify(key, old, RemovalCause::Replaced);
                 Ok((ticket, now))
@@ -326,8 +331,75 @@ impl<
         self.inner.send(ticket)
     }
 
+    /// Takes a key's record out, expired or not, and hands out a ticket for the removal, which is to be sent. The answer
+    /// has the record's own key and value with its moments. It takes no memory, and nobody is told.
+    pub fn remove_entry(&mut self, key: &K, _hash: u64) -> Option<(KvEntry<K, V>, Ticket)>
+    where
+        K: Drop,
+        ensures step { RemoveStep K.eq self.old.state key.now result self.new.state }
+        ensures events { Befalls L.tells no_events self.old self.new }
+    {
+        let (handle, _) = self.inner.find(key)?;
+        self.inner.know();
+        let (record, ticket) = self.inner.remove(handle);
+        let entry = KvEntry {
+            key: record.key,
+            value: record.value,
+            last_modified: record.written,
+            last_accessed: record.read,
+        };
+        Some((entry, ticket))
+    }
+
+    /// Whether a key is there and shown at the moment `now`. Nothing is recorded.
+    pub fn contains_key_with_hash(&self, key: &K, _hash: u64, now: Instant) -> bool
+        ensures { ContainsStep P.says K.eq self.now.state key.now now.0 result }
+    {
+        match self.inner.find(key) {
+            Some((_, found)) => !is_expired_by_per_entry_ttl(found.expires, now),
+            None => false,
+        }
+    }
+
+    /// The key that the cache keeps for an equal one, shown or not. Nothing is recorded.
+    pub fn get_key_with_hash(&self, key: &K, _hash: u64) -> Option<&K>
+        ensures { option_copied result ≡ option_map (λ r. r.key) (record_of_key K.eq self.now.state.records key.now) }
+    {
+        match self.inner.find(key) {
+            Some((_, found)) => Some(&found.key),
+            None => None,
+        }
+    }
+
+    /// How many segments the map has: one.
+    pub fn num_cht_segments(&self) -> usize
+        ensures { result ≡ 1 }
+    {
+        SEGMENTS
+    }
+
+    /// Clones of the keys of all records in segment 0, in no particular order, and `None` for any other segment.
+    ///
+    /// # Errors
+    /// `OutOfMemory` where memory for the list or for a clone is refused.
+    pub fn keys(&self, segment: usize) -> Result<Option<Vec<K>>, OutOfMemory>
+    where
+        K: Clone + Drop,
+        requires clones { (x y : K) → K.is_clone x y → y ≡ x }
+        ensures ok { IfOk result (λ keys. KeysStep self.now.state segment (Ok (option_map (λ v. v.items) keys))) }
+        ensures err { IfErr result (λ e. KeysStep self.now.state segment (Err e)) }
+    {
+        if segment >= SEGMENTS {
+            return Ok(None);
+        }
+        match self.inner.keys(self.alloc) {
+            Ok(keys) => Ok(Some(keys)),
+            Err(_) => Err(OutOfMemory),
+        }
+    }
+
     /// Looks up a key at the moment `now`, and queues the read. The answer has a clone of the record's value, and one of
-    /// its key where `need_key` asks for it.
+    /// its key where `need_key` asks for it. Where the capacity is 0 nothing is found and no read is queued.
     ///
     /// # Errors
     /// `OutOfMemory` where memory for a clone is refused. Nothing has changed.
@@ -345,14 +417,21 @@ impl<
         requires keys { (x y : K) → K.is_clone x y → y ≡ x }
         requires values { (x y : V) → V.is_clone x y → y ≡ x }
         ensures { (e : Events K V)
-            × GetStep P.says X.read (MaintenanceRun P.says) K.eq self.old.state key.now hash need_key false now.0 result e self.new.state
+            × GetStep P.says X.read (SettlingRun P.says X.read) K.eq self.old.state key.now hash need_key false now.0 result e self.new.state
             × Befalls L.tells e self.old self.new
             × Leads C.reads clock.old e.readings clock.new }
     {
+        if self.is_map_disabled() {
+            return Ok(None);
+        }
         gets::look_up(&mut self.inner, key, hash, need_key, now)
     }
 
-    /// Applies the queued reads and then the queued writes, makes the report, and tells whether more is left.
+    /// Applies the queued reads and then the queued writes, removes the surplus over the capacity in passes of at most
+    /// `batch` turns, makes the report, and tells whether more is left. A capacity of 0 leaves nothing to do.
+    ///
+    /// Once every operation was sent, a run with a `batch` of at least one leaves count and weight exactly the records',
+    /// and the weight within the capacity.
     pub fn run_pending_tasks<C: Clock>(
         &mut self,
         now: Instant,
@@ -364,18 +443,23 @@ impl<
     where
         K: Drop,
         V: Drop,
-        ensures step { (e : Events K V)
-            × RunStep (MaintenanceRun P.says) self.old.state (record { now = now.0; limit = option_map as_nanos limit; batch = batch }) result e self.new.state
+        ensures { (e : Events K V)
+            × RunStep (SettlingRun P.says X.read) self.old.state (record { now = now.0; limit = option_map as_nanos limit; batch = batch }) result e self.new.state
             × Befalls L.tells e self.old self.new
             × Leads C.reads clock.old e.readings clock.new }
-        ensures exact { self.old.state.outstanding ≡ finite.empty → IsExact self.new.state }
     {
-        self.inner.apply_queues();
+        if self.is_map_disabled() {
+            self.passes = 0;
+            return false;
+        }
+        let capacity = self.max_capacity;
         self.inner.know();
+        self.inner.apply_queues(capacity);
+        let surplus = self.inner.evict(capacity, batch);
         self.entry_count = self.inner.member_count() as u64;
         self.weighted_size = at_most_greatest(self.inner.total_weight());
-        self.passes = 1;
-        false
+        self.passes = surplus.passes;
+        surplus.is_left
     }
 }
 

@@ -1,18 +1,20 @@
 //! The map, the operations that wait, and both queues.
-ghost use Rattle.std.specs.Prelude.{true, false, ◌≡◌, ◌≢◌, ◌+◌, ◌-◌, ◌^◌, ◌<◌, ◌≤◌, ℕ, [], ◌∷◌, ◌++◌, OnOk, OnErr, IfOk, IfSome, IfNone, IsOk, IsSome, None, Some, is_some, nat_lt, length, if◌then◌else◌, Ok, Err};
+ghost use Rattle.std.specs.Prelude.{true, false, ◌≡◌, ◌≢◌, ◌+◌, ◌-◌, ◌^◌, ◌<◌, ◌≤◌, ℕ, [], ◌∷◌, ◌++◌, OnOk, OnErr, IfOk, IfSome, IfNone, IsOk, IsSome, None, Some, is_some, nat_lt, length, map, IsPermutation, ◌⊎◌, if◌then◌else◌, Ok, Err};
 ghost use Rattle.std.specs.FinMap as finite;
 ghost use Rattle.std.specs.Option.{option_map, option_copied};
 ghost use Rattle.moka_parts.specs.declared.records.Record.{Record};
-ghost use Rattle.moka_parts.specs.declared.records.Operation.TheVariants.{Upsert};
+ghost use Rattle.moka_parts.specs.declared.records.Operation.TheVariants.{Upsert, Removal};
 ghost use Rattle.moka_parts.specs.declared.records.Ticketed.{Ticketed};
 ghost use Rattle.moka_parts.specs.Records.{record_of_key};
 ghost use Rattle.moka_engine.specs.Interior.{IsReadLocated, LeadsTo};
 ghost use Rattle.moka_engine.specs.Sends.{SendsAt};
 ghost use Rattle.moka_parts.specs.Settling.{IsConsistent, IsWaitingIn};
 ghost use Rattle.moka_parts.specs.Records.{total_weight};
-ghost use Rattle.moka_engine.specs.Applied.{records_after_writes, access_after_reads, access_after_writes};
+ghost use Rattle.moka_parts.specs.Exact.{IsWithin};
+ghost use Rattle.moka_engine.specs.Applied.{held_inside, after_queues};
+ghost use Rattle.moka_engine.specs.Evictions.{HasUnsettled, IsEvicted};
 
-use crate::maintenance;
+use crate::maintenance::{self, Surplus};
 use crate::store::{Handle, Store, Update};
 use circular_buffer::HeapCircularBuffer;
 use moka_parts::calls::Ticket;
@@ -23,6 +25,9 @@ use moka_structures::outstanding::Outstanding;
 use std::alloc::{AllocError, Global};
 use std::hash::{BuildHasher, Hash};
 use std::marker::Model;
+
+#[cfg(test)]
+mod tests;
 
 /// How many operations and how many reads can be queued. moka: `WRITE_LOG_SIZE`, `READ_LOG_SIZE`.
 const QUEUE_SIZE: usize = 384;
@@ -279,6 +284,34 @@ impl<K: Eq + Hash, V, S: BuildHasher> Inner<K, V, S> {
         (old, Ticket(ticket))
     }
 
+    /// The record at this handle leaves the map, and its removal is handed out under the next ticket. It takes no
+    /// memory. Its member stays until the removal is applied.
+    pub fn remove(&mut self, handle: Handle) -> (Record<K, V>, Ticket)
+    where
+        K: Drop,
+        requires handle { LeadsTo self.old handle }
+        ensures ticket { result.1.0 ≡ self.old.next_ticket }
+        ensures taken { finite.get self.old.records handle.number ≡ Some result.0 }
+        ensures step { self.new ≡ record self.old {
+          records = finite.remove self.old.records handle.number;
+          outstanding = finite.insert self.old.outstanding self.old.next_ticket (Removal handle.number (result.0.generation + 1));
+          next_ticket = self.old.next_ticket + 1;
+          row_room = self.new.row_room;
+          operation_room = self.new.operation_room;
+        } }
+    {
+        let ticket = self.last_ticket + 1;
+        let record = self.store.take_record(handle);
+        let Handle { number, place } = handle;
+        let generation = record.generation + 1;
+        let operation = Operation::Removal { number, generation };
+        self.outstanding
+            .hand_out(ticket, PlacedWrite { place, operation });
+        self.size -= 1;
+        self.last_ticket = ticket;
+        (record, Ticket(ticket))
+    }
+
     /// Moves the operation of this ticket to the back of the queue of writes.
     pub fn send(&mut self, ticket: Ticket) -> Result<(), SendError>
         ensures { SendsAt self.old ticket.0 (finite.get self.old.outstanding ticket.0) result self.new }
@@ -313,13 +346,14 @@ impl<K: Eq + Hash, V, S: BuildHasher> Inner<K, V, S> {
     }
 
     /// Applies all queued reads, and then all queued writes in order.
-    pub fn apply_queues(&mut self)
+    pub fn apply_queues(&mut self, capacity: Option<u64>)
     where
         K: Drop,
         V: Drop,
-        ensures step { self.new ≡ record self.old {
-          records = records_after_writes self.old.records self.old.writes;
-          access = access_after_writes self.old.records (access_after_reads self.old.records self.old.access self.old.reads) self.old.writes;
+        ensures held { held_inside self.new ≡ after_queues capacity self.old }
+        ensures rest { self.new ≡ record self.old {
+          records = self.new.records;
+          access = self.new.access;
           writes = [];
           reads = [];
           places = self.new.places;
@@ -328,7 +362,44 @@ impl<K: Eq + Hash, V, S: BuildHasher> Inner<K, V, S> {
         } }
     {
         maintenance::apply_reads(&mut self.store, &mut self.reads);
-        maintenance::apply_writes(&mut self.store, &mut self.weight, &mut self.writes);
+        maintenance::apply_writes(
+            &mut self.store,
+            &mut self.weight,
+            capacity,
+            &mut self.writes,
+        );
+        self.size = self.store.record_count();
+    }
+
+    /// Removes the surplus over the capacity, least recently used first, in passes of at most `batch` turns.
+    pub fn evict(&mut self, capacity: Option<u64>, batch: u32) -> Surplus
+    where
+        K: Drop,
+        V: Drop,
+        ensures evicted { IsEvicted capacity (held_inside self.old) (held_inside self.new) }
+        ensures rest { self.new ≡ record self.old {
+          records = self.new.records;
+          access = self.new.access;
+          places = self.new.places;
+          row_room = self.new.row_room;
+          operation_room = self.new.operation_room;
+        } }
+        ensures finished { 1 ≤ batch → result.is_left ≡ false }
+        ensures within { result.is_left ≡ false → IsWithin capacity self.new.access ⊎ HasUnsettled (held_inside self.new) }
+    {
+        let surplus = maintenance::evict(&mut self.store, &mut self.weight, capacity, batch);
+        self.size = self.store.record_count();
+        surplus
+    }
+
+    /// Clones of the keys of all records, in no particular order.
+    pub fn keys(&self, alloc: Global) -> Result<Vec<K>, AllocError>
+    where
+        K: Clone + Drop,
+        requires clones { (x y : K) → K.is_clone x y → y ≡ x }
+        ensures { IfOk result (λ keys. IsPermutation (map (λ r. r.key) (finite.values self.now.records)) keys.items) }
+    {
+        self.store.keys(alloc)
     }
 
     /// How many members the access list has.

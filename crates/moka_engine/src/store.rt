@@ -1,13 +1,13 @@
 //! Records, their order and the index of their keys, in one.
 //!
 //! moka: `sync::base_cache::Inner`, whose maps and deques these are.
-ghost use Rattle.std.specs.Prelude.{◌==◌, if◌then◌else◌, ◌≡◌, ◌≢◌, ◌+◌, ◌<◌, ◌≤◌, ℕ, [], ◌∷◌, ◌++◌, length, OnOk, IfOk, IfSome, IsOk, IsSome, None, Some, slice_get, option_map, option_copied, IsTrue, ◌↔◌};
+ghost use Rattle.std.specs.Prelude.{◌==◌, if◌then◌else◌, ◌≡◌, ◌≢◌, ◌+◌, ◌<◌, ◌≤◌, ℕ, [], ◌∷◌, ◌++◌, length, map, IsPermutation, OnOk, IfOk, IfSome, IsOk, IsSome, None, Some, slice_get, option_map, option_copied, IsTrue, ◌↔◌};
 ghost use Rattle.std.specs.FinMap as finite;
 ghost use Rattle.moka_engine.specs.Store.{member_after, IsPlaced, IsHandle, IsOneEach};
 ghost use Rattle.moka_engine.specs.declared.store.Handle.{Handle};
 ghost use Rattle.moka_parts.specs.declared.records.Record.{Record};
 ghost use Rattle.moka_engine.specs.Updates.{updated};
-ghost use Rattle.moka_parts.specs.Records.{member, counted_of, record_of_key, with_record, without_member, is_member, to_back};
+ghost use Rattle.moka_parts.specs.Records.{member, counted_of, record_of_key, with_record, without_member, is_member, is_settled, to_back};
 
 use moka_parts::policy::Instant;
 use moka_parts::records::Record;
@@ -235,6 +235,17 @@ impl<K: Eq + Hash, V, S: BuildHasher> Store<K, V, S> {
         self.counted(handle).is_some()
     }
 
+    /// Whether the number at this handle is settled: its record is in the map and saw its newest operation.
+    pub fn is_settled(&self, handle: Handle) -> bool
+        requires { IsPlaced self.now handle }
+        ensures { result ≡ is_settled self.now.records handle.number }
+    {
+        match self.find(handle) {
+            Some(found) => found.applied == found.generation,
+            None => false,
+        }
+    }
+
     /// The number at this handle comes to the back of the access list, with this weight. It takes no memory.
     pub fn admit(&mut self, handle: Handle, weight: u32)
         requires placed { IsPlaced self.old handle }
@@ -306,6 +317,22 @@ impl<K: Eq + Hash, V, S: BuildHasher> Store<K, V, S> {
         ensures { result ≡ finite.len self.now.records }
     {
         self.index.len()
+    }
+
+    /// Clones of the keys of all records, in no particular order.
+    pub fn keys(&self, alloc: Global) -> Result<Vec<K>, AllocError>
+    where
+        K: Clone + Drop,
+        requires clones { (x y : K) → K.is_clone x y → y ≡ x }
+        ensures { IfOk result (λ keys. IsPermutation (map (λ r. r.key) (finite.values self.now.records)) keys.items) }
+    {
+        let mut keys = Vec::with_capacity(alloc, self.record_count())?;
+        for place in 0..self.table.capacity() {
+            if let Some(stored) = self.table.record(place) {
+                keys.push(stored.key.clone()?)?;
+            }
+        }
+        Ok(keys)
     }
 
     /// How many members the access list has.
@@ -460,6 +487,23 @@ mod tests {
         store.forget(handle);
         assert!(rt; store.front().is_none());
         assert!(rt; store.find_by_key(&10).is_none());
+        Ok(())
+    }
+
+    #[test]
+    #[tactic(auto, using(moka_structures::proofs::Gets::map_calls))]
+    fn lists_its_keys(rt: HostRuntime) -> Result<(), Fail> {
+        let mut store: TestStore = Store::new(rt.alloc(), BuildHasherDefault::new())?;
+        store.reserve(2)?;
+        assert!(rt; store.find_by_key(&10).is_none());
+        let _first = store.insert_new(record(1, 10, 100), 10);
+        assert!(rt; store.find_by_key(&20).is_none());
+        let second = store.insert_new(record(2, 20, 200), 20);
+        let mut keys = store.keys(rt.alloc())?;
+        keys.sort()?;
+        assert_eq!(rt; keys.as_slice(), [10, 20].as_slice());
+        let _taken = store.take_out(second);
+        assert_eq!(rt; store.keys(rt.alloc())?.as_slice(), [10].as_slice());
         Ok(())
     }
 }

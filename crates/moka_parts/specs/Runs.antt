@@ -1,5 +1,5 @@
 -- Lists of calls: chains of call steps, with what the listener, the clock and the source of identifiers went through.
-use Rattle.std.specs.Prelude.{◌≡◌, ℕ, true, false, List, [], ◌∷◌, length, map, Option, Some, None, option_map, Ok, Err, flat_map}
+use Rattle.std.specs.Prelude.{◌≡◌, ℕ, Bool, true, false, List, [], ◌∷◌, length, map, Option, Some, None, option_map, Ok, Err, flat_map}
 use Rattle.std.specs.Duration.{as_nanos}
 use Rattle.std.specs.FinMap.{len, empty}
 use Rattle.uuid.specs.declared.Uuid.{Uuid}
@@ -135,6 +135,15 @@ pub record IsRun {K V S X L P W C I : Type 0} (m : Meaning K V X L P W C I) (Run
 -- a run of the reference cache
 abbrev pub ReferenceRun : {K V S X L P W C I : Type 0} → Meaning K V X L P W C I → List (Call K V P) → List (Reply K V P) → List (Step K V X P W) → Cache K V S X L P W → C → I → Cache K V S X L P W → C → I → Type 0
 ReferenceRun m calls replies steps old clock ids new clock_after ids_after = IsRun m (MaintenanceRun m.says) calls replies steps old clock ids new clock_after ids_after
+
+module _ {K V X P W : Type 0} (says : P → K → V → Bool → Type 0) (read : X → K → V → ℕ → Option ℕ → ℕ → Option ℕ) where
+  -- a run of maintenance that settles what was sent
+  abbrev pub SettlingRun : State K V X P W → Terms → Course → List (Notice K V) → State K V X P W → Type 0
+  SettlingRun s terms course notices t = RunsWith says (λ s terms course t. Leaves s terms course t × Settles says read s terms course t) (λ _ _ _ _. Unit {0}) s terms course notices t
+
+-- a run of the reference cache in which each run of maintenance settles what was sent
+abbrev pub SettlingReferenceRun : {K V S X L P W C I : Type 0} → Meaning K V X L P W C I → List (Call K V P) → List (Reply K V P) → List (Step K V X P W) → Cache K V S X L P W → C → I → Cache K V S X L P W → C → I → Type 0
+SettlingReferenceRun m calls replies steps old clock ids new clock_after ids_after = IsRun m (SettlingRun m.says m.read) calls replies steps old clock ids new clock_after ids_after
 
 module _ {K V X L P W C I : Type 0} (m : Meaning K V X L P W C I) where
   -- what every run of maintenance ends with

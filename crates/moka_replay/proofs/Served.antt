@@ -1,15 +1,17 @@
 -- Each call of a script is one that the driver makes.
-use Rattle.std.proofs.Common.{◌≡◌, ℕ, ◌+◌, Bool, true, false, List, [], ◌∷◌, ◌++◌, Option, Some, None, Result, Ok, Err, subst, codes, if◌then◌else◌}
+use Rattle.std.proofs.Common.{◌≡◌, refl, ℕ, ◌+◌, Bool, true, false, List, [], ◌∷◌, ◌++◌, Option, Some, None, Result, Ok, Err, subst, codes, if◌then◌else◌}
 use Rattle.std.specs.List.{AllByRecursion, list_all}
 use Rattle.std.specs.Option.{option_and_then, option_map, option_map_or, option_or}
 use Rattle.std.specs.Str.{bytes_eq}
 use Rattle.moka_drive.specs.Served.{IsServed}
-use Rattle.moka_replay.specs.declared.script.Settings.{Settings}
-use Rattle.moka_replay.specs.declared.script.Setting.{Setting}
+use Rattle.moka_replay.specs.declared.script.settings.Settings.{Settings}
+use Rattle.moka_replay.specs.declared.script.settings.Setting.{Setting}
 use Rattle.moka_replay.specs.declared.script.Line.{Line}
 use Rattle.moka_replay.specs.declared.script.Line.TheVariants as line
 use Rattle.moka_replay.specs.Words.{number_of, is_printable, words_of}
-use Rattle.moka_replay.specs.Script.{CallText, ScriptText, insert_of, send_of, get_of, run_of, report_of, call_of, setting_of, asked_by_name, asked_by, asked_in, is_comment, put_in, joined, with_line, lines_read, lines_of, no_text, script_of}
+use Rattle.moka_replay.specs.Settings.{setting_of, put_in}
+use Rattle.moka_replay.specs.Calls.{CallText, insert_of, send_of, get_of, contains_of, key_of, remove_of, run_of, keys_of, report_of, call_of}
+use Rattle.moka_replay.specs.Script.{ScriptText, asked_by_name, asked_by, asked_in, is_comment, has_lru, joined, with_line, lines_read, lines_of, no_text, script_of}
 
 -- ---- calls
 
@@ -44,11 +46,31 @@ serves_get (key ∷ []) = tt
 serves_get (key ∷ now ∷ []) = serves_then (number_of 32 key) _ (λ k. serves_then (number_of 64 now) _ (λ n. tt))
 serves_get (key ∷ now ∷ more ∷ rest) = tt
 
+serves_contains : (arguments : List (List ℕ)) → Serves (contains_of arguments)
+serves_contains [] = tt
+serves_contains (key ∷ []) = tt
+serves_contains (key ∷ now ∷ []) = serves_then (number_of 32 key) _ (λ k. serves_then (number_of 64 now) _ (λ n. tt))
+serves_contains (key ∷ now ∷ more ∷ rest) = tt
+
+serves_key : (arguments : List (List ℕ)) → Serves (key_of arguments)
+serves_key [] = tt
+serves_key (key ∷ []) = serves_then (number_of 32 key) _ (λ k. tt)
+serves_key (key ∷ more ∷ rest) = tt
+
+serves_remove : (arguments : List (List ℕ)) → Serves (remove_of arguments)
+serves_remove [] = tt
+serves_remove (key ∷ []) = serves_then (number_of 32 key) _ (λ k. refl)
+serves_remove (key ∷ more ∷ rest) = tt
+
 serves_run : (arguments : List (List ℕ)) → Serves (run_of arguments)
 serves_run [] = tt
 serves_run (now ∷ []) = tt
 serves_run (now ∷ batch ∷ []) = serves_then (number_of 64 now) _ (λ n. serves_then (number_of 32 batch) _ (λ b. tt))
 serves_run (now ∷ batch ∷ more ∷ rest) = tt
+
+serves_keys : (arguments : List (List ℕ)) → Serves (keys_of arguments)
+serves_keys [] = tt
+serves_keys (more ∷ rest) = tt
 
 serves_report : (arguments : List (List ℕ)) → Serves (report_of arguments)
 serves_report [] = tt
@@ -56,15 +78,15 @@ serves_report (more ∷ rest) = tt
 
 serves_call : (name : List ℕ) (arguments : List (List ℕ)) → Serves (call_of name arguments)
 serves_call name arguments =
-    let reported : Option CallText = if bytes_eq name (codes "report") then report_of arguments else None in
-    let run : Option CallText = if bytes_eq name (codes "run") then run_of arguments else reported in
-    let got : Option CallText = if bytes_eq name (codes "get") then get_of arguments else run in
-    let sent : Option CallText = if bytes_eq name (codes "send") then send_of arguments else got in
-    let reports = serves_if (bytes_eq name (codes "report")) (report_of arguments) None (serves_report arguments) tt in
-    let runs = serves_if (bytes_eq name (codes "run")) (run_of arguments) reported (serves_run arguments) reports in
-    let gets = serves_if (bytes_eq name (codes "get")) (get_of arguments) run (serves_get arguments) runs in
-    let sends = serves_if (bytes_eq name (codes "send")) (send_of arguments) got (serves_send arguments) gets in
-    serves_if (bytes_eq name (codes "insert")) (insert_of arguments) sent (serves_insert arguments) sends
+    serves_if (bytes_eq name (codes "insert")) _ _ (serves_insert arguments)
+    (serves_if (bytes_eq name (codes "send")) _ _ (serves_send arguments)
+    (serves_if (bytes_eq name (codes "get")) _ _ (serves_get arguments)
+    (serves_if (bytes_eq name (codes "contains")) _ _ (serves_contains arguments)
+    (serves_if (bytes_eq name (codes "key")) _ _ (serves_key arguments)
+    (serves_if (bytes_eq name (codes "remove")) _ _ (serves_remove arguments)
+    (serves_if (bytes_eq name (codes "run")) _ _ (serves_run arguments)
+    (serves_if (bytes_eq name (codes "keys")) _ _ (serves_keys arguments)
+    (serves_if (bytes_eq name (codes "report")) (report_of arguments) None (serves_report arguments) tt))))))))
 
 -- ---- lines
 
@@ -107,11 +129,11 @@ serves_set true None calls all = tt
 serves_set true (Some settings) calls all = all
 serves_set false set calls all = tt
 
-serves_joined : (script : ScriptText) (asked : Option Line) → AllByRecursion IsServed script.1 → ServesLine asked → ServesAll (option_and_then (joined script) asked)
-serves_joined script None all asks = tt
-serves_joined script (Some line.Nothing) all asks = all
-serves_joined script (Some (line.Setting setting)) all asks = serves_set _ (put_in script.0 setting) script.1 all
-serves_joined script (Some (line.Call call)) all asks = served_push script.1 call all asks
+serves_joined : (with_lru : Bool) (script : ScriptText) (asked : Option Line) → AllByRecursion IsServed script.1 → ServesLine asked → ServesAll (option_and_then (joined with_lru script) asked)
+serves_joined with_lru script None all asks = tt
+serves_joined with_lru script (Some line.Nothing) all asks = all
+serves_joined with_lru script (Some (line.Setting setting)) all asks = serves_set _ (put_in script.0 setting) script.1 all
+serves_joined with_lru script (Some (line.Call call)) all asks = served_push script.1 call all asks
 
 -- each call of what was read is served
 abbrev ServesRead : Result ScriptText ℕ → Type 0
@@ -122,11 +144,11 @@ serves_next : (next : Option ScriptText) (number : ℕ) (read : ScriptText → R
 serves_next None number read all each = tt
 serves_next (Some more) number read all each = each more all
 
-serves_lines : (number : ℕ) (script : ScriptText) (lines : List (List ℕ)) → AllByRecursion IsServed script.1 → ServesRead (lines_read number script lines)
-serves_lines number script [] all = all
-serves_lines number script (text ∷ lines) all =
-    serves_next (with_line script text) number _ (serves_joined script (asked_in text) all (serves_in text)) (λ more each. serves_lines (number + 1) more lines each)
+serves_lines : (with_lru : Bool) (number : ℕ) (script : ScriptText) (lines : List (List ℕ)) → AllByRecursion IsServed script.1 → ServesRead (lines_read with_lru number script lines)
+serves_lines with_lru number script [] all = all
+serves_lines with_lru number script (text ∷ lines) all =
+    serves_next (with_line with_lru script text) number _ (serves_joined with_lru script (asked_in text) all (serves_in text)) (λ more each. serves_lines with_lru (number + 1) more lines each)
 
 -- each call of a script that is right is served
 pub served_of_script : (text : List ℕ) (script : ScriptText) → script_of text ≡ Ok script → AllByRecursion IsServed script.1
-served_of_script text script read = subst ServesRead read (serves_lines 1 no_text (lines_of text) tt)
+served_of_script text script read = subst ServesRead read (serves_lines (has_lru (lines_of text)) 1 no_text (lines_of text) tt)

@@ -1,4 +1,7 @@
 pub mod Words
+pub mod LineError
+pub mod Settings
+pub mod Calls
 pub mod Script
 pub mod Text
 pub mod Failure

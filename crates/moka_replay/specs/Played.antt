@@ -2,16 +2,16 @@
 use Rattle.std.specs.Prelude.{◌≡◌, ℕ, ◌+◌, ◌-◌, ◌^◌, min, ◌&&◌, nat_eq, nat_le, false, List, None, unwrap_or}
 use Rattle.std.specs.Int.{w128, to_be_bytes}
 use Rattle.moka_parts.specs.declared.calls.Reply.{Reply}
+use Rattle.moka_parts.specs.declared.policy.EvictionPolicy.{EvictionPolicy}
 use Rattle.moka_parts.specs.declared.policy.EvictionPolicy.TheVariants.{TinyLfu}
 use Rattle.moka_parts.specs.declared.policy.NoExpiry.{NoExpiry}
 use Rattle.moka_parts.specs.declared.notification.NoListener.{NoListener}
 use Rattle.moka_parts.specs.State.{State, Meaning, new_state}
 use Rattle.moka_parts.specs.Housekeeping.{new_housekeeping, without_automatic}
-use Rattle.moka_parts.specs.Maintenance.{MaintenanceRun}
-use Rattle.moka_parts.specs.Runs.{Step, calls_of, replies_of, last_state, AreSteps}
+use Rattle.moka_parts.specs.Runs.{Step, calls_of, replies_of, last_state, AreSteps, SettlingRun}
 use Rattle.moka_replay.specs.declared.key_range.KeyRange.{KeyRange}
 use Rattle.moka_replay.specs.declared.print.Total.{Total}
-use Rattle.moka_replay.specs.declared.script.Settings.{Settings}
+use Rattle.moka_replay.specs.declared.script.settings.Settings.{Settings}
 use Rattle.moka_replay.specs.declared.sources.CountedIds.{CountedIds}
 use Rattle.moka_replay.specs.declared.sources.StoppedClock.{StoppedClock}
 use Rattle.moka_replay.specs.declared.weigher.NumberWeigher.{NumberWeigher}
@@ -39,20 +39,24 @@ script_meaning = record {
   updated = λ _ _ _ _ told. told;
 }
 
--- the cache that a script begins with: made at 0, with no bound, and no run starts by itself
+-- how the cache chooses what stays
+abbrev pub chosen_policy : Settings → EvictionPolicy
+chosen_policy settings = unwrap_or settings.policy TinyLfu
+
+-- the cache that a script begins with: made at 0, and no run starts by itself
 abbrev pub first_state : Settings → ScriptState
 first_state settings = record (new_state (record {
-  policy = TinyLfu;
+  policy = chosen_policy settings;
   time_to_live = None;
   time_to_idle = None;
   expiry = None;
-  weigher = None;
+  weigher = settings.weigher;
   listening = false;
   invalidator = false;
   run_limit = 100000000;
   run_repeats = 4;
   run_batch = 384;
-}) None 0 (unwrap_or settings.first 1)) { housekeeping = without_automatic (new_housekeeping 0) }
+}) settings.capacity 0 (unwrap_or settings.first 1)) { housekeeping = without_automatic (new_housekeeping 0) }
 
 -- count and weight of the last run
 abbrev pub total_of : ScriptState → Total
@@ -60,4 +64,4 @@ total_of state = record { count = state.count; weight = state.weight }
 
 -- the calls, made one after the other on a new reference cache, give the replies and leave that total
 abbrev pub AreReplies : ScriptText → List (Reply ℕ (List ℕ) KeyRange) → Total → Type 0
-AreReplies script replies total = (steps : List ScriptStep) × (calls_of steps ≡ script.1) × (replies_of steps ≡ replies) × AreSteps script_meaning (MaintenanceRun script_meaning.says) (first_state script.0) steps × (total ≡ total_of (last_state (first_state script.0) steps))
+AreReplies script replies total = (steps : List ScriptStep) × (calls_of steps ≡ script.1) × (replies_of steps ≡ replies) × AreSteps script_meaning (SettlingRun script_meaning.says script_meaning.read) (first_state script.0) steps × (total ≡ total_of (last_state (first_state script.0) steps))

@@ -11,7 +11,7 @@ use Rattle.moka_replay.specs.declared.script.Script.{Script}
 use Rattle.moka_replay.specs.Failure.{IsToldAs}
 use Rattle.moka_replay.specs.Script.{ScriptText, script_of, text_of}
 use Rattle.moka_replay.specs.Played.{AreReplies}
-use Rattle.moka_replay.specs.Text.{replay_text, is_refused_memory}
+use Rattle.moka_replay.specs.Text.{AreInOrder, replay_text, is_refused_memory}
 
 -- where the bytes of the input are known, they are read so
 abbrev pub Says : Option (List ℕ) → Result ScriptText ℕ → Type 0
@@ -32,9 +32,9 @@ IsScriptRead input (Err failure) = Stops input failure × (failure ≢ CannotWri
 abbrev pub status_of_replies : List (Reply ℕ (List ℕ) KeyRange) → ℕ
 status_of_replies replies = if list_any is_refused_memory replies then 3 else 0
 
--- the replies to the script's calls were printed, and then the total
+-- the replies to the script's calls were printed, keys in rising order, and then the total
 abbrev pub IsPrinted : Option (List ℕ) → ℕ → Option (List ℕ) → Option (List ℕ) → Type 0
-IsPrinted input status old new = (script : ScriptText) × (replies : List (Reply ℕ (List ℕ) KeyRange)) × (total : Total) × Says input (Ok script) × AreReplies script replies total × Appends old new (replay_text replies total) × (status ≡ status_of_replies replies)
+IsPrinted input status old new = (script : ScriptText) × (replies printed : List (Reply ℕ (List ℕ) KeyRange)) × (total : Total) × Says input (Ok script) × AreReplies script replies total × AreInOrder replies printed × Appends old new (replay_text printed total) × (status ≡ status_of_replies printed)
 
 -- all was printed, or it stopped with reason; only a refused write leaves a part
 abbrev pub IsRun : Option (List ℕ) → Result ℕ Failure → Option (List ℕ) → Option (List ℕ) → Type 0

@@ -1,6 +1,7 @@
 -- What a replay prints.
-use Rattle.std.specs.Prelude.{ℕ, Bool, true, false, List, ◌∷◌, ◌++◌, Option, Some, None, Result, Ok, Err, codes, decimal, if◌then◌else◌}
+use Rattle.std.specs.Prelude.{◌≡◌, ℕ, ◌<◌, Bool, true, false, List, ◌∷◌, ◌++◌, Option, Some, None, Result, Ok, Err, codes, decimal, length, slice_index_or, if◌then◌else◌}
 use Rattle.std.specs.List.{flat_map}
+use Rattle.std.specs.List.Sorted.{IsPermutation, IsNonDecreasing}
 use Rattle.std.specs.declared.vec.Vec.{Vec}
 use Rattle.std.specs.declared.alloc.Global.{Global}
 use Rattle.moka_parts.specs.declared.calls.KvEntry.{KvEntry}
@@ -66,10 +67,18 @@ removal_text (Some removed) (Some (Err _)) = codes "removed " ++ (removed.0.valu
 removal_text (Some removed) told = codes "removed " ++ (removed.0.value ++ (codes " ticket " ++ decimal removed.1.0))
 removal_text None told = codes "none"
 
+-- the report of the last run
+abbrev pub report_text : ℕ → ℕ → ℕ → List ℕ
+report_text count weight predicates = total_text (record { count = count; weight = weight }) ++ (codes " predicates " ++ decimal predicates)
+
 -- a ticket, if there is one
 abbrev pub ticket_text : Option Ticket → List ℕ
 ticket_text (Some ticket) = decimal ticket.0
 ticket_text None = codes "none"
+
+-- what waits to be sent or applied
+abbrev pub pending_text : ℕ → Option Ticket → ℕ → ℕ → List ℕ
+pending_text handed oldest writes reads = codes "handed " ++ (decimal handed ++ (codes " oldest " ++ (ticket_text oldest ++ (codes " writes " ++ (decimal writes ++ (codes " reads " ++ decimal reads))))))
 
 -- a reply, without its line feed
 abbrev pub reply_text : Reply ℕ (List ℕ) KeyRange → List ℕ
@@ -93,8 +102,8 @@ reply_text (Run is_more_left) = if is_more_left then codes "more" else codes "do
 reply_text RunIfDue = codes "ok"
 reply_text DisableAutoRun = codes "ok"
 reply_text (Keys keys) = keys_text keys
-reply_text (Report count weight predicates) = total_text (record { count = count; weight = weight }) ++ (codes " predicates " ++ decimal predicates)
-reply_text (Pending handed oldest writes reads) = codes "handed " ++ (decimal handed ++ (codes " oldest " ++ (ticket_text oldest ++ (codes " writes " ++ (decimal writes ++ (codes " reads " ++ decimal reads))))))
+reply_text (Report count weight predicates) = report_text count weight predicates
+reply_text (Pending handed oldest writes reads) = pending_text handed oldest writes reads
 reply_text (SetCapacity (Ok _)) = codes "ok"
 reply_text (SetCapacity (Err _)) = codes "refused zero"
 
@@ -105,6 +114,15 @@ reply_lines replies = flat_map (λ reply. reply_text reply ++ codes "\n") replie
 -- a line for each reply, and then the total
 abbrev pub replay_text : List (Reply ℕ (List ℕ) KeyRange) → Total → List ℕ
 replay_text replies total = reply_lines replies ++ (total_text total ++ codes "\n")
+
+-- a reply, and the same with its keys, if it has any, in rising order
+abbrev pub IsInOrder : Reply ℕ (List ℕ) KeyRange → Reply ℕ (List ℕ) KeyRange → Type 0
+IsInOrder (Keys (Ok (Some keys))) (Keys (Ok (Some rising))) = IsPermutation keys.items rising.items × IsNonDecreasing rising.items
+IsInOrder reply printed = printed ≡ reply
+
+-- the same of each reply
+abbrev pub AreInOrder : List (Reply ℕ (List ℕ) KeyRange) → List (Reply ℕ (List ℕ) KeyRange) → Type 0
+AreInOrder replies printed = (length printed ≡ length replies) × ((k : ℕ) (d : Reply ℕ (List ℕ) KeyRange) → k < length replies → IsInOrder (slice_index_or replies k d) (slice_index_or printed k d))
 
 abbrev pub is_insert_memory : InsertError → Bool
 is_insert_memory insert_error.OutOfMemory = true

@@ -3,7 +3,8 @@ ghost use Rattle.std.specs.Prelude.{◌≡◌, IfOk};
 ghost use Rattle.std.specs.List.{AllByRecursion};
 ghost use Rattle.moka_drive.specs.Served.{IsServed};
 ghost use Rattle.moka_replay.specs.Script.{text_of};
-ghost use Rattle.moka_replay.specs.Played.{AreReplies, first_state};
+ghost use Rattle.moka_replay.specs.Played.{AreReplies, chosen_policy, first_state};
+ghost use Rattle.moka_engine.specs.BaseCache.{IsLruWhereBounded};
 
 use crate::key_range::KeyRange;
 use crate::print::Total;
@@ -46,7 +47,8 @@ pub struct Played {
 /// # Errors
 /// `OutOfMemory` where memory for the cache or for the replies is refused.
 pub fn play(alloc: Global, script: Script) -> Result<Played, OutOfMemory>
-    requires { AllByRecursion IsServed script.calls.items }
+    requires served { AllByRecursion IsServed script.calls.items }
+    requires bounded { IsLruWhereBounded script.settings.capacity (chosen_policy script.settings) }
     ensures { IfOk result (λ played. AreReplies (text_of script) played.replies.items played.total) }
 {
     let Script { settings, calls } = script;
@@ -69,8 +71,9 @@ pub fn play(alloc: Global, script: Script) -> Result<Played, OutOfMemory>
     }
 }
 
-/// The cache that a script begins with: made at 0, without a bound.
+/// The cache that a script begins with, made at 0.
 fn new_cache(alloc: Global, settings: Settings) -> Result<ScriptCache, OutOfMemory>
+    requires { IsLruWhereBounded settings.capacity (chosen_policy settings) }
     ensures { IfOk result (λ cache. cache.state ≡ first_state settings) }
 {
     let first = match settings.first {
@@ -80,11 +83,11 @@ fn new_cache(alloc: Global, settings: Settings) -> Result<ScriptCache, OutOfMemo
     BaseCache::new(
         alloc,
         None,
-        None,
+        settings.capacity,
         None,
         BuildHasherDefault::default(),
-        None,
-        EvictionPolicy::tiny_lfu(),
+        settings.weigher,
+        settings.policy.unwrap_or(EvictionPolicy::tiny_lfu()),
         None,
         ExpirationPolicy::default(),
         HousekeeperConfig::default(),

@@ -1,8 +1,8 @@
 //! What a replay prints.
 ghost use Rattle.std.specs.Prelude.{◌≡◌, OnOk};
-ghost use Rattle.moka_replay.specs.Text.{insert_error_text, send_error_text, predicate_error_text, is_refused_memory, reply_lines, replay_text, value_text, key_text, keys_text, removal_text, ticket_text};
-ghost use Rattle.std.specs.Fmt.{WritesOnOk};
+ghost use Rattle.moka_replay.specs.Text.{insert_error_text, send_error_text, predicate_error_text, is_refused_memory, reply_lines, replay_text, value_text, key_text, keys_text, removal_text, report_text, pending_text, ticket_text, IsInOrder, AreInOrder};
 ghost use Rattle.std.specs.Io.KnownBytes.{Appends};
+ghost use Rattle.std.specs.Fmt.{WritesOnOk};
 
 use crate::script::ScriptReply;
 use crate::word::Word;
@@ -47,23 +47,13 @@ impl fmt::Display for ReplyText<'_> {
                 count,
                 weight,
                 predicates,
-            } => {
-                let total = Total {
-                    count: *count,
-                    weight: *weight,
-                };
-                write!(f, "{total} predicates {predicates}")
-            }
+            } => write_report(f, *count, *weight, *predicates),
             Reply::Pending {
                 handed,
                 oldest,
                 writes,
                 reads,
-            } => {
-                write!(f, "handed {handed} oldest ")?;
-                write_ticket(f, *oldest)?;
-                write!(f, " writes {writes} reads {reads}")
-            }
+            } => write_pending(f, *handed, *oldest, *writes, *reads),
             Reply::SetCapacity(Ok(())) => f.write_str("ok"),
             Reply::SetCapacity(Err(_)) => f.write_str("refused zero"),
         }
@@ -129,6 +119,32 @@ fn write_removal<W: fmt::Write>(
     }
 }
 
+fn write_report<W: fmt::Write>(
+    f: &mut fmt::Formatter<W>,
+    count: u64,
+    weight: u64,
+    predicates: u64,
+) -> fmt::Result
+    ensures { WritesOnOk W.write_str_gives f.old result (report_text count weight predicates) f.new }
+{
+    let total = Total { count, weight };
+    write!(f, "{total} predicates {predicates}")
+}
+
+fn write_pending<W: fmt::Write>(
+    f: &mut fmt::Formatter<W>,
+    handed: u64,
+    oldest: Option<Ticket>,
+    writes: usize,
+    reads: usize,
+) -> fmt::Result
+    ensures { WritesOnOk W.write_str_gives f.old result (pending_text handed oldest writes reads) f.new }
+{
+    write!(f, "handed {handed} oldest ")?;
+    write_ticket(f, oldest)?;
+    write!(f, " writes {writes} reads {reads}")
+}
+
 fn write_ticket<W: fmt::Write>(f: &mut fmt::Formatter<W>, ticket: Option<Ticket>) -> fmt::Result
     ensures { WritesOnOk W.write_str_gives f.old result (ticket_text ticket) f.new }
 {
@@ -191,6 +207,24 @@ pub fn is_refused_memory(reply: &ScriptReply) -> bool
             ..
         } => true,
         _ => false,
+    }
+}
+
+/// Puts the keys of each reply, if it has any, in rising order.
+pub fn sort_keys(replies: &mut [ScriptReply])
+    ensures { AreInOrder replies.old replies.new }
+{
+    for reply in replies.iter_mut() {
+        sort_keys_of(reply);
+    }
+}
+
+/// Puts the keys of a reply, if it has any, in rising order.
+fn sort_keys_of(reply: &mut ScriptReply)
+    ensures { IsInOrder reply.old reply.new }
+{
+    if let Reply::Keys(Ok(Some(keys))) = reply {
+        keys.sort_unstable();
     }
 }
 

@@ -2,11 +2,13 @@
 ghost use Rattle.std.specs.Prelude.{◌≡◌, ◌⊎◌, IfOk, IfErr, IfSome};
 ghost use Rattle.std.specs.List.{AllByRecursion};
 ghost use Rattle.moka_drive.specs.Served.{IsServed};
+ghost use Rattle.moka_engine.specs.BaseCache.{IsLruWhereBounded};
+ghost use Rattle.moka_replay.specs.Played.{chosen_policy};
 ghost use Rattle.moka_replay.specs.Replay.{IsScriptRead, IsRun, IsReplayed, status_of_replies};
 
 use crate::failure::{Failure, REFUSED, REPLAYED, tell};
 use crate::play::play;
-use crate::print::{is_refused_memory, print};
+use crate::print::{is_refused_memory, print, sort_keys};
 use crate::script::{Script, ScriptReply, parse};
 use std::alloc::Global;
 use std::io::{ErrorKind, Read, Write};
@@ -36,7 +38,8 @@ fn run<R: Read, W: Write>(alloc: Global, input: &mut R, out: &mut W) -> Result<u
     ensures { IsRun (R.remaining input.old) result (W.contents out.old) (W.contents out.new) }
 {
     let script = read_script(alloc, input)?;
-    let played = play(alloc, script)?;
+    let mut played = play(alloc, script)?;
+    sort_keys(&mut played.replies);
     match print(out, &played.replies, played.total) {
         Ok(()) => Ok(status_of(&played.replies)),
         Err(_) => Err(Failure::CannotWrite),
@@ -71,6 +74,7 @@ fn read_all<R: Read>(alloc: Global, input: &mut R) -> Result<Vec<u8>, Failure>
 fn read_script<R: Read>(alloc: Global, input: &mut R) -> Result<Script, Failure>
     ensures read { IsScriptRead (R.remaining input.old) result }
     ensures served { IfOk result (λ script. AllByRecursion IsServed script.calls.items) }
+    ensures bounded { IfOk result (λ script. IsLruWhereBounded script.settings.capacity (chosen_policy script.settings)) }
 {
     let text = read_all(alloc, input)?;
     Ok(parse(alloc, &text)?)

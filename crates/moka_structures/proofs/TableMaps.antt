@@ -1,5 +1,5 @@
 -- What the maps of a table answer, and how they follow a change of one row.
-use Rattle.std.proofs.Common.{Bor, option_copied, ◌≡◌, ◌≢◌, ℕ, zero, suc, ◌<◌, true, false, List, Option, Some, None, length, ◌⊎◌, inl, inr, refl, sym, ap, subst, ◌∙◌, arith}
+use Rattle.std.proofs.Common.{Bor, option_copied, ◌≡◌, ◌≢◌, ℕ, zero, suc, ◌<◌, ◌≤◌, true, false, List, Option, Some, None, length, ◌⊎◌, inl, inr, refl, sym, ap, subst, ◌∙◌, arith}
 use Rattle.std.proofs.lemmas.List.{get_or_past}
 use Rattle.std.proofs.lemmas.Bool.{cases_lt, cases_eq, cond-true, cond-false, false≢true}
 use Rattle.std.specs.Prelude.{slice_index_or, IsSome}
@@ -79,6 +79,21 @@ module _ {R X : Type 0} (f : ℕ → Row R → Option X) (at : ℕ → Option (R
   has-here : (k : ℕ) (o : Option (Row R)) (row : Row R) (m : FinMap nat_cmp X) (x : X) → o ≡ Some row → f k row ≡ Some x → get (put_row f k o m) row.number ≡ Some x
   has-here k o row m x e fe =
       subst (λ o. get (put_row f k o m) row.number ≡ Some x) (sym e) (subst (λ v. get (put_some row.number v m) row.number ≡ Some x) (sym fe) (get-inserted m row.number x))
+
+  -- the rows before its place leave a row's number free
+  pub upto-fresh : IsNumbered at → (k p : ℕ) (row : Row R) → k ≤ p → at p ≡ Some row → get (upto f at k) row.number ≡ None
+  upto-fresh d zero p row le e = get-empty nat_cmp row.number
+  upto-fresh d (suc k) p row le e =
+      has-past k (at k) (upto f at k) row.number (λ other there s. let same : k ≡ p = d.same k p other row there e s in omega arith)
+      ∙ upto-fresh d k p row (omega arith) e
+
+  -- places without a row add nothing
+  pub upto-past : (j k : ℕ) → k ≤ j → ((p : ℕ) → k ≤ p → at p ≡ None) → upto f at j ≡ upto f at k
+  upto-past zero k le none = let same : zero ≡ k = omega arith in ap (upto f at) same
+  upto-past (suc j) k le none = elim (cases_eq (suc j) k) as (λ _. upto f at (suc j) ≡ upto f at k) [
+    | inl same ↦ ap (upto f at) same
+    | inr apart ↦ ap (λ o. put_row f j o (upto f at j)) (none j (omega arith)) ∙ upto-past j k (omega arith) none
+  ]
 
   has-upto : IsNumbered at → (k p : ℕ) (row : Row R) (x : X) → p < k → at p ≡ Some row → f p row ≡ Some x → get (upto f at k) row.number ≡ Some x
   has-upto d zero p row x h e fe = absurd (omega arith)

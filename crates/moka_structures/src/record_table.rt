@@ -1,5 +1,5 @@
 //! Rows for the cache's entries, each at a place that the table picks.
-ghost use Rattle.std.specs.Prelude.{◌≡◌, ◌≢◌, ◌+◌, ◌<◌, ◌≤◌, [], OnOk, IsOk, IsSome, None, Some, is_some, count_by, option_copied};
+ghost use Rattle.std.specs.Prelude.{◌≡◌, ◌≢◌, ◌+◌, ◌<◌, ◌≤◌, [], length, OnOk, IsOk, IsSome, None, Some, is_some, count_by, option_copied};
 ghost use Rattle.std.specs.Borrow.{sem};
 ghost use Rattle.std.specs.FinMap as map;
 ghost use Rattle.std.specs.Option.{option_copied_mut, option_map, option_and_then};
@@ -82,8 +82,16 @@ impl<R> RecordTable<R> {
         ensures value { result ≡ count_by is_some self.now.rows }
         ensures fits { result + self.now.room ≤ usize.MAX }
     {
-        let _capacity = self.rows.slab.capacity();
+        let _capacity = self.capacity();
         self.rows.slab.len()
+    }
+
+    /// How many rows fit with no memory, those that there are among them. Every place is less.
+    pub fn capacity(&self) -> usize
+        ensures value { result ≡ count_by is_some self.now.rows + self.now.room }
+        ensures places { length self.now.rows ≤ result }
+    {
+        self.rows.slab.capacity()
     }
 
     /// Makes room for `additional` more rows.
@@ -121,6 +129,13 @@ impl<R> RecordTable<R> {
         ensures { option_copied result ≡ row_at self.now.rows place }
     {
         self.rows.slab.get(place)
+    }
+
+    /// The record at this place.
+    pub fn record(&self, place: usize) -> Option<&R>
+        ensures { option_copied result ≡ stored_at self.now.rows place }
+    {
+        self.row(place)?.stored.as_ref()
     }
 
     /// The record at this place, if it is the one of this number.
@@ -349,6 +364,7 @@ mod tests {
         let first = table.insert(7, 70);
         let second = table.insert(8, 80);
         assert_eq!(rt; table.len(), 2);
+        assert!(rt; first.max(second) < table.capacity());
         assert_eq!(rt; table.find(first, 7).copied(), Some(70));
         assert_eq!(rt; table.find(first, 8).copied(), None);
         assert_eq!(rt; table.row(second).map(|row| row.number), Some(8));
@@ -356,6 +372,7 @@ mod tests {
             *stored = 81;
         }
         assert_eq!(rt; table.find(second, 8).copied(), Some(81));
+        assert_eq!(rt; table.record(second).copied(), Some(81));
         Ok(())
     }
 

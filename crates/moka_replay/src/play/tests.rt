@@ -1,6 +1,7 @@
 ghost use Rattle.moka_drive.specs.Served.{IsServed};
 
 use super::*;
+use crate::print::is_refused_memory;
 use crate::script::{ScriptCall, ScriptReply};
 use moka_parts::calls::{Call, Reply, Ticket};
 use moka_parts::error::{InsertError, InsertRefused};
@@ -9,9 +10,9 @@ use std::test::Fail;
 
 /// A new cache; where memory is refused, at the second attempt.
 fn cache_at_last(alloc: Global) -> Result<ScriptCache, OutOfMemory> {
-    match new_cache(alloc, Settings { first: None }) {
+    match new_cache(alloc, Settings::new()) {
         Ok(cache) => Ok(cache),
-        Err(_) => new_cache(alloc, Settings { first: None }),
+        Err(_) => new_cache(alloc, Settings::new()),
     }
 }
 
@@ -98,5 +99,53 @@ fn goes_on_where_memory_was_refused_once(rt: HostRuntime) -> Result<(), Fail> {
         let shown = value_of_1(rt.alloc(), &mut cache);
         assert_eq!(rt; shown.as_ref().map(Word::as_str), Some(text));
     }
+    Ok(())
+}
+
+/// The keys of the cache. Where memory for them is refused, the reply says so, and the second attempt gives them.
+fn keys_at_last<R: Abort + AllocGlobal>(rt: &R, cache: &mut ScriptCache) -> Result<Vec<u32>, Fail> {
+    for _ in 0..2 {
+        match reply_to(rt.alloc(), cache, Call::Keys { segment: 0 }) {
+            Some(Reply::Keys(Ok(Some(keys)))) => return Ok(keys),
+            Some(reply) => assert!(rt; is_refused_memory(&reply)),
+            None => return Err("memory".into()),
+        }
+    }
+    Err("refused twice".into())
+}
+
+#[test]
+fn gives_the_keys_where_memory_was_refused_once(rt: HostRuntime) -> Result<(), Fail> {
+    let mut cache = cache_at_last(rt.alloc()).ok().ok_or("memory")?;
+    insert_at_last(&rt, &mut cache, "a", None)?;
+    let keys = keys_at_last(&rt, &mut cache)?;
+    assert_eq!(rt; keys.as_slice(), [1].as_slice());
+    let key = Call::Key { key: 1, hash: 1 };
+    let found = reply_to(rt.alloc(), &mut cache, key);
+    assert!(rt; matches!(found, Some(Reply::Key(Ok(Some(1))))));
+    let remove = Call::Remove {
+        key: 1,
+        hash: 1,
+        now: None,
+    };
+    let Some(
+        Reply::Remove {
+            removed: Some((entry, ticket)),
+            told: None,
+        },
+    ) = reply_to(rt.alloc(), &mut cache, remove)
+    else {
+        return Err("not removed".into());
+    };
+    assert_eq!(rt; (entry.value.as_str(), ticket), ("a", Ticket(2)));
+    let keys = keys_at_last(&rt, &mut cache)?;
+    assert!(rt; keys.is_empty());
+    let contains = Call::Contains {
+        key: 1,
+        hash: 1,
+        now: Instant(0),
+    };
+    let found = reply_to(rt.alloc(), &mut cache, contains);
+    assert!(rt; matches!(found, Some(Reply::Contains(false))));
     Ok(())
 }

@@ -83,6 +83,10 @@ fn prints_reads(rt: HostRuntime) -> Result<(), Fail> {
 fn prints_keys(rt: HostRuntime) -> Result<(), Fail> {
     let keys = vec![in rt.alloc(); 0, 2, 3, 4]?;
     check(&rt, Reply::Keys(Ok(Some(keys))), "keys 0 2 3 4", false)?;
+    let keys = vec![in rt.alloc(); 10, 2, 4294967295, 3]?;
+    let mut reply = Reply::Keys(Ok(Some(keys)));
+    sort_keys_of(&mut reply);
+    check(&rt, reply, "keys 2 3 10 4294967295", false)?;
     let keys = vec![in rt.alloc()]?;
     check(&rt, Reply::Keys(Ok(Some(keys))), "keys", false)?;
     check(&rt, Reply::Keys(Err(OutOfMemory)), "refused memory", true)

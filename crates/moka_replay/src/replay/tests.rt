@@ -92,6 +92,12 @@ fn stops_at_the_first_faulty_line(rt: HostRuntime) -> Result<(), Fail> {
         ("run 0 1\nrun 0 1 5\n", "line 2: bad script\n"),
         ("report\npending\n", "line 2: bad script\n"),
         ("report\nresize 1\n", "line 2: bad script\n"),
+        ("policy tinylfu\n", "line 1: bad script\n"),
+        (
+            "policy lru\ncapacity 4\ncapacity 4\nreport\n",
+            "line 3: bad script\n",
+        ),
+        ("remove 1\nremove 1 4\n", "line 2: bad script\n"),
     ] {
         check(&rt, script, "", said, 2)?;
     }
@@ -161,6 +167,144 @@ fn replays_scripts(rt: HostRuntime) -> Result<(), Fail> {
         check(&rt, script, printed, "", 0)?;
     }
     Ok(())
+}
+
+#[test]
+fn keeps_nothing_at_capacity_0(rt: HostRuntime) -> Result<(), Fail> {
+    let script = "capacity 0\ninsert 1 a 0\nget 1 0\nrun 0 10\n";
+    check(
+        &rt,
+        script,
+        "disabled\nnone\ndone\ncount 0 weight 0\n",
+        "",
+        0,
+    )
+}
+
+#[test]
+fn looks_up_and_removes(rt: HostRuntime) -> Result<(), Fail> {
+    for (script, printed) in [
+        (
+            "insert 1 a 0\ncontains 1 0\ncontains 2 0\nkey 1\nkey 2\nremove 1\nremove 1\ncontains 1 0\nkey 1\n",
+            "ticket 1\nyes\nno\nkey 1\nnone\nremoved a ticket 2\nnone\nno\nnone\ncount 0 weight 0\n",
+        ),
+        (
+            "insert 3 a 0\ninsert 4294967295 b 0\ninsert 10 c 0\ninsert 1 d 0\ninsert 2 e 0\nkeys\nremove 3\nkeys\n",
+            "ticket 1\nticket 2\nticket 3\nticket 4\nticket 5\n\
+            keys 1 2 3 10 4294967295\nremoved a ticket 6\nkeys 1 2 10 4294967295\ncount 0 weight 0\n",
+        ),
+        (
+            "first 18446744073709551614\ninsert 1 a 0\ninsert 2 b 0\ninsert 1 c 0\nremove 1\ninsert 2 d 0\n",
+            "ticket 18446744073709551614\nrefused numbers\nrefused numbers\n\
+            removed a ticket 18446744073709551615\nrefused numbers\ncount 0 weight 0\n",
+        ),
+    ] {
+        check(&rt, script, printed, "", 0)?;
+    }
+    Ok(())
+}
+
+#[test]
+fn weighs_values(rt: HostRuntime) -> Result<(), Fail> {
+    for (script, printed) in [
+        (
+            "weigh\ninsert 1 1 0\ninsert 2 20 0\nsend 1\nsend 2\nrun 0 10\n\
+            insert 1 10 1\nremove 1\nsend 3\nsend 4\nrun 1 10\nreport\n",
+            "ticket 1\nticket 2\nsent\nsent\ndone\n\
+            ticket 3\nremoved 10 ticket 4\nsent\nsent\ndone\n\
+            count 1 weight 20 predicates 0\ncount 1 weight 20\n",
+        ),
+        (
+            "weigh\ninsert 1 1 0\nsend 1\nrun 0 10\ninsert 1 5 1\ninsert 1 3 2\nsend 3\nrun 2 10\nreport\n\
+            send 2\nrun 2 10\nreport\n",
+            "ticket 1\nsent\ndone\nticket 2\nticket 3\nsent\ndone\ncount 1 weight 3 predicates 0\n\
+            sent\ndone\ncount 1 weight 3 predicates 0\ncount 1 weight 3\n",
+        ),
+        (
+            "weigh\ninsert 1 4294967295 0\ninsert 2 4294967295 0\nsend 1\nsend 2\nrun 0 10\nreport\n",
+            "ticket 1\nticket 2\nsent\nsent\ndone\n\
+            count 2 weight 8589934590 predicates 0\ncount 2 weight 8589934590\n",
+        ),
+    ] {
+        check(&rt, script, printed, "", 0)?;
+    }
+    Ok(())
+}
+
+#[test]
+fn keeps_to_the_capacity(rt: HostRuntime) -> Result<(), Fail> {
+    for (script, printed) in [
+        (
+            "capacity 4\npolicy lru\ninsert 0 a 1\nsend 1\nrun 1 10\n\
+            insert 0 b 2\ninsert 1 c 3\ninsert 2 d 3\ninsert 3 e 3\ninsert 4 f 3\n\
+            send 3\nsend 4\nsend 5\nsend 6\nrun 4 10\nkeys\nreport\n",
+            "ticket 1\nsent\ndone\nticket 2\nticket 3\nticket 4\nticket 5\nticket 6\n\
+            sent\nsent\nsent\nsent\ndone\nkeys 0 2 3 4\n\
+            count 4 weight 4 predicates 0\ncount 4 weight 4\n",
+        ),
+        (
+            "capacity 4\npolicy lru\nweigh\ninsert 1 1 0\ninsert 2 1 0\ninsert 3 1 0\n\
+            send 1\nsend 2\nsend 3\nrun 0 10\nreport\n\
+            insert 3 9 1\nsend 4\nrun 1 10\nreport\ninsert 4 5 2\nsend 5\nrun 2 10\nreport\n",
+            "ticket 1\nticket 2\nticket 3\nsent\nsent\nsent\ndone\ncount 3 weight 3 predicates 0\n\
+            ticket 4\nsent\ndone\ncount 0 weight 0 predicates 0\n\
+            ticket 5\nsent\ndone\ncount 0 weight 0 predicates 0\ncount 0 weight 0\n",
+        ),
+        (
+            "capacity 2\npolicy lru\ninsert 1 a 0\ninsert 2 b 0\ninsert 3 c 0\ninsert 4 d 0\n\
+            run 0 10\nreport\nkeys\nsend 1\nsend 2\nsend 3\nsend 4\nrun 0 10\nreport\nkeys\n",
+            "ticket 1\nticket 2\nticket 3\nticket 4\ndone\ncount 0 weight 0 predicates 0\n\
+            keys 1 2 3 4\nsent\nsent\nsent\nsent\ndone\ncount 2 weight 2 predicates 0\nkeys 3 4\n\
+            count 2 weight 2\n",
+        ),
+        (
+            "capacity 1\npolicy lru\ninsert 1 a 0\nsend 1\nrun 0 10\nremove 1\n\
+            insert 2 b 1\nsend 3\nrun 1 10\nreport\nkeys\nsend 2\nrun 2 10\nreport\n",
+            "ticket 1\nsent\ndone\nremoved a ticket 2\nticket 3\nsent\ndone\n\
+            count 1 weight 1 predicates 0\nkeys\nsent\ndone\ncount 0 weight 0 predicates 0\n\
+            count 0 weight 0\n",
+        ),
+        (
+            "capacity 1\npolicy lru\ninsert 1 a 0\ninsert 2 b 0\nsend 1\nsend 2\nrun 0 0\nreport\n\
+            run 0 10\nreport\n",
+            "ticket 1\nticket 2\nsent\nsent\nmore\ncount 2 weight 2 predicates 0\n\
+            done\ncount 1 weight 1 predicates 0\ncount 1 weight 1\n",
+        ),
+    ] {
+        check(&rt, script, printed, "", 0)?;
+    }
+    Ok(())
+}
+
+/// A key is put in, removed and put in again, its operations sent out of order; then fifty other keys drive it out, and
+/// runs without work keep what is left.
+#[test]
+fn keeps_the_latest_of_many(rt: HostRuntime) -> Result<(), Fail> {
+    let mut script = String::new(rt.alloc());
+    let mut printed = String::new(rt.alloc());
+    script.push_str(
+        "capacity 4\npolicy lru\ninsert 0 a 0\nsend 1\nrun 0 10\nreport\n\
+        insert 0 b 0\nremove 0\nsend 3\nrun 0 10\nreport\nsend 2\nrun 0 10\nreport\n\
+        insert 0 c 0\nsend 4\nrun 0 10\nreport\n",
+    )?;
+    printed.push_str(
+        "ticket 1\nsent\ndone\ncount 1 weight 1 predicates 0\n\
+        ticket 2\nremoved b ticket 3\nsent\ndone\ncount 0 weight 0 predicates 0\n\
+        sent\ndone\ncount 0 weight 0 predicates 0\n\
+        ticket 4\nsent\ndone\ncount 1 weight 1 predicates 0\n",
+    )?;
+    for ticket in 5..55u64 {
+        let key = ticket + 95;
+        writeln!(script, "insert {key} v 0\nsend {ticket}\nrun 0 10")?;
+        writeln!(printed, "ticket {ticket}\nsent\ndone")?;
+    }
+    for _ in 0..20 {
+        script.push_str("run 0 10\nreport\n")?;
+        printed.push_str("done\ncount 4 weight 4 predicates 0\n")?;
+    }
+    script.push_str("keys\n")?;
+    printed.push_str("keys 146 147 148 149\ncount 4 weight 4\n")?;
+    check(&rt, script.as_str(), printed.as_str(), "", 0)
 }
 
 /// 385 inserts, of one key or of distinct keys, all sent, where one too many is refused; then a

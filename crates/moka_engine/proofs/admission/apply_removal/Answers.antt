@@ -1,4 +1,4 @@
-use Rattle.std.proofs.Common.{◌≡◌, refl, sym, ap, ◌∙◌, true≢false}
+use Rattle.std.proofs.Common.{refl, sym, ap, ◌∙◌, true≢false}
 use Rattle.std.specs.FinMap as finite
 use Rattle.moka_parts.specs.Records.{counted_of}
 use Rattle.moka_parts.proofs.AccessList.{absent_taken_out, counted_taken_out}

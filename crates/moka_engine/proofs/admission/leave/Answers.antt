@@ -1,5 +1,4 @@
-use Rattle.std.proofs.Common.{◌≡◌, ◌-◌, refl, sym, ◌∙◌, subst}
-use Rattle.moka_parts.specs.Records.{counted_of}
+use Rattle.std.proofs.Common.{◌-◌, refl, sym, ◌∙◌, subst}
 use Rattle.moka_parts.proofs.AccessList.{absent_taken_out}
 use Rattle.moka_engine.specs.Store.{Kept}
 use Rattle.moka_engine.specs.Weights.{IsWeighed}

@@ -1,4 +1,4 @@
-use Rattle.std.proofs.Common.{◌≡◌, sym, ap, ◌∙◌, subst, Contains}
+use Rattle.std.proofs.Common.{sym, ap, ◌∙◌, subst, Contains}
 use Rattle.moka_engine.specs.declared.inner.QueuedRead.{QueuedRead}
 use Rattle.circular_buffer.specs.Buffer.{Buffer}
 use Rattle.moka_engine.specs.Interior.{IsReadAt, reads_of}

@@ -4,13 +4,12 @@ use Rattle.moka_parts.specs.Settling.{number_of}
 use Rattle.moka_engine.specs.declared.inner.QueuedWrite.{QueuedWrite}
 use Rattle.moka_engine.specs.Interior.{IsAt, writes_of}
 use Rattle.moka_engine.specs.Weights.{IsWeighed}
-use Rattle.moka_engine.specs.Applied.{records_after_writes, access_after_writes}
+use Rattle.moka_engine.specs.Applied.{held, after_writes}
 use Rattle.moka_engine.proofs.maintenance.apply_writes.Given as goal
 
 abbrev pub invariant-loop-queued : goal.invariant-loop-queued
 invariant-loop-queued g l = record {
-  records : records_after_writes l.store.records (writes_of l.writes.items) ≡ records_after_writes l.initial.store.records (writes_of l.initial.writes.items);
-  access : access_after_writes l.store.records l.store.access (writes_of l.writes.items) ≡ access_after_writes l.initial.store.records l.initial.store.access (writes_of l.initial.writes.items);
+  rest : after_writes l.capacity (held l.store) (writes_of l.writes.items) ≡ after_writes l.capacity (held l.initial.store) (writes_of l.initial.writes.items);
   located : (q : QueuedWrite) → Contains l.writes.items q → IsAt l.store.places (number_of q.write.operation) q.write.place;
   places : (n p : ℕ) → finite.get l.store.places n ≡ Some p → finite.get l.initial.store.places n ≡ Some p;
   weighed : IsWeighed l.store.access l.weight;

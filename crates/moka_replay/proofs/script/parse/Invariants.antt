@@ -5,5 +5,5 @@ use Rattle.moka_replay.proofs.script.parse.Given as goal
 abbrev pub invariant-loop-line : goal.invariant-loop-line
 invariant-loop-line l = record {
   counted : l.number ≡ length l.yielded;
-  left : lines_read (l.number + 1) (text_of l.script) (drop l.number (lines_of l.text)) ≡ script_of l.text;
+  left : lines_read l.has_lru (l.number + 1) (text_of l.script) (drop l.number (lines_of l.text)) ≡ script_of l.text;
 }

@@ -1,17 +1,33 @@
-use Rattle.std.proofs.Common.{refl, ap, ◌∙◌, min, option_map}
+use Rattle.std.proofs.Common.{refl, sym, ap, subst, ◌∙◌, min, option_map, is_some}
 use Rattle.std.specs.Duration.{as_nanos}
 use Rattle.moka_parts.specs.Time.{greatest}
-use Rattle.moka_engine.proofs.CacheSteps.{is_plain}
-use Rattle.moka_engine.proofs.CacheReturns.{run_returns, run_exact}
+use Rattle.moka_parts.specs.State.{is_disabled}
+use Rattle.moka_parts.specs.Runs.{Cache}
+use Rattle.moka_engine.specs.Applied.{Held, held_inside}
+use Rattle.moka_engine.specs.Evictions.{IsEvicted}
+use Rattle.moka_engine.proofs.CacheReturns.{still_cache, run_returns, run_does_nothing, simple_of, run_unexpiring}
 use Rattle.moka_engine.proofs.base_cache.BaseCache.run_pending_tasks.Goals as goal
 
-pub returns-clause-step : goal.returns-clause-step
-returns-clause-step g c =
-    run_returns g.P.PredicateFn.says g.L.Listener.tells g.C.Clock.reads c.self.view_is (is_plain _ refl c.self.invariant)
-    c.self.inside.inner c.apply_queues.new.self refl (record { now = c.args.now.0; limit = option_map as_nanos c.args.limit; batch = c.args.batch }) c.member_count.result c.at_most_greatest-self-inside.result c.args.clock.now
-    c.apply_queues.ensures.step c.member_count.ensures (c.at_most_greatest-self-inside.ensures ∙ ap (λ n. min n greatest) c.total_weight.ensures)
+pub returns-then-is_map_disabled : goal.returns-then-is_map_disabled
+returns-then-is_map_disabled g c =
+    let before = c.self.invariant in
+    let disabled = ap (λ (x : Cache g.row.K.Denot g.row.V.Denot g.row.S.Denot g.row.X.Denot g.row.L.Denot g.row.P.Denot g.row.W.Denot). is_disabled x.state.capacity) c.self.view_is ∙ (sym c.is_map_disabled.ensures ∙ c.if-is_map_disabled.true) in
+    run_does_nothing g.P.PredicateFn.says g.X.Expiry.read g.L.Listener.tells g.C.Clock.reads c.self.view_is (record { now = c.args.now.0; limit = option_map as_nanos c.args.limit; batch = c.args.batch }) disabled (before.disabled disabled) before.plain.unregistered (ap is_some before.plain.unheard) c.args.clock.now
 
-pub returns-clause-exact : goal.returns-clause-exact
-returns-clause-exact g c = λ sent.
-    run_exact c.self.view_is c.self.inside.inner c.apply_queues.new.self refl c.member_count.result c.at_most_greatest-self-inside.result
-    c.apply_queues.ensures.step sent c.know.ensures.consistent c.member_count.ensures (c.at_most_greatest-self-inside.ensures ∙ ap (λ n. min n greatest) c.total_weight.ensures)
+pub invariant_of-self-2 : goal.invariant_of-self-2
+invariant_of-self-2 g c =
+    let before = c.self.invariant in
+    let enabled = ap (λ (x : Cache g.row.K.Denot g.row.V.Denot g.row.S.Denot g.row.X.Denot g.row.L.Denot g.row.P.Denot g.row.W.Denot). is_disabled x.state.capacity) c.self.view_is ∙ (sym c.is_map_disabled.ensures ∙ c.if-is_map_disabled.false) in
+    let evicted = subst (λ (b : Held g.row.K.Denot g.row.V.Denot). IsEvicted c.self.inside.max_capacity b (held_inside c.evict-surplus.new.self)) c.apply_queues.ensures.held c.evict-surplus.ensures.evicted in
+    still_cache c.evict-surplus.new.self.records c.evict-surplus.new.self.access c.member_count.result c.at_most_greatest-self-inside.result before enabled
+    (run_unexpiring c.self.inside.max_capacity c.self.inside.inner (held_inside c.evict-surplus.new.self) before.unexpiring evicted)
+
+pub returns : goal.returns
+returns g c =
+    let before = c.self.invariant in
+    let enabled = ap (λ (x : Cache g.row.K.Denot g.row.V.Denot g.row.S.Denot g.row.X.Denot g.row.L.Denot g.row.P.Denot g.row.W.Denot). is_disabled x.state.capacity) c.self.view_is ∙ (sym c.is_map_disabled.ensures ∙ c.if-is_map_disabled.false) in
+    let evicted = subst (λ (b : Held g.row.K.Denot g.row.V.Denot). IsEvicted c.self.inside.max_capacity b (held_inside c.evict-surplus.new.self)) c.apply_queues.ensures.held c.evict-surplus.ensures.evicted in
+    run_returns g.P.PredicateFn.says g.X.Expiry.read g.L.Listener.tells g.C.Clock.reads c.self.view_is c.self.inside.inner c.apply_queues.new.self c.evict-surplus.new.self refl c.apply_queues.ensures.rest c.evict-surplus.ensures.rest
+    (simple_of _ before enabled refl refl c.know.ensures.consistent) evicted (record { now = c.args.now.0; limit = option_map as_nanos c.args.limit; batch = c.args.batch })
+    c.evict-surplus.result.is_left c.evict-surplus.result.passes c.evict-surplus.ensures.finished c.evict-surplus.ensures.within
+    c.member_count.result c.at_most_greatest-self-inside.result c.member_count.ensures (c.at_most_greatest-self-inside.ensures ∙ ap (λ n. min n greatest) c.total_weight.ensures) c.args.clock.now

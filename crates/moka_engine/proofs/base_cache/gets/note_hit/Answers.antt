@@ -1,4 +1,3 @@
-use Rattle.std.proofs.Common.{refl, sym, ap, ◌∙◌}
 use Rattle.std.specs.FinMap as finite
 use Rattle.moka_engine.proofs.Gets.{some-of}
 use Rattle.moka_engine.proofs.base_cache.gets.note_hit.Goals as goal

@@ -1,11 +1,11 @@
-use Rattle.std.proofs.Common.{◌≡◌, ◌+◌, refl, sym, ap, subst, ◌∙◌, [], Some}
+use Rattle.std.proofs.Common.{◌≡◌, ◌+◌, sym, ap, subst, ◌∙◌, [], Some}
 use Rattle.std.specs.FinMap as finite
 use Rattle.circular_buffer.specs.Buffer.{Buffer}
 use Rattle.moka_engine.specs.Store.{Kept}
 use Rattle.moka_engine.specs.Weights.{IsWeighed}
 use Rattle.moka_engine.specs.Inner.{IsInner}
-use Rattle.moka_engine.specs.Interior.{reads_of, writes_of, IsReadAt}
-use Rattle.moka_engine.specs.Applied.{records_after_writes, access_after_writes}
+use Rattle.moka_engine.specs.Interior.{reads_of, writes_of}
+use Rattle.moka_engine.specs.Applied.{held, after_writes}
 use Rattle.moka_engine.proofs.Weights.{weighed-reads}
 use Rattle.moka_engine.proofs.InnerLemmas.{read_at}
 use Rattle.moka_engine.proofs.QueuesApplied.{inner-applied}
@@ -21,12 +21,9 @@ apply_writes-requires-clause-weighed g c =
 pub invariant_of-self : goal.invariant_of-self
 invariant_of-self g c =
     let read = c.apply_reads.ensures.store in
-    let written = c.apply_writes.ensures.store in
-    let qs = writes_of c.self.inside.writes.items in
-    let records = ap (λ (k : Kept g.row.K.Denot g.row.V.Denot). k.records) written ∙ ap (λ (k : Kept g.row.K.Denot g.row.V.Denot). records_after_writes k.records qs) read in
-    let access = ap (λ (k : Kept g.row.K.Denot g.row.V.Denot). k.access) written ∙ ap (λ (k : Kept g.row.K.Denot g.row.V.Denot). access_after_writes k.records k.access qs) read in
-    subst (λ (b : Buffer _). IsInner g.K.PartialEq.eq c.apply_writes.new.store c.self.inside.outstanding b.items b.capacity c.apply_reads.new.reads.items c.apply_reads.new.reads.capacity (c.self.inside.last_ticket + 1) c.self.inside.next_number c.self.inside.size c.apply_writes.new.weight) (sym c.apply_writes.ensures.writes)
-    (subst (λ (b : Buffer _). IsInner g.K.PartialEq.eq c.apply_writes.new.store c.self.inside.outstanding [] c.self.inside.writes.capacity b.items b.capacity (c.self.inside.last_ticket + 1) c.self.inside.next_number c.self.inside.size c.apply_writes.new.weight) (sym c.apply_reads.ensures.reads)
-    (inner-applied g.K.PartialEq.eq g.met.K.Eq.laws c.self.inside.store c.apply_writes.new.store c.self.inside.outstanding c.self.inside.writes.items c.self.inside.reads.items c.self.inside.writes.capacity c.self.inside.reads.capacity (c.self.inside.last_ticket + 1) c.self.inside.next_number c.self.inside.size c.self.inside.weight c.apply_writes.new.weight c.self.invariant records access
+    let step = c.apply_writes.ensures.store ∙ ap (λ (k : Kept g.row.K.Denot g.row.V.Denot). after_writes c.args.capacity (held k) (writes_of c.self.inside.writes.items)) read in
+    subst (λ (b : Buffer _). IsInner g.K.PartialEq.eq c.apply_writes.new.store c.self.inside.outstanding b.items b.capacity c.apply_reads.new.reads.items c.apply_reads.new.reads.capacity (c.self.inside.last_ticket + 1) c.self.inside.next_number c.record_count-self-inside.result c.apply_writes.new.weight) (sym c.apply_writes.ensures.writes)
+    (subst (λ (b : Buffer _). IsInner g.K.PartialEq.eq c.apply_writes.new.store c.self.inside.outstanding [] c.self.inside.writes.capacity b.items b.capacity (c.self.inside.last_ticket + 1) c.self.inside.next_number c.record_count-self-inside.result c.apply_writes.new.weight) (sym c.apply_reads.ensures.reads)
+    (inner-applied g.K.PartialEq.eq c.self.inside.store c.apply_writes.new.store c.self.inside.outstanding c.self.inside.writes.items c.self.inside.reads.items c.self.inside.writes.capacity c.self.inside.reads.capacity (c.self.inside.last_ticket + 1) c.self.inside.next_number c.self.inside.size c.self.inside.weight c.apply_writes.new.weight c.record_count-self-inside.result c.self.invariant
     (λ k p there. subst (λ (s : Kept g.row.K.Denot g.row.V.Denot). finite.get s.places k ≡ Some p) read (c.apply_writes.ensures.places k p there))
-    c.apply_writes.ensures.weighed))
+    c.apply_writes.ensures.weighed c.record_count-self-inside.ensures c.args.capacity step))

@@ -1,5 +1,4 @@
-use Rattle.std.proofs.Common.{◌≡◌, ◌<◌, ◌≤◌, ◌+◌, ◌-◌, refl, ap, sym, ◌∙◌, arith, Some, None}
-use Rattle.std.specs.FinMap as finite
+use Rattle.std.proofs.Common.{◌+◌, ◌-◌, ap, arith}
 use Rattle.moka_engine.proofs.ValuesLemmas.{map_values-empty}
 use Rattle.circular_buffer.specs.Buffer.{Buffer}
 use Rattle.moka_engine.proofs.InnerLemmas.{inner-new}

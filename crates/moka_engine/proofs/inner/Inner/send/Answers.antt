@@ -1,7 +1,6 @@
-use Rattle.std.proofs.Common.{◌≡◌, ◌<◌, ◌≤◌, ◌+◌, refl, ap, sym, ◌∙◌, arith, subst, Some, None, length}
-use Rattle.std.specs.FinMap as finite
+use Rattle.std.proofs.Common.{◌<◌, ◌≤◌, ◌+◌, refl, sym, ◌∙◌, arith, subst, length}
 use Rattle.circular_buffer.specs.Buffer.{Buffer}
-use Rattle.moka_engine.specs.Interior.{Interior, handed_of}
+use Rattle.moka_engine.specs.Interior.{handed_of}
 use Rattle.moka_engine.proofs.Gets.{not_below}
 use Rattle.moka_engine.specs.Inner.{IsInner}
 use Rattle.std.proofs.lemmas.List.{length-map, map-append}

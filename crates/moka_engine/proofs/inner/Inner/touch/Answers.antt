@@ -1,4 +1,4 @@
-use Rattle.std.proofs.Common.{◌≡◌, ◌<◌, ◌≤◌, ◌+◌, refl, ap, sym, ◌∙◌, Some, None}
+use Rattle.std.proofs.Common.{◌+◌, refl, ap, ◌∙◌}
 use Rattle.std.specs.FinMap as finite
 use Rattle.moka_engine.specs.Store.{Kept}
 use Rattle.moka_engine.specs.Interior.{Interior}

@@ -1,10 +1,8 @@
-use Rattle.std.proofs.Common.{◌≡◌, Some, None, refl, sym, ap, ◌∙◌, nat_eq}
+use Rattle.std.proofs.Common.{◌≡◌, Some, None, sym, ap, ◌∙◌}
 use Rattle.std.proofs.lemmas.Bool.{eq-eqb, eqb-true}
 use Rattle.std.specs.FinMap as finite
-use Rattle.moka_structures.specs.declared.record_table.Row.{Row}
 use Rattle.moka_structures.specs.RecordTable.{row_at, places_of}
 use Rattle.moka_structures.proofs.TableCalls.{get-places, placed_row}
-use Rattle.moka_parts.specs.declared.records.Record.{Record}
 use Rattle.moka_engine.proofs.Places.{record-placed, member-placed, other-row}
 use Rattle.moka_engine.proofs.store.Store.has_row.Goals as goal
 

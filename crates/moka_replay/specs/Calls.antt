@@ -1,0 +1,88 @@
+-- What the calls of a script ask for.
+use Rattle.std.specs.Prelude.{ℕ, false, List, [], ◌∷◌, Option, Some, None, codes, if◌then◌else◌}
+use Rattle.std.specs.Str.{bytes_eq}
+use Rattle.moka_parts.specs.declared.calls.Call.{Call}
+use Rattle.moka_parts.specs.declared.calls.Call.TheVariants.{Insert, Send, Get, Contains, Key, Remove, Run, Keys, Report}
+use Rattle.moka_replay.specs.declared.key_range.KeyRange.{KeyRange}
+use Rattle.moka_replay.specs.Words.{number_of, ◌>>=◌}
+
+-- a call whose value is its bytes
+abbrev pub CallText : Type 0
+CallText = Call ℕ (List ℕ) KeyRange
+
+-- `insert KEY VALUE NOW`; the hash is the key
+abbrev pub insert_of : List (List ℕ) → Option CallText
+insert_of (key ∷ value ∷ now ∷ []) = do
+  k ← number_of 32 key
+  n ← number_of 64 now
+  Some (Insert k k value (record { 0 = n }))
+insert_of _ = None
+
+-- `send TICKET`
+abbrev pub send_of : List (List ℕ) → Option CallText
+send_of (ticket ∷ []) = do
+  n ← number_of 64 ticket
+  Some (Send (record { 0 = n }))
+send_of _ = None
+
+-- `get KEY NOW`
+abbrev pub get_of : List (List ℕ) → Option CallText
+get_of (key ∷ now ∷ []) = do
+  k ← number_of 32 key
+  n ← number_of 64 now
+  Some (Get k k false (record { 0 = n }))
+get_of _ = None
+
+-- `contains KEY NOW`
+abbrev pub contains_of : List (List ℕ) → Option CallText
+contains_of (key ∷ now ∷ []) = do
+  k ← number_of 32 key
+  n ← number_of 64 now
+  Some (Contains k k (record { 0 = n }))
+contains_of _ = None
+
+-- `key KEY`
+abbrev pub key_of : List (List ℕ) → Option CallText
+key_of (key ∷ []) = do
+  k ← number_of 32 key
+  Some (Key k k)
+key_of _ = None
+
+-- `remove KEY`: nobody is told
+abbrev pub remove_of : List (List ℕ) → Option CallText
+remove_of (key ∷ []) = do
+  k ← number_of 32 key
+  Some (Remove k k None)
+remove_of _ = None
+
+-- `run NOW BATCH`: no time limit, four passes
+abbrev pub run_of : List (List ℕ) → Option CallText
+run_of (now ∷ batch ∷ []) = do
+  n ← number_of 64 now
+  b ← number_of 32 batch
+  Some (Run (record { 0 = n }) None 4 b)
+run_of _ = None
+
+-- `keys`: those of the one segment
+abbrev pub keys_of : List (List ℕ) → Option CallText
+keys_of [] = Some (Keys 0)
+keys_of _ = None
+
+-- `report`
+abbrev pub report_of : List (List ℕ) → Option CallText
+report_of [] = Some Report
+report_of _ = None
+
+-- the call of that name
+abbrev pub call_of : List ℕ → List (List ℕ) → Option CallText
+call_of name arguments =
+    if bytes_eq name (codes "insert") then insert_of arguments
+    else (if bytes_eq name (codes "send") then send_of arguments
+    else (if bytes_eq name (codes "get") then get_of arguments
+    else (if bytes_eq name (codes "contains") then contains_of arguments
+    else (if bytes_eq name (codes "key") then key_of arguments
+    else (if bytes_eq name (codes "remove") then remove_of arguments
+    else (if bytes_eq name (codes "run") then run_of arguments
+    else (if bytes_eq name (codes "keys") then keys_of arguments
+    else (if bytes_eq name (codes "report") then report_of arguments
+    else None))))))))

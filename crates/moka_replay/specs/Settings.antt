@@ -1,0 +1,69 @@
+-- What the settings of a script say.
+use Rattle.std.specs.Prelude.{ℕ, ◌==◌, Bool, true, ◌||◌, List, [], ◌∷◌, Option, Some, None, option_map, codes, if◌then◌else◌}
+use Rattle.std.specs.Str.{bytes_eq}
+use Rattle.moka_parts.specs.declared.policy.EvictionPolicy.{EvictionPolicy}
+use Rattle.moka_parts.specs.declared.policy.EvictionPolicy.TheVariants.{Lru}
+use Rattle.moka_replay.specs.declared.script.settings.Settings.{Settings}
+use Rattle.moka_replay.specs.declared.script.settings.Setting.{Setting}
+use Rattle.moka_replay.specs.declared.script.settings.Setting.TheVariants.{First, Capacity, Policy, Weigh}
+use Rattle.moka_replay.specs.Words.{number_of, ◌>>=◌}
+
+-- `first N`, where N is not 0
+abbrev pub first_of : List (List ℕ) → Option Setting
+first_of (ticket ∷ []) = do
+  n ← number_of 64 ticket
+  if n == 0 then None else Some (First n)
+first_of _ = None
+
+-- `capacity N`
+abbrev pub capacity_of : List (List ℕ) → Option Setting
+capacity_of (capacity ∷ []) = do
+  n ← number_of 64 capacity
+  Some (Capacity n)
+capacity_of _ = None
+
+-- the policy of that name
+abbrev pub policy_named : List ℕ → Option EvictionPolicy
+policy_named name = if bytes_eq name (codes "lru") then Some Lru else None
+
+-- `policy lru`
+abbrev pub policy_of : List (List ℕ) → Option Setting
+policy_of (name ∷ []) = do
+  policy ← policy_named name
+  Some (Policy policy)
+policy_of _ = None
+
+-- `weigh`
+abbrev pub weigh_of : List (List ℕ) → Option Setting
+weigh_of [] = Some (Weigh (record {}))
+weigh_of _ = None
+
+-- the setting of that name
+abbrev pub setting_of : List ℕ → List (List ℕ) → Option Setting
+setting_of name arguments =
+    if bytes_eq name (codes "first") then first_of arguments
+    else (if bytes_eq name (codes "capacity") then capacity_of arguments
+    else (if bytes_eq name (codes "policy") then policy_of arguments
+    else (if bytes_eq name (codes "weigh") then weigh_of arguments
+    else None)))
+
+-- nothing is set
+abbrev pub no_settings : Settings
+no_settings = record { first = None; capacity = None; policy = None; weigher = None }
+
+-- whether a setting may stand in a script: a capacity other than 0 needs `policy lru`
+abbrev pub is_allowed : Bool → Setting → Bool
+is_allowed has_lru (Capacity capacity) = has_lru || capacity == 0
+is_allowed has_lru setting = true
+
+-- a place is filled at most once
+abbrev pub filled : {A : Type 0} → Option A → A → Option (Option A)
+filled None value = Some (Some value)
+filled (Some _) value = None
+
+-- a setting stands at most once
+abbrev pub put_in : Settings → Setting → Option Settings
+put_in settings (First first) = option_map (λ place. record settings { first = place }) (filled settings.first first)
+put_in settings (Capacity capacity) = option_map (λ place. record settings { capacity = place }) (filled settings.capacity capacity)
+put_in settings (Policy policy) = option_map (λ place. record settings { policy = place }) (filled settings.policy policy)
+put_in settings (Weigh weigher) = option_map (λ place. record settings { weigher = place }) (filled settings.weigher weigher)
