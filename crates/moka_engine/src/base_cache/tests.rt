@@ -234,7 +234,10 @@ fn keeps_within_its_capacity(rt: HostRuntime) -> Result<(), Fail> {
     for (key, value) in [(1, 2), (2, 1), (3, 1), (4, 1), (5, 5)] {
         settle(&mut cache, key, value)?;
     }
+    // A batch of 0 removes nothing, and tells that more is left just where that is so.
+    assert_eq!(rt; run(&mut cache, 0), (true, 4, 5));
     assert_eq!(rt; run(&mut cache, 1), (false, 3, 3));
+    assert_eq!(rt; run(&mut cache, 0), (false, 3, 3));
     assert_eq!(rt; sorted_keys(&cache)?.as_slice(), [2, 3, 4].as_slice());
     Ok(())
 }
