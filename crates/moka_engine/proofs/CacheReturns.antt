@@ -1,5 +1,5 @@
 -- What the calls of a cache with plain settings promise, from what they make of its inner part.
-use Rattle.std.proofs.Common.{◌≡◌, refl, ℕ, Bool, true, false, ◌≤◌, ◌⊎◌, inl, inr, length, min, List, [], is_some, Option, Some, None, Result, Ok, Err, ap, sym, subst, ◌∙◌, true≢false}
+use Rattle.std.proofs.Common.{◌≡◌, refl, ℕ, Bool, true, false, ◌≤◌, ◌⊎◌, inl, inr, length, min, List, [], is_some, Option, Some, None, Result, Ok, Err, ap, sym, subst, ◌∙◌, true≢false, arith}
 use Rattle.std.specs.FinMap.{get, insert, remove, empty}
 use Rattle.moka_parts.specs.declared.calls.Ticket.{Ticket}
 use Rattle.moka_parts.specs.declared.calls.Entry.{Entry}
@@ -17,8 +17,8 @@ use Rattle.moka_parts.specs.declared.records.Record.{Record}
 use Rattle.moka_parts.specs.Records.{Notice, Records, record_of_key, total_weight}
 use Rattle.moka_parts.specs.Surroundings.{Leads, Heard}
 use Rattle.moka_parts.specs.State.{State, Events, is_disabled}
-use Rattle.moka_parts.specs.Maintenance.{Terms, Course}
-use Rattle.moka_parts.specs.Exact.{IsWithin}
+use Rattle.moka_parts.specs.Maintenance.{Terms, Course, is_over}
+use Rattle.moka_parts.specs.Exact.{IsExact, IsWithin}
 use Rattle.moka_parts.specs.Calls.{no_events, run_events, Weighs, InsertStep, ContainsStep, RemoveStep, GetStep, RunStep}
 use Rattle.moka_parts.specs.Runs.{Cache, Befalls, SettlingRun, passes_after}
 use Rattle.moka_engine.specs.Interior.{Interior}
@@ -34,7 +34,7 @@ use Rattle.moka_parts.proofs.Lookup.{record_of_key_found}
 use Rattle.moka_parts.proofs.Maps.{nothing_at}
 use Rattle.moka_engine.proofs.Gets.{after_insert, after_remove}
 use Rattle.moka_engine.proofs.RecordsLeft.{left-turns, left-writes}
-use Rattle.moka_engine.proofs.Settled.{IsSimple, lru_or_unbounded, after_both, settled, settles_by_turns, settles_disabled}
+use Rattle.moka_engine.proofs.Settled.{IsSimple, lru_or_unbounded, after_both, settled, settles_by_turns, settled_exact, settles_disabled}
 
 -- nobody listens
 pub nobody_heard : {K V L : Type 0} (tells : L → K → V → RemovalCause → L → Type 0) (l after : Option L) (ns : List (Notice K V)) → l ≡ None → Heard tells l ns after → after ≡ l
@@ -261,3 +261,18 @@ run_unexpiring {K} {V} capacity i h none evicted n r there =
     let later = (left-turns (after_queues capacity i) evicted.turns).kept n r (sym (ap (λ (h : Held K V). get h.records n) evicted.led) ∙ there) in
     let first = (left-writes capacity (record { records = i.records; access = access_after_reads i.records i.access i.reads }) i.writes).kept n later.0 later.1 in
     ap (λ (q : Record K V). q.expires) later.2.1 ∙ ap (λ (q : Record K V). q.expires) first.2.1 ∙ none n first.0 first.1
+
+-- after a run where everything was sent, the report is exact
+pub run_exact : {K V S X L P W : Type 0} {old now : Cache K V S X L P W} (is : old ≡ now) (i a j : Interior K V) (inside : with_inner old.state i ≡ old.state) (applied : a ≡ queues_applied i a) (taken : j ≡ turns_taken a j)
+    (simple : IsSimple old.state) (evicted : IsEvicted old.state.capacity (after_both old.state) (held_inside j)) (count weight : ℕ) → count ≡ length j.access → weight ≡ min (total_weight j.access) greatest → now.state.outstanding ≡ empty → IsExact (with_report old.state j count weight)
+run_exact {K} {V} {S} {X} {L} {P} {W} {old} {now} is i a j inside applied taken simple evicted count weight counted weighed sent =
+    subst IsExact (sym (run_ends old.state i a j inside applied taken count weight counted weighed))
+    (settled_exact old.state (held_inside j) simple evicted (ap (λ (c : Cache K V S X L P W). c.state.outstanding) is ∙ sent))
+
+-- nothing is over any capacity
+pub nothing_over : (capacity : Option ℕ) (access : List Member) → access ≡ [] → false ≡ is_over capacity access
+nothing_over capacity access none = subst (λ a. false ≡ is_over capacity a) (sym none) (at capacity)
+  where
+    at : (capacity : Option ℕ) → false ≡ is_over capacity []
+    at None = refl
+    at (Some c) = grind arith

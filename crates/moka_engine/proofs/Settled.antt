@@ -18,7 +18,7 @@ use Rattle.moka_parts.specs.State.{State, Contents, contents, with_contents, is_
 use Rattle.moka_parts.specs.Writes.{after_writes}
 use Rattle.moka_parts.specs.Maintenance.{Terms, Course, Choices, MaintenanceRun, after_choices, after_queued_reads, after_queues, before_steps, at_end, after_run, with_sketch, is_cut, is_late, AreJustified}
 use Rattle.moka_parts.specs.Exact.{IsExact, IsWithin, AreExactMembers}
-use Rattle.moka_parts.specs.Settling.{IsWaitingIn, IsSound, IsConsistent, IsConsistentState, Leaves, Settles, has_unsettled_member}
+use Rattle.moka_parts.specs.Settling.{IsAllSent, IsWaitingIn, IsSound, IsConsistent, IsConsistentState, Leaves, Settles, has_unsettled_member}
 use Rattle.moka_parts.specs.Runs.{SettlingRun}
 use Rattle.moka_parts.proofs.Counting.{exact_count, exact_weight}
 use Rattle.moka_parts.proofs.Maps.{nothing_at, same_or_apart}
@@ -151,6 +151,10 @@ module _ {K V X P W : Type 0} (s : State K V X P W) (h : Held K V) (simple : IsS
       let old = keeps n r there in
       ap (λ (q : Record K V). q.expires) old.2.1 ∙ simple.lasting n old.0 old.1
 
+  -- once everything was sent, the report is exact, whatever the batch
+  pub settled_exact : IsAllSent s → IsExact (settled s h)
+  settled_exact all = subst IsExact run_same (run_is_exact s choices simple.consistent all)
+
   module _ (says : P → K → V → Bool → Type 0) (read : X → K → V → ℕ → Option ℕ → ℕ → Option ℕ) (terms : Terms) (more : Bool) (passes : ℕ)
       (finishes : 1 ≤ terms.batch → more ≡ false) (ends : more ≡ false → IsWithin s.capacity h.access ⊎ HasUnsettled h) where
     abbrev course : Course
@@ -176,7 +180,7 @@ module _ {K V X P W : Type 0} (s : State K V X P W) (h : Held K V) (simple : IsS
 
     settles : Settles says read s terms course (settled s h)
     settles = record {
-      exact = λ whole all. subst IsExact run_same (run_is_exact s choices simple.consistent all);
+      exact = λ whole all. settled_exact all;
       within = λ whole all. elim (ends (finishes whole.1)) as (λ _. IsWithin s.capacity h.access) [
         | inl w ↦ w
         | inr u ↦ absurd (all_settled (IsWaitingIn s.outstanding []) h.records h.access (nothing_waits s.outstanding all) end_consistent u.number u.is_in u.unsettled)
@@ -203,6 +207,19 @@ module _ {K V X P W : Type 0} (s : State K V X P W) (h : Held K V) (simple : IsS
 
 -- ---- a disabled cache
 
+module _ {K V X P W : Type 0} (s : State K V X P W) (records : s.records ≡ empty) (access : s.access ≡ []) (count : s.count ≡ 0) (weight : s.weight ≡ 0) where
+  exact_members : AreExactMembers s.records s.access
+  unfolding IsDistinct
+  exact_members = rw (records, access) (record { once = tt; members = λ n. sym (ap (option_map (λ (r : Record K V). r.weight)) (get-empty nat_cmp n)) })
+
+  -- where nothing is kept, nothing is reported
+  pub bare_exact : IsExact s
+  bare_exact = record {
+    exact = exact_members;
+    count = count ∙ sym (ap length access) ∙ exact_count s.records s.access exact_members;
+    weight = weight ∙ sym (ap (λ a. min (total_weight a) greatest) access) ∙ ap (λ w. min w greatest) (exact_weight s.records s.access exact_members);
+  }
+
 module _ {K V X P W : Type 0} (says : P → K → V → Bool → Type 0) (read : X → K → V → ℕ → Option ℕ → ℕ → Option ℕ) (s : State K V X P W) (terms : Terms)
     (disabled : is_disabled s.capacity ≡ true) (records : s.records ≡ empty) (access : s.access ≡ []) (count : s.count ≡ 0) (weight : s.weight ≡ 0) (unregistered : s.predicates ≡ []) (quiet : s.settings.listening ≡ false) where
   abbrev idle : Course
@@ -214,17 +231,6 @@ module _ {K V X P W : Type 0} (says : P → K → V → Bool → Type 0) (read :
 
   is_within : IsWithin s.capacity s.access
   is_within = rw access (empty_within s.capacity)
-
-  exact_members : AreExactMembers s.records s.access
-  unfolding IsDistinct
-  exact_members = rw (records, access) (record { once = tt; members = λ n. sym (ap (option_map (λ (r : Record K V). r.weight)) (get-empty nat_cmp n)) })
-
-  is_exact : IsExact s
-  is_exact = record {
-    exact = exact_members;
-    count = count ∙ sym (ap length access) ∙ exact_count s.records s.access exact_members;
-    weight = weight ∙ sym (ap (λ a. min (total_weight a) greatest) access) ∙ ap (λ w. min w greatest) (exact_weight s.records s.access exact_members);
-  }
 
   not_there : (n : ℕ) (r : Record K V) → get s.records n ≡ Some r → ⊥
   not_there n r there = nothing_at n r (sym (ap (λ m. get m n) records) ∙ there)
@@ -240,10 +246,10 @@ module _ {K V X P W : Type 0} (says : P → K → V → Bool → Type 0) (read :
         more = λ whole is. absurd (true≢false (sym is));
         unfinished = λ whole left some. absurd (not_empty s.predicates unregistered left);
         count_high = rw count (omega arith);
-        count_low = let none : len s.records ≡ 0 = sym is_exact.count ∙ count in rw none (omega arith);
+        count_low = let none : len s.records ≡ 0 = sym (bare_exact s records access count weight).count ∙ count in rw none (omega arith);
       },
       record {
-        exact = λ whole all. is_exact;
+        exact = λ whole all. bare_exact s records access count weight;
         within = λ whole all. is_within;
         expired = λ whole all never n r there. absurd (not_there n r there);
         predicates = λ whole all enabled supported enough. unregistered;

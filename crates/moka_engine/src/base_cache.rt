@@ -8,6 +8,8 @@ ghost use Rattle.moka_parts.specs.Time.{greatest};
 ghost use Rattle.moka_parts.specs.State.{Events, is_disabled, limits_of, new_state};
 ghost use Rattle.moka_parts.specs.Housekeeping.{new_housekeeping, without_automatic};
 ghost use Rattle.moka_parts.specs.Surroundings.{Leads};
+ghost use Rattle.moka_parts.specs.Exact.{IsExact};
+ghost use Rattle.moka_parts.specs.Maintenance.{is_over};
 ghost use Rattle.moka_parts.specs.Records.{record_of_key};
 ghost use Rattle.moka_parts.specs.Calls.{no_events, InsertStep, SendStep, RemoveStep, ContainsStep, KeysStep, GetStep, RunStep};
 ghost use Rattle.moka_parts.specs.Runs.{Befalls, SettlingRun};
@@ -430,8 +432,9 @@ impl<
     /// Applies the queued reads and then the queued writes, removes the surplus over the capacity in passes of at most
     /// `batch` turns, makes the report, and tells whether more is left. A capacity of 0 leaves nothing to do.
     ///
-    /// Once every operation was sent, a run with a `batch` of at least one leaves count and weight exactly the records',
-    /// and the weight within the capacity.
+    /// Once every operation was sent, a run leaves count and weight exactly the records', and one with a `batch` of at
+    /// least one the weight within the capacity. With a `batch` of 0 nothing is removed, and more is left just where the
+    /// capacity is passed.
     pub fn run_pending_tasks<C: Clock>(
         &mut self,
         now: Instant,
@@ -443,10 +446,12 @@ impl<
     where
         K: Drop,
         V: Drop,
-        ensures { (e : Events K V)
+        ensures step { (e : Events K V)
             × RunStep (SettlingRun P.says X.read) self.old.state (record { now = now.0; limit = option_map as_nanos limit; batch = batch }) result e self.new.state
             × Befalls L.tells e self.old self.new
             × Leads C.reads clock.old e.readings clock.new }
+        ensures exact { self.old.state.outstanding ≡ finite.empty → IsExact self.new.state }
+        ensures idle { batch ≡ 0 → result ≡ is_over self.new.state.capacity self.new.state.access }
     {
         if self.is_map_disabled() {
             self.passes = 0;

@@ -11,6 +11,7 @@ ghost use Rattle.moka_engine.specs.Sends.{SendsAt};
 ghost use Rattle.moka_parts.specs.Settling.{IsConsistent, IsWaitingIn};
 ghost use Rattle.moka_parts.specs.Records.{total_weight};
 ghost use Rattle.moka_parts.specs.Exact.{IsWithin};
+ghost use Rattle.moka_parts.specs.Maintenance.{is_over};
 ghost use Rattle.moka_engine.specs.Applied.{held_inside, after_queues};
 ghost use Rattle.moka_engine.specs.Evictions.{HasUnsettled, IsEvicted};
 
@@ -384,6 +385,7 @@ impl<K: Eq + Hash, V, S: BuildHasher> Inner<K, V, S> {
           row_room = self.new.row_room;
           operation_room = self.new.operation_room;
         } }
+        ensures idle { batch ≡ 0 → result.is_left ≡ is_over capacity self.new.access }
         ensures finished { 1 ≤ batch → result.is_left ≡ false }
         ensures within { result.is_left ≡ false → IsWithin capacity self.new.access ⊎ HasUnsettled (held_inside self.new) }
     {

@@ -93,7 +93,7 @@ pub(crate) fn evict<K: Eq + Hash + Drop, V: Drop, S: BuildHasher>(
     ensures evicted { IsEvicted capacity (held store.old) (held store.new) }
     ensures places { (n p : ℕ) → finite.get store.new.places n ≡ Some p → finite.get store.old.places n ≡ Some p }
     ensures weighed { IsWeighed store.new.access weight.new }
-    ensures idle { batch ≡ 0 → result.is_left ≡ is_over capacity store.old.access }
+    ensures idle { batch ≡ 0 → result.is_left ≡ is_over capacity store.new.access }
     ensures finished { 1 ≤ batch → result.is_left ≡ false }
     ensures within { result.is_left ≡ false → IsWithin capacity store.new.access ⊎ HasUnsettled (held store.new) }
 {
