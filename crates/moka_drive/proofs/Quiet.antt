@@ -11,7 +11,7 @@ use Rattle.moka_parts.specs.State.{State, Meaning}
 use Rattle.moka_parts.specs.Maintenance.{Terms, Course}
 use Rattle.moka_parts.specs.Surroundings.{Heard}
 use Rattle.moka_parts.specs.Calls.{no_events, KeysStep}
-use Rattle.moka_parts.specs.Runs.{Cache, Befalls, CallStep, IsRun}
+use Rattle.moka_parts.specs.Runs.{Cache, Befalls, CallStep, MakesCalls}
 
 -- a list of no length is empty
 pub empty_of_length : {A : Type 0} (xs : List A) → length xs ≡ 0 → xs ≡ []
@@ -28,7 +28,7 @@ pub nothing_befalls : {K V S X L P W : Type 0} (tells : L → K → V → Remova
 nothing_befalls tells c = record { kept = refl; heard = nothing_heard tells c.listener; passes = refl }
 
 -- before the first call
-pub no_calls : {K V S X L P W C I : Type 0} (m : Meaning K V X L P W C I) (Runs : State K V X P W → Terms → Course → List (Notice K V) → State K V X P W → Type 0) (c : Cache K V S X L P W) (clock : C) (ids : I) → IsRun m Runs [] [] [] c clock ids c clock ids
+pub no_calls : {K V S X L P W C I : Type 0} (m : Meaning K V X L P W C I) (Runs : State K V X P W → Terms → Course → List (Notice K V) → State K V X P W → Type 0) (c : Cache K V S X L P W) (clock : C) (ids : I) → MakesCalls m Runs [] [] [] c clock ids c clock ids
 no_calls m Runs c clock ids = record { calls_made = refl; replies_given = refl; are_steps = tt; ends = refl; heard = nothing_heard m.tells c.listener; read = refl; given = refl }
 
 -- a list of keys that changes nothing, as a call

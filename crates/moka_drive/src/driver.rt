@@ -50,7 +50,7 @@ pub fn drive<
     requires values { (x y : V) → V.is_clone x y → y ≡ x }
     requires served { AllByRecursion IsServed calls.items }
     ensures run { IfOk result (λ replies. (steps : List (Step K V X P W))
-        × SettlingReferenceRun (record { eq = K.eq; tells = L.tells; says = P.says; weighs = W.weighs; reads = C.reads; gives = I.gives; created = X.created; read = X.read; updated = X.updated })
+        × SettlingReferenceRun (record { eq = K.eq; tells = L.tells; says = P.says; weighs = W.weighs; observes = C.reads; gives = I.gives; created = X.created; read = X.read; updated = X.updated })
         calls.items replies.items steps cache.old clock.old ids.old cache.new clock.new ids.new) }
     ensures refused { IfErr result (λ e. e.calls ≡ calls) }
     ensures unchanged { OnErr result ((cache.new ≡ cache.old) × (clock.new ≡ clock.old) × (ids.new ≡ ids.old)) }
@@ -87,7 +87,7 @@ fn make<
     requires values { (x y : V) → V.is_clone x y → y ≡ x }
     requires served { IsServed call }
     ensures { (e : Events K V)
-        × CallStep (record { eq = K.eq; tells = L.tells; says = P.says; weighs = W.weighs; reads = C.reads; gives = I.gives; created = X.created; read = X.read; updated = X.updated }) (SettlingRun P.says X.read) cache.old.state call result e cache.new.state
+        × CallStep (record { eq = K.eq; tells = L.tells; says = P.says; weighs = W.weighs; observes = C.reads; gives = I.gives; created = X.created; read = X.read; updated = X.updated }) (SettlingRun P.says X.read) cache.old.state call result e cache.new.state
         × Befalls L.tells e cache.old cache.new
         × Leads C.reads clock.old e.readings clock.new
         × Leads I.gives ids.old e.ids ids.new }

@@ -7,7 +7,7 @@ use Rattle.moka_parts.specs.declared.records.Record.{Record}
 use Rattle.moka_parts.specs.declared.records.Member.{Member}
 use Rattle.moka_parts.specs.Records.{is_applied, is_member, is_settled, counted_of}
 use Rattle.moka_parts.specs.State.{State, Contents}
-use Rattle.moka_parts.specs.Maintenance.{Choice, Removes, Passes, after_choices, is_front, is_over, IsJustified, AreJustified}
+use Rattle.moka_parts.specs.Maintenance.{Choice, Removes, MovesToBack, after_choices, is_front, is_over, IsJustified, AreJustified}
 use Rattle.moka_engine.specs.Applied.{Held}
 use Rattle.moka_engine.specs.Evictions.{Turn, Evicts, PassesOver, after_turn, after_turns, MayTurn, MayTake}
 use Rattle.moka_engine.proofs.Applied.{with_held}
@@ -15,7 +15,7 @@ use Rattle.moka_engine.proofs.Applied.{with_held}
 -- a turn as a step of a run
 abbrev pub choice_of : Turn → Choice
 choice_of (Evicts n) = Removes n Size
-choice_of (PassesOver n) = Passes n
+choice_of (PassesOver n) = MovesToBack n
 
 module _ {K V P : Type 0} where
   -- turns change what the steps change

@@ -16,9 +16,9 @@ use Rattle.moka_parts.specs.Records.{Records, Operations, Notice, when_listening
 use Rattle.moka_parts.specs.Time.{greatest, has_passed, moment_of}
 use Rattle.moka_parts.specs.State.{State, Contents, contents, with_contents, is_disabled}
 use Rattle.moka_parts.specs.Writes.{after_writes}
-use Rattle.moka_parts.specs.Maintenance.{Terms, Course, Choices, MaintenanceRun, after_choices, after_queued_reads, after_queues, before_steps, at_end, after_run, with_sketch, is_cut, is_late, AreJustified}
+use Rattle.moka_parts.specs.Maintenance.{Terms, Course, Freedom, MaintenanceRun, after_choices, after_queued_reads, after_queues, before_steps, at_end, after_run, with_sketch, is_cut, is_late, AreJustified}
 use Rattle.moka_parts.specs.Exact.{IsExact, IsWithin, AreExactMembers}
-use Rattle.moka_parts.specs.Settling.{IsAllSent, IsWaitingIn, IsSound, IsConsistent, IsConsistentState, Leaves, Settles, has_unsettled_member}
+use Rattle.moka_parts.specs.Settling.{IsAllSent, IsWaitingIn, IsSound, IsConsistent, IsConsistentState, LeavesBehind, Settles, has_unsettled_member}
 use Rattle.moka_parts.specs.Runs.{SettlingRun}
 use Rattle.moka_parts.proofs.Counting.{exact_count, exact_weight}
 use Rattle.moka_parts.proofs.Maps.{nothing_at, same_or_apart}
@@ -120,7 +120,7 @@ module _ {K V X P W : Type 0} where
 
 module _ {K V X P W : Type 0} (s : State K V X P W) (h : Held K V) (simple : IsSimple s) (evicted : IsEvicted s.capacity (after_both s) h) where
   -- what the run chooses
-  abbrev choices : Choices
+  abbrev choices : Freedom
   choices = record { moves = no_moves s.writes; is_short = false; steps = map choice_of evicted.turns }
 
   queues_same : after_queues s choices ≡ with_held (contents s) (after_both s)
@@ -163,7 +163,7 @@ module _ {K V X P W : Type 0} (s : State K V X P W) (h : Held K V) (simple : IsS
     not_cut : is_cut s.settings terms course ≡ false
     not_cut = ap (λ b. b && is_late terms.limit []) simple.quiet
 
-    leaves : Leaves s terms course (settled s h)
+    leaves : LeavesBehind s terms course (settled s h)
     leaves =
         let near = count_is_near s.outstanding h.records h.access end_consistent in
         record {

@@ -13,7 +13,7 @@ use Rattle.moka_parts.specs.declared.records.Operation.TheVariants.{Upsert, Remo
 use Rattle.moka_parts.specs.Time.{greatest}
 use Rattle.moka_parts.specs.Records.{Records, Operations, counted_of, is_member, numbers_of, without_member}
 use Rattle.moka_parts.specs.State.{State}
-use Rattle.moka_parts.specs.Maintenance.{Choices, after_run, at_end}
+use Rattle.moka_parts.specs.Maintenance.{Freedom, after_run, at_end}
 use Rattle.moka_parts.specs.Exact.{AreExactMembers, IsExact}
 use Rattle.moka_parts.specs.Settling.{number_of, IsSound, IsConsistent, IsConsistentState, IsWaitingIn, IsAllSent}
 use Rattle.moka_parts.proofs.Maps.{same_or_apart, get_removed, get_past_remove, same_by_test, nothing_at}
@@ -47,7 +47,7 @@ nothing_waits outstanding all o (inl p) = nothing_at p.0 o (sym (ap (λ m. get m
 nothing_waits outstanding all o (inr q) = let below : q.1.0 < 0 = q.1.1 in absurd (omega arith)
 
 -- after a run with every operation sent, counts and weights are exactly the records'
-pub run_is_exact : {K V X P W : Type 0} (s : State K V X P W) (ch : Choices) → IsConsistentState s → IsAllSent s → IsExact (after_run s ch)
+pub run_is_exact : {K V X P W : Type 0} (s : State K V X P W) (ch : Freedom) → IsConsistentState s → IsAllSent s → IsExact (after_run s ch)
 run_is_exact s ch h all =
     let exact = exact_when_nothing_waits (IsWaitingIn s.outstanding []) (at_end s ch).records (at_end s ch).access (run_kept s ch h) (nothing_waits s.outstanding all) in
     record {
@@ -135,5 +135,5 @@ count_is_near {K} {V} outstanding records access h =
     go n (Some r) (Some w) s = inl refl
 
 -- after any run the reported count is off by no more than the operations not sent
-pub run_count_is_near : {K V X P W : Type 0} (s : State K V X P W) (ch : Choices) → IsConsistentState s → ((after_run s ch).count ≤ len (after_run s ch).records + len (after_run s ch).outstanding) × (len (after_run s ch).records ≤ (after_run s ch).count + len (after_run s ch).outstanding)
+pub run_count_is_near : {K V X P W : Type 0} (s : State K V X P W) (ch : Freedom) → IsConsistentState s → ((after_run s ch).count ≤ len (after_run s ch).records + len (after_run s ch).outstanding) × (len (after_run s ch).records ≤ (after_run s ch).count + len (after_run s ch).outstanding)
 run_count_is_near s ch h = count_is_near s.outstanding (at_end s ch).records (at_end s ch).access (run_kept s ch h)

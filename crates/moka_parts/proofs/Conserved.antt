@@ -16,9 +16,9 @@ use Rattle.moka_parts.specs.declared.records.Operation.{Operation}
 use Rattle.moka_parts.specs.declared.records.Operation.TheVariants.{Upsert, Removal}
 use Rattle.moka_parts.specs.Records.{Records, Notice, counted_of, is_member, settled_members, is_settled, total_weight, has_room}
 use Rattle.moka_parts.specs.State.{State, Contents, contents}
-use Rattle.moka_parts.specs.Choice.{prefix, victims_for, is_preferred}
+use Rattle.moka_parts.specs.Candidates.{prefix, victims_for, is_preferred}
 use Rattle.moka_parts.specs.Writes.{Fate, Ignored, Overtaken, Counted, Admitted, TooHeavy, Preferred, Refused, with_applied, without_records, leaves_for_size, left_with, left_by_rejection, left_by_fate, left_by_write, left_by_writes, fate_of_choice, fate_by_policy, fate_of_newcomer, fate_of_record, after_fate, after_write, after_writes}
-use Rattle.moka_parts.specs.Maintenance.{Choice, Removes, Passes, Drops, Choices, after_choice, after_choices, left_by_choice, left_by_choices, after_queued_reads, after_queues, before_steps, at_end, left_in_run}
+use Rattle.moka_parts.specs.Maintenance.{Choice, Removes, MovesToBack, Drops, Freedom, after_choice, after_choices, left_by_choice, left_by_choices, after_queued_reads, after_queues, before_steps, at_end, left_in_run}
 use Rattle.moka_parts.specs.Laws.{values_of, TellsWhatLeaves}
 use Rattle.moka_parts.proofs.Maps.{same_or_apart, get_removed, get_past_remove, itself_tested}
 use Rattle.moka_parts.proofs.Values.{values_inserted, values_removed, put_over, remove_absent}
@@ -116,7 +116,7 @@ VictimsIn access TooHeavy = Unit {0}
 VictimsIn access (Preferred victims) = AreMembersOf access victims
 VictimsIn access Refused = Unit {0}
 
-module _ {K V P : Type 0} (capacity : Option ℕ) (policy : EvictionPolicy) (c : Contents K V P) (weight hash : ℕ) where
+module _ {K V : Type 0} (capacity : Option ℕ) (policy : EvictionPolicy) (c : Contents K V) (weight hash : ℕ) where
   victims_within : (number generation : ℕ) (r : Record K V) → VictimsIn c.access (fate_of_record capacity policy c number generation weight hash r)
   victims_within number generation r =
       elim (nat_lt r.applied generation) as (λ b. VictimsIn c.access (if b then (if is_member number c.access then Counted else fate_of_newcomer capacity policy c weight hash) else (if is_member number c.access then Overtaken else Ignored))) [
@@ -159,9 +159,9 @@ module _ {K V : Type 0} where
         | false ↦ splits_updated records n r (record r { applied = generation }) there refl
       ]
 
-module _ {K V P : Type 0} where
+module _ {K V : Type 0} where
   -- an upsert with any fate
-  splits_fate : (c : Contents K V P) (number generation weight : ℕ) (moved : List ℕ) (r : Record K V) (f : Fate) → get c.records number ≡ Some r → Known f r.applied generation (counted_of number c.access) → VictimsIn c.access f →
+  splits_fate : (c : Contents K V) (number generation weight : ℕ) (moved : List ℕ) (r : Record K V) (f : Fate) → get c.records number ≡ Some r → Known f r.applied generation (counted_of number c.access) → VictimsIn c.access f →
       Splits c.records (left_by_fate c generation r f) (after_fate c number generation weight moved r f).records
   splits_fate c number generation weight moved r Ignored there known within = splits_itself c.records
   splits_fate c number generation weight moved r Overtaken there known within = splits_itself c.records
@@ -174,7 +174,7 @@ module _ {K V P : Type 0} where
       (splits_updated (without_records victims c.records) number r (record r { applied = generation }) (kept_without victims c.access c.records number within known.1 ∙ there) refl))
   splits_fate c number generation weight moved r Refused there known within = splits_rejected c.records number generation r there
 
-  splits_write : (capacity : Option ℕ) (policy : EvictionPolicy) (c : Contents K V P) (o : Operation) (moved : List ℕ) → Splits c.records (left_by_write capacity policy c o) (after_write capacity policy c o moved).records
+  splits_write : (capacity : Option ℕ) (policy : EvictionPolicy) (c : Contents K V) (o : Operation) (moved : List ℕ) → Splits c.records (left_by_write capacity policy c o) (after_write capacity policy c o moved).records
   splits_write capacity policy c (Removal number generation) moved = splits_itself c.records
   splits_write capacity policy c (Upsert number generation weight hash) moved = found (get c.records number) refl
     where
@@ -184,7 +184,7 @@ module _ {K V P : Type 0} where
       found None there = splits_itself c.records
       found (Some r) there = splits_fate c number generation weight moved r (fate_of_record capacity policy c number generation weight hash r) there (fate_known capacity policy c weight hash number generation r) (victims_within capacity policy c weight hash number generation r)
 
-  splits_writes : (capacity : Option ℕ) (policy : EvictionPolicy) (c : Contents K V P) (hs : List Ticketed) (ms : List (List ℕ)) → Splits c.records (left_by_writes capacity policy c hs ms) (after_writes capacity policy c hs ms).records
+  splits_writes : (capacity : Option ℕ) (policy : EvictionPolicy) (c : Contents K V) (hs : List Ticketed) (ms : List (List ℕ)) → Splits c.records (left_by_writes capacity policy c hs ms) (after_writes capacity policy c hs ms).records
   splits_writes capacity policy c [] ms = splits_itself c.records
   splits_writes capacity policy c (h ∷ hs) [] =
       splits_on c.records (after_write capacity policy c h.operation []).records (after_writes capacity policy (after_write capacity policy c h.operation []) hs []).records (left_by_write capacity policy c h.operation) (left_by_writes capacity policy (after_write capacity policy c h.operation []) hs [])
@@ -193,21 +193,21 @@ module _ {K V P : Type 0} where
       splits_on c.records (after_write capacity policy c h.operation moved).records (after_writes capacity policy (after_write capacity policy c h.operation moved) hs ms).records (left_by_write capacity policy c h.operation) (left_by_writes capacity policy (after_write capacity policy c h.operation moved) hs ms)
       (splits_write capacity policy c h.operation moved) (splits_writes capacity policy (after_write capacity policy c h.operation moved) hs ms)
 
-  splits_choice : (c : Contents K V P) (x : Choice) → Splits c.records (left_by_choice c x) (after_choice c x).records
+  splits_choice : (c : Contents K V) (x : Choice) → Splits c.records (left_by_choice c x) (after_choice c x).records
   splits_choice c (Removes n cause) = found (get c.records n) refl
     where
       found : (o : Option (Record K V)) → get c.records n ≡ o → Splits c.records (option_to_list (option_map (λ (r : Record K V). (r.key, r.value, cause)) o)) (remove c.records n)
       found None there = rw (remove_absent c.records n there) (splits_itself c.records)
       found (Some r) there = splits_removed c.records n r cause there
-  splits_choice c (Passes n) = splits_itself c.records
+  splits_choice c (MovesToBack n) = splits_itself c.records
   splits_choice c (Drops i) = splits_itself c.records
 
-  splits_choices : (c : Contents K V P) (xs : List Choice) → Splits c.records (left_by_choices c xs) (after_choices c xs).records
+  splits_choices : (c : Contents K V) (xs : List Choice) → Splits c.records (left_by_choices c xs) (after_choices c xs).records
   splits_choices c [] = splits_itself c.records
   splits_choices c (x ∷ xs) = splits_on c.records (after_choice c x).records (after_choices (after_choice c x) xs).records (left_by_choice c x) (left_by_choices (after_choice c x) xs) (splits_choice c x) (splits_choices (after_choice c x) xs)
 
 -- whatever a run chooses
-pub tells_what_leaves : {K V X P W : Type 0} (s : State K V X P W) (ch : Choices) → TellsWhatLeaves s ch
+pub tells_what_leaves : {K V X P W : Type 0} (s : State K V X P W) (ch : Freedom) → TellsWhatLeaves s ch
 tells_what_leaves s ch =
     let same : (after_queued_reads s).records ≡ s.records = reads_keep (contents s) s.reads in
     let writes = splits_writes s.capacity s.settings.policy (after_queued_reads s) s.writes ch.moves in

@@ -26,7 +26,7 @@ use Rattle.uuid.specs.declared.Uuid.{Uuid}
 use Rattle.moka_parts.specs.Housekeeping.{is_due}
 use Rattle.moka_parts.specs.Records.{Notice, when_listening, record_of_key}
 use Rattle.moka_parts.specs.State.{State, Meaning, Events, is_disabled}
-use Rattle.moka_parts.specs.Maintenance.{Terms, Course, Choices, RunsBy, DoesNothing, MaintenanceRun, left_in_run}
+use Rattle.moka_parts.specs.Maintenance.{Terms, Course, Freedom, RunsBy, DoesNothing, MaintenanceRun, left_in_run}
 use Rattle.moka_parts.specs.Settling.{IsWellNumbered}
 use Rattle.moka_parts.specs.Calls.{no_events, Unchanged, new_record, updated_record, InsertsAt, InsertStep, SendsAt, SendStep, RemovesAt, RemoveStep, RunStep, KeeperRun, RunsIfDue, RecordsRead, keeper_terms, hit_record, after_hit, hit_at, hit_operation, PeeksAt, PeekStep, GetsAt, GetStep, InvalidateStep, CapacityStep}
 use Rattle.moka_parts.specs.Runs.{CallStep}
@@ -56,7 +56,7 @@ module _ {K V X P W : Type 0} where
     run_follows : (s t : State K V X P W) (terms : Terms) (course : Course) (notices : List (Notice K V)) → s.settings.listening ≡ true → MaintenanceRun says s terms course notices t → Follows s notices t
     run_follows s t terms course notices on run = go (is_disabled s.capacity) (run.0)
       where
-        go : (b : Bool) → MatchBool b (DoesNothing s course notices t) ((ch : Choices) × RunsBy says s terms ch course notices t × Unit {0}) → Follows s notices t
+        go : (b : Bool) → MatchBool b (DoesNothing s course notices t) ((ch : Freedom) × RunsBy says s terms ch course notices t × Unit {0}) → Follows s notices t
         go true (same, none, nothing) = record { splits = rw (same, none) (splits_itself s.records); settings = ap (λ (x : State K V X P W). x.settings) same }
         go false (ch, by, done) =
             let tells : notices ≡ left_in_run s ch = by.2 ∙ listening_tells s.settings.listening (left_in_run s ch) on in

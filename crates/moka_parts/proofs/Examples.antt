@@ -14,7 +14,7 @@ use Rattle.moka_parts.specs.State.{Settings, State, new_state}
 use Rattle.moka_parts.specs.Visibility.{has_lapsed}
 use Rattle.moka_parts.specs.Expiry.{remaining, renewed, expires_updated}
 use Rattle.moka_parts.specs.Causes.{cause_of_replacement, cause_of_removal}
-use Rattle.moka_parts.specs.Choice.{prefix, has_six_unsettled}
+use Rattle.moka_parts.specs.Candidates.{prefix, has_six_unsettled}
 
 -- settings with these times, and without all else
 abbrev times : Option ℕ → Option ℕ → Settings ℕ ℕ

@@ -20,7 +20,7 @@ use Rattle.moka_parts.specs.Writes.{Fate, Ignored, Overtaken, Counted, Admitted,
 use Rattle.moka_parts.specs.Records.{record_of_key}
 use Rattle.moka_parts.specs.State.{State, Contents, contents, is_disabled}
 use Rattle.moka_parts.specs.Visibility.{Covers}
-use Rattle.moka_parts.specs.Maintenance.{Choice, Removes, Passes, Drops, Choices, after_choice, after_choices, after_queued_reads, before_steps, AreJustified}
+use Rattle.moka_parts.specs.Maintenance.{Choice, Removes, MovesToBack, Drops, Freedom, after_choice, after_choices, kept_by_choices, before_steps, tests_of, AreJustified}
 use Rattle.moka_parts.specs.Calls.{PeeksAt}
 use Rattle.moka_parts.specs.Laws.{LeavesNoTrace, PeeksQuietly, DropsOnlyIdle}
 use Rattle.moka_parts.proofs.RunKeeps.{keeps_choices}
@@ -59,55 +59,22 @@ kept_by_remove xs i q p at differ there =
       | inr c ↦ c
     ]
 
--- reads and writes leave the registry as it is
-module _ {K V P : Type 0} where
-  reads_leave_predicates : (c : Contents K V P) (rs : List ReadOperation) → (after_reads c rs).predicates ≡ c.predicates
-  reads_leave_predicates c [] = refl
-  reads_leave_predicates c (Hit n h renewed ∷ rs) = reads_leave_predicates (after_read c (Hit n h renewed)) rs
-  reads_leave_predicates c (Miss h ∷ rs) = reads_leave_predicates (after_read c (Miss h)) rs
-
-  fate_leaves_predicates : (c : Contents K V P) (n g w : ℕ) (moved : List ℕ) (r : Record K V) (f : Fate) → (after_fate c n g w moved r f).predicates ≡ c.predicates
-  fate_leaves_predicates c n g w moved r Ignored = refl
-  fate_leaves_predicates c n g w moved r Overtaken = refl
-  fate_leaves_predicates c n g w moved r Counted = refl
-  fate_leaves_predicates c n g w moved r Admitted = refl
-  fate_leaves_predicates c n g w moved r TooHeavy = refl
-  fate_leaves_predicates c n g w moved r (Preferred victims) = refl
-  fate_leaves_predicates c n g w moved r Refused = refl
-
-  found_leaves_predicates : (c : Contents K V P) (n g w : ℕ) (moved : List ℕ) (f : Fate) (o : Option (Record K V)) → (option_map_or (λ r. after_fate c n g w moved r f) o c).predicates ≡ c.predicates
-  found_leaves_predicates c n g w moved f None = refl
-  found_leaves_predicates c n g w moved f (Some r) = fate_leaves_predicates c n g w moved r f
-
-  write_leaves_predicates : (capacity : Option ℕ) (policy : EvictionPolicy) (c : Contents K V P) (o : Operation) (moved : List ℕ) → (after_write capacity policy c o moved).predicates ≡ c.predicates
-  write_leaves_predicates capacity policy c (Removal n g) moved = refl
-  write_leaves_predicates capacity policy c (Upsert n g w h) moved = found_leaves_predicates c n g w moved (fate capacity policy c (Upsert n g w h)) (finite.get c.records n)
-
-  writes_leave_predicates : (capacity : Option ℕ) (policy : EvictionPolicy) (c : Contents K V P) (hs : List Ticketed) (ms : List (List ℕ)) → (after_writes capacity policy c hs ms).predicates ≡ c.predicates
-  writes_leave_predicates capacity policy c [] ms = refl
-  writes_leave_predicates capacity policy c (h ∷ hs) [] = writes_leave_predicates capacity policy (after_write capacity policy c h.operation []) hs [] ∙ write_leaves_predicates capacity policy c h.operation []
-  writes_leave_predicates capacity policy c (h ∷ hs) (m ∷ ms) = writes_leave_predicates capacity policy (after_write capacity policy c h.operation m) hs ms ∙ write_leaves_predicates capacity policy c h.operation m
-
--- before its steps a run has the predicates that it began with
-pub predicates_stay : {K V X P W : Type 0} (s : State K V X P W) (ch : Choices) → (before_steps s ch).predicates ≡ s.predicates
-predicates_stay s ch = writes_leave_predicates s.capacity s.settings.policy (after_queued_reads s) s.writes ch.moves ∙ reads_leave_predicates (contents s) s.reads
-
 module _ {K V X P W : Type 0} (says : P → K → V → Bool → Type 0) (s : State K V X P W) (now : ℕ) where
-  still_covered : (c : Contents K V P) (xs : List Choice) (p : Registered P) (n : ℕ) (r : Record K V) → finite.get (after_choices c xs).records n ≡ Some r → Covers says p r → (r' : Record K V) × (finite.get c.records n ≡ Some r') × Covers says p r'
+  still_covered : (c : Contents K V) (xs : List Choice) (p : Registered P) (n : ℕ) (r : Record K V) → finite.get (after_choices c xs).records n ≡ Some r → Covers says p r → (r' : Record K V) × (finite.get c.records n ≡ Some r') × Covers says p r'
   still_covered c xs p n r there covers =
       let old = keeps_choices c xs n r there in
       (old.0, old.1, subst (λ (x : Record K V). Covers says p x) old.2.1 covers)
 
-  idle_steps : (c : Contents K V P) (xs : List Choice) (p : Registered P) (n : ℕ) (r : Record K V) → AreJustified says s now c xs → Contains c.predicates p → finite.get (after_choices c xs).records n ≡ Some r → Covers says p r → Contains (after_choices c xs).predicates p
-  idle_steps c [] p n r are here there covers = here
-  idle_steps c (Removes m cause ∷ xs) p n r are here there covers = idle_steps (after_choice c (Removes m cause)) xs p n r are.1 here there covers
-  idle_steps c (Passes m ∷ xs) p n r are here there covers = idle_steps (after_choice c (Passes m)) xs p n r are.1 here there covers
-  idle_steps c (Drops i ∷ xs) p n r are here there covers =
+  idle_steps : (c : Contents K V) (ps : List (Registered P)) (xs : List Choice) (p : Registered P) (n : ℕ) (r : Record K V) → AreJustified says (tests_of s now) c ps xs → Contains ps p → finite.get (after_choices c xs).records n ≡ Some r → Covers says p r → Contains (kept_by_choices ps xs) p
+  idle_steps c ps [] p n r are here there covers = here
+  idle_steps c ps (Removes m cause ∷ xs) p n r are here there covers = idle_steps (after_choice c (Removes m cause)) ps xs p n r are.1 here there covers
+  idle_steps c ps (MovesToBack m ∷ xs) p n r are here there covers = idle_steps (after_choice c (MovesToBack m)) ps xs p n r are.1 here there covers
+  idle_steps c ps (Drops i ∷ xs) p n r are here there covers =
       let old = still_covered c (Drops i ∷ xs) p n r there covers in
-      idle_steps (after_choice c (Drops i)) xs p n r are.1
-      (kept_by_remove c.predicates i are.0.0 p are.0.1 (λ same. are.0.2 n old.0 old.1 (subst (λ x. Covers says x old.0) (sym same) old.2)) here) there covers
+      idle_steps c (remove ps i) xs p n r are.1
+      (kept_by_remove ps i are.0.0 p are.0.1 (λ same. are.0.2 n old.0 old.1 (subst (λ x. Covers says x old.0) (sym same) old.2)) here) there covers
 
 -- a predicate leaves only when it covers no record
-pub drops_only_idle : {K V X P W : Type 0} (says : P → K → V → Bool → Type 0) (s : State K V X P W) (now : ℕ) (ch : Choices) → DropsOnlyIdle says s now ch
+pub drops_only_idle : {K V X P W : Type 0} (says : P → K → V → Bool → Type 0) (s : State K V X P W) (now : ℕ) (ch : Freedom) → DropsOnlyIdle says s now ch
 drops_only_idle says s now ch free p n r here there covers =
-    idle_steps says s now (before_steps s ch) ch.steps p n r free.1 (subst (λ ps. Contains ps p) (sym (predicates_stay s ch)) here) there covers
+    idle_steps says s now (before_steps s ch) s.predicates ch.steps p n r free.1 here there covers

@@ -18,7 +18,7 @@ use Rattle.moka_parts.specs.Records.{Records}
 use Rattle.moka_parts.specs.State.{State, Contents, contents}
 use Rattle.moka_parts.specs.Reads.{after_read, after_reads}
 use Rattle.moka_parts.specs.Writes.{Fate, Ignored, Overtaken, Counted, Admitted, TooHeavy, Preferred, Refused, fate, with_applied, without_records, rejected, after_fate, after_write, after_writes}
-use Rattle.moka_parts.specs.Maintenance.{Choice, Removes, Passes, Drops, Choices, after_choice, after_choices, at_end, before_steps, after_queued_reads}
+use Rattle.moka_parts.specs.Maintenance.{Choice, Removes, MovesToBack, Drops, Freedom, after_choice, after_choices, at_end, before_steps, after_queued_reads}
 
 -- each new record is an old one but for the applied generation
 abbrev pub Keeps : {K V : Type 0} → Records K V → Records K V → Type 0
@@ -66,15 +66,15 @@ module _ {K V : Type 0} where
   keeps_without old [] = keeps_itself old
   keeps_without old (a ∷ gone) = keeps_on old (remove old a.number) _ (keeps_remove old a.number) (keeps_without (remove old a.number) gone)
 
-module _ {K V P : Type 0} where
-  keeps_rejected : (c : Contents K V P) (n g : ℕ) (r : Record K V) → get c.records n ≡ Some r → Keeps c.records (rejected n g r c).records
+module _ {K V : Type 0} where
+  keeps_rejected : (c : Contents K V) (n g : ℕ) (r : Record K V) → get c.records n ≡ Some r → Keeps c.records (rejected n g r c).records
   keeps_rejected c n g r there =
       elim (r.generation == g) as (λ b. Keeps c.records (if b then remove c.records n else with_applied c.records n r g)) [
         | true ↦ keeps_remove c.records n
         | false ↦ keeps_put c.records c.records n r g there (keeps_itself c.records)
       ]
 
-  keeps_fate : (c : Contents K V P) (n g w : ℕ) (moved : List ℕ) (r : Record K V) (f : Fate) → get c.records n ≡ Some r → Keeps c.records (after_fate c n g w moved r f).records
+  keeps_fate : (c : Contents K V) (n g w : ℕ) (moved : List ℕ) (r : Record K V) (f : Fate) → get c.records n ≡ Some r → Keeps c.records (after_fate c n g w moved r f).records
   keeps_fate c n g w moved r Ignored there = keeps_itself c.records
   keeps_fate c n g w moved r Overtaken there = keeps_itself c.records
   keeps_fate c n g w moved r Counted there = keeps_put c.records c.records n r g there (keeps_itself c.records)
@@ -83,38 +83,38 @@ module _ {K V P : Type 0} where
   keeps_fate c n g w moved r (Preferred victims) there = keeps_put c.records _ n r g there (keeps_without c.records victims)
   keeps_fate c n g w moved r Refused there = keeps_rejected c n g r there
 
-  keeps_found : (c : Contents K V P) (n g w : ℕ) (moved : List ℕ) (f : Fate) (o : Option (Record K V)) → get c.records n ≡ o → Keeps c.records (option_map_or (λ r. after_fate c n g w moved r f) o c).records
+  keeps_found : (c : Contents K V) (n g w : ℕ) (moved : List ℕ) (f : Fate) (o : Option (Record K V)) → get c.records n ≡ o → Keeps c.records (option_map_or (λ r. after_fate c n g w moved r f) o c).records
   keeps_found c n g w moved f None there = keeps_itself c.records
   keeps_found c n g w moved f (Some r) there = keeps_fate c n g w moved r f there
 
-  keeps_write : (capacity : Option ℕ) (policy : EvictionPolicy) (c : Contents K V P) (o : Operation) (moved : List ℕ) → Keeps c.records (after_write capacity policy c o moved).records
+  keeps_write : (capacity : Option ℕ) (policy : EvictionPolicy) (c : Contents K V) (o : Operation) (moved : List ℕ) → Keeps c.records (after_write capacity policy c o moved).records
   keeps_write capacity policy c (Removal n g) moved = keeps_itself c.records
   keeps_write capacity policy c (Upsert n g w h) moved = keeps_found c n g w moved (fate capacity policy c (Upsert n g w h)) (get c.records n) refl
 
-  keeps_writes : (capacity : Option ℕ) (policy : EvictionPolicy) (c : Contents K V P) (hs : List Ticketed) (ms : List (List ℕ)) → Keeps c.records (after_writes capacity policy c hs ms).records
+  keeps_writes : (capacity : Option ℕ) (policy : EvictionPolicy) (c : Contents K V) (hs : List Ticketed) (ms : List (List ℕ)) → Keeps c.records (after_writes capacity policy c hs ms).records
   keeps_writes capacity policy c [] ms = keeps_itself c.records
   keeps_writes capacity policy c (h ∷ hs) [] = keeps_on c.records _ _ (keeps_write capacity policy c h.operation []) (keeps_writes capacity policy (after_write capacity policy c h.operation []) hs [])
   keeps_writes capacity policy c (h ∷ hs) (m ∷ ms) = keeps_on c.records _ _ (keeps_write capacity policy c h.operation m) (keeps_writes capacity policy (after_write capacity policy c h.operation m) hs ms)
 
   -- reads change no record
-  pub reads_keep : (c : Contents K V P) (rs : List ReadOperation) → (after_reads c rs).records ≡ c.records
+  pub reads_keep : (c : Contents K V) (rs : List ReadOperation) → (after_reads c rs).records ≡ c.records
   reads_keep c [] = refl
   reads_keep c (Hit n h renewed ∷ rs) = reads_keep (after_read c (Hit n h renewed)) rs
   reads_keep c (Miss h ∷ rs) = reads_keep (after_read c (Miss h)) rs
 
   -- one step
-  pub keeps_choice : (c : Contents K V P) (x : Choice) → Keeps c.records (after_choice c x).records
+  pub keeps_choice : (c : Contents K V) (x : Choice) → Keeps c.records (after_choice c x).records
   keeps_choice c (Removes n cause) = keeps_remove c.records n
-  keeps_choice c (Passes n) = keeps_itself c.records
+  keeps_choice c (MovesToBack n) = keeps_itself c.records
   keeps_choice c (Drops i) = keeps_itself c.records
 
   -- all steps
-  pub keeps_choices : (c : Contents K V P) (xs : List Choice) → Keeps c.records (after_choices c xs).records
+  pub keeps_choices : (c : Contents K V) (xs : List Choice) → Keeps c.records (after_choices c xs).records
   keeps_choices c [] = keeps_itself c.records
   keeps_choices c (x ∷ xs) = keeps_on c.records _ _ (keeps_choice c x) (keeps_choices (after_choice c x) xs)
 
 -- whatever a run chooses
-pub run_keeps : {K V X P W : Type 0} (s : State K V X P W) (ch : Choices) → Keeps s.records (at_end s ch).records
+pub run_keeps : {K V X P W : Type 0} (s : State K V X P W) (ch : Freedom) → Keeps s.records (at_end s ch).records
 run_keeps s ch =
     let same : (after_queued_reads s).records ≡ s.records = reads_keep (contents s) s.reads in
     let writes = keeps_writes s.capacity s.settings.policy (after_queued_reads s) s.writes ch.moves in

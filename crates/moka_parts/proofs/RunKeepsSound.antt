@@ -15,9 +15,9 @@ use Rattle.moka_parts.specs.declared.records.ReadOperation.TheVariants.{Hit, Mis
 use Rattle.moka_parts.specs.Records.{Operations, is_member, counted_of, without_members, to_back, all_to_back, total_weight, has_room}
 use Rattle.moka_parts.specs.State.{State, Contents, contents}
 use Rattle.moka_parts.specs.Reads.{after_read, after_reads}
-use Rattle.moka_parts.specs.Choice.{victims_for, is_preferred}
+use Rattle.moka_parts.specs.Candidates.{victims_for, is_preferred}
 use Rattle.moka_parts.specs.Writes.{Fate, Ignored, Overtaken, Counted, Admitted, TooHeavy, Preferred, Refused, without_records, fate_of_choice, fate_by_policy, fate_of_newcomer, fate_of_record, after_fate, after_write, after_writes}
-use Rattle.moka_parts.specs.Maintenance.{Choice, Removes, Passes, Drops, Choices, after_choice, after_choices, after_queued_reads, before_steps, after_run}
+use Rattle.moka_parts.specs.Maintenance.{Choice, Removes, MovesToBack, Drops, Freedom, after_choice, after_choices, after_queued_reads, before_steps, after_run}
 use Rattle.moka_parts.specs.Settling.{IsConsistent, IsConsistentState, IsWaitingIn}
 use Rattle.moka_parts.proofs.AccessList.{counted-all_to_back, uncounted_without}
 use Rattle.moka_parts.proofs.Waiting.{TakesIn, takes_front}
@@ -41,7 +41,7 @@ absent (Some w) e = cc
 not_newer : (a b : ℕ) → nat_lt a b ≡ false → b ≤ a
 not_newer a b e = grind arith
 
-module _ {K V P : Type 0} (capacity : Option ℕ) (policy : EvictionPolicy) (c : Contents K V P) (weight hash : ℕ) where
+module _ {K V : Type 0} (capacity : Option ℕ) (policy : EvictionPolicy) (c : Contents K V) (weight hash : ℕ) where
   newcomer_known : (applied generation : ℕ) (counted : Option ℕ) → (applied < generation) × (counted ≡ None) → Known (fate_of_newcomer capacity policy c weight hash) applied generation counted
   newcomer_known applied generation counted p =
       elim (has_room capacity (total_weight c.access) weight) as (λ b. Known (if b then Admitted else (if has_room capacity 0 weight then fate_by_policy policy c weight hash else TooHeavy)) applied generation counted) [
@@ -71,7 +71,7 @@ module _ {K V P : Type 0} (capacity : Option ℕ) (policy : EvictionPolicy) (c :
       newer false e true f = not_newer r.applied generation e
       newer false e false f = not_newer r.applied generation e
 
-module _ {K V P : Type 0} (Before After : Operation → Type 0) (c : Contents K V P) (h : IsConsistent Before c.records c.access) where
+module _ {K V : Type 0} (Before After : Operation → Type 0) (c : Contents K V) (h : IsConsistent Before c.records c.access) where
   -- whatever fate an upsert has
   pub fate_kept : (number generation weight hash : ℕ) (moved : List ℕ) (r : Record K V) (f : Fate) → get c.records number ≡ Some r → Known f r.applied generation (counted_of number c.access) →
       TakesIn Before After (Upsert number generation weight hash) → IsConsistent After (after_fate c number generation weight moved r f).records (after_fate c number generation weight moved r f).access
@@ -88,9 +88,9 @@ module _ {K V P : Type 0} (Before After : Operation → Type 0) (c : Contents K 
   fate_kept number generation weight hash moved r Refused there known taken =
       rejected_kept Before After c.records c.access h number generation weight hash r (all_to_back moved c.access) there known.0 (all_back_kept Before c.records c.access h moved) (counted-all_to_back moved number c.access ∙ known.1) taken (r.generation == generation) refl
 
-module _ {K V P : Type 0} (capacity : Option ℕ) (policy : EvictionPolicy) where
+module _ {K V : Type 0} (capacity : Option ℕ) (policy : EvictionPolicy) where
   -- one write
-  pub write_kept : (Before After : Operation → Type 0) (c : Contents K V P) (o : Operation) (moved : List ℕ) → IsConsistent Before c.records c.access → TakesIn Before After o → IsConsistent After (after_write capacity policy c o moved).records (after_write capacity policy c o moved).access
+  pub write_kept : (Before After : Operation → Type 0) (c : Contents K V) (o : Operation) (moved : List ℕ) → IsConsistent Before c.records c.access → TakesIn Before After o → IsConsistent After (after_write capacity policy c o moved).records (after_write capacity policy c o moved).access
   write_kept Before After c (Removal number generation) moved h taken = removal_kept Before After c.records c.access h number generation taken
   write_kept Before After c (Upsert number generation weight hash) moved h taken = found (get c.records number) refl
     where
@@ -101,32 +101,32 @@ module _ {K V P : Type 0} (capacity : Option ℕ) (policy : EvictionPolicy) wher
       found (Some r) there = fate_kept Before After c h number generation weight hash moved r (fate_of_record capacity policy c number generation weight hash r) there (fate_known capacity policy c weight hash number generation r) taken
 
   -- all queued writes: afterwards only what was not sent waits
-  pub writes_kept : (outstanding : Operations) (c : Contents K V P) (hs : List Ticketed) (ms : List (List ℕ)) → IsConsistent (IsWaitingIn outstanding hs) c.records c.access → IsConsistent (IsWaitingIn outstanding []) (after_writes capacity policy c hs ms).records (after_writes capacity policy c hs ms).access
+  pub writes_kept : (outstanding : Operations) (c : Contents K V) (hs : List Ticketed) (ms : List (List ℕ)) → IsConsistent (IsWaitingIn outstanding hs) c.records c.access → IsConsistent (IsWaitingIn outstanding []) (after_writes capacity policy c hs ms).records (after_writes capacity policy c hs ms).access
   writes_kept outstanding c [] ms h = h
   writes_kept outstanding c (x ∷ hs) [] h = writes_kept outstanding (after_write capacity policy c x.operation []) hs [] (write_kept (IsWaitingIn outstanding (x ∷ hs)) (IsWaitingIn outstanding hs) c x.operation [] h (takes_front outstanding x hs))
   writes_kept outstanding c (x ∷ hs) (moved ∷ ms) h = writes_kept outstanding (after_write capacity policy c x.operation moved) hs ms (write_kept (IsWaitingIn outstanding (x ∷ hs)) (IsWaitingIn outstanding hs) c x.operation moved h (takes_front outstanding x hs))
 
-module _ {K V P : Type 0} (Waits : Operation → Type 0) where
+module _ {K V : Type 0} (Waits : Operation → Type 0) where
   -- queued reads move members and no more
-  pub reads_kept : (c : Contents K V P) (rs : List ReadOperation) → IsConsistent Waits c.records c.access → IsConsistent Waits (after_reads c rs).records (after_reads c rs).access
+  pub reads_kept : (c : Contents K V) (rs : List ReadOperation) → IsConsistent Waits c.records c.access → IsConsistent Waits (after_reads c rs).records (after_reads c rs).access
   reads_kept c [] h = h
   reads_kept c (Hit number hash renewed ∷ rs) h = reads_kept (after_read c (Hit number hash renewed)) rs
       (elim (is_some (get c.records number)) as (λ b. IsConsistent Waits c.records (if b then to_back number c.access else c.access)) [ true ↦ back_kept Waits c.records c.access h number | false ↦ h ])
   reads_kept c (Miss hash ∷ rs) h = reads_kept (after_read c (Miss hash)) rs h
 
   -- one step
-  pub choice_kept : (c : Contents K V P) (x : Choice) → IsConsistent Waits c.records c.access → IsConsistent Waits (after_choice c x).records (after_choice c x).access
+  pub choice_kept : (c : Contents K V) (x : Choice) → IsConsistent Waits c.records c.access → IsConsistent Waits (after_choice c x).records (after_choice c x).access
   choice_kept c (Removes n cause) h = leave_kept Waits c.records c.access h n
-  choice_kept c (Passes n) h = back_kept Waits c.records c.access h n
+  choice_kept c (MovesToBack n) h = back_kept Waits c.records c.access h n
   choice_kept c (Drops i) h = h
 
   -- all steps
-  pub choices_kept : (c : Contents K V P) (xs : List Choice) → IsConsistent Waits c.records c.access → IsConsistent Waits (after_choices c xs).records (after_choices c xs).access
+  pub choices_kept : (c : Contents K V) (xs : List Choice) → IsConsistent Waits c.records c.access → IsConsistent Waits (after_choices c xs).records (after_choices c xs).access
   choices_kept c [] h = h
   choices_kept c (x ∷ xs) h = choices_kept (after_choice c x) xs (choice_kept c x h)
 
 -- a run, whatever it chooses
-pub run_kept : {K V X P W : Type 0} (s : State K V X P W) (ch : Choices) → IsConsistentState s → IsConsistentState (after_run s ch)
+pub run_kept : {K V X P W : Type 0} (s : State K V X P W) (ch : Freedom) → IsConsistentState s → IsConsistentState (after_run s ch)
 run_kept s ch h =
     choices_kept (IsWaitingIn s.outstanding []) (before_steps s ch) ch.steps
     (writes_kept s.capacity s.settings.policy s.outstanding (after_queued_reads s) s.writes ch.moves (reads_kept (IsWaitingIn s.outstanding s.writes) (contents s) s.reads h))

@@ -12,14 +12,14 @@ use Rattle.moka_parts.specs.declared.records.ReadOperation.TheVariants.{Hit}
 use Rattle.moka_parts.specs.declared.calls.Call.TheVariants as call
 use Rattle.moka_parts.specs.declared.calls.Reply.TheVariants as reply
 use Rattle.moka_parts.specs.State.{new_state, State, Settings, Meaning}
-use Rattle.moka_parts.specs.Maintenance.{Choices, Course, MaintenanceRun, after_run}
+use Rattle.moka_parts.specs.Maintenance.{Freedom, Course, MaintenanceRun, after_run}
 use Rattle.moka_parts.specs.Calls.{no_events, run_events, are_numbers_used_up, after_hit}
 use Rattle.moka_parts.proofs.Maps.{entries-empty}
 use Rattle.moka_parts.specs.Runs.{CallStep, AreSteps}
 
 -- a meaning where nothing but keys is asked
 abbrev meaning : Meaning ℕ ℕ ℕ ℕ ℕ ℕ ℕ ℕ
-meaning = record { eq = λ a b. a == b; tells = λ _ _ _ _ _. ⊥; says = λ _ _ _ _. ⊥; weighs = λ _ _ _ _. ⊥; reads = λ _ _ _. ⊥; gives = λ _ _ _. ⊥; created = λ _ _ _ _. None; read = λ _ _ _ _ told _. told; updated = λ _ _ _ _ told. told }
+meaning = record { eq = λ a b. a == b; tells = λ _ _ _ _ _. ⊥; says = λ _ _ _ _. ⊥; weighs = λ _ _ _ _. ⊥; observes = λ _ _ _. ⊥; gives = λ _ _ _. ⊥; created = λ _ _ _ _. None; read = λ _ _ _ _ told _. told; updated = λ _ _ _ _ told. told }
 
 abbrev start : Instant
 start = record { 0 = 0 }
@@ -48,7 +48,7 @@ after_first_run = record after_send { records = insert (insert empty 1 (first 0)
 abbrev after_get : State ℕ ℕ ℕ ℕ ℕ
 after_get = record after_first_run { records = insert after_first_run.records 1 (first 1); reads = Hit 1 1 false ∷ [] }
 
-abbrev choices : Choices
+abbrev choices : Freedom
 choices = record { moves = [] ∷ []; is_short = false; steps = [] }
 
 abbrev course : Course

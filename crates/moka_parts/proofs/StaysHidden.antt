@@ -39,7 +39,7 @@ use Rattle.moka_parts.specs.Time.{has_passed, is_before, deadline, moment_of}
 use Rattle.moka_parts.specs.Records.{Notice, record_of_key}
 use Rattle.moka_parts.specs.State.{State, Settings, Meaning, Events, is_disabled}
 use Rattle.moka_parts.specs.Visibility.{is_expired, is_past_live, is_past_idle, is_written_before, is_read_before, has_lapsed, Covers, SomeCovers, IsVisible, IsHidden, IsShown}
-use Rattle.moka_parts.specs.Maintenance.{Terms, Course, Choices, RunsBy, DoesNothing, MaintenanceRun, AreFree, after_run, at_end}
+use Rattle.moka_parts.specs.Maintenance.{predicates_at_end, Terms, Course, Freedom, RunsBy, DoesNothing, MaintenanceRun, AreFree, after_run, at_end}
 use Rattle.moka_parts.proofs.RunKeeps.{run_keeps}
 use Rattle.moka_parts.proofs.Laws.{drops_only_idle}
 
@@ -105,7 +105,7 @@ module _ {K V X P W : Type 0} (eq : K → K → Bool) (says : P → K → V → 
   ]
 
   -- a run takes away and hides, and shows nothing
-  hidden_run : (s : State K V X P W) (now : ℕ) (ch : Choices) (u : ℕ) → AreFree says s now ch → IsKeyHidden eq says s key u → IsKeyHidden eq says (after_run s ch) key u
+  hidden_run : (s : State K V X P W) (now : ℕ) (ch : Freedom) (u : ℕ) → AreFree says s now ch → IsKeyHidden eq says s key u → IsKeyHidden eq says (after_run s ch) key u
   hidden_run s now ch u free h n q there same =
       let old = run_keeps s ch n q there in
       let look : q ≡ record old.0 { applied = old.2.0 } = old.2.1 in
@@ -116,7 +116,7 @@ module _ {K V X P W : Type 0} (eq : K → K → Bool) (says : P → K → V → 
       go r q g look old there (inr c) =
           let one = one_covers says s.predicates r c in
           let now_covers : Covers says one.0 q = subst (λ (x : Record K V). Covers says one.0 x) (sym look) one.2 in
-          inr (some_cover says (at_end s ch).predicates one.0 q (drops_only_idle says s now ch free one.0 n q one.1 there now_covers) now_covers)
+          inr (some_cover says (predicates_at_end s ch) one.0 q (drops_only_idle says s now ch free one.0 n q one.1 there now_covers) now_covers)
 
 -- ---- calls
 
@@ -127,7 +127,7 @@ module _ {K V X P W : Type 0} (eq : K → K → Bool) (says : P → K → V → 
   run_hides : (s t : State K V X P W) (terms : Terms) (course : Course) (notices : List (Notice K V)) (u : ℕ) → IsKeyHidden eq says s key u → MaintenanceRun says s terms course notices t → IsKeyHidden eq says t key u
   run_hides s t terms course notices u h run = go (is_disabled s.capacity) (run.0)
     where
-      go : (b : Bool) → MatchBool b (DoesNothing s course notices t) ((ch : Choices) × RunsBy says s terms ch course notices t × Unit {0}) → IsKeyHidden eq says t key u
+      go : (b : Bool) → MatchBool b (DoesNothing s course notices t) ((ch : Freedom) × RunsBy says s terms ch course notices t × Unit {0}) → IsKeyHidden eq says t key u
       go true (same, none, nothing) = hidden_alike s t u same h
       go false (ch, by, done) = subst (λ x. IsKeyHidden eq says x key u) (sym by.1) (hidden_run eq says key s terms.now ch u by.0 h)
 

@@ -30,7 +30,7 @@ use Rattle.moka_parts.specs.Runs.{CallStep, Step, AreSteps, last_state}
 use Rattle.moka_parts.specs.Housekeeping.{Housekeeping, is_due, after_run_due, without_automatic}
 use Rattle.moka_parts.specs.Records.{Notice, record_of_key, with_record}
 use Rattle.moka_parts.specs.State.{State, Meaning, Events, is_disabled}
-use Rattle.moka_parts.specs.Maintenance.{Terms, Course, Choices, RunsBy, DoesNothing, MaintenanceRun, after_run}
+use Rattle.moka_parts.specs.Maintenance.{Terms, Course, Freedom, RunsBy, DoesNothing, MaintenanceRun, after_run}
 use Rattle.moka_parts.specs.Settling.{IsWaiting, IsWaitingIn, IsValid}
 use Rattle.moka_parts.specs.Calls.{keeper_terms, RemoveStep, InvalidateStep, CapacityStep, InsertsAt, InsertStep, SendsAt, SendStep, RunStep, KeeperRun, RunsIfDue, Unchanged, RecordsRead, queueing, hit_record, after_hit, hit_at, hit_operation, PeeksAt, PeekStep, GetsAt, GetStep}
 use Rattle.moka_parts.proofs.Maps.{AreApart, same_or_apart, get_past_remove}
@@ -104,7 +104,7 @@ module _ {K V X P W : Type 0} (eq : K → K → Bool) where
       go None (Ok u) there step = absurd step
 
   -- a run, by whatever choices
-  pub run_valid : (s : State K V X P W) (ch : Choices) → is_disabled s.capacity ≡ false → IsValid eq s → IsValid eq (after_run s ch)
+  pub run_valid : (s : State K V X P W) (ch : Freedom) → is_disabled s.capacity ≡ false → IsValid eq s → IsValid eq (after_run s ch)
   run_valid s ch on h = record {
     consistent = run_kept s ch h.consistent;
     numbered = record {
@@ -127,7 +127,7 @@ module _ {K V X P W : Type 0} (eq : K → K → Bool) where
     pub run_step_keeps : (s t : State K V X P W) (terms : Terms) (course : Course) (notices : List (Notice K V)) → IsValid eq s → MaintenanceRun says s terms course notices t → IsValid eq t
     run_step_keeps s t terms course notices h run = go (is_disabled s.capacity) refl (run.0)
       where
-        go : (b : Bool) → is_disabled s.capacity ≡ b → MatchBool b (DoesNothing s course notices t) ((ch : Choices) × RunsBy says s terms ch course notices t × Unit {0}) → IsValid eq t
+        go : (b : Bool) → is_disabled s.capacity ≡ b → MatchBool b (DoesNothing s course notices t) ((ch : Freedom) × RunsBy says s terms ch course notices t × Unit {0}) → IsValid eq t
         go true off (same, none, nothing) = subst (IsValid eq) (sym same) h
         go false on (ch, by, done) = subst (IsValid eq) (sym (by.1)) (run_valid s ch on h)
 

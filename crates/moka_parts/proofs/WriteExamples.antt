@@ -35,8 +35,8 @@ third = get-from_sorted nat_cmp listed 3 tt
 fourth : get records 4 ≡ None
 fourth = get-from_sorted nat_cmp listed 4 tt
 
-abbrev full : List Member → Option Table → Contents ℕ ℕ ℕ
-full access sketch = record { records = records; access = access; sketch = sketch; predicates = [] }
+abbrev full : List Member → Option Table → Contents ℕ ℕ
+full access sketch = record { records = records; access = access; sketch = sketch }
 
 abbrev seen : List ℕ → Option Table
 seen hashes = Some (table_after 128 hashes)

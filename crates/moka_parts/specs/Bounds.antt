@@ -7,29 +7,33 @@ use Rattle.moka_parts.specs.declared.records.Member.{Member}
 use Rattle.moka_parts.specs.Records.{is_settled, numbers_of, total_weight}
 use Rattle.moka_parts.specs.State.{State, Contents}
 use Rattle.moka_parts.specs.Visibility.{has_lapsed}
-use Rattle.moka_parts.specs.Choice.{prefix}
-use Rattle.moka_parts.specs.Maintenance.{Choice, Choices, Removes, Passes, Drops, Terms, Course, is_timed, is_cut, before_steps}
+use Rattle.moka_parts.specs.Candidates.{prefix}
+use Rattle.moka_parts.specs.Maintenance.{Choice, Freedom, Removes, MovesToBack, Drops, Terms, Course, is_timed, is_cut, before_steps}
 use Rattle.moka_parts.specs.Settling.{IsWhole}
 
 -- the numbers of the records that the steps remove, in order
 abbrev pub removed_by : List Choice → List ℕ
 removed_by [] = []
 removed_by (Removes n cause ∷ xs) = n ∷ removed_by xs
-removed_by (Passes n ∷ xs) = removed_by xs
+removed_by (MovesToBack n ∷ xs) = removed_by xs
 removed_by (Drops i ∷ xs) = removed_by xs
 
 -- once the queues are applied, weight is the only ground for a removal
-pub record IsPlainSurplus {K V X P W : Type 0} (s : State K V X P W) (now capacity : ℕ) (c : Contents K V P) : Type 0 where
+pub record IsPlainSurplus {K V X P W : Type 0} (s : State K V X P W) (now capacity : ℕ) (c : Contents K V) : Type 0 where
   pub limited : s.capacity ≡ Some capacity
   pub over : capacity < total_weight c.access
   pub settled : list_all (λ a. is_settled c.records a.number) c.access ≡ true
   pub fresh : (n : ℕ) (r : Record K V) → get c.records n ≡ Some r → has_lapsed s.settings s.invalid_before r now ≡ false
-  pub no_predicate : c.predicates ≡ []
+  pub no_predicate : s.predicates ≡ []
 
 -- what a run costs and removes
-pub record IsBounded {K V X P W : Type 0} (s : State K V X P W) (terms : Terms) (ch : Choices) (course : Course) : Type 0 where
+pub record IsBounded {K V X P W : Type 0} (s : State K V X P W) (terms : Terms) (ch : Freedom) (course : Course) : Type 0 where
+  -- the steps are gone through at least once
+  pub made : 1 ≤ course.passes
   -- at most one pass more than the records that the steps remove
   pub passes : course.passes ≤ length (removed_by ch.steps) + 1
+  -- each pass of a cut run removed a record
+  pub removing : is_cut s.settings terms course ≡ true → course.passes ≤ length (removed_by ch.steps)
   -- a reading a pass, and one more where the run is cut
   pub timed : is_timed s.settings terms ≡ true → length course.readings ≡ course.passes + (if is_cut s.settings terms course then 1 else 0)
   pub untimed : is_timed s.settings terms ≡ false → course.readings ≡ []

@@ -20,9 +20,9 @@ use Rattle.moka_parts.specs.Records.{Records, Notice, record_of_key, total_weigh
 use Rattle.moka_parts.specs.State.{State, Contents, Meaning, Events}
 use Rattle.moka_parts.specs.Visibility.{Covers}
 use Rattle.moka_sketch.specs.Frequency.{frequency}
-use Rattle.moka_parts.specs.Choice.{frequency_of_all}
+use Rattle.moka_parts.specs.Candidates.{frequency_of_all}
 use Rattle.moka_parts.specs.Writes.{fate_by_policy, Preferred}
-use Rattle.moka_parts.specs.Maintenance.{Choices, Terms, Course, AreFree, left_in_run, at_end, MaintenanceRun}
+use Rattle.moka_parts.specs.Maintenance.{Freedom, Terms, Course, AreFree, left_in_run, at_end, predicates_at_end, MaintenanceRun}
 use Rattle.moka_parts.specs.Calls.{GetStep, PeekStep, ContainsStep, RemoveStep, entry_of}
 use Rattle.moka_parts.specs.Runs.{Step, AreSteps, last_state}
 use Rattle.moka_parts.specs.declared.policy.EvictionPolicy.TheVariants.{TinyLfu}
@@ -109,8 +109,8 @@ module _ {K V X L P W C I : Type 0} (m : Meaning K V X L P W C I) where
 -- ---- predicates, removals, admissions
 
 -- a predicate that a run drops covers no record that is left
-abbrev pub DropsOnlyIdle : {K V X P W : Type 0} → (P → K → V → Bool → Type 0) → State K V X P W → ℕ → Choices → Type 0
-DropsOnlyIdle {K} {V} {X} {P} {W} says s now ch = AreFree says s now ch → (p : Registered P) (n : ℕ) (r : Record K V) → Contains s.predicates p → get (at_end s ch).records n ≡ Some r → Covers says p r → Contains (at_end s ch).predicates p
+abbrev pub DropsOnlyIdle : {K V X P W : Type 0} → (P → K → V → Bool → Type 0) → State K V X P W → ℕ → Freedom → Type 0
+DropsOnlyIdle {K} {V} {X} {P} {W} says s now ch = AreFree says s now ch → (p : Registered P) (n : ℕ) (r : Record K V) → Contains s.predicates p → get (at_end s ch).records n ≡ Some r → Covers says p r → Contains (predicates_at_end s ch) p
 
 -- a removal gives the stored entry, shown or not, and every other key's record stays
 abbrev pub RemovesJustOne : {K V X P W : Type 0} → (K → K → Bool) → State K V X P W → Type 0
@@ -118,7 +118,7 @@ RemovesJustOne {K} {V} {X} {P} {W} eq s = (key : K) (a : Option (KvEntry K V × 
     (option_map (λ x. x.0) a ≡ option_map entry_of (record_of_key eq s.records key)) × ((n : ℕ) (r : Record K V) → get s.records n ≡ Some r → eq key r.key ≡ false → get t.records n ≡ Some r)
 
 -- a candidate that TinyLFU admits was seen more often than its victims together, and they weigh enough
-abbrev pub AdmitsWell : {K V P : Type 0} → Contents K V P → ℕ → ℕ → List Member → Type 0
+abbrev pub AdmitsWell : {K V : Type 0} → Contents K V → ℕ → ℕ → List Member → Type 0
 AdmitsWell c weight hash victims = fate_by_policy TinyLfu c weight hash ≡ Preferred victims → (frequency_of_all c victims < frequency c.sketch hash) × (weight ≤ total_weight victims)
 
 -- ---- what leaves the map is told
@@ -152,7 +152,7 @@ AllConserveValues s [] = Unit {0}
 AllConserveValues s (x ∷ xs) = ConservesValues s x × AllConserveValues x.after xs
 
 -- what a run takes out of the map is exactly what it tells a listener, each once
-abbrev pub TellsWhatLeaves : {K V X P W : Type 0} → State K V X P W → Choices → Type 0
+abbrev pub TellsWhatLeaves : {K V X P W : Type 0} → State K V X P W → Freedom → Type 0
 TellsWhatLeaves s ch = IsPermutation (values_of s.records) (map (λ n. n.1) (left_in_run s ch) ++ values_of (at_end s ch).records)
 
 -- where a listener is set, every call tells exactly what leaves the map in it, each once

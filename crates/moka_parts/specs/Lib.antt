@@ -12,7 +12,7 @@ pub mod Visibility
 pub mod Expiry
 pub mod Causes
 pub mod Reads
-pub mod Choice
+pub mod Candidates
 pub mod Writes
 pub mod Maintenance
 pub mod Exact

@@ -11,7 +11,8 @@ use Rattle.moka_parts.specs.declared.records.Registered.{Registered}
 use Rattle.moka_parts.specs.declared.records.Member.{Member}
 use Rattle.moka_parts.specs.Records.{Notice, when_listening, is_member, without_member, to_back, total_weight, has_room, is_settled}
 use Rattle.moka_parts.specs.State.{State, Settings, Contents, contents, with_contents, is_disabled}
-use Rattle.moka_parts.specs.Visibility.{is_expired, is_past_live, is_past_idle, is_written_before, is_read_before, Covers, SomeCovers}
+use Rattle.moka_parts.specs.Time.{has_passed, deadline}
+use Rattle.moka_parts.specs.Visibility.{is_expired, is_written_before, is_read_before, Covers, SomeCovers}
 use Rattle.moka_sketch.specs.Frequency.{Table, no_counts, size_asked, table_length_for}
 use Rattle.moka_parts.specs.Reads.{after_reads}
 use Rattle.moka_parts.specs.Writes.{after_writes, left_by_writes, AreAllMoves, is_tiny_lfu}
@@ -21,12 +22,12 @@ pub data Choice : Type 0 where
   -- the record of this number leaves, for this cause
   Removes : ℕ → RemovalCause → Choice
   -- the member of this number goes to the back
-  Passes : ℕ → Choice
+  MovesToBack : ℕ → Choice
   -- the predicate at this place leaves
   Drops : ℕ → Choice
 
 -- all that is left free in a run
-pub record Choices : Type 0 where
+pub record Freedom : Type 0 where
   -- the members that each write moves to the back
   pub moves : List (List ℕ)
   -- memory for a longer table of the sketch was refused
@@ -38,30 +39,42 @@ abbrev pub is_front : ℕ → List Member → Bool
 is_front n [] = false
 is_front n (a ∷ members) = a.number == n
 
-module _ {K V P : Type 0} where
+module _ {K V : Type 0} where
   -- the contents after one step: a removed record leaves map and access list
-  abbrev pub after_choice : Contents K V P → Choice → Contents K V P
+  abbrev pub after_choice : Contents K V → Choice → Contents K V
   after_choice c (Removes n cause) = record c { records = finite.remove c.records n; access = without_member n c.access }
-  after_choice c (Passes n) = record c { access = to_back n c.access }
-  after_choice c (Drops i) = record c { predicates = remove c.predicates i }
+  after_choice c (MovesToBack n) = record c { access = to_back n c.access }
+  after_choice c (Drops i) = c
 
   -- the contents after the steps
-  abbrev pub after_choices : Contents K V P → List Choice → Contents K V P
+  abbrev pub after_choices : Contents K V → List Choice → Contents K V
   after_choices c [] = c
   after_choices c (x ∷ xs) = after_choices (after_choice c x) xs
 
   -- what a step takes out of the map
-  abbrev pub left_by_choice : Contents K V P → Choice → List (Notice K V)
+  abbrev pub left_by_choice : Contents K V → Choice → List (Notice K V)
   left_by_choice c (Removes n cause) = option_to_list (option_map (λ (r : Record K V). (r.key, r.value, cause)) (finite.get c.records n))
-  left_by_choice c (Passes n) = []
+  left_by_choice c (MovesToBack n) = []
   left_by_choice c (Drops i) = []
 
   -- what the steps take out of the map, in order
-  abbrev pub left_by_choices : Contents K V P → List Choice → List (Notice K V)
+  abbrev pub left_by_choices : Contents K V → List Choice → List (Notice K V)
   left_by_choices c [] = []
   left_by_choices c (x ∷ xs) = left_by_choice c x ++ left_by_choices (after_choice c x) xs
 
--- the capacity, if there is one, is passed
+module _ {P : Type 0} where
+  -- the predicates that a step leaves registered
+  abbrev pub kept_by_choice : List (Registered P) → Choice → List (Registered P)
+  kept_by_choice ps (Removes n cause) = ps
+  kept_by_choice ps (MovesToBack n) = ps
+  kept_by_choice ps (Drops i) = remove ps i
+
+  -- the predicates that the steps leave registered
+  abbrev pub kept_by_choices : List (Registered P) → List Choice → List (Registered P)
+  kept_by_choices ps [] = ps
+  kept_by_choices ps (x ∷ xs) = kept_by_choices (kept_by_choice ps x) xs
+
+-- the capacity, if there is one, is exceeded
 abbrev pub is_over : Option ℕ → List Member → Bool
 is_over capacity members = not (has_room capacity (total_weight members) 0)
 
@@ -76,9 +89,9 @@ length_of_new_table true capacity has_weigher members = 128
 length_of_new_table false None has_weigher members = 128
 length_of_new_table false (Some capacity) has_weigher members = table_length_for (size_asked has_weigher capacity (length members) (total_weight members))
 
-module _ {K V P : Type 0} where
+module _ {K V : Type 0} where
   -- the sketch comes on where it is due
-  abbrev pub with_sketch : Option ℕ → EvictionPolicy → Bool → Bool → Contents K V P → Contents K V P
+  abbrev pub with_sketch : Option ℕ → EvictionPolicy → Bool → Bool → Contents K V → Contents K V
   with_sketch capacity policy has_weigher is_short c = record c {
     sketch = if is_sketch_due capacity policy c.sketch (total_weight c.access)
         then Some (no_counts (length_of_new_table is_short capacity has_weigher c.access))
@@ -87,55 +100,88 @@ module _ {K V P : Type 0} where
 
 module _ {K V X P W : Type 0} (s : State K V X P W) where
   -- what a run has after the reads
-  abbrev pub after_queued_reads : Contents K V P
+  abbrev pub after_queued_reads : Contents K V
   after_queued_reads = after_reads (contents s) s.reads
 
   -- and after the writes
-  abbrev pub after_queues : Choices → Contents K V P
+  abbrev pub after_queues : Freedom → Contents K V
   after_queues ch = after_writes s.capacity s.settings.policy after_queued_reads s.writes ch.moves
 
   -- and after the sketch
-  abbrev pub before_steps : Choices → Contents K V P
+  abbrev pub before_steps : Freedom → Contents K V
   before_steps ch = with_sketch s.capacity s.settings.policy (is_some s.settings.weigher) ch.is_short (after_queues ch)
 
   -- and after the steps
-  abbrev pub at_end : Choices → Contents K V P
+  abbrev pub at_end : Freedom → Contents K V
   at_end ch = after_choices (before_steps ch) ch.steps
 
+  -- the predicates that the run leaves registered
+  abbrev pub predicates_at_end : Freedom → List (Registered P)
+  predicates_at_end ch = kept_by_choices s.predicates ch.steps
+
   -- what leaves the map in the run, in order
-  abbrev pub left_in_run : Choices → List (Notice K V)
+  abbrev pub left_in_run : Freedom → List (Notice K V)
   left_in_run ch = left_by_writes s.capacity s.settings.policy after_queued_reads s.writes ch.moves ++ left_by_choices (before_steps ch) ch.steps
 
   -- the state after the run
-  abbrev pub after_run : Choices → State K V X P W
-  after_run ch = with_contents s (at_end ch)
+  abbrev pub after_run : Freedom → State K V X P W
+  after_run ch = with_contents s (at_end ch) (predicates_at_end ch)
 
-module _ {K V X P W : Type 0} (says : P → K → V → Bool → Type 0) (s : State K V X P W) (now : ℕ) where
-  -- the cause fits a record that the run may take out
-  abbrev pub HasCause : Contents K V P → ℕ → Record K V → RemovalCause → Type 0
-  HasCause c n r Expired = (is_expired r now || is_past_live s.settings r now || is_past_idle s.settings r now) ≡ true
-  HasCause c n r Explicit = (((is_written_before s.invalid_before r && not (is_past_live s.settings r now)) || (is_read_before s.invalid_before r && not (is_past_idle s.settings r now))) ≡ true) ⊎ SomeCovers says c.predicates r
-  HasCause c n r Size = (is_front n c.access && is_over s.capacity c.access) ≡ true
-  HasCause c n r Replaced = ⊥
+-- what the steps of a run test records by: the moment, both times, the moment of the last invalidation of all, and the capacity
+pub record Tests : Type 0 where
+  pub now : ℕ
+  pub time_to_live : Option ℕ
+  pub time_to_idle : Option ℕ
+  pub invalid_before : Option Instant
+  pub capacity : Option ℕ
+
+-- those of a state at a moment
+abbrev pub tests_of : {K V X P W : Type 0} → State K V X P W → ℕ → Tests
+tests_of s now = record { now = now; time_to_live = s.settings.time_to_live; time_to_idle = s.settings.time_to_idle; invalid_before = s.invalid_before; capacity = s.capacity }
+
+module _ {K V : Type 0} (q : Tests) where
+  -- its time to live is over
+  abbrev pub is_past_write : Record K V → Bool
+  is_past_write r = has_passed (deadline q.time_to_live r.written.0) q.now
+
+  -- its time to idle is over
+  abbrev pub is_past_read : Record K V → Bool
+  is_past_read r = has_passed (deadline q.time_to_idle r.read.0) q.now
+
+  -- the cause fits the record by its moments, or by its place at the front of what exceeds the capacity
+  abbrev pub HasGround : Contents K V → ℕ → Record K V → RemovalCause → Type 0
+  HasGround c n r Expired = (is_expired r q.now || is_past_write r || is_past_read r) ≡ true
+  HasGround c n r Explicit = ((is_written_before q.invalid_before r && not (is_past_write r)) || (is_read_before q.invalid_before r && not (is_past_read r))) ≡ true
+  HasGround c n r Size = (is_front n c.access && is_over q.capacity c.access) ≡ true
+  HasGround c n r Replaced = ⊥
+
+module _ {K V P : Type 0} (says : P → K → V → Bool → Type 0) (q : Tests) where
+  -- the cause fits a record that the run may take out: by a ground of its own, or since a predicate covers it
+  abbrev pub HasCause : Contents K V → List (Registered P) → ℕ → Record K V → RemovalCause → Type 0
+  HasCause c ps n r Expired = HasGround q c n r Expired
+  HasCause c ps n r Explicit = HasGround q c n r Explicit ⊎ SomeCovers says ps r
+  HasCause c ps n r Size = HasGround q c n r Size
+  HasCause c ps n r Replaced = ⊥
 
   -- the predicate covers no record of the map
-  abbrev pub CoversNothing : Contents K V P → Registered P → Type 0
+  abbrev pub CoversNothing : Contents K V → Registered P → Type 0
   CoversNothing c p = (n : ℕ) (r : Record K V) → finite.get c.records n ≡ Some r → Covers says p r → ⊥
 
   -- a step that a run may take: a settled member leaves for a cause that fits, an unsettled one goes to the back, or a predicate that covers nothing leaves
-  abbrev pub IsJustified : Contents K V P → Choice → Type 0
-  IsJustified c (Removes n cause) = (r : Record K V) × (finite.get c.records n ≡ Some r) × (is_member n c.access && is_settled c.records n ≡ true) × HasCause c n r cause
-  IsJustified c (Passes n) = (is_member n c.access ≡ true) × (is_settled c.records n ≡ false)
-  IsJustified c (Drops i) = (p : Registered P) × (slice_get c.predicates i ≡ Some p) × CoversNothing c p
+  abbrev pub IsJustified : Contents K V → List (Registered P) → Choice → Type 0
+  IsJustified c ps (Removes n cause) = (r : Record K V) × (finite.get c.records n ≡ Some r) × (is_member n c.access && is_settled c.records n ≡ true) × HasCause c ps n r cause
+  IsJustified c ps (MovesToBack n) = (is_member n c.access ≡ true) × (is_settled c.records n ≡ false)
+  IsJustified c ps (Drops i) = (p : Registered P) × (slice_get ps i ≡ Some p) × CoversNothing c p
 
   -- each step may be taken when it is
-  abbrev pub AreJustified : Contents K V P → List Choice → Type 0
-  AreJustified c [] = Unit {0}
-  AreJustified c (x ∷ xs) = IsJustified c x × AreJustified (after_choice c x) xs
+  abbrev pub AreJustified : Contents K V → List (Registered P) → List Choice → Type 0
+  AreJustified c ps [] = Unit {0}
+  AreJustified c ps (x ∷ xs) = IsJustified c ps x × AreJustified (after_choice c x) (kept_by_choice ps x) xs
 
+module _ {K V X P W : Type 0} (says : P → K → V → Bool → Type 0) (s : State K V X P W) (now : ℕ) where
   -- these choices are free to a run
-  abbrev pub AreFree : Choices → Type 0
-  AreFree ch = AreAllMoves s.capacity s.settings.policy (after_queued_reads s) s.writes ch.moves × AreJustified (before_steps s ch) ch.steps
+  abbrev pub AreFree : Freedom → Type 0
+  AreFree ch = AreAllMoves s.capacity s.settings.policy (after_queued_reads s) s.writes ch.moves × AreJustified says (tests_of s now) (before_steps s ch) s.predicates ch.steps
 
 -- how a run went
 pub record Course : Type 0 where
@@ -175,12 +221,12 @@ DoesNothing s course notices t = (t ≡ s) × (notices ≡ []) × (course ≡ re
 
 module _ {K V X P W : Type 0} (says : P → K → V → Bool → Type 0) where
   -- a run by these choices
-  abbrev pub RunsBy : State K V X P W → Terms → Choices → Course → List (Notice K V) → State K V X P W → Type 0
+  abbrev pub RunsBy : State K V X P W → Terms → Freedom → Course → List (Notice K V) → State K V X P W → Type 0
   RunsBy s terms ch course notices t = AreFree says s terms.now ch × (t ≡ after_run s ch) × (notices ≡ when_listening s.settings.listening (left_in_run s ch))
 
   -- a run of the reference cache, with a promise about its outcome and one about its choices
-  abbrev pub RunsWith : (State K V X P W → Terms → Course → State K V X P W → Type 0) → (State K V X P W → Terms → Choices → Course → Type 0) → State K V X P W → Terms → Course → List (Notice K V) → State K V X P W → Type 0
-  RunsWith Outcome Detail s terms course notices t = MatchBool (is_disabled s.capacity) (DoesNothing s course notices t) ((ch : Choices) × RunsBy s terms ch course notices t × Detail s terms ch course) × Outcome s terms course t
+  abbrev pub RunsWith : (State K V X P W → Terms → Course → State K V X P W → Type 0) → (State K V X P W → Terms → Freedom → Course → Type 0) → State K V X P W → Terms → Course → List (Notice K V) → State K V X P W → Type 0
+  RunsWith Outcome Detail s terms course notices t = MatchBool (is_disabled s.capacity) (DoesNothing s course notices t) ((ch : Freedom) × RunsBy s terms ch course notices t × Detail s terms ch course) × Outcome s terms course t
 
   -- a run of the reference cache, with no more promised
   abbrev pub MaintenanceRun : State K V X P W → Terms → Course → List (Notice K V) → State K V X P W → Type 0

@@ -12,7 +12,7 @@ use Rattle.moka_parts.specs.declared.calls.Reply.TheVariants as reply
 use Rattle.moka_parts.specs.Records.{Notice}
 use Rattle.moka_parts.specs.State.{State, Meaning, Events, is_disabled}
 use Rattle.moka_parts.specs.Maintenance.{Terms, Course, RunsWith, MaintenanceRun}
-use Rattle.moka_parts.specs.Settling.{Leaves, Settles}
+use Rattle.moka_parts.specs.Settling.{LeavesBehind, Settles}
 use Rattle.moka_parts.specs.Bounds.{IsBounded}
 use Rattle.moka_parts.specs.Order.{IsOrderly, AgesOut}
 use Rattle.moka_parts.specs.Housekeeping.{without_automatic}
@@ -20,13 +20,15 @@ use Rattle.moka_parts.specs.Surroundings.{Heard}
 pub use Rattle.moka_parts.specs.Surroundings.{Leads}
 use Rattle.moka_parts.specs.Calls.{no_events, only_notices, only_ids, Unchanged, InsertStep, SendStep, GetStep, PeekStep, ContainsStep, KeyStep, ScanStep, RemoveStep, NotifiesAfter, InvalidateStep, CapacityStep, RunStep, RunsIfDue, KeysStep, oldest_ticket}
 
--- what contracts see of a cache: its name and hasher, the state, the listener, and the passes of its last run
+-- what contracts see of a cache: its name and hasher, the state, the listener, the write list, and the passes of its last run
 pub record Cache (K V S X L P W : Type 0) : Type 0 where
   -- as bytes
   pub name : Option (List ℕ)
   pub hasher : S
   pub state : State K V X P W
   pub listener : Option L
+  -- the members' numbers in the order of writing, where that is kept
+  pub write_list : List ℕ
   pub passes : ℕ
 
 -- the passes of the last run, where this many were made before
@@ -34,9 +36,9 @@ abbrev pub passes_after : ℕ → Option ℕ → ℕ
 passes_after before None = before
 passes_after before (Some passes) = passes
 
--- a call with these events changes no more of a cache than its state, what the listener has heard and the passes
+-- a call with these events changes no more of a cache than its state, what the listener has heard, the write list and the passes
 pub record Befalls {K V S X L P W : Type 0} (tells : L → K → V → RemovalCause → L → Type 0) (e : Events K V) (old new : Cache K V S X L P W) : Type 0 where
-  pub kept : new ≡ record old { state = new.state; listener = new.listener; passes = new.passes }
+  pub kept : new ≡ record old { state = new.state; listener = new.listener; write_list = new.write_list; passes = new.passes }
   pub heard : Heard tells old.listener e.notices new.listener
   pub passes : new.passes ≡ passes_after old.passes e.passes
 
@@ -123,32 +125,32 @@ module _ {K V X L P W C I : Type 0} (m : Meaning K V X L P W C I) (Runs : State 
   AreSteps s (x ∷ xs) = CallStep m Runs s x.call x.reply x.events x.after × AreSteps x.after xs
 
 -- the calls, made one after the other, give the replies and lead from the first cache, clock and source of identifiers to the second
-pub record IsRun {K V S X L P W C I : Type 0} (m : Meaning K V X L P W C I) (Runs : State K V X P W → Terms → Course → List (Notice K V) → State K V X P W → Type 0) (calls : List (Call K V P)) (replies : List (Reply K V P)) (steps : List (Step K V X P W)) (old : Cache K V S X L P W) (clock : C) (ids : I) (new : Cache K V S X L P W) (clock_after : C) (ids_after : I) : Type 0 where
+pub record MakesCalls {K V S X L P W C I : Type 0} (m : Meaning K V X L P W C I) (Runs : State K V X P W → Terms → Course → List (Notice K V) → State K V X P W → Type 0) (calls : List (Call K V P)) (replies : List (Reply K V P)) (steps : List (Step K V X P W)) (old : Cache K V S X L P W) (clock : C) (ids : I) (new : Cache K V S X L P W) (clock_after : C) (ids_after : I) : Type 0 where
   pub calls_made : calls_of steps ≡ calls
   pub replies_given : replies_of steps ≡ replies
   pub are_steps : AreSteps m Runs old.state steps
-  pub ends : new ≡ record old { state = last_state old.state steps; listener = new.listener; passes = last_passes old.passes steps }
+  pub ends : new ≡ record old { state = last_state old.state steps; listener = new.listener; write_list = new.write_list; passes = last_passes old.passes steps }
   pub heard : Heard m.tells old.listener (notices_of steps) new.listener
-  pub read : Leads m.reads clock (readings_of steps) clock_after
+  pub read : Leads m.observes clock (readings_of steps) clock_after
   pub given : Leads m.gives ids (ids_of steps) ids_after
 
 -- a run of the reference cache
 abbrev pub ReferenceRun : {K V S X L P W C I : Type 0} → Meaning K V X L P W C I → List (Call K V P) → List (Reply K V P) → List (Step K V X P W) → Cache K V S X L P W → C → I → Cache K V S X L P W → C → I → Type 0
-ReferenceRun m calls replies steps old clock ids new clock_after ids_after = IsRun m (MaintenanceRun m.says) calls replies steps old clock ids new clock_after ids_after
+ReferenceRun m calls replies steps old clock ids new clock_after ids_after = MakesCalls m (MaintenanceRun m.says) calls replies steps old clock ids new clock_after ids_after
 
 module _ {K V X P W : Type 0} (says : P → K → V → Bool → Type 0) (read : X → K → V → ℕ → Option ℕ → ℕ → Option ℕ) where
   -- a run of maintenance that settles what was sent
   abbrev pub SettlingRun : State K V X P W → Terms → Course → List (Notice K V) → State K V X P W → Type 0
-  SettlingRun s terms course notices t = RunsWith says (λ s terms course t. Leaves s terms course t × Settles says read s terms course t) (λ _ _ _ _. Unit {0}) s terms course notices t
+  SettlingRun s terms course notices t = RunsWith says (λ s terms course t. LeavesBehind s terms course t × Settles says read s terms course t) (λ _ _ _ _. Unit {0}) s terms course notices t
 
 -- a run of the reference cache in which each run of maintenance settles what was sent
 abbrev pub SettlingReferenceRun : {K V S X L P W C I : Type 0} → Meaning K V X L P W C I → List (Call K V P) → List (Reply K V P) → List (Step K V X P W) → Cache K V S X L P W → C → I → Cache K V S X L P W → C → I → Type 0
-SettlingReferenceRun m calls replies steps old clock ids new clock_after ids_after = IsRun m (SettlingRun m.says m.read) calls replies steps old clock ids new clock_after ids_after
+SettlingReferenceRun m calls replies steps old clock ids new clock_after ids_after = MakesCalls m (SettlingRun m.says m.read) calls replies steps old clock ids new clock_after ids_after
 
 module _ {K V X L P W C I : Type 0} (m : Meaning K V X L P W C I) where
   -- what every run of maintenance ends with
   abbrev pub EndsWell : State K V X P W → Terms → Course → State K V X P W → Type 0
-  EndsWell s terms course t = Leaves s terms course t × Settles m.says m.read s terms course t
+  EndsWell s terms course t = LeavesBehind s terms course t × Settles m.says m.read s terms course t
 
   -- a run of maintenance with all that is promised of it
   abbrev pub PromisedRun : State K V X P W → Terms → Course → List (Notice K V) → State K V X P W → Type 0
@@ -168,6 +170,6 @@ pub record IsEmpty {K V X P W : Type 0} (s : State K V X P W) : Type 0 where
 -- what `drive` promises: a run of the reference cache in which each run of maintenance keeps its promises
 pub record Drives {K V S X L P W C I : Type 0} (m : Meaning K V X L P W C I) (calls : List (Call K V P)) (replies : List (Reply K V P)) (old : Cache K V S X L P W) (clock : C) (ids : I) (new : Cache K V S X L P W) (clock_after : C) (ids_after : I) : Type 0 where
   pub steps : List (Step K V X P W)
-  pub is_run : IsRun m (PromisedRun m) calls replies steps old clock ids new clock_after ids_after
+  pub is_run : MakesCalls m (PromisedRun m) calls replies steps old clock ids new clock_after ids_after
   -- from an empty cache, in the order of time, each whole run with all sent also removes what is past its time
   pub orderly : IsEmpty old.state → AreOrderly old.state steps → AreSteps m (OrderlyRun m) old.state steps

@@ -103,7 +103,7 @@ module _ {K V X P W : Type 0} where
   has_settled_member s = list_any (λ a. is_settled s.records a.number) s.access
 
 -- what every run leaves, whatever was sent
-pub record Leaves {K V X P W : Type 0} (s : State K V X P W) (terms : Terms) (course : Course) (t : State K V X P W) : Type 0 where
+pub record LeavesBehind {K V X P W : Type 0} (s : State K V X P W) (terms : Terms) (course : Course) (t : State K V X P W) : Type 0 where
   -- a whole run ends within the capacity, or with an unsettled member
   pub within : IsWhole s terms course → IsWithin t.capacity t.access ⊎ (has_unsettled_member t ≡ true)
   -- a cut run leaves more

@@ -55,12 +55,11 @@ pub record State (K V X P W : Type 0) : Type 0 where
   pub capacity : Option ℕ
   pub settings : Settings X W
 
--- the part of the state that a run works on
-pub record Contents (K V P : Type 0) : Type 0 where
+-- the part of the state that applied operations and removals work on
+pub record Contents (K V : Type 0) : Type 0 where
   pub records : Records K V
   pub access : List Member
   pub sketch : Option Table
-  pub predicates : List (Registered P)
 
 -- what keys, listener, predicates, weigher, clock, source of identifiers and expiry mean; an expiry's answers are in nanoseconds
 pub record Meaning (K V X L P W C I : Type 0) : Type 1 where
@@ -68,7 +67,7 @@ pub record Meaning (K V X L P W C I : Type 0) : Type 1 where
   pub tells : L → K → V → RemovalCause → L → Type 0
   pub says : P → K → V → Bool → Type 0
   pub weighs : W → K → V → ℕ → Type 0
-  pub reads : C → Instant → C → Type 0
+  pub observes : C → Instant → C → Type 0
   pub gives : I → Uuid → I → Type 0
   pub created : X → K → V → ℕ → Option ℕ
   pub read : X → K → V → ℕ → Option ℕ → ℕ → Option ℕ
@@ -116,16 +115,16 @@ module _ {K V X P W : Type 0} where
   limits_of s = record { max_capacity = s.capacity; time_to_live = s.settings.time_to_live; time_to_idle = s.settings.time_to_idle }
 
   -- what a run begins with
-  abbrev pub contents : State K V X P W → Contents K V P
-  contents s = record { records = s.records; access = s.access; sketch = s.sketch; predicates = s.predicates }
+  abbrev pub contents : State K V X P W → Contents K V
+  contents s = record { records = s.records; access = s.access; sketch = s.sketch }
 
-  -- the state at the end of a run: both queues are empty, and the report is made
-  abbrev pub with_contents : State K V X P W → Contents K V P → State K V X P W
-  with_contents s c = record s {
+  -- the state at the end of a run with these contents and predicates: both queues are empty, and the report is made
+  abbrev pub with_contents : State K V X P W → Contents K V → List (Registered P) → State K V X P W
+  with_contents s c predicates = record s {
     records = c.records;
     access = c.access;
     sketch = c.sketch;
-    predicates = c.predicates;
+    predicates = predicates;
     writes = [];
     reads = [];
     count = length c.access;

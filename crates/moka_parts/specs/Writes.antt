@@ -12,7 +12,7 @@ use Rattle.moka_parts.specs.declared.records.Operation.TheVariants.{Upsert, Remo
 use Rattle.moka_parts.specs.declared.records.Ticketed.{Ticketed}
 use Rattle.moka_parts.specs.Records.{Records, Notice, member, is_member, to_back, without_member, without_members, all_to_back, total_weight, has_room}
 use Rattle.moka_parts.specs.State.{Contents}
-use Rattle.moka_parts.specs.Choice.{victims_for, is_preferred, are_unsettled}
+use Rattle.moka_parts.specs.Candidates.{victims_for, is_preferred, are_unsettled}
 
 -- what becomes of an upsert
 pub data Fate : Type 0 where
@@ -32,14 +32,14 @@ pub data Fate : Type 0 where
   Refused : Fate
 
 -- TinyLFU chose, and may have moved unsettled members on the way
-abbrev pub is_chosen : Fate → Bool
-is_chosen Ignored = false
-is_chosen Overtaken = false
-is_chosen Counted = false
-is_chosen Admitted = false
-is_chosen TooHeavy = false
-is_chosen (Preferred victims) = true
-is_chosen Refused = true
+abbrev pub is_compared : Fate → Bool
+is_compared Ignored = false
+is_compared Overtaken = false
+is_compared Counted = false
+is_compared Admitted = false
+is_compared TooHeavy = false
+is_compared (Preferred victims) = true
+is_compared Refused = true
 
 -- the eviction policy is TinyLFU
 abbrev pub is_tiny_lfu : EvictionPolicy → Bool
@@ -70,59 +70,59 @@ left_by_rejection generation r = if r.generation == generation then leaves_for_s
 
 -- ---- which fate
 
-module _ {K V P : Type 0} where
+module _ {K V : Type 0} where
   -- by TinyLFU's choice among these victims, if they would make room
-  abbrev pub fate_of_choice : Contents K V P → ℕ → Option (List Member) → Fate
+  abbrev pub fate_of_choice : Contents K V → ℕ → Option (List Member) → Fate
   fate_of_choice c hash None = Refused
   fate_of_choice c hash (Some victims) = if is_preferred c hash victims then Preferred victims else Refused
 
   -- where there is no room, but the candidate alone would fit
-  abbrev pub fate_by_policy : EvictionPolicy → Contents K V P → ℕ → ℕ → Fate
+  abbrev pub fate_by_policy : EvictionPolicy → Contents K V → ℕ → ℕ → Fate
   fate_by_policy Lru c weight hash = Admitted
   fate_by_policy TinyLfu c weight hash = fate_of_choice c hash (victims_for c weight)
 
   -- where the record is outside the access list
-  abbrev pub fate_of_newcomer : Option ℕ → EvictionPolicy → Contents K V P → ℕ → ℕ → Fate
+  abbrev pub fate_of_newcomer : Option ℕ → EvictionPolicy → Contents K V → ℕ → ℕ → Fate
   fate_of_newcomer capacity policy c weight hash =
       if has_room capacity (total_weight c.access) weight then Admitted
       else (if has_room capacity 0 weight then fate_by_policy policy c weight hash else TooHeavy)
 
   -- where the record is in the map
-  abbrev pub fate_of_record : Option ℕ → EvictionPolicy → Contents K V P → ℕ → ℕ → ℕ → ℕ → Record K V → Fate
+  abbrev pub fate_of_record : Option ℕ → EvictionPolicy → Contents K V → ℕ → ℕ → ℕ → ℕ → Record K V → Fate
   fate_of_record capacity policy c number generation weight hash r =
       if nat_lt r.applied generation
       then (if is_member number c.access then Counted else fate_of_newcomer capacity policy c weight hash)
       else (if is_member number c.access then Overtaken else Ignored)
 
   -- the fate of an operation
-  abbrev pub fate : Option ℕ → EvictionPolicy → Contents K V P → Operation → Fate
+  abbrev pub fate : Option ℕ → EvictionPolicy → Contents K V → Operation → Fate
   fate capacity policy c (Removal number generation) = Ignored
   fate capacity policy c (Upsert number generation weight hash) = option_map_or (fate_of_record capacity policy c number generation weight hash) (get c.records number) Ignored
 
 -- ---- what a fate does
 
-module _ {K V P : Type 0} where
+module _ {K V : Type 0} where
   -- those members moved to the back
-  abbrev pub with_moved : List ℕ → Contents K V P → Contents K V P
+  abbrev pub with_moved : List ℕ → Contents K V → Contents K V
   with_moved moved c = record c { access = all_to_back moved c.access }
 
   -- the victims leave map and access list
-  abbrev pub without_victims : List Member → Contents K V P → Contents K V P
+  abbrev pub without_victims : List Member → Contents K V → Contents K V
   without_victims victims c = record c { records = without_records victims c.records; access = without_members victims c.access }
 
   -- a member behind all others with the operation's weight, and the record has seen the operation
-  abbrev pub entered : ℕ → ℕ → ℕ → Record K V → Contents K V P → Contents K V P
+  abbrev pub entered : ℕ → ℕ → ℕ → Record K V → Contents K V → Contents K V
   entered number generation weight r c = record c {
     records = with_applied c.records number r generation;
     access = c.access ++ member number weight ∷ [];
   }
 
   -- the record leaves, unless it was updated since
-  abbrev pub rejected : ℕ → ℕ → Record K V → Contents K V P → Contents K V P
+  abbrev pub rejected : ℕ → ℕ → Record K V → Contents K V → Contents K V
   rejected number generation r c = record c { records = if r.generation == generation then remove c.records number else with_applied c.records number r generation }
 
   -- the contents after an upsert of the record r with that fate, where those members were moved to the back
-  abbrev pub after_fate : Contents K V P → ℕ → ℕ → ℕ → List ℕ → Record K V → Fate → Contents K V P
+  abbrev pub after_fate : Contents K V → ℕ → ℕ → ℕ → List ℕ → Record K V → Fate → Contents K V
   after_fate c number generation weight moved r Ignored = c
   after_fate c number generation weight moved r Overtaken = record c { access = to_back number c.access }
   after_fate c number generation weight moved r Counted = entered number generation weight r (record c { access = without_member number c.access })
@@ -132,7 +132,7 @@ module _ {K V P : Type 0} where
   after_fate c number generation weight moved r Refused = rejected number generation r (with_moved moved c)
 
   -- what leaves the map by that fate, in order
-  abbrev pub left_by_fate : Contents K V P → ℕ → Record K V → Fate → List (Notice K V)
+  abbrev pub left_by_fate : Contents K V → ℕ → Record K V → Fate → List (Notice K V)
   left_by_fate c generation r Ignored = []
   left_by_fate c generation r Overtaken = []
   left_by_fate c generation r Counted = []
@@ -143,36 +143,36 @@ module _ {K V P : Type 0} where
 
 -- ---- one write, and all
 
-module _ {K V P : Type 0} (capacity : Option ℕ) (policy : EvictionPolicy) where
+module _ {K V : Type 0} (capacity : Option ℕ) (policy : EvictionPolicy) where
   -- the contents after a write, where those members were moved to the back: a removal takes its number out of the access list
-  abbrev pub after_write : Contents K V P → Operation → List ℕ → Contents K V P
+  abbrev pub after_write : Contents K V → Operation → List ℕ → Contents K V
   after_write c (Removal number generation) moved = record c { access = without_member number c.access }
   after_write c (Upsert number generation weight hash) moved = option_map_or (λ r. after_fate c number generation weight moved r (fate capacity policy c (Upsert number generation weight hash))) (get c.records number) c
 
   -- what a write takes out of the map, in order
-  abbrev pub left_by_write : Contents K V P → Operation → List (Notice K V)
+  abbrev pub left_by_write : Contents K V → Operation → List (Notice K V)
   left_by_write c (Removal number generation) = []
   left_by_write c (Upsert number generation weight hash) = option_map_or (λ r. left_by_fate c generation r (fate capacity policy c (Upsert number generation weight hash))) (get c.records number) []
 
   -- members are moved only by TinyLFU's choice, and only unsettled ones
-  abbrev pub AreMoves : Contents K V P → Operation → List ℕ → Type 0
+  abbrev pub AreMoves : Contents K V → Operation → List ℕ → Type 0
   AreMoves c o [] = Unit {0}
-  AreMoves c o (n ∷ moved) = (is_chosen (fate capacity policy c o) ≡ true) × (are_unsettled c.records (n ∷ moved) ≡ true)
+  AreMoves c o (n ∷ moved) = (is_compared (fate capacity policy c o) ≡ true) × (are_unsettled c.records (n ∷ moved) ≡ true)
 
   -- the contents after all writes, with a list of moves for each
-  abbrev pub after_writes : Contents K V P → List Ticketed → List (List ℕ) → Contents K V P
+  abbrev pub after_writes : Contents K V → List Ticketed → List (List ℕ) → Contents K V
   after_writes c [] ms = c
   after_writes c (h ∷ hs) [] = after_writes (after_write c h.operation []) hs []
   after_writes c (h ∷ hs) (moved ∷ ms) = after_writes (after_write c h.operation moved) hs ms
 
   -- what all writes take out of the map, in order
-  abbrev pub left_by_writes : Contents K V P → List Ticketed → List (List ℕ) → List (Notice K V)
+  abbrev pub left_by_writes : Contents K V → List Ticketed → List (List ℕ) → List (Notice K V)
   left_by_writes c [] ms = []
   left_by_writes c (h ∷ hs) [] = left_by_write c h.operation ++ left_by_writes (after_write c h.operation []) hs []
   left_by_writes c (h ∷ hs) (moved ∷ ms) = left_by_write c h.operation ++ left_by_writes (after_write c h.operation moved) hs ms
 
   -- there is one list of allowed moves for each write
-  abbrev pub AreAllMoves : Contents K V P → List Ticketed → List (List ℕ) → Type 0
+  abbrev pub AreAllMoves : Contents K V → List Ticketed → List (List ℕ) → Type 0
   AreAllMoves c [] [] = Unit {0}
   AreAllMoves c [] (moved ∷ ms) = ⊥
   AreAllMoves c (h ∷ hs) [] = ⊥

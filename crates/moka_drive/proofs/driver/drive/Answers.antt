@@ -2,7 +2,7 @@ use Rattle.std.proofs.Common.{rules, arith, refl, sym, ap, subst, ◌∙◌, [],
 use Rattle.std.specs.List.{AllByRecursion}
 use Rattle.std.specs.Vec.Iter.{into_iter_items}
 use Rattle.moka_parts.specs.Runs.{SettlingRun}
-use Rattle.moka_parts.proofs.RunsGoOn.{IsRun_push}
+use Rattle.moka_parts.proofs.RunsGoOn.{MakesCalls_push}
 use Rattle.moka_drive.specs.Served.{IsServed}
 use Rattle.moka_drive.proofs.Quiet.{no_calls, empty_of_length}
 use Rattle.moka_drive.proofs.driver.drive.Goals as goal
@@ -33,7 +33,7 @@ loop-call-preserved g c =
       finite = tt;
       ran = (
         h.0 ++ record { call = c.in-Some.call; reply = c.make-reply.result; events = k.0; after = c.make-reply.new.cache.state } ∷ [],
-        rw c.push_reserved.ensures.items (IsRun_push (record { eq = g.K.PartialEq.eq; tells = g.L.Listener.tells; says = g.P.PredicateFn.says; weighs = g.W.Weigher.weighs; reads = g.C.Clock.reads; gives = g.I.IdSource.gives; created = g.X.Expiry.created; read = g.X.Expiry.read; updated = g.X.Expiry.updated }) (SettlingRun g.P.PredicateFn.says g.X.Expiry.read) c.loop-call.yielded c.loop-call.replies.items h.0 c.args.cache.now c.loop-call.cache c.make-reply.new.cache
+        rw c.push_reserved.ensures.items (MakesCalls_push (record { eq = g.K.PartialEq.eq; tells = g.L.Listener.tells; says = g.P.PredicateFn.says; weighs = g.W.Weigher.weighs; reads = g.C.Clock.reads; gives = g.I.IdSource.gives; created = g.X.Expiry.created; read = g.X.Expiry.read; updated = g.X.Expiry.updated }) (SettlingRun g.P.PredicateFn.says g.X.Expiry.read) c.loop-call.yielded c.loop-call.replies.items h.0 c.args.cache.now c.loop-call.cache c.make-reply.new.cache
             c.args.clock.now c.loop-call.clock c.make-reply.new.clock c.args.ids.now c.loop-call.ids c.make-reply.new.ids
             (record { call = c.in-Some.call; reply = c.make-reply.result; events = k.0; after = c.make-reply.new.cache.state }) h.1 k.1 refl k.2 k.3 k.4),
       );

@@ -27,7 +27,7 @@ module _ {K V : Type 0} (records : Records K V) where
   abbrev pub are_unsettled : List ℕ → Bool
   are_unsettled moved = list_all (λ n. not (is_settled records n)) moved
 
-module _ {K V P : Type 0} (c : Contents K V P) where
+module _ {K V : Type 0} (c : Contents K V) where
   -- the hash of a member's record
   abbrev pub hash_of : Member → ℕ
   hash_of a = option_map_or (λ r. r.hash) (get c.records a.number) 0
