@@ -1,5 +1,5 @@
 -- Laws that follow from the definitions: looks that leave no trace, and predicates that are dropped.
-use Rattle.std.proofs.Common.{◌≡◌, refl, ℕ, ◌<◌, Bool, true, false, List, [], ◌∷◌, Option, Some, None, Result, Ok, Err, ap, sym, subst, inl, inr, MatchBool, arith}
+use Rattle.std.proofs.Common.{◌≡◌, refl, ℕ, ◌<◌, Bool, true, false, List, [], ◌∷◌, Option, Some, None, Result, Ok, Err, ap, sym, subst, inl, inr, ◌∙◌, unwrap_or, MatchBool, arith}
 use Rattle.std.specs.Prelude.{Contains, slice_get, remove}
 use Rattle.std.specs.FinMap as finite
 use Rattle.moka_parts.specs.declared.records.Record.{Record}
@@ -11,35 +11,25 @@ use Rattle.std.proofs.lemmas.List.Sorted.{Contains-permutation, IsPermutation-re
 use Rattle.moka_parts.specs.Records.{record_of_key}
 use Rattle.moka_parts.specs.State.{State, Contents, is_disabled}
 use Rattle.moka_parts.specs.Visibility.{Covers}
-use Rattle.moka_parts.specs.Maintenance.{Choice, Removes, MovesToBack, Drops, Freedom, after_choice, after_choices, kept_by_choices, before_steps, tests_of, AreJustified}
-use Rattle.moka_parts.specs.Calls.{PeeksAt}
-use Rattle.moka_parts.specs.Laws.{LeavesNoTrace, PeeksQuietly, DropsOnlyIdle}
+use Rattle.moka_parts.specs.Maintenance.{Choice, Removes, MovesToBack, Drops, Freedom, after_choice, after_choices, kept_by_choices, CoversNothing, before_steps, at_end, predicates_at_end, tests_of, AreJustified, AreFree}
+use Rattle.moka_parts.specs.Calls.{PeeksAt, hit_record}
+use Rattle.moka_parts.specs.Laws.{LeavesNoTrace, PeeksQuietly, AllDropIdle, DropsOnlyIdle}
 use Rattle.moka_parts.proofs.RunKeeps.{keeps_choices}
 
 module _ {K V X P : Type 0} (W : Type 0) (eq : K → K → Bool) (says : P → K → V → Bool → Type 0) (read : X → K → V → ℕ → Option ℕ → ℕ → Option ℕ) where
-  no_trace : (s t : State K V X P W) → t ≡ s → LeavesNoTrace s t
-  no_trace s t same = record {
-    reads = ap (λ (x : State K V X P W). x.reads) same;
-    writes = ap (λ (x : State K V X P W). x.writes) same;
-    outstanding = ap (λ (x : State K V X P W). x.outstanding) same;
-    access = ap (λ (x : State K V X P W). x.access) same;
-    report = (ap (λ (x : State K V X P W). x.count) same, ap (λ (x : State K V X P W). x.weight) same);
-    housekeeping = ap (λ (x : State K V X P W). x.housekeeping) same;
-  }
-
-  -- a get that records nothing leaves no trace but in the record
+  -- a get that records nothing leaves no trace
   pub peeks_quietly : PeeksQuietly W eq says read
   peeks_quietly s key ignored now a t step = go (is_disabled s.capacity) step
     where
-      at : (o : Option (Record K V)) (a : Result (Option V) OutOfMemory) → PeeksAt says read s o ignored now a t → LeavesNoTrace s t
-      at None a (none, same) = no_trace s t same
-      at (Some r) (Ok None) (missed, same) = no_trace s t same
-      at (Some r) (Ok (Some value)) (hit, is, same) = subst (LeavesNoTrace s) (sym same) (record { reads = refl; writes = refl; outstanding = refl; access = refl; report = (refl, refl); housekeeping = refl })
-      at (Some r) (Err x) (hit, same) = no_trace s t same
+      at : (o : Option (Record K V)) (a : Result (Option V) OutOfMemory) → record_of_key eq s.records key ≡ o → PeeksAt says read s o ignored now a t → LeavesNoTrace eq s key t
+      at None a found (none, same) = inl same
+      at (Some r) (Ok None) found (missed, same) = inl same
+      at (Some r) (Ok (Some value)) found (hit, is, same) = inr (r, (hit_record read s r now).read, (hit_record read s r now).expires, found, same)
+      at (Some r) (Err x) found (hit, same) = inl same
 
-      go : (b : Bool) → MatchBool b ((a ≡ Ok None) × (t ≡ s)) (PeeksAt says read s (record_of_key eq s.records key) ignored now a t) → LeavesNoTrace s t
-      go true (none, same) = no_trace s t same
-      go false step = at (record_of_key eq s.records key) a step
+      go : (b : Bool) → MatchBool b ((a ≡ Ok None) × (t ≡ s)) (PeeksAt says read s (record_of_key eq s.records key) ignored now a t) → LeavesNoTrace eq s key t
+      go true (none, same) = inl same
+      go false step = at (record_of_key eq s.records key) a refl step
 
 -- one of a list that loses another element is still there
 kept_by_remove : {A : Type 0} (xs : List A) (i : ℕ) (q p : A) → slice_get xs i ≡ Some q → (q ≡ p → ⊥) → Contains xs p → Contains (remove xs i) p
@@ -65,7 +55,17 @@ module _ {K V X P W : Type 0} (says : P → K → V → Bool → Type 0) (s : St
       idle_steps c (remove ps i) xs p n r are.1
       (kept_by_remove ps i are.0.0 p are.0.1 (λ same. are.0.2 n old.0 old.1 (subst (λ x. Covers says x old.0) (sym same) old.2)) here) there covers
 
--- a predicate leaves only when it covers no record
-pub drops_only_idle : {K V X P W : Type 0} (says : P → K → V → Bool → Type 0) (s : State K V X P W) (now : ℕ) (ch : Freedom) → DropsOnlyIdle says s now ch
-drops_only_idle says s now ch free p n r here there covers =
-    idle_steps says s now (before_steps s ch) s.predicates ch.steps p n r free.1 here there covers
+module _ {K V X P W : Type 0} (says : P → K → V → Bool → Type 0) (s : State K V X P W) (now : ℕ) where
+  -- a predicate that covers a record that a run leaves stays registered
+  pub covering_stays : (ch : Freedom) → AreFree says s now ch → (p : Registered P) (n : ℕ) (r : Record K V) → Contains s.predicates p → finite.get (at_end s ch).records n ≡ Some r → Covers says p r → Contains (predicates_at_end s ch) p
+  covering_stays ch free p n r here there covers = idle_steps says s now (before_steps s ch) s.predicates ch.steps p n r free.1 here there covers
+
+  all_idle : (c : Contents K V) (ps : List (Registered P)) (xs : List Choice) → AreJustified says (tests_of s now) c ps xs → AllDropIdle says c ps xs
+  all_idle c ps [] are = tt
+  all_idle c ps (Removes n cause ∷ xs) are = (tt, all_idle (after_choice c (Removes n cause)) ps xs are.1)
+  all_idle c ps (MovesToBack n ∷ xs) are = (tt, all_idle (after_choice c (MovesToBack n)) ps xs are.1)
+  all_idle c ps (Drops i ∷ xs) are = (λ p at. subst (CoversNothing says c) (ap (λ o. unwrap_or o p) (sym are.0.1 ∙ at)) are.0.2, all_idle c (remove ps i) xs are.1)
+
+  -- a predicate is dropped only when it covers no record
+  pub drops_only_idle : (ch : Freedom) → DropsOnlyIdle says s now ch
+  drops_only_idle ch free = all_idle (before_steps s ch) s.predicates ch.steps free.1
