@@ -41,7 +41,7 @@ use Rattle.moka_parts.specs.State.{State, Settings, Meaning, Events, is_disabled
 use Rattle.moka_parts.specs.Visibility.{is_expired, is_past_live, is_past_idle, is_written_before, is_read_before, has_lapsed, Covers, SomeCovers, IsVisible, IsHidden, IsShown}
 use Rattle.moka_parts.specs.Maintenance.{predicates_at_end, Terms, Course, Freedom, RunsBy, DoesNothing, MaintenanceRun, AreFree, after_run, at_end}
 use Rattle.moka_parts.proofs.RunKeeps.{run_keeps}
-use Rattle.moka_parts.proofs.Laws.{covering_stays}
+use Rattle.moka_parts.proofs.Dropped.{covering_stays}
 
 -- ---- tests that stay true
 

@@ -13,17 +13,18 @@ use Rattle.moka_parts.specs.declared.error.OutOfMemory.{OutOfMemory}
 use Rattle.moka_parts.specs.declared.calls.Entry.{Entry}
 use Rattle.moka_parts.specs.declared.calls.KvEntry.{KvEntry}
 use Rattle.moka_parts.specs.declared.calls.Ticket.{Ticket}
-use Rattle.moka_parts.specs.Settling.{IsWellNumbered, IsValid}
+use Rattle.moka_parts.specs.Settling.{IsWellNumbered, IsValid, IsAllSent}
 use Rattle.std.specs.Cmp.{IsEquivalence}
 use Rattle.moka_parts.specs.Time.{moment_of, is_before}
 use Rattle.moka_parts.specs.Records.{Records, Notice, record_of_key, with_record, total_weight}
-use Rattle.moka_parts.specs.State.{State, Contents, Meaning, Events}
+use Rattle.moka_parts.specs.State.{State, Settings, Contents, Meaning, Events, new_state}
 use Rattle.moka_sketch.specs.Frequency.{frequency}
 use Rattle.moka_parts.specs.Candidates.{frequency_of_all}
 use Rattle.moka_parts.specs.Writes.{fate_by_policy, Preferred}
 use Rattle.moka_parts.specs.Maintenance.{Choice, Removes, MovesToBack, Drops, Freedom, Terms, Course, after_choice, kept_by_choice, CoversNothing, before_steps, AreFree, left_in_run, at_end, MaintenanceRun}
+use Rattle.moka_parts.specs.Exact.{IsExact}
 use Rattle.moka_parts.specs.Calls.{GetStep, PeekStep, ContainsStep, RemoveStep, entry_of}
-use Rattle.moka_parts.specs.Runs.{Step, AreSteps, last_state}
+use Rattle.moka_parts.specs.Runs.{Step, AreSteps, PromisedRun, last_state}
 use Rattle.moka_parts.specs.declared.policy.EvictionPolicy.TheVariants.{TinyLfu}
 
 -- ---- gets and looks
@@ -179,3 +180,22 @@ LeavesNoTrace {K} {V} eq s key t = (t ≡ s) ⊎ ((r : Record K V) × (read : In
 -- a get that records nothing leaves no trace
 abbrev pub PeeksQuietly : {K V X P : Type 0} → (W : Type 0) → (K → K → Bool) → (P → K → V → Bool → Type 0) → (X → K → V → ℕ → Option ℕ → ℕ → Option ℕ) → Type 0
 PeeksQuietly {K} {V} {X} {P} W eq says read = (s : State K V X P W) (key : K) (ignored : Bool) (now : ℕ) (a : Result (Option V) OutOfMemory) (t : State K V X P W) → PeekStep says read eq s key ignored now a t → LeavesNoTrace eq s key t
+
+-- ---- what always holds, and what runs come to
+
+-- a new cache is valid
+abbrev pub StartsValid : (K V X P W : Type 0) → (K → K → Bool) → Type 0
+StartsValid K V X P W eq = (settings : Settings X W) (capacity : Option ℕ) (now first_ticket : ℕ) → IsValid eq (new_state {K = K} {V = V} {P = P} settings capacity now first_ticket)
+
+-- each run ends exact once every operation was sent
+abbrev pub EndsExact : {K V P : Type 0} → (X W : Type 0) → (K → K → Bool) → (P → K → V → Bool → Type 0) → Type 0
+EndsExact {K} {V} {P} X W eq says = (s : State K V X P W) (terms : Terms) (course : Course) (notices : List (Notice K V)) (t : State K V X P W) → IsValid eq s → IsAllSent s → MaintenanceRun says s terms course notices t → IsExact t
+
+module _ {K V X L P W C I : Type 0} (m : Meaning K V X L P W C I) where
+  -- every list of calls keeps a state valid
+  abbrev pub StaysValid : Type 0
+  StaysValid = (s : State K V X P W) (steps : List (Step K V X P W)) → IsEquivalence m.eq → IsValid m.eq s → AreSteps m (MaintenanceRun m.says) s steps → IsValid m.eq (last_state s steps)
+
+  -- calls whose runs keep all promises are calls of the reference cache
+  abbrev pub IsOfReference : Type 0
+  IsOfReference = (s : State K V X P W) (steps : List (Step K V X P W)) → AreSteps m (PromisedRun m.says m.read) s steps → AreSteps m (MaintenanceRun m.says) s steps

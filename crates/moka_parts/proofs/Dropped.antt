@@ -1,35 +1,17 @@
--- Laws that follow from the definitions: looks that leave no trace, and predicates that are dropped.
-use Rattle.std.proofs.Common.{◌≡◌, refl, ℕ, ◌<◌, Bool, true, false, List, [], ◌∷◌, Option, Some, None, Result, Ok, Err, ap, sym, subst, inl, inr, ◌∙◌, unwrap_or, MatchBool, arith}
+-- A run drops a predicate only when it covers no record.
+use Rattle.std.proofs.Common.{◌≡◌, ℕ, ◌<◌, Bool, List, [], ◌∷◌, Some, ap, sym, subst, inl, inr, ◌∙◌, unwrap_or, arith}
 use Rattle.std.specs.Prelude.{Contains, slice_get, remove}
 use Rattle.std.specs.FinMap as finite
 use Rattle.moka_parts.specs.declared.records.Record.{Record}
 use Rattle.moka_parts.specs.declared.records.Registered.{Registered}
-use Rattle.moka_parts.specs.declared.error.OutOfMemory.{OutOfMemory}
 use Rattle.std.proofs.lemmas.Option.{slice_get_within, get_or_from_slice_get}
 use Rattle.std.proofs.lemmas.List.Elements.{Contains-append_cases, Contains-push_cases}
 use Rattle.std.proofs.lemmas.List.Sorted.{Contains-permutation, IsPermutation-remove}
-use Rattle.moka_parts.specs.Records.{record_of_key}
-use Rattle.moka_parts.specs.State.{State, Contents, is_disabled}
+use Rattle.moka_parts.specs.State.{State, Contents}
 use Rattle.moka_parts.specs.Visibility.{Covers}
 use Rattle.moka_parts.specs.Maintenance.{Choice, Removes, MovesToBack, Drops, Freedom, after_choice, after_choices, kept_by_choices, CoversNothing, before_steps, at_end, predicates_at_end, tests_of, AreJustified, AreFree}
-use Rattle.moka_parts.specs.Calls.{PeeksAt, hit_record}
-use Rattle.moka_parts.specs.Laws.{LeavesNoTrace, PeeksQuietly, AllDropIdle, DropsOnlyIdle}
+use Rattle.moka_parts.specs.Laws.{AllDropIdle, DropsOnlyIdle}
 use Rattle.moka_parts.proofs.RunKeeps.{keeps_choices}
-
-module _ {K V X P : Type 0} (W : Type 0) (eq : K → K → Bool) (says : P → K → V → Bool → Type 0) (read : X → K → V → ℕ → Option ℕ → ℕ → Option ℕ) where
-  -- a get that records nothing leaves no trace
-  pub peeks_quietly : PeeksQuietly W eq says read
-  peeks_quietly s key ignored now a t step = go (is_disabled s.capacity) step
-    where
-      at : (o : Option (Record K V)) (a : Result (Option V) OutOfMemory) → record_of_key eq s.records key ≡ o → PeeksAt says read s o ignored now a t → LeavesNoTrace eq s key t
-      at None a found (none, same) = inl same
-      at (Some r) (Ok None) found (missed, same) = inl same
-      at (Some r) (Ok (Some value)) found (hit, is, same) = inr (r, (hit_record read s r now).read, (hit_record read s r now).expires, found, same)
-      at (Some r) (Err x) found (hit, same) = inl same
-
-      go : (b : Bool) → MatchBool b ((a ≡ Ok None) × (t ≡ s)) (PeeksAt says read s (record_of_key eq s.records key) ignored now a t) → LeavesNoTrace eq s key t
-      go true (none, same) = inl same
-      go false step = at (record_of_key eq s.records key) a refl step
 
 -- one of a list that loses another element is still there
 kept_by_remove : {A : Type 0} (xs : List A) (i : ℕ) (q p : A) → slice_get xs i ≡ Some q → (q ≡ p → ⊥) → Contains xs p → Contains (remove xs i) p
