@@ -14,8 +14,10 @@ use Rattle.moka_parts.specs.State.{State, Contents}
 use Rattle.moka_parts.specs.Visibility.{has_lapsed, is_expired, is_past_live, is_past_idle, is_written_before, is_read_before}
 use Rattle.moka_parts.specs.Candidates.{prefix}
 use Rattle.moka_parts.specs.Exact.{IsWithin}
-use Rattle.moka_parts.specs.Maintenance.{Choice, Removes, MovesToBack, Drops, after_choice, after_choices, kept_by_choice, IsJustified, AreJustified, tests_of, is_front, is_over}
+use Rattle.moka_parts.specs.Maintenance.{Choice, Removes, MovesToBack, Drops, Freedom, before_steps, after_choice, after_choices, kept_by_choice, IsJustified, AreJustified, tests_of, is_front, is_over}
 use Rattle.moka_parts.specs.Bounds.{removed_by, IsPlainSurplus}
+use Rattle.moka_parts.specs.Laws.{RemovesEnough, RemovesFirst}
+use Rattle.moka_parts.proofs.RunKeepsSound.{queues_kept}
 use Rattle.moka_parts.proofs.AccessList.{absent_taken_out}
 use Rattle.moka_parts.proofs.Counting.{front_once, rest_once}
 use Rattle.moka_parts.proofs.Maps.{AreApart, same_or_apart, itself_tested, same_by_test, get_removed, get_past_remove}
@@ -193,3 +195,11 @@ module _ {K V X P W : Type 0} (says : P → K → V → Bool → Type 0) (s : St
     -- steps that remove so many remove just the first ones
     pub removed_are_first : (batch : ℕ) → length (removed_by xs) ≡ batch → removed_by xs ≡ numbers_of (take batch c.access)
     removed_are_first batch many = front_removed c xs (plain_surplus capacity c h once) none_registered ∙ ap (λ k. numbers_of (take k c.access)) many
+
+module _ {K V X P W : Type 0} (says : P → K → V → Bool → Type 0) (s : State K V X P W) (now : ℕ) (ch : Freedom) where
+  -- so it is with the steps of a run
+  pub removes_enough : RemovesEnough says s now ch
+  removes_enough capacity h free plain within = surplus_is_front says s now capacity (before_steps s ch) ch.steps plain (queues_kept s ch h).once free.1 within
+
+  pub removes_first : RemovesFirst says s now ch
+  removes_first capacity many h free plain as_many = removed_are_first says s now capacity (before_steps s ch) ch.steps plain (queues_kept s ch h).once free.1 many as_many
