@@ -24,3 +24,4 @@ pub mod Lookup
 pub mod Contained
 pub mod Admission
 pub mod RunsGoOn
+pub mod Registry

@@ -20,6 +20,7 @@ pub mod Settling
 pub mod Order
 pub mod Bounds
 pub mod Calls
+pub mod Registry
 pub mod Runs
 pub mod Laws
 pub mod Synchronous
