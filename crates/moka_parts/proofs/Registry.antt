@@ -1,7 +1,7 @@
 -- What the registry's loops and searches find.
-use Rattle.std.proofs.Common.{◌≡◌, refl, ℕ, ◌+◌, ◌<◌, ◌≤◌, Bool, true, false, List, [], ◌∷◌, ◌++◌, length, Option, Some, None, Result, Ok, Err, ap, sym, ◌∙◌, subst, inl, inr, suc, zero, MatchBool, arith, true≢false, get_or}
-use Rattle.std.specs.Prelude.{Contains, IsTrue, ◌↔◌, slice_get}
-use Rattle.std.specs.List.{AllByRecursion, AllWithin, HoldsAt, All, Any}
+use Rattle.std.proofs.Common.{◌≡◌, refl, ℕ, ◌<◌, Bool, true, false, List, [], ◌∷◌, ◌++◌, length, Result, Ok, Err, ap, sym, inl, inr, suc, zero, MatchBool, arith, true≢false, get_or}
+use Rattle.std.specs.Prelude.{IsTrue, ◌↔◌}
+use Rattle.std.specs.List.{AllByRecursion, AllWithin, HoldsAt, All}
 use Rattle.std.proofs.lemmas.List.Elements.{All-from_all_within, All-head, All-tail, All-contains, Contains-get_or}
 use Rattle.uuid.specs.declared.Uuid.{Uuid}
 use Rattle.moka_parts.specs.declared.policy.Instant.{Instant}
@@ -13,7 +13,7 @@ use Rattle.moka_parts.specs.declared.error.PredicateRefused.{PredicateRefused}
 use Rattle.moka_parts.specs.Visibility.{Covers, SomeCovers, NoneCovers}
 use Rattle.moka_parts.specs.State.{State}
 use Rattle.moka_parts.specs.Calls as calls
-use Rattle.moka_parts.specs.Registry.{IsTaken, FirstFree, FindsFree, RegistrationRefusal, RegistrationStep}
+use Rattle.moka_parts.specs.Registry.{IsTaken, FirstFree, RegistrationRefusal, RegistrationStep}
 
 -- ---- which records are covered
 

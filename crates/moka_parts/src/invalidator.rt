@@ -265,6 +265,7 @@ mod tests {
         assert!(rt; registry.covers_at(2, &written(7, Instant(6))));
 
         for (id, asked) in [(2, 1), (3, 3), (4, 3)] {
+            assert!(rt; !registry.is_empty());
             let registered = registry.remove(0);
             assert_eq!(rt; registered.id, Uuid::from_u128(id));
             assert_eq!(rt; registered.predicate.asked.get(), asked);
@@ -308,7 +309,10 @@ mod tests {
         for value in 0..20 {
             let (asked, len) = (ids.given, registry.len());
             match registry.register_predicate(IsValue::new(value), Instant(1), &mut ids) {
-                Ok(_) => assert_eq!(rt; (ids.given, registry.len()), (asked + 1, len + 1)),
+                Ok(_) => assert_eq!(rt;
+                    (ids.given, registry.len()),
+                    (asked.wrapping_add(1), len + 1)
+                ),
                 Err(refused) => {
                     assert_eq!(rt; refused.error, PredicateError::OutOfMemory);
                     assert_eq!(rt; refused.predicate.value, value);
