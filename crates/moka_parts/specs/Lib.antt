@@ -17,10 +17,11 @@ pub mod Writes
 pub mod Maintenance
 pub mod Exact
 pub mod Settling
-pub mod Order
-pub mod Bounds
 pub mod Calls
 pub mod Registry
+pub mod Order
+pub mod Bounds
 pub mod Runs
 pub mod Laws
 pub mod Synchronous
+pub mod Texts

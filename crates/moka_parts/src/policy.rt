@@ -149,6 +149,11 @@ impl Default for EvictionPolicy {
 }
 
 impl fmt::Debug for EvictionPolicy {
+    ghost use Rattle.std.specs.Prelude.{Some};
+    ghost use Rattle.moka_parts.specs.Texts.{policy_text};
+
+    ghost debug_output = { λ policy. Some (policy_text policy) };
+
     fn fmt<W: fmt::Write>(&self, f: &mut fmt::Formatter<W>) -> fmt::Result {
         match self {
             EvictionPolicy::TinyLfu => write!(f, "EvictionPolicy::TinyLfu"),
