@@ -28,3 +28,4 @@ pub mod Contained
 pub mod Admission
 pub mod RunsGoOn
 pub mod Registry
+pub mod Scanned
