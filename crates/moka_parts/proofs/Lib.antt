@@ -27,3 +27,5 @@ pub mod Lookup
 pub mod Contained
 pub mod Admission
 pub mod RunsGoOn
+pub mod Registry
+pub mod Scanned

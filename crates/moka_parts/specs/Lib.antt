@@ -15,9 +15,11 @@ pub mod Reads
 pub mod Candidates
 pub mod Writes
 pub mod Maintenance
+pub mod Scan
 pub mod Exact
 pub mod Settling
 pub mod Calls
+pub mod Registry
 pub mod Order
 pub mod Bounds
 pub mod Runs
