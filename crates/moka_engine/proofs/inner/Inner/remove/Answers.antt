@@ -1,9 +1,9 @@
 use Rattle.std.proofs.Common.{◌+◌, refl, ap, ◌∙◌, arith}
 use Rattle.std.specs.FinMap as finite
 use Rattle.moka_parts.specs.declared.records.Operation.TheVariants.{Removal}
-use Rattle.moka_engine.specs.Store.{Kept}
+use Rattle.moka_store.specs.Store.{Kept}
 use Rattle.moka_engine.specs.Interior.{Interior}
-use Rattle.moka_engine.proofs.Gets.{len-some, some-of}
+use Rattle.moka_store.proofs.Gets.{len-some, some_is}
 use Rattle.moka_engine.proofs.InnerLemmas.{inner-removed}
 use Rattle.moka_engine.proofs.ValuesLemmas.{map_values-insert}
 use Rattle.moka_engine.proofs.inner.Inner.remove.Goals as goal
@@ -11,7 +11,7 @@ use Rattle.moka_engine.proofs.inner.Inner.remove.Goals as goal
 pub overflow_add-ticket : goal.overflow_add-ticket
 overflow_add-ticket g c =
     let same = ap (λ (i : Interior g.row.K.Denot g.row.V.Denot). finite.get i.records c.args.handle.number) c.self.view_is in
-    let found = some-of (finite.get c.args.self.now.records c.args.handle.number) c.requires.handle.stored in
+    let found = some_is (finite.get c.args.self.now.records c.args.handle.number) c.requires.handle.stored in
     let one = len-some c.self.inside.store.records c.args.handle.number found.0 (same ∙ found.1) in
     let tickets = c.self.invariant.tickets in
     omega arith
@@ -40,7 +40,7 @@ pub invariant_of-self : goal.invariant_of-self
 invariant_of-self g c =
     let here = ap (λ (i : Interior g.row.K.Denot g.row.V.Denot). finite.get i.places c.args.handle.number) c.self.view_is ∙ c.requires.handle.placed in
     let taken = c.take_record-record.result in
-    inner-removed g.K.PartialEq.eq g.met.K.Eq.laws c.self.inside.store c.take_record-record.new.self c.self.inside.outstanding c.hand_out.new.self c.self.inside.writes.items c.self.inside.reads.items c.self.inside.writes.capacity c.self.inside.reads.capacity (c.self.inside.last_ticket + 1) c.self.inside.next_number c.self.inside.size c.self.inside.weight
+    inner-removed g.K.PartialEq.eq g.met.K.Eq.laws c.self.inside.store c.take_record-record.new.self c.self.inside.outstanding c.hand_out.new.self c.self.inside.writes.items c.self.inside.reads.items c.self.inside.writes.capacity c.self.inside.reads.capacity (c.self.inside.last_ticket + 1) c.self.inside.next_number c.self.inside.size
     c.args.handle.number taken
     (record { place = c.args.handle.place; operation = Removal c.args.handle.number (taken.generation + 1) })
     c.self.invariant c.take_record-record.ensures.taken
