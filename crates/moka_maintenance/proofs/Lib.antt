@@ -1,0 +1,5 @@
+pub mod Popped
+pub mod Placed
+pub mod Told
+pub mod Fates
+pub mod Entered

@@ -213,7 +213,7 @@ fn apply_removal<K: Eq + Hash + Drop, V: Drop, S: BuildHasher>(
     store: &mut Store<K, V, S>,
     handle: Handle,
 )
-    requires at { IsAt store.old.places handle.number handle.place }
+    requires { IsAt store.old.places handle.number handle.place }
     ensures step { contents_in store.new ≡ record (contents_in store.old) { access = without_member handle.number store.old.access } }
     ensures places { AddsNoPlace store.old store.new }
     ensures rows { (generation : ℕ) → LeavesNoRowAfter (Removal handle.number generation) store.old store.new }
