@@ -3,3 +3,5 @@ pub mod Placed
 pub mod Told
 pub mod Fates
 pub mod Entered
+pub mod AllApplied
+pub mod Stepped

@@ -1,5 +1,5 @@
 -- What is popped from the front of a list.
-use Rattle.std.proofs.Common.{◌≡◌, ◌<◌, ◌⊎◌, ℕ, zero, suc, List, [], ◌∷◌, Some, drop, length, slice_get, get_or, Contains, inl, inr, refl, sym, ap, subst, arith}
+use Rattle.std.proofs.Common.{◌≡◌, ◌<◌, ◌⊎◌, ℕ, zero, suc, List, [], ◌∷◌, Some, None, drop, length, slice_get, get_or, Contains, inl, inr, refl, sym, ap, subst, arith}
 use Rattle.std.proofs.lemmas.List.Elements.{Contains-append_right}
 
 pub popped : {A : Type 0} (xs : List A) (x : A) → slice_get xs 0 ≡ Some x → xs ≡ x ∷ drop 1 xs
@@ -24,3 +24,8 @@ at_cases x y xs (suc k) lt e = inr (k, omega arith, e)
 -- what is in a list is its first, or is behind that
 pub first_or_rest : {A : Type 0} (x y : A) (xs : List A) → Contains (x ∷ xs) y → (x ≡ y) ⊎ Contains xs y
 first_or_rest x y xs h = at_cases x y xs h.0 h.1 h.2
+
+-- a list with no first is empty
+pub none_first : {A : Type 0} (xs : List A) → None ≡ slice_get xs 0 → xs ≡ []
+none_first [] e = refl
+none_first (a ∷ xs) e = cc
