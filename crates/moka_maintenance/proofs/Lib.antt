@@ -5,3 +5,5 @@ pub mod Fates
 pub mod Entered
 pub mod AllApplied
 pub mod Stepped
+pub mod Fronts
+pub mod Sweeping
