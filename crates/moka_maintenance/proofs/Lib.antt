@@ -7,3 +7,6 @@ pub mod AllApplied
 pub mod Stepped
 pub mod Fronts
 pub mod Sweeping
+pub mod PassSteps
+pub mod Clocked
+pub mod Passing
