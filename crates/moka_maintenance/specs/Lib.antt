@@ -1,0 +1,5 @@
+pub mod Queued
+pub mod Steps
+pub mod Queues
+pub mod Sweeps
+pub mod Passes

@@ -1,0 +1,74 @@
+-- Passes of the steps that remove, and the clock between them.
+use Rattle.std.specs.Prelude.{◌≡◌, ℕ, ◌+◌, ◌-◌, ◌*◌, nat_le, Bool, true, false, ◌||◌, ◌≤◌, ◌⊎◌, List, [], length, Option, Some, None, is_some, if◌then◌else◌}
+use Rattle.std.specs.List.{list_all}
+use Rattle.moka_parts.specs.declared.notification.RemovalCause.{RemovalCause}
+use Rattle.moka_parts.specs.declared.policy.Instant.{Instant}
+use Rattle.moka_parts.specs.declared.records.Member.{Member}
+use Rattle.moka_parts.specs.State.{Contents}
+use Rattle.moka_parts.specs.Surroundings.{Leads}
+use Rattle.moka_parts.specs.Exact.{IsWithin}
+use Rattle.moka_parts.specs.Maintenance.{is_over, is_late}
+use Rattle.moka_parts.specs.Bounds.{removed_by}
+use Rattle.moka_maintenance.specs.declared.sweep.Tests.{Tests}
+use Rattle.moka_maintenance.specs.declared.sweep.Sweep.{Sweep}
+use Rattle.moka_maintenance.specs.declared.sweep.Sweep.TheVariants.{Read, Surplus}
+use Rattle.moka_maintenance.specs.Steps.{MayStep, HasUnsettled, HasNoSettled, IsStepped, makes_room}
+use Rattle.moka_maintenance.specs.Sweeps.{tests_in}
+
+module _ {C : Type 0} (reads : C → Instant → C → Type 0) where
+  -- the clock is read once where a limit is given
+  abbrev pub Starts : Option ℕ → C → Option Instant → C → Type 0
+  Starts None c started d = (started ≡ None) × (d ≡ c)
+  Starts (Some limit) c started d = (r : Instant) × (started ≡ Some r) × reads c r d
+
+  -- where it was read before it is read again, and it is late where the limit has passed since then
+  abbrev pub Checks : Option Instant → Option ℕ → C → Bool → C → Type 0
+  Checks None limit c late d = (late ≡ false) × (d ≡ c)
+  Checks (Some first) None c late d = (late ≡ false) × (d ≡ c)
+  Checks (Some first) (Some limit) c late d = (r : Instant) × reads c r d × (late ≡ nat_le limit (r.0 - first.0))
+
+-- a sweep by the last read is made
+abbrev pub sweeps_reads : Tests → Bool
+sweeps_reads q = is_some q.time_to_idle || is_some q.valid_after
+
+-- the step is taken
+abbrev pub is_taken : Tests → Sweep → List Member → Bool
+is_taken q Read access = sweeps_reads q
+is_taken q Surplus access = is_over q.capacity access
+
+module _ {K V L : Type 0} (tells : L → K → V → RemovalCause → L → Type 0) (q : Tests) where
+  -- one pass: what it removed, and whether it left more
+  pub record IsPass (batch : ℕ) (before after : Contents K V) (l m : Option L) (removed : ℕ) (left : Bool) : Type 0 where
+    pub by : IsStepped tells (MayStep (tests_in q)) before after l m
+    pub count : removed ≡ length (removed_by by.steps)
+    pub more : left ≡ true → 1 ≤ batch → 1 ≤ removed
+    -- it removed a batch, where all its steps make room
+    pub batch_used : left ≡ true → 1 ≤ removed → list_all makes_room by.steps ≡ true → removed ≡ batch
+    pub rest : left ≡ false → HasUnsettled after ⊎ IsWithin q.capacity after.access
+    -- unsettled members are passed over up to the last turn
+    pub turned : left ≡ true → batch ≤ length by.steps
+    pub used : left ≡ false → IsWithin q.capacity after.access ⊎ (HasNoSettled after ⊎ (batch ≤ length by.steps))
+    -- with a batch of 0 nothing is done, and more is left wherever a sweep is made
+    pub idle : batch ≡ 0 → (after ≡ before) × (left ≡ (sweeps_reads q || is_over q.capacity after.access))
+
+  module _ {C : Type 0} (reads : C → Instant → C → Type 0) (limit : Option ℕ) where
+    -- passes one after the other, each but the last of which removed a record and left more
+    pub record IsRan (batch : ℕ) (before after : Contents K V) (l m : Option L) (c d : C) (passes : ℕ) (left : Bool) : Type 0 where
+      pub by : IsStepped tells (MayStep (tests_in q)) before after l m
+      pub made : 1 ≤ passes
+      pub few : passes ≤ length (removed_by by.steps) + 1
+      pub readings : List Instant
+      pub read : Leads reads c readings d
+      pub timed : is_some limit ≡ true → length readings ≡ passes + (if is_late limit readings then 1 else 0)
+      pub untimed : is_some limit ≡ false → readings ≡ []
+      pub whole : is_late limit readings ≡ false → 1 ≤ batch → left ≡ false
+      pub cut : is_late limit readings ≡ true → left ≡ true
+      -- each pass of a run that was cut removed a record
+      pub removing : is_late limit readings ≡ true → passes ≤ length (removed_by by.steps)
+      pub rest : left ≡ false → HasUnsettled after ⊎ IsWithin q.capacity after.access
+      -- unsettled members are passed over up to the last turn of each pass
+      pub used : left ≡ false → IsWithin q.capacity after.access ⊎ (HasNoSettled after ⊎ (passes * batch ≤ length by.steps))
+      -- with a batch of 0 nothing is done, and more is left wherever a sweep is made
+      pub idle : batch ≡ 0 → (after ≡ before) × (left ≡ (sweeps_reads q || is_over q.capacity after.access))
+      -- one that was cut after its first pass, all of whose steps make room, removed a batch
+      pub batch_used : is_late limit readings ≡ true → passes ≡ 1 → list_all makes_room by.steps ≡ true → length (removed_by by.steps) ≡ batch

@@ -1,0 +1,30 @@
+-- Operations and reads that wait, with the places of their records' rows.
+use Rattle.std.specs.Prelude.{◌≡◌, ℕ, List, map, Some}
+use Rattle.std.specs.FinMap.{FinMap, get}
+use Rattle.std.specs.Ordering.{nat_cmp}
+use Rattle.moka_parts.specs.declared.records.ReadOperation.{ReadOperation}
+use Rattle.moka_parts.specs.declared.records.ReadOperation.TheVariants.{Hit, Miss}
+use Rattle.moka_parts.specs.declared.records.Ticketed.{Ticketed}
+use Rattle.moka_maintenance.specs.declared.queued.QueuedWrite.{QueuedWrite}
+use Rattle.moka_maintenance.specs.declared.queued.QueuedRead.{QueuedRead}
+
+-- the operation under its ticket, without the place
+abbrev pub handed_of : QueuedWrite → Ticketed
+handed_of q = record { ticket = q.ticket; operation = q.write.operation }
+
+-- the queued operations
+abbrev pub writes_of : List QueuedWrite → List Ticketed
+writes_of writes = map handed_of writes
+
+-- the queued reads
+abbrev pub reads_of : List QueuedRead → List ReadOperation
+reads_of reads = map (λ q. q.read) reads
+
+-- if the number has a row, that is at the place
+abbrev pub IsAt : FinMap nat_cmp ℕ → ℕ → ℕ → Type 0
+IsAt places number place = (p : ℕ) → get places number ≡ Some p → p ≡ place
+
+-- if the record of a hit has a row, that is at the place
+abbrev pub IsReadAt : FinMap nat_cmp ℕ → ℕ → ReadOperation → Type 0
+IsReadAt places place (Hit number hash renewed) = IsAt places number place
+IsReadAt places place (Miss hash) = Unit {0}
