@@ -17,8 +17,8 @@ use Rattle.moka_parts.specs.Writes.{Ignored, Overtaken, Counted, Admitted, TooHe
 use Rattle.moka_parts.proofs.AccessList.{absent_taken_out}
 use Rattle.moka_engine.specs.Applied as here
 use Rattle.moka_engine.specs.Applied.{Held, access_after_read, access_after_reads}
-use Rattle.moka_engine.proofs.Gets.{none-of}
-use Rattle.moka_engine.proofs.Rows.{absent_to_back}
+use Rattle.moka_store.proofs.Gets.{none-of}
+use Rattle.moka_store.proofs.Members.{absent_to_back}
 
 -- no write moves a member
 abbrev pub no_moves : List Ticketed → List (List ℕ)

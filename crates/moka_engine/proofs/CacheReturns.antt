@@ -32,7 +32,7 @@ use Rattle.moka_engine.specs.Evictions.{HasUnsettled, IsEvicted}
 use Rattle.moka_engine.proofs.CacheSteps.{with_inner, plainly, nothing_heard, told_by_insert, inserts, refuses, gets, Shows, shows, TakesOut, removes}
 use Rattle.moka_parts.proofs.Lookup.{record_of_key_found}
 use Rattle.moka_parts.proofs.Maps.{nothing_at}
-use Rattle.moka_engine.proofs.Gets.{after_insert, after_remove}
+use Rattle.moka_store.proofs.Gets.{after_insert, after_remove}
 use Rattle.moka_engine.proofs.RecordsLeft.{left-turns, left-writes}
 use Rattle.moka_engine.proofs.Settled.{IsSimple, lru_or_unbounded, after_both, settled, settles_by_turns, settled_exact, settles_disabled}
 

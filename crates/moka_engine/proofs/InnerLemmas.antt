@@ -16,7 +16,7 @@ use Rattle.moka_engine.specs.declared.inner.QueuedWrite.{QueuedWrite}
 use Rattle.moka_engine.specs.declared.inner.QueuedRead.{QueuedRead}
 use Rattle.moka_engine.specs.Interior.{IsLocated, IsReadLocated, IsReadAt}
 use Rattle.moka_parts.specs.Settling.{number_of}
-use Rattle.moka_engine.specs.Store.{Kept}
+use Rattle.moka_store.specs.Store.{Kept}
 use Rattle.moka_structures.specs.Pending.{Pending}
 use Rattle.std.specs.List.{IsDistinct}
 use Rattle.std.proofs.lemmas.List.{map-append}
@@ -27,13 +27,13 @@ use Rattle.moka_parts.specs.Settling.{IsWaitingIn, IsConsistent}
 use Rattle.moka_parts.proofs.Consistent.{insert_kept, replace_kept, renew_kept, take_kept, waiting_alike}
 use Rattle.moka_parts.proofs.Values.{len_removed}
 use Rattle.moka_parts.proofs.Waiting.{hands_out, waits_sent}
-use Rattle.moka_engine.specs.Weights.{IsWeighed}
-use Rattle.moka_engine.proofs.Weights.{weighed-empty}
+use Rattle.moka_store.specs.Weights.{IsWeighed}
+use Rattle.moka_store.proofs.Weights.{weighed-empty}
 use Rattle.moka_engine.specs.Interior.{operations_of, writes_of, handed_of}
 use Rattle.moka_engine.proofs.ValuesLemmas.{get-map_values, map_values-insert, map_values-remove, map_values-found}
 use Rattle.moka_engine.specs.Inner.{IsInner, AreKeyed, AreLocated, AreTicketed}
 use Rattle.moka_engine.proofs.RecordsLeft.{keyed-left, left-removed}
-use Rattle.moka_engine.proofs.Gets.{after_insert, after_remove, get-inserted, len-fresh, len-kept, option-cases}
+use Rattle.moka_store.proofs.Gets.{after_insert, after_remove, get-inserted, len-fresh, len-kept, option-cases}
 
 module _ {K V : Type 0} (eq : K → K → Bool) (laws : IsEquivalence eq) (records : Records K V) (t m : ℕ) where
   -- a record of a key that is not there

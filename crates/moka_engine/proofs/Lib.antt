@@ -1,11 +1,4 @@
-pub mod Keys
-pub mod Nodes
-pub mod Ties
-pub mod Members
-pub mod Steps
-pub mod Places
 pub mod ValuesLemmas
-pub mod Gets
 pub mod Rows
 pub mod Queues
 pub mod Applied
@@ -18,4 +11,3 @@ pub mod Weights
 pub mod RecordsLeft
 pub mod InnerLemmas
 pub mod QueuesApplied
-pub mod Listed

@@ -12,8 +12,8 @@ use Rattle.moka_structures.specs.Pending.{Pending}
 use Rattle.moka_engine.specs.declared.inner.PlacedWrite.{PlacedWrite}
 use Rattle.moka_engine.specs.declared.inner.QueuedWrite.{QueuedWrite}
 use Rattle.moka_engine.specs.declared.inner.QueuedRead.{QueuedRead}
-use Rattle.moka_engine.specs.Store.{Kept}
-use Rattle.moka_engine.specs.Weights.{IsWeighed}
+use Rattle.moka_store.specs.Store.{Kept}
+use Rattle.moka_store.specs.Weights.{IsWeighed}
 use Rattle.moka_engine.specs.Applied.{Held, held, access_after_reads, after_writes}
 use Rattle.moka_engine.specs.Evictions.{IsEvicted}
 use Rattle.moka_engine.specs.Interior.{IsLocated, IsReadLocated, operations_of, writes_of, reads_of}

@@ -12,7 +12,7 @@ use Rattle.moka_parts.proofs.RunKeeps.{Keeps}
 use Rattle.moka_engine.specs.Applied.{Held, entered, rejected, is_kept, after_upsert, after_write, after_writes}
 use Rattle.moka_engine.specs.Evictions.{Turn, Evicts, PassesOver, after_turn, after_turns}
 use Rattle.moka_engine.specs.Inner.{AreKeyed}
-use Rattle.moka_engine.proofs.Gets.{after_insert, after_remove, len-kept}
+use Rattle.moka_store.proofs.Gets.{after_insert, after_remove, len-kept}
 
 -- some records stay, each as it is but for the applied generation
 pub record AreLeft {K V : Type 0} (old new : Records K V) : Type 0 where

@@ -6,11 +6,7 @@ use Rattle.moka_parts.specs.declared.records.Member.{Member}
 use Rattle.moka_parts.specs.Records.{counted_of, without_member, to_back, member}
 use Rattle.moka_parts.proofs.AccessList.{absent_taken_out}
 use Rattle.moka_engine.specs.Interior.{IsAt}
-use Rattle.moka_engine.proofs.Gets.{some-of}
-
--- what is in no list stays where it is
-pub absent_to_back : (n : ℕ) (xs : List Member) → counted_of n xs ≡ None → to_back n xs ≡ xs
-absent_to_back n xs h = ap (λ o. without_member n xs ++ option_to_list (option_map (member n) o)) h ∙ (append-nil (without_member n xs) ∙ absent_taken_out n xs h)
+use Rattle.moka_store.proofs.Gets.{some-of}
 
 -- a number whose row is not at its place has none
 pub no_row : {X : Type 0} (places : FinMap nat_cmp ℕ) (n place : ℕ) (o : Option X) → IsAt places n place → (IsSome o → IsSome (get places n)) → (get places n ≡ Some place → ⊥) → o ≡ None

@@ -10,7 +10,7 @@ use Rattle.moka_parts.specs.declared.records.ReadOperation.TheVariants.{Hit, Mis
 use Rattle.moka_parts.specs.Records.{Records, member, is_member, has_room, to_back, without_member}
 use Rattle.moka_parts.specs.Writes.{with_applied}
 use Rattle.moka_parts.specs.declared.records.Ticketed.{Ticketed}
-use Rattle.moka_engine.specs.Store.{Kept}
+use Rattle.moka_store.specs.Store.{Kept}
 use Rattle.moka_engine.specs.Interior.{Interior}
 
 -- what a run changes: the records and the access list

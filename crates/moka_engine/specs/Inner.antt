@@ -7,10 +7,10 @@ use Rattle.moka_parts.specs.Records.{Records}
 use Rattle.moka_engine.specs.declared.inner.PlacedWrite.{PlacedWrite}
 use Rattle.moka_engine.specs.declared.inner.QueuedWrite.{QueuedWrite}
 use Rattle.moka_engine.specs.declared.inner.QueuedRead.{QueuedRead}
-use Rattle.moka_engine.specs.Store.{Kept}
+use Rattle.moka_store.specs.Store.{Kept}
 use Rattle.moka_structures.specs.Pending.{Pending}
 use Rattle.moka_parts.specs.Settling.{number_of, IsWaitingIn, IsConsistent}
-use Rattle.moka_engine.specs.Weights.{IsWeighed}
+use Rattle.moka_store.specs.Weights.{IsWeighed}
 use Rattle.moka_engine.specs.Interior.{IsLocated, IsReadLocated, operations_of, writes_of}
 
 -- each record stands at its own number, and no two have equal keys

@@ -7,7 +7,7 @@ use Rattle.moka_parts.specs.declared.records.ReadOperation.{ReadOperation}
 use Rattle.moka_parts.specs.declared.records.ReadOperation.TheVariants.{Hit, Miss}
 use Rattle.moka_parts.specs.declared.records.Ticketed.{Ticketed}
 use Rattle.moka_parts.specs.Records.{Records, Operations}
-use Rattle.moka_engine.specs.declared.store.Handle.{Handle}
+use Rattle.moka_store.specs.declared.store.Handle.{Handle}
 use Rattle.moka_engine.specs.declared.inner.PlacedWrite.{PlacedWrite}
 use Rattle.moka_engine.specs.declared.inner.QueuedWrite.{QueuedWrite}
 use Rattle.moka_engine.specs.declared.inner.QueuedRead.{QueuedRead}

@@ -1,7 +1,3 @@
-pub mod Store
-pub mod StoreRows
-pub mod StoreTies
-pub mod Updates
 pub mod Values
 pub mod Interior
 pub mod Inner
@@ -11,4 +7,3 @@ pub mod Evictions
 pub mod Inserts
 pub mod Lookups
 pub mod BaseCache
-pub mod Weights

@@ -6,16 +6,16 @@ ghost use Rattle.std.specs.FinMap as finite;
 ghost use Rattle.std.specs.Prelude.{[], ◌∷◌, ◌++◌};
 ghost use Rattle.moka_parts.specs.declared.records.Record.{Record};
 ghost use Rattle.moka_parts.specs.Records.{counted_of, has_room, member, to_back, without_member};
-ghost use Rattle.moka_engine.specs.Store.{IsPlaced, IsHandle};
+ghost use Rattle.moka_store.specs.Store.{IsPlaced, IsHandle};
 ghost use Rattle.moka_parts.specs.Settling.{number_of};
 ghost use Rattle.moka_engine.specs.Interior.{IsAt};
-ghost use Rattle.moka_engine.specs.Weights.{IsWeighed};
+ghost use Rattle.moka_store.specs.Weights.{IsWeighed};
 ghost use Rattle.moka_engine.specs.Applied.{held, rejected, after_upsert, after_write};
 
 use crate::inner::PlacedWrite;
-use crate::store::{Handle, Store};
 use moka_parts::notification::RemovalCause;
 use moka_parts::records::{Operation, Record};
+use moka_store::{Handle, Store};
 use std::hash::{BuildHasher, Hash};
 
 /// Applies a queued write.

@@ -16,12 +16,12 @@ ghost use Rattle.moka_engine.specs.Applied.{held_inside, after_queues};
 ghost use Rattle.moka_engine.specs.Evictions.{HasUnsettled, IsEvicted};
 
 use crate::maintenance::{self, Surplus};
-use crate::store::{Handle, Store, Update};
 use circular_buffer::HeapCircularBuffer;
 use moka_parts::calls::Ticket;
 use moka_parts::error::SendError;
 use moka_parts::policy::Instant;
 use moka_parts::records::{Operation, ReadOperation, Record};
+use moka_store::{Handle, Store, Update};
 use moka_structures::outstanding::Outstanding;
 use std::alloc::{AllocError, Global};
 use std::hash::{BuildHasher, Hash};

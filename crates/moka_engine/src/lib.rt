@@ -5,6 +5,5 @@ mod admission;
 pub mod base_cache;
 pub mod inner;
 mod maintenance;
-pub mod store;
 
-pub use store::{Handle, Store, Update};
+pub use moka_store::{Handle, Store, Update};

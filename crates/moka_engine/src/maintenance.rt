@@ -9,7 +9,7 @@ ghost use Rattle.moka_parts.specs.Settling.{number_of};
 ghost use Rattle.moka_engine.specs.declared.inner.QueuedRead.{QueuedRead};
 ghost use Rattle.moka_engine.specs.declared.inner.QueuedWrite.{QueuedWrite};
 ghost use Rattle.moka_engine.specs.Interior.{IsAt, IsReadAt, reads_of, writes_of};
-ghost use Rattle.moka_engine.specs.Weights.{IsWeighed};
+ghost use Rattle.moka_store.specs.Weights.{IsWeighed};
 ghost use Rattle.moka_parts.specs.Exact.{IsWithin};
 ghost use Rattle.moka_parts.specs.declared.records.Member.{Member};
 ghost use Rattle.moka_parts.specs.Maintenance.{is_over};
@@ -19,10 +19,10 @@ ghost use Rattle.moka_engine.specs.Evictions.{HasUnsettled, IsEvicted, TakesTurn
 
 use crate::admission;
 use crate::inner::{QueuedRead, QueuedWrite};
-use crate::store::{Handle, Store};
 use circular_buffer::HeapCircularBuffer;
 use moka_parts::notification::RemovalCause;
 use moka_parts::records::ReadOperation;
+use moka_store::{Handle, Store};
 use std::hash::{BuildHasher, Hash};
 
 /// Applies all queued reads.

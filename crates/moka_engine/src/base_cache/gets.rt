@@ -7,12 +7,12 @@ ghost use Rattle.moka_engine.specs.Interior.{LeadsTo};
 ghost use Rattle.moka_engine.specs.Lookups.{LooksUpAt, with_hit};
 
 use crate::inner::Inner;
-use crate::store::Handle;
 use moka_parts::calls::Entry;
 use moka_parts::error::OutOfMemory;
 use moka_parts::expiry::is_expired_by_per_entry_ttl;
 use moka_parts::policy::Instant;
 use moka_parts::records::{ReadOperation, Record};
+use moka_store::Handle;
 use std::hash::{BuildHasher, Hash};
 
 /// Clones the value of a key that is there and shown, and queues the read.

@@ -8,11 +8,11 @@ ghost use Rattle.moka_engine.specs.Interior.{LeadsTo};
 ghost use Rattle.moka_engine.specs.Inserts.{PutsAt};
 
 use crate::inner::{Inner, Written};
-use crate::store::Handle;
 use moka_parts::calls::Ticket;
 use moka_parts::closures::Weigher;
 use moka_parts::error::{InsertError, InsertRefused};
 use moka_parts::policy::Instant;
+use moka_store::Handle;
 use std::hash::{BuildHasher, Hash};
 
 /// What an entry weighs where no weigher is set.

@@ -2,8 +2,8 @@ use Rattle.std.proofs.Common.{refl, sym, ap, ◌∙◌, true≢false}
 use Rattle.std.specs.FinMap as finite
 use Rattle.moka_parts.specs.Records.{counted_of}
 use Rattle.moka_parts.proofs.AccessList.{absent_taken_out, counted_taken_out}
-use Rattle.moka_engine.specs.Store.{Kept}
-use Rattle.moka_engine.proofs.Gets.{after_remove}
+use Rattle.moka_store.specs.Store.{Kept}
+use Rattle.moka_store.proofs.Gets.{after_remove}
 use Rattle.moka_engine.proofs.Rows.{no_row}
 use Rattle.moka_engine.proofs.admission.apply_removal.Goals as goal
 

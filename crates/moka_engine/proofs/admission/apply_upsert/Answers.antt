@@ -1,8 +1,8 @@
 use Rattle.std.proofs.Common.{sym, ap, subst}
-use Rattle.moka_engine.specs.Store.{Kept}
+use Rattle.moka_store.specs.Store.{Kept}
 use Rattle.moka_engine.specs.Applied.{Held}
-use Rattle.moka_engine.specs.Weights.{IsWeighed}
-use Rattle.moka_engine.proofs.Weights.{weighed-to_back}
+use Rattle.moka_store.specs.Weights.{IsWeighed}
+use Rattle.moka_store.proofs.Weights.{weighed-to_back}
 use Rattle.moka_engine.proofs.admission.apply_upsert.Goals as goal
 
 pub returns-then-found-generation-clause-weighed : goal.returns-then-found-generation-clause-weighed

@@ -1,8 +1,8 @@
 use Rattle.std.proofs.Common.{◌+◌, ◌-◌, ◌^◌, ◌<◌, sym, subst, arith}
 use Rattle.moka_parts.proofs.AccessList.{absent_taken_out}
-use Rattle.moka_engine.specs.Store.{Kept}
-use Rattle.moka_engine.specs.Weights.{IsWeighed}
-use Rattle.moka_engine.proofs.Weights.{weighed-least, weighed-recounted, weighed-pushed, weighed-fits}
+use Rattle.moka_store.specs.Store.{Kept}
+use Rattle.moka_store.specs.Weights.{IsWeighed}
+use Rattle.moka_store.proofs.Weights.{weighed-least, weighed-recounted, weighed-pushed, weighed-fits}
 use Rattle.moka_engine.proofs.admission.enter.Goals as goal
 
 pub overflow_sub-weight : goal.overflow_sub-weight

@@ -1,7 +1,7 @@
 use Rattle.std.proofs.Common.{refl, sym, ◌∙◌}
 use Rattle.moka_parts.specs.Records.{counted_of}
-use Rattle.moka_engine.proofs.Gets.{none-of}
-use Rattle.moka_engine.proofs.Rows.{absent_to_back}
+use Rattle.moka_store.proofs.Gets.{none-of}
+use Rattle.moka_store.proofs.Members.{absent_to_back}
 use Rattle.moka_engine.proofs.admission.pass.Goals as goal
 
 pub returns-else-is_member : goal.returns-else-is_member

@@ -1,7 +1,7 @@
 use Rattle.std.proofs.Common.{◌≡◌, Some, sym, ap, subst, ◌∙◌}
 use Rattle.std.specs.FinMap as finite
-use Rattle.moka_engine.specs.Store.{Kept}
-use Rattle.moka_engine.proofs.Gets.{after_remove}
+use Rattle.moka_store.specs.Store.{Kept}
+use Rattle.moka_store.proofs.Gets.{after_remove}
 use Rattle.moka_engine.proofs.admission.reject.Goals as goal
 
 pub returns-then-present-generation-clause-places : goal.returns-then-present-generation-clause-places

@@ -2,7 +2,7 @@ use Rattle.std.proofs.Common.{sym, ap, ◌∙◌, subst, Contains}
 use Rattle.moka_engine.specs.declared.inner.QueuedRead.{QueuedRead}
 use Rattle.circular_buffer.specs.Buffer.{Buffer}
 use Rattle.moka_engine.specs.Interior.{IsReadAt, reads_of}
-use Rattle.moka_engine.specs.Store.{Kept}
+use Rattle.moka_store.specs.Store.{Kept}
 use Rattle.moka_engine.specs.Applied.{access_after_reads}
 use Rattle.moka_engine.proofs.Queues.{popped, first_in, rest_in}
 use Rattle.moka_engine.proofs.maintenance.apply_reads.Goals as goal

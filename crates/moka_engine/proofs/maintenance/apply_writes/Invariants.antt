@@ -3,7 +3,7 @@ use Rattle.std.specs.FinMap as finite
 use Rattle.moka_parts.specs.Settling.{number_of}
 use Rattle.moka_engine.specs.declared.inner.QueuedWrite.{QueuedWrite}
 use Rattle.moka_engine.specs.Interior.{IsAt, writes_of}
-use Rattle.moka_engine.specs.Weights.{IsWeighed}
+use Rattle.moka_store.specs.Weights.{IsWeighed}
 use Rattle.moka_engine.specs.Applied.{held, after_writes}
 use Rattle.moka_engine.proofs.maintenance.apply_writes.Given as goal
 

@@ -1,6 +1,6 @@
 use Rattle.std.proofs.Common.{◌≡◌, ◌≤◌, ℕ, true, false, length, Some, ◌+◌}
 use Rattle.std.specs.FinMap as finite
-use Rattle.moka_engine.specs.Weights.{IsWeighed}
+use Rattle.moka_store.specs.Weights.{IsWeighed}
 use Rattle.moka_engine.specs.Applied.{held}
 use Rattle.moka_engine.specs.Evictions.{HasUnsettled, IsEvicted}
 use Rattle.moka_engine.proofs.maintenance.evict_batch.Given as goal

@@ -1,10 +1,10 @@
 use Rattle.std.proofs.Common.{◌≡◌, refl, ◌-◌, Some, IsSome, sym, ap, subst, ◌∙◌}
 use Rattle.std.specs.FinMap as finite
-use Rattle.moka_engine.specs.Store.{Kept}
-use Rattle.moka_engine.specs.Weights.{IsWeighed}
-use Rattle.moka_engine.proofs.Gets.{after_remove}
+use Rattle.moka_store.specs.Store.{Kept}
+use Rattle.moka_store.specs.Weights.{IsWeighed}
+use Rattle.moka_store.proofs.Gets.{after_remove}
 use Rattle.moka_engine.proofs.Turns.{first_is}
-use Rattle.moka_engine.proofs.Weights.{weighed-least, weighed-to_back, weighed-without}
+use Rattle.moka_store.proofs.Weights.{weighed-least, weighed-to_back, weighed-without}
 use Rattle.moka_engine.proofs.maintenance.turn.Goals as goal
 
 pub move_to_back-requires-clause-member : goal.move_to_back-requires-clause-member

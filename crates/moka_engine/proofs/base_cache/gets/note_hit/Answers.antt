@@ -1,5 +1,5 @@
 use Rattle.std.specs.FinMap as finite
-use Rattle.moka_engine.proofs.Gets.{some-of}
+use Rattle.moka_store.proofs.Gets.{some-of}
 use Rattle.moka_engine.proofs.base_cache.gets.note_hit.Goals as goal
 
 pub queue_read-requires : goal.queue_read-requires

@@ -1,8 +1,8 @@
 use Rattle.std.proofs.Common.{◌≡◌, ◌+◌, sym, ap, subst, ◌∙◌, [], Some}
 use Rattle.std.specs.FinMap as finite
 use Rattle.circular_buffer.specs.Buffer.{Buffer}
-use Rattle.moka_engine.specs.Store.{Kept}
-use Rattle.moka_engine.specs.Weights.{IsWeighed}
+use Rattle.moka_store.specs.Store.{Kept}
+use Rattle.moka_store.specs.Weights.{IsWeighed}
 use Rattle.moka_engine.specs.Inner.{IsInner}
 use Rattle.moka_engine.specs.Interior.{reads_of, writes_of}
 use Rattle.moka_engine.specs.Applied.{held, after_writes}

@@ -2,7 +2,7 @@ use Rattle.std.proofs.Common.{◌+◌, refl, ap, ◌∙◌, arith}
 use Rattle.std.specs.FinMap as finite
 use Rattle.moka_parts.specs.Records.{record_of_key}
 use Rattle.moka_parts.specs.declared.records.Operation.TheVariants.{Upsert}
-use Rattle.moka_engine.specs.Store.{Kept}
+use Rattle.moka_store.specs.Store.{Kept}
 use Rattle.moka_engine.specs.Interior.{Interior}
 use Rattle.moka_parts.proofs.Lookup.{absent_key}
 use Rattle.moka_engine.proofs.InnerLemmas.{inner-inserted}

@@ -1,9 +1,9 @@
 use Rattle.std.proofs.Common.{◌+◌, refl, ap, ◌∙◌, arith}
 use Rattle.std.specs.FinMap as finite
 use Rattle.moka_parts.specs.declared.records.Operation.TheVariants.{Removal}
-use Rattle.moka_engine.specs.Store.{Kept}
+use Rattle.moka_store.specs.Store.{Kept}
 use Rattle.moka_engine.specs.Interior.{Interior}
-use Rattle.moka_engine.proofs.Gets.{len-some, some-of}
+use Rattle.moka_store.proofs.Gets.{len-some, some-of}
 use Rattle.moka_engine.proofs.InnerLemmas.{inner-removed}
 use Rattle.moka_engine.proofs.ValuesLemmas.{map_values-insert}
 use Rattle.moka_engine.proofs.inner.Inner.remove.Goals as goal

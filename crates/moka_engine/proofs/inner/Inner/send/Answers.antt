@@ -1,7 +1,7 @@
 use Rattle.std.proofs.Common.{◌<◌, ◌≤◌, ◌+◌, refl, sym, ◌∙◌, arith, subst, length}
 use Rattle.circular_buffer.specs.Buffer.{Buffer}
 use Rattle.moka_engine.specs.Interior.{handed_of}
-use Rattle.moka_engine.proofs.Gets.{not_below}
+use Rattle.moka_store.proofs.Gets.{not_below}
 use Rattle.moka_engine.specs.Inner.{IsInner}
 use Rattle.std.proofs.lemmas.List.{length-map, map-append}
 use Rattle.moka_engine.proofs.InnerLemmas.{inner-sent}

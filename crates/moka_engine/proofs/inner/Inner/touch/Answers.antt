@@ -1,8 +1,8 @@
 use Rattle.std.proofs.Common.{◌+◌, refl, ap, ◌∙◌}
 use Rattle.std.specs.FinMap as finite
-use Rattle.moka_engine.specs.Store.{Kept}
+use Rattle.moka_store.specs.Store.{Kept}
 use Rattle.moka_engine.specs.Interior.{Interior}
-use Rattle.moka_engine.proofs.Gets.{some-of, len-kept}
+use Rattle.moka_store.proofs.Gets.{some-of, len-kept}
 use Rattle.moka_engine.proofs.InnerLemmas.{inner-touched}
 use Rattle.moka_engine.proofs.inner.Inner.touch.Goals as goal
 

@@ -1,9 +1,9 @@
 use Rattle.std.proofs.Common.{◌≡◌, ◌+◌, refl, ap, sym, ◌∙◌, arith}
 use Rattle.std.specs.FinMap as finite
 use Rattle.moka_parts.specs.declared.records.Operation.TheVariants.{Upsert}
-use Rattle.moka_engine.specs.Store.{Kept}
+use Rattle.moka_store.specs.Store.{Kept}
 use Rattle.moka_engine.specs.Interior.{Interior}
-use Rattle.moka_engine.proofs.Gets.{len-some, some_same}
+use Rattle.moka_store.proofs.Gets.{len-some, some_same}
 use Rattle.moka_engine.proofs.InnerLemmas.{inner-updated}
 use Rattle.moka_engine.proofs.ValuesLemmas.{map_values-insert}
 use Rattle.moka_engine.proofs.inner.Inner.update.Goals as goal

@@ -1,6 +1,0 @@
-use Rattle.std.specs.Prelude.{IsPermutation}
-use Rattle.moka_engine.proofs.Listed.{keys_before}
-use Rattle.moka_engine.proofs.store.Store.keys.Given as goal
-
-abbrev pub invariant-loop-place : goal.invariant-loop-place
-invariant-loop-place g l = IsPermutation (keys_before l.self-inside.table.rows l.place) l.keys.items

@@ -1,5 +1,0 @@
-use Rattle.std.proofs.Common.{◌∙◌}
-use Rattle.moka_engine.proofs.store.Store.record_count.Goals as goal
-
-pub returns : goal.returns
-returns g c = rw (← c.self.view_is) (c.len.ensures.len ∙ c.self.invariant.keyed)

@@ -1,0 +1,9 @@
+pub mod Gets
+pub mod Keys
+pub mod Listed
+pub mod Members
+pub mod Nodes
+pub mod Places
+pub mod Steps
+pub mod Ties
+pub mod Weights

@@ -1,0 +1,214 @@
+-- Nodes of a list, each a slot with the place that it leads to, and what they stand for under a map.
+use Rattle.std.proofs.Common.{◌≡◌, ◌≢◌, ℕ, zero, suc, ◌+◌, ◌<◌, ◌≤◌, Bool, true, false, cond, not, ◌==◌, List, [], ◌∷◌, ◌++◌, map, Option, Some, None, is_some, length, count_by, inl, inr, refl, sym, ap, subst, ◌∙◌, arith, nat_eq, Contains}
+use Rattle.std.proofs.lemmas.Bool.{cases_eq, cases_Bool, eq-eqb, ne_eqb, eqb-true, cond-true, cond-false, false≢true}
+use Rattle.std.proofs.lemmas.List.{get_or-set_other}
+use Rattle.std.proofs.lemmas.List.Sums.{sum_by-set}
+use Rattle.std.proofs.lemmas.Map.Views.{lookup-from_Contains, Contains-from_lookup}
+use Rattle.std.specs.Cmp.{nat_eq_equiv}
+use Rattle.std.specs.List.{IsDistinct, AllByRecursion}
+use Rattle.std.specs.Map.{lookup, remove_entry, keys_of}
+use Rattle.std.specs.Option.{option_map}
+use Rattle.std.specs.Prelude.{slice_index_or, slice_set, slice_get}
+use Rattle.moka_structures.proofs.TableMaps.{row_at-within}
+use Rattle.moka_structures.specs.Order.{next_after}
+use Rattle.moka_store.specs.Store.{member_after}
+use Rattle.moka_parts.specs.declared.records.Member.{Member}
+use Rattle.moka_parts.specs.Records.{counted_of, without_member}
+
+-- ---- slots are distinct
+
+all-push : (P : ℕ → Type 0) (nodes : List (ℕ × ℕ)) (slot place : ℕ) → AllByRecursion P (keys_of nodes) → P slot → AllByRecursion P (keys_of (nodes ++ (slot, place) ∷ []))
+all-push P [] slot place a h = (h, tt)
+all-push P (m ∷ nodes) slot place a h = (a.0, all-push P nodes slot place a.1 h)
+
+all-remove : (P : ℕ → Type 0) (test : ℕ → Bool) (nodes : List (ℕ × ℕ)) → AllByRecursion P (keys_of nodes) → AllByRecursion P (keys_of (remove_entry test nodes))
+all-remove P test [] a = a
+all-remove P test (m ∷ nodes) a = elim (cases_Bool (test m.0)) as (λ _. AllByRecursion P (keys_of (remove_entry test (m ∷ nodes)))) [
+  | inl t ↦ subst (λ l. AllByRecursion P (keys_of l)) (sym (cond-true (test m.0) nodes (m ∷ remove_entry test nodes) t)) a.1
+  | inr f ↦ subst (λ l. AllByRecursion P (keys_of l)) (sym (cond-false (test m.0) nodes (m ∷ remove_entry test nodes) f)) (a.0, all-remove P test nodes a.1)
+]
+
+pub distinct-none : IsDistinct nat_eq (keys_of {X = ℕ} [])
+unfolding IsDistinct
+distinct-none = tt
+
+-- a node in a new slot comes to the back
+pub distinct-push : (nodes : List (ℕ × ℕ)) (slot place : ℕ) → IsDistinct nat_eq (keys_of nodes) → lookup (nat_eq slot) nodes ≡ None → IsDistinct nat_eq (keys_of (nodes ++ (slot, place) ∷ []))
+unfolding IsDistinct
+distinct-push [] slot place d free = (tt, tt)
+distinct-push (m ∷ nodes) slot place d free = elim (cases_eq slot m.0) as (λ _. IsDistinct nat_eq (keys_of ((m ∷ nodes) ++ (slot, place) ∷ []))) [
+  | inl e ↦ let bad : Some m.1 ≡ None = sym (cond-true (nat_eq slot m.0) (Some m.1) (lookup (nat_eq slot) nodes) (eq-eqb slot m.0 e)) ∙ free in cc
+  | inr ne ↦ (
+    all-push (λ y. nat_eq m.0 y ≡ false) nodes slot place d.0 (ne_eqb m.0 slot (λ e. ne (sym e))),
+    distinct-push nodes slot place d.1 (sym (cond-false (nat_eq slot m.0) (Some m.1) (lookup (nat_eq slot) nodes) (ne_eqb slot m.0 ne)) ∙ free),
+  )
+]
+
+-- a node leaves
+pub distinct-remove : (test : ℕ → Bool) (nodes : List (ℕ × ℕ)) → IsDistinct nat_eq (keys_of nodes) → IsDistinct nat_eq (keys_of (remove_entry test nodes))
+unfolding IsDistinct
+distinct-remove test [] d = d
+distinct-remove test (m ∷ nodes) d = elim (cases_Bool (test m.0)) as (λ _. IsDistinct nat_eq (keys_of (remove_entry test (m ∷ nodes)))) [
+  | inl t ↦ subst (λ l. IsDistinct nat_eq (keys_of l)) (sym (cond-true (test m.0) nodes (m ∷ remove_entry test nodes) t)) d.1
+  | inr f ↦ subst (λ l. IsDistinct nat_eq (keys_of l)) (sym (cond-false (test m.0) nodes (m ∷ remove_entry test nodes) f)) (all-remove (λ y. nat_eq m.0 y ≡ false) test nodes d.0, distinct-remove test nodes d.1)
+]
+
+-- a node is found by its slot
+pub in-nodes : (nodes : List (ℕ × ℕ)) (m : ℕ × ℕ) → IsDistinct nat_eq (keys_of nodes) → Contains nodes m → lookup (nat_eq m.0) nodes ≡ Some m.1
+in-nodes nodes m d h = lookup-from_Contains nat_eq_equiv m.0 m.1 nodes d h
+
+-- a node that is found is among them
+pub node-in : (nodes : List (ℕ × ℕ)) (slot place : ℕ) → lookup (nat_eq slot) nodes ≡ Some place → Contains nodes (slot, place)
+node-in nodes slot place h = Contains-from_lookup (λ x y q. eqb-true x y q) slot place nodes h
+
+later : {X : Type 0} (x y : X) (xs : List X) → Contains xs y → Contains (x ∷ xs) y
+later x y xs c = (suc c.0, omega (arith, c.1), c.2)
+
+here : {X : Type 0} (x : X) (xs : List X) → Contains (x ∷ xs) x
+here x xs = (0, omega arith, refl)
+
+pub get-Contains : {X : Type 0} (xs : List X) (x : X) → slice_get xs 0 ≡ Some x → Contains xs x
+get-Contains [] x h = cc
+get-Contains (y ∷ xs) x h = (0, omega arith, (let e = h in cc))
+
+pub get-map : {X Y : Type 0} (f : X → Y) (xs : List X) → slice_get (map f xs) 0 ≡ option_map f (slice_get xs 0)
+get-map f [] = refl
+get-map f (x ∷ xs) = refl
+
+-- two maps that agree on a list
+pub map-agree : {X Y : Type 0} (f g : X → Y) (xs : List X) → ((x : X) → Contains xs x → f x ≡ g x) → map f xs ≡ map g xs
+map-agree f g [] h = refl
+map-agree f g (x ∷ xs) h = let first = h x (here x xs) in let rest = map-agree f g xs (λ y c. h y (later x y xs c)) in cc
+
+-- no later node has a slot that all others differ from
+all-other : (slot : ℕ) (nodes : List (ℕ × ℕ)) (k : ℕ × ℕ) → AllByRecursion (λ y. nat_eq slot y ≡ false) (keys_of nodes) → (i : ℕ) → i < length nodes → slice_index_or nodes i k ≡ k → slot ≡ k.0 → ⊥
+all-other slot [] k a i lt is e = absurd (omega arith)
+all-other slot (x ∷ nodes) k a zero lt is e = let bad : true ≡ false = sym (eq-eqb slot x.0 (e ∙ ap (λ p. p.0) (sym is))) ∙ a.0 in cc
+all-other slot (x ∷ nodes) k a (suc i) lt is e = all-other slot nodes k a.1 i (omega arith) is e
+
+-- ---- members that nodes stand for
+
+module _ (g : ℕ × ℕ → Member) (n : ℕ) where
+  -- no node stands for the number
+  pub counted-none : (nodes : List (ℕ × ℕ)) → ((m : ℕ × ℕ) → Contains nodes m → ((g m).number == n) ≡ false) → counted_of n (map g nodes) ≡ None
+  counted-none [] h = refl
+  counted-none (m ∷ nodes) h =
+      cond-false ((g m).number == n) (Some (g m).counted) (counted_of n (map g nodes)) (h m (here m nodes))
+      ∙ counted-none nodes (λ k c. h k (later m k nodes c))
+
+  pub without-none : (nodes : List (ℕ × ℕ)) → ((m : ℕ × ℕ) → Contains nodes m → ((g m).number == n) ≡ false) → without_member n (map g nodes) ≡ map g nodes
+  without-none [] h = refl
+  without-none (m ∷ nodes) h =
+      cond-true (not ((g m).number == n)) (g m ∷ without_member n (map g nodes)) (without_member n (map g nodes)) (ap not (h m (here m nodes)))
+      ∙ ap (λ l. g m ∷ l) (without-none nodes (λ k c. h k (later m k nodes c)))
+
+  -- the node in a slot stands for the number
+  module _ (slot : ℕ) where
+    pub counted-found : (nodes : List (ℕ × ℕ)) (place : ℕ) → ((m : ℕ × ℕ) → Contains nodes m → ((g m).number == n) ≡ nat_eq slot m.0) → lookup (nat_eq slot) nodes ≡ Some place → counted_of n (map g nodes) ≡ Some (g (slot, place)).counted
+    counted-found [] place h e = cc
+    counted-found (m ∷ nodes) place h e = elim (cases_eq slot m.0) as (λ _. counted_of n (map g (m ∷ nodes)) ≡ Some (g (slot, place)).counted) [
+      | inl q ↦
+          let t = eq-eqb slot m.0 q in
+          let p : Some m.1 ≡ Some place = sym (cond-true (nat_eq slot m.0) (Some m.1) (lookup (nat_eq slot) nodes) t) ∙ e in
+          let second : m.1 ≡ place = cc in
+          let same : m ≡ (slot, place) = ap (λ p. (m.0, p)) second ∙ ap (λ s. (s, place)) (sym q) in
+          cond-true ((g m).number == n) (Some (g m).counted) (counted_of n (map g nodes)) (h m (here m nodes) ∙ t) ∙ ap (λ m. Some (g m).counted) same
+      | inr ne ↦
+          let f = ne_eqb slot m.0 ne in
+          cond-false ((g m).number == n) (Some (g m).counted) (counted_of n (map g nodes)) (h m (here m nodes) ∙ f)
+          ∙ counted-found nodes place (λ k c. h k (later m k nodes c)) (sym (cond-false (nat_eq slot m.0) (Some m.1) (lookup (nat_eq slot) nodes) f) ∙ e)
+    ]
+
+    pub after-found : (nodes : List (ℕ × ℕ)) → ((m : ℕ × ℕ) → Contains nodes m → ((g m).number == n) ≡ nat_eq slot m.0) → member_after n (map g nodes) ≡ option_map g (next_after slot nodes)
+    after-found [] h = refl
+    after-found (m ∷ nodes) h = elim (cases_Bool (nat_eq slot m.0)) as (λ _. member_after n (map g (m ∷ nodes)) ≡ option_map g (next_after slot (m ∷ nodes))) [
+      | inl t ↦
+          cond-true ((g m).number == n) (slice_get (map g nodes) 0) (member_after n (map g nodes)) (h m (here m nodes) ∙ t)
+          ∙ get-map g nodes
+          ∙ ap (option_map g) (sym (cond-true (nat_eq slot m.0) (slice_get nodes 0) (next_after slot nodes) t))
+      | inr f ↦
+          cond-false ((g m).number == n) (slice_get (map g nodes) 0) (member_after n (map g nodes)) (h m (here m nodes) ∙ f)
+          ∙ after-found nodes (λ k c. h k (later m k nodes c))
+          ∙ ap (option_map g) (sym (cond-false (nat_eq slot m.0) (slice_get nodes 0) (next_after slot nodes) f))
+    ]
+
+    not-later : (m : ℕ × ℕ) (nodes : List (ℕ × ℕ)) (k : ℕ × ℕ) → IsDistinct nat_eq (keys_of (m ∷ nodes)) → slot ≡ m.0 → Contains nodes k → nat_eq slot k.0 ≡ false
+    unfolding IsDistinct
+    not-later m nodes k d e c = ne_eqb slot k.0 (λ q. all-other m.0 nodes k d.0 c.0 c.1 c.2 (sym e ∙ q))
+
+    pub without-found : (nodes : List (ℕ × ℕ)) → IsDistinct nat_eq (keys_of nodes) → ((m : ℕ × ℕ) → Contains nodes m → ((g m).number == n) ≡ nat_eq slot m.0) → without_member n (map g nodes) ≡ map g (remove_entry (nat_eq slot) nodes)
+    unfolding IsDistinct
+    without-found [] d h = refl
+    without-found (m ∷ nodes) d h = elim (cases_eq slot m.0) as (λ _. without_member n (map g (m ∷ nodes)) ≡ map g (remove_entry (nat_eq slot) (m ∷ nodes))) [
+      | inl q ↦
+          let t = eq-eqb slot m.0 q in
+          cond-false (not ((g m).number == n)) (g m ∷ without_member n (map g nodes)) (without_member n (map g nodes)) (ap not (h m (here m nodes) ∙ t))
+          ∙ without-none nodes (λ k c. h k (later m k nodes c) ∙ not-later m nodes k d q c)
+          ∙ ap (map g) (sym (cond-true (nat_eq slot m.0) nodes (m ∷ remove_entry (nat_eq slot) nodes) t))
+      | inr ne ↦
+          let f = ne_eqb slot m.0 ne in
+          cond-true (not ((g m).number == n)) (g m ∷ without_member n (map g nodes)) (without_member n (map g nodes)) (ap not (h m (here m nodes) ∙ f))
+          ∙ ap (λ l. g m ∷ l) (without-found nodes d.1 (λ k c. h k (later m k nodes c)))
+          ∙ ap (map g) (sym (cond-false (nat_eq slot m.0) nodes (m ∷ remove_entry (nat_eq slot) nodes) f))
+    ]
+
+-- ---- there are no more nodes than rows
+
+count-cleared : {X : Type 0} (rows : List (Option X)) (place : ℕ) (x : X) → slice_index_or rows place None ≡ Some x → count_by is_some (slice_set rows place None) + 1 ≡ count_by is_some rows
+count-cleared rows place x e =
+    let lt = row_at-within rows place x e in
+    let whole = sum_by-set (λ o. cond (is_some o) 1 0) rows place None None lt in
+    let one : ◌≡◌ {A = ℕ} (cond (is_some (slice_index_or rows place None)) 1 0) 1 = ap (λ o. cond (is_some o) 1 0) e in
+    omega (arith, whole, one)
+
+module _ {X : Type 0} (f : X → Option ℕ) where
+  -- the row at a node's place has the node's slot
+  abbrev pub LeadsTo : List (Option X) → ℕ × ℕ → Type 0
+  LeadsTo rows m = (x : X) × (slice_index_or rows m.1 None ≡ Some x) × (f x ≡ Some m.0)
+
+  pub length-nodes : (nodes : List (ℕ × ℕ)) (rows : List (Option X)) → IsDistinct nat_eq (keys_of nodes) → ((m : ℕ × ℕ) → Contains nodes m → LeadsTo rows m) → length nodes ≤ count_by is_some rows
+  unfolding IsDistinct
+  length-nodes [] rows d h = omega arith
+  length-nodes (m ∷ nodes) rows d h =
+      let w = h m (here m nodes) in
+      let c = count-cleared rows m.1 w.0 w.1 in
+      let rest : length nodes ≤ count_by is_some (slice_set rows m.1 None) = length-nodes nodes (slice_set rows m.1 None) d.1 (λ k kc.
+      let v = h k (later m k nodes kc) in
+      let apart : k.1 ≢ m.1 = (λ e.
+      let both : Some v.0 ≡ Some w.0 = sym v.1 ∙ ap (λ p. slice_index_or rows p None) e ∙ w.1 in
+      let same : v.0 ≡ w.0 = cc in
+      let slots : Some k.0 ≡ Some m.0 = sym v.2 ∙ ap f same ∙ w.2 in
+      let s : m.0 ≡ k.0 = cc in
+      let bad : true ≡ false = sym (eq-eqb m.0 k.0 s) ∙ not-later (λ _. record { number = 0; counted = 0 }) 0 m.0 m nodes k d refl kc in
+      cc) in
+      (v.0, get_or-set_other rows m.1 k.1 None None apart ∙ v.1, v.2)) in
+      omega (arith, c, rest)
+
+  -- and fewer, where some row has no slot
+  pub length-nodes_below : (nodes : List (ℕ × ℕ)) (rows : List (Option X)) (place : ℕ) (x : X) → IsDistinct nat_eq (keys_of nodes) → ((m : ℕ × ℕ) → Contains nodes m → LeadsTo rows m) → slice_index_or rows place None ≡ Some x → f x ≡ None → length nodes < count_by is_some rows
+  length-nodes_below nodes rows place x d h e none =
+      let c = count-cleared rows place x e in
+      let rest : length nodes ≤ count_by is_some (slice_set rows place None) = length-nodes nodes (slice_set rows place None) d (λ k kc.
+      let v = h k kc in
+      let apart : k.1 ≢ place = (λ q.
+      let both : Some v.0 ≡ Some x = sym v.1 ∙ ap (λ p. slice_index_or rows p None) q ∙ e in
+      let same : v.0 ≡ x = cc in
+      let bad : None ≡ Some k.0 = sym none ∙ ap f (sym same) ∙ v.2 in
+      cc) in
+      (v.0, get_or-set_other rows place k.1 None None apart ∙ v.1, v.2)) in
+      omega (arith, c, rest)
+
+-- ---- a list that lacks the number
+
+pub none-is : {X : Type 0} (o : Option X) → is_some o ≡ false → o ≡ None
+none-is None h = refl
+none-is (Some x) h = absurd (false≢true (sym h))
+
+pub without-absent : (n : ℕ) (members : List Member) → counted_of n members ≡ None → without_member n members ≡ members
+without-absent n [] h = refl
+without-absent n (a ∷ members) h = elim (cases_Bool (a.number == n)) as (λ _. without_member n (a ∷ members) ≡ a ∷ members) [
+  | inl t ↦ let bad : Some a.counted ≡ None = sym (cond-true (a.number == n) (Some a.counted) (counted_of n members) t) ∙ h in cc
+  | inr f ↦
+      cond-true (not (a.number == n)) (a ∷ without_member n members) (without_member n members) (ap not f)
+      ∙ ap (λ l. a ∷ l) (without-absent n members (sym (cond-false (a.number == n) (Some a.counted) (counted_of n members) f) ∙ h))
+]

@@ -1,0 +1,47 @@
+-- Each record and each member has a row.
+use Rattle.std.proofs.Common.{◌≡◌, ℕ, ◌==◌, Bool, true, false, cond, List, [], ◌∷◌, map, Option, Some, IsSome, is_some, refl, sym, ap, ◌∙◌, Contains, arith}
+use Rattle.std.proofs.lemmas.List.Elements.{Contains-append_right}
+use Rattle.std.specs.FinMap.{get}
+use Rattle.moka_structures.specs.declared.record_table.Row.{Row}
+use Rattle.moka_structures.specs.RecordTable.{row_at, records_of, places_of}
+use Rattle.moka_structures.proofs.TableCalls.{record_row, placed_row, get-places}
+use Rattle.moka_parts.specs.declared.records.Record.{Record}
+use Rattle.moka_parts.specs.declared.records.Member.{Member}
+use Rattle.moka_parts.specs.Records.{counted_of}
+use Rattle.moka_parts.proofs.Maps.{same_by_test}
+use Rattle.moka_store.specs.StoreRows.{member_at}
+use Rattle.moka_store.specs.StoreTies.{IsTied}
+use Rattle.moka_store.proofs.Gets.{some-of}
+use Rattle.moka_store.proofs.Nodes.{in-nodes}
+use Rattle.moka_store.proofs.Steps.{node-member}
+
+-- what is counted is counted for a node
+counted-node : {M : Type 0} (g : M → Member) (n w : ℕ) (nodes : List M) → counted_of n (map g nodes) ≡ Some w → (m : M) × Contains nodes m × ((g m).number ≡ n)
+counted-node g n w [] h = cc
+counted-node {M} g n w (m ∷ nodes) h =
+    elim ((g m).number == n) as (λ b. (g m).number == n ≡ b → cond b (Some (g m).counted) (counted_of n (map g nodes)) ≡ Some w → (x : M) × Contains (m ∷ nodes) x × ((g x).number ≡ n)) [
+      | true ↦ λ same _. (m, (0, omega arith, refl), same_by_test (g m).number n same)
+      | false ↦ λ _ there. (let r = counted-node g n w nodes there in (r.0, Contains-append_right (m ∷ []) nodes r.0 r.1, r.2))
+    ] refl h
+
+module _ {K V : Type 0} (eq : K → K → Bool) (rows : List (Option (Row (Record K V)))) (index : K → Option ℕ) (nodes : List (ℕ × ℕ)) (t : IsTied eq rows index nodes) where
+  pub record-placed : (n : ℕ) → IsSome (get (records_of rows) n) → IsSome (get (places_of rows) n)
+  record-placed n h =
+      let r = some-of (get (records_of rows) n) h in
+      let w = record_row rows t.numbered n r.0 r.1 in
+      ap is_some (ap (get (places_of rows)) (sym w.3) ∙ get-places rows t.numbered w.0 w.1 w.2)
+
+  pub member-placed : (n : ℕ) → IsSome (counted_of n (map (member_at rows) nodes)) → IsSome (get (places_of rows) n)
+  member-placed n h =
+      let c = some-of (counted_of n (map (member_at rows) nodes)) h in
+      let m = counted-node (member_at rows) n c.0 nodes c.1 in
+      let w = node-member eq rows index nodes t m.0.0 m.0.1 (in-nodes nodes m.0 t.distinct m.1) in
+      let number : w.row.number ≡ n = sym (ap (λ (x : Member). x.number) w.member_is) ∙ m.2 in
+      ap is_some (ap (get (places_of rows)) (sym number) ∙ w.place_is)
+
+  -- the row of another number is not at the place
+  pub other-row : (place number : ℕ) (row : Row (Record K V)) → row_at rows place ≡ Some row → get (places_of rows) number ≡ Some place → row.number ≡ number
+  other-row place number row at_is there =
+      let w = placed_row rows t.numbered place number there in
+      let same : w.0 ≡ row = (let e = sym w.1 ∙ at_is in cc) in
+      sym (ap (λ (r : Row (Record K V)). r.number) same) ∙ w.2

@@ -1,0 +1,499 @@
+-- What a store is after each of its calls.
+use Rattle.std.proofs.Common.{◌≡◌, ℕ, ◌+◌, ◌-◌, Bool, true, false, cond, List, [], ◌∷◌, ◌++◌, map, Option, Some, None, IsSome, is_some, count_by, inl, inr, refl, sym, ap, subst, ◌∙◌, nat_eq}
+use Rattle.std.proofs.lemmas.Bool.{eqb-true, cases_eq, cases_Bool, eq-eqb, ne_eqb, cond-true, cond-false, false≢true}
+use Rattle.std.proofs.lemmas.List.{map-append}
+use Rattle.std.proofs.lemmas.Map.{lookup-remove_entry}
+use Rattle.std.specs.Cmp.{IsEquivalence, nat_eq_equiv, nat_cmp_total}
+use Rattle.std.specs.FinMap.{FinMap, get, insert, remove, len, len-insert, len-remove}
+use Rattle.std.specs.List.{IsDistinct}
+use Rattle.std.specs.Map.{lookup, remove_entry, keys_of}
+use Rattle.std.specs.Option.{option_map, option_and_then, option_map_or}
+use Rattle.std.specs.Ordering.{nat_cmp}
+use Rattle.std.specs.Prelude.{option_to_list}
+use Rattle.moka_structures.proofs.Linked.{linked-same, linked-added, linked-removed}
+use Rattle.moka_structures.proofs.TableCalls.{get-records, get-places, record_row, placed_row, shows-inserted, shows-stored, shows-taken, shows-counted, shows-uncounted, shows-forgotten, with_stored-changes, count-with_stored}
+use Rattle.moka_structures.proofs.TableMaps.{option-cases, some_is}
+use Rattle.moka_structures.specs.declared.record_table.Membership.{Membership}
+use Rattle.moka_structures.specs.declared.record_table.Row.{Row}
+use Rattle.moka_structures.specs.Linked.{IsLinked}
+use Rattle.moka_structures.specs.RecordTable.{Table, row_at, number_at, stored_at, membership_at, with_stored, ChangesAt, records_of, places_of}
+use Rattle.moka_store.proofs.Keys.{index-same, index-added, index-removed}
+use Rattle.moka_store.proofs.Nodes.{distinct-none, distinct-push, distinct-remove, in-nodes, node-in}
+use Rattle.moka_store.proofs.Ties.{read-other, read-same, named-changed, named-gone, access-kept, access-off, node_row, node-of, off-nodes, counted-row, without-row, unlisted-from}
+use Rattle.moka_parts.proofs.Lookup.{record_of_key_found, absent_key, present_key}
+use Rattle.moka_store.specs.Store.{IsOneEach}
+use Rattle.moka_store.specs.StoreRows.{key_in, key_at, access_in, access_at, timer_at, member_in, member_at}
+use Rattle.moka_store.specs.StoreTies.{IsIndex, IsNamed, IsTied}
+use Rattle.moka_parts.specs.declared.records.Member.{Member}
+use Rattle.moka_parts.specs.declared.records.Record.{Record}
+use Rattle.moka_parts.specs.Records.{member, counted_of, record_of_key, without_member, to_back}
+
+-- the parts belong together, and the list stands for these members
+pub record Sees {K V : Type 0} (eq : K → K → Bool) (rows : List (Option (Row (Record K V)))) (index : K → Option ℕ) (nodes : List (ℕ × ℕ)) (members : List Member) : Type 0 where
+  pub tied : IsTied eq rows index nodes
+  pub access : map (member_at rows) nodes ≡ members
+
+-- a number's row
+pub record Placed {K V : Type 0} (rows : List (Option (Row (Record K V)))) (place number : ℕ) : Type 0 where
+  pub row : Row (Record K V)
+  pub at_is : row_at rows place ≡ Some row
+  pub number_is : row.number ≡ number
+  pub number_at_is : number_at rows place ≡ number
+
+-- the row of a record
+pub record Handled {K V : Type 0} (rows : List (Option (Row (Record K V)))) (place number : ℕ) : Type 0 where
+  pub row : Row (Record K V)
+  pub stored : Record K V
+  pub at_is : row_at rows place ≡ Some row
+  pub number_is : row.number ≡ number
+  pub number_at_is : number_at rows place ≡ number
+  pub stored_is : row.stored ≡ Some stored
+  pub stored_at_is : stored_at rows place ≡ Some stored
+  pub record_is : get (records_of rows) number ≡ Some stored
+
+-- the record of a key
+pub record KeyRow {K V : Type 0} (eq : K → K → Bool) (rows : List (Option (Row (Record K V)))) (key : K) (place : ℕ) : Type 0 where
+  pub row : Row (Record K V)
+  pub stored : Record K V
+  pub at_is : row_at rows place ≡ Some row
+  pub stored_is : row.stored ≡ Some stored
+  pub same : eq key stored.key ≡ true
+  pub record_is : get (records_of rows) row.number ≡ Some stored
+  pub place_is : get (places_of rows) row.number ≡ Some place
+
+key-row : {K V : Type 0} (o : Option (Row (Record K V))) (k : K) → option_and_then key_in o ≡ Some k → (row : Row (Record K V)) × (r : Record K V) × (o ≡ Some row) × (row.stored ≡ Some r) × (r.key ≡ k)
+key-row None k e = cc
+key-row {K} {V} (Some row) k e = elim (option-cases row.stored) as (λ _. (row' : Row (Record K V)) × (r : Record K V) × (Some row ≡ Some row') × (row'.stored ≡ Some r) × (r.key ≡ k)) [
+  | inl none ↦ let bad : None ≡ Some k = sym (ap (option_map (λ (r : Record K V). r.key)) none) ∙ e in cc
+  | inr r ↦
+      let same : Some r.0.key ≡ Some k = sym (ap (option_map (λ (r : Record K V). r.key)) r.1) ∙ e in
+      (row, r.0, refl, r.1, (let q : r.0.key ≡ k = cc in q))
+]
+
+-- what is found once a slot left
+lookup-remove : (slot other : ℕ) (nodes : List (ℕ × ℕ)) → IsDistinct nat_eq (keys_of nodes) → lookup (nat_eq other) (remove_entry (nat_eq slot) nodes) ≡ cond (nat_eq slot other) None (lookup (nat_eq other) nodes)
+lookup-remove slot other nodes d = lookup-remove_entry nat_eq_equiv (nat_eq slot) (λ x y e. ap (λ s. nat_eq s y) (eqb-true slot x e)) other nodes d
+
+-- a slot that left is free
+lookup-removed : (slot : ℕ) (nodes : List (ℕ × ℕ)) → IsDistinct nat_eq (keys_of nodes) → lookup (nat_eq slot) (remove_entry (nat_eq slot) nodes) ≡ None
+lookup-removed slot nodes d = lookup-remove_entry nat_eq_equiv (nat_eq slot) (λ x y e. ap (λ s. nat_eq s y) (eqb-true slot x e)) slot nodes d ∙ cond-true (nat_eq slot slot) None (lookup (nat_eq slot) nodes) (eq-eqb slot slot refl)
+
+module _ {K V : Type 0} (eq : K → K → Bool) (rows : List (Option (Row (Record K V)))) (index : K → Option ℕ) (nodes : List (ℕ × ℕ)) (t : IsTied eq rows index nodes) where
+  pub placed : (place number : ℕ) → get (places_of rows) number ≡ Some place → Placed rows place number
+  placed place number h = let w = placed_row rows t.numbered place number h in record { row = w.0; at_is = w.1; number_is = w.2; number_at_is = ap (λ o. option_map_or (λ (row : Row (Record K V)). row.number) o 0) w.1 ∙ w.2 }
+
+  pub handled : (place number : ℕ) → get (places_of rows) number ≡ Some place → IsSome (get (records_of rows) number) → Handled rows place number
+  handled place number h s =
+      let w = placed place number h in
+      let there : get (records_of rows) number ≡ w.row.stored = ap (get (records_of rows)) (sym w.number_is) ∙ get-records rows t.numbered place w.row w.at_is in
+      let r = some_is (get (records_of rows) number) s in
+      let is : w.row.stored ≡ Some r.0 = sym there ∙ r.1 in
+      record { row = w.row; stored = r.0; at_is = w.at_is; number_is = w.number_is; number_at_is = w.number_at_is; stored_is = is; stored_at_is = ap (option_and_then (λ (row : Row (Record K V)). row.stored)) w.at_is ∙ is; record_is = r.1 }
+
+  pub tied-same : (after : K → Option ℕ) → ((q : K) → after q ≡ index q) → IsTied eq rows after nodes
+  tied-same after u = record {
+    numbered = t.numbered;
+    named = t.named;
+    indexed = index-same eq (key_at rows) (key_at rows) index after t.indexed (λ p. refl) u;
+    linked = t.linked;
+    distinct = t.distinct;
+    untimed = t.untimed;
+  }
+
+  -- no record has a key that the index lacks
+  pub key-absent : (key : K) → index key ≡ None → (n : ℕ) (r : Record K V) → get (records_of rows) n ≡ Some r → eq key r.key ≡ false
+  key-absent key none n r h = elim (cases_Bool (eq key r.key)) as (λ _. eq key r.key ≡ false) [
+    | inl y ↦
+        let w = record_row rows t.numbered n r h in
+        let i = t.indexed.to_place key w.0 (record { found = r.key; at_is = ap (option_and_then key_in) w.2 ∙ ap (option_map (λ (r : Record K V). r.key)) w.4; same = y }) in
+        let bad : None ≡ Some w.0 = sym none ∙ i in cc
+    | inr f ↦ f
+  ]
+
+  -- the record that the index leads to
+  pub key-present : (key : K) (place : ℕ) → index key ≡ Some place → KeyRow eq rows key place
+  key-present key place h =
+      let w = t.indexed.to_key key place h in
+      let r = key-row (row_at rows place) w.found w.at_is in
+      record { row = r.0; stored = r.1; at_is = r.2; stored_is = r.3; same = ap (eq key) r.4 ∙ w.same; record_is = get-records rows t.numbered place r.0 r.2 ∙ r.3; place_is = get-places rows t.numbered place r.0 r.2 }
+
+  -- the index lacks a key that no record has
+  pub key-fresh : (key : K) → ((n : ℕ) (r : Record K V) → get (records_of rows) n ≡ Some r → eq key r.key ≡ false) → index key ≡ None
+  key-fresh key h = elim (option-cases (index key)) as (λ _. index key ≡ None) [
+    | inl none ↦ none
+    | inr p ↦
+        let w = key-present key p.0 p.1 in
+        let f = h w.row.number w.stored w.record_is in
+        let bad : true ≡ false = sym w.same ∙ f in cc
+  ]
+
+  same-key-place : (p q : ℕ) (key : K) (a b : Row (Record K V)) (r s : Record K V) → row_at rows p ≡ Some a → a.stored ≡ Some r → row_at rows q ≡ Some b → b.stored ≡ Some s → eq key r.key ≡ true → eq key s.key ≡ true → p ≡ q
+  same-key-place p q key a b r s ae re be se kr ks =
+      let x = t.indexed.to_place key p (record { found = r.key; at_is = ap (option_and_then key_in) ae ∙ ap (option_map (λ (r : Record K V). r.key)) re; same = kr }) in
+      let y = t.indexed.to_place key q (record { found = s.key; at_is = ap (option_and_then key_in) be ∙ ap (option_map (λ (r : Record K V). r.key)) se; same = ks }) in
+      cc
+
+  -- each record is under its own number, and a key has one record
+  pub one-each : IsEquivalence eq → IsOneEach eq (records_of rows)
+  one-each laws = record {
+    numbered = λ n r h. let w = record_row rows t.numbered n r h in t.named.same w.0 w.1 r w.2 w.4 ∙ w.3;
+    one_each = λ n m p q a b e.
+        let v = record_row rows t.numbered n p a in
+        let w = record_row rows t.numbered m q b in
+        let place = same-key-place v.0 w.0 p.key v.1 w.1 p q v.2 v.4 w.2 w.4 (laws.refl p.key) e in
+        let both : Some v.1 ≡ Some w.1 = sym v.2 ∙ ap (row_at rows) place ∙ w.2 in
+        let same : v.1 ≡ w.1 = cc in
+        sym v.3 ∙ ap (λ (row : Row (Record K V)). row.number) same ∙ w.3;
+  }
+
+  -- the record that the index leads to is the key's
+  pub record-of-present : IsEquivalence eq → (key : K) (place : ℕ) → index key ≡ Some place → (w : KeyRow eq rows key place) → record_of_key eq (records_of rows) key ≡ Some w.stored
+  record-of-present laws key place h w = present_key eq (records_of rows) key laws (one-each laws).one_each w.row.number w.stored w.record_is w.same
+
+  -- a key that the index lacks has no record
+  pub record-of-absent : (key : K) → index key ≡ None → record_of_key eq (records_of rows) key ≡ None
+  record-of-absent key none = elim (option-cases (record_of_key eq (records_of rows) key)) as (λ _. record_of_key eq (records_of rows) key ≡ None) [
+    | inl e ↦ e
+    | inr r ↦
+        let w = record_of_key_found eq (records_of rows) key r.0 r.1 in
+        let bad : true ≡ false = sym w.2 ∙ key-absent key none w.0 r.0 w.1 in cc
+  ]
+
+  -- and the other way round
+  pub record-fresh : (key : K) → record_of_key eq (records_of rows) key ≡ None → index key ≡ None
+  record-fresh key none = key-fresh key (absent_key eq (records_of rows) key none)
+
+-- the row of a member
+pub record MemberRow {K V : Type 0} (rows : List (Option (Row (Record K V)))) (nodes : List (ℕ × ℕ)) (place number : ℕ) (m : Membership) : Type 0 where
+  pub row : Row (Record K V)
+  pub at_is : row_at rows place ≡ Some row
+  pub number_is : row.number ≡ number
+  pub number_at_is : number_at rows place ≡ number
+  pub membership_is : row.membership ≡ Some m
+  pub node_is : lookup (nat_eq m.access) nodes ≡ Some place
+  pub counted_is : counted_of number (map (member_at rows) nodes) ≡ Some m.counted
+
+-- the row that a node leads to
+pub record NodeMember {K V : Type 0} (rows : List (Option (Row (Record K V)))) (slot place : ℕ) : Type 0 where
+  pub row : Row (Record K V)
+  pub at_is : row_at rows place ≡ Some row
+  pub place_is : get (places_of rows) row.number ≡ Some place
+  pub member_is : member_at rows (slot, place) ≡ member_in row
+
+module _ {K V : Type 0} (eq : K → K → Bool) (rows : List (Option (Row (Record K V)))) (index : K → Option ℕ) (nodes : List (ℕ × ℕ)) (t : IsTied eq rows index nodes) where
+  pub node-member : (slot place : ℕ) → lookup (nat_eq slot) nodes ≡ Some place → NodeMember rows slot place
+  node-member slot place h =
+      let w = node_row eq rows index nodes t (slot, place) (node-in nodes slot place h) in
+      record { row = w.row; at_is = w.at_is; place_is = get-places rows t.numbered place w.row w.at_is; member_is = ap (λ o. option_map_or member_in o (record { number = 0; counted = 0 })) w.at_is }
+
+  module _ (place number : ℕ) (h : get (places_of rows) number ≡ Some place) where
+    -- what the table counts is what the list counts
+    pub counted-placed : option_map (λ (m : Membership). m.counted) (membership_at rows place) ≡ counted_of number (map (member_at rows) nodes)
+    counted-placed =
+        let w = placed eq rows index nodes t place number h in
+        ap (λ o. option_map (λ (m : Membership). m.counted) (option_and_then (λ (row : Row (Record K V)). row.membership) o)) w.at_is
+        ∙ sym (counted-row eq rows index nodes t place w.row w.at_is)
+        ∙ ap (λ n. counted_of n (map (member_at rows) nodes)) w.number_is
+
+    -- a number that is counted has a membership
+    pub member-there : IsSome (counted_of number (map (member_at rows) nodes)) → membership_at rows place ≡ None → ⊥
+    member-there c none = false≢true (sym (ap is_some (sym counted-placed ∙ ap (option_map (λ (m : Membership). m.counted)) none)) ∙ c)
+
+    pub member-row : (m : Membership) → membership_at rows place ≡ Some m → MemberRow rows nodes place number m
+    member-row m e =
+        let w = placed eq rows index nodes t place number h in
+        let is : w.row.membership ≡ Some m = sym (ap (option_and_then (λ (row : Row (Record K V)). row.membership)) w.at_is) ∙ e in
+        record {
+          row = w.row;
+          at_is = w.at_is;
+          number_is = w.number_is;
+          number_at_is = w.number_at_is;
+          membership_is = is;
+          node_is = node-of eq rows index nodes t place w.row w.at_is m is;
+          counted_is = sym counted-placed ∙ ap (option_map (λ (m : Membership). m.counted)) e;
+        }
+
+    -- a number that is not counted is of a row that is no member
+    pub unlisted : (w : Placed rows place number) → counted_of number (map (member_at rows) nodes) ≡ None → w.row.membership ≡ None
+    unlisted w none = unlisted-from eq rows index nodes t place w.row w.at_is (ap (λ n. counted_of n (map (member_at rows) nodes)) w.number_is ∙ none)
+
+    -- a row that may go
+    pub bare-row : get (records_of rows) number ≡ None → counted_of number (map (member_at rows) nodes) ≡ None → row_at rows place ≡ Some (record { number = number_at rows place; stored = None; membership = None; timer = None })
+    bare-row gone apart =
+        let w = placed eq rows index nodes t place number h in
+        let bare : w.row.stored ≡ None = sym (get-records rows t.numbered place w.row w.at_is) ∙ ap (get (records_of rows)) w.number_is ∙ gone in
+        let alone = unlisted w apart in
+        let still : w.row.timer ≡ None = sym (ap (option_and_then (λ (row : Row (Record K V)). row.timer)) w.at_is) ∙ t.untimed place in
+        w.at_is
+        ∙ ap (λ (s : Option (Record K V)). Some (record w.row { stored = s })) bare
+        ∙ ap (λ (m : Option Membership). Some (record w.row { stored = None; membership = m })) alone
+        ∙ ap (λ (o : Option ℕ). Some (record w.row { stored = None; membership = None; timer = o })) still
+        ∙ ap (λ (n : ℕ). Some (let row : Row (Record K V) = record { number = n; stored = None; membership = None; timer = None } in row)) (w.number_is ∙ sym w.number_at_is)
+
+-- ---- one lemma for each call
+
+module _ {K V : Type 0} (eq : K → K → Bool) (laws : IsEquivalence eq) (rows new : List (Option (Row (Record K V)))) (index : K → Option ℕ) (nodes : List (ℕ × ℕ)) (place : ℕ) (t : IsTied eq rows index nodes) where
+  -- a new record
+  pub inserted : (after : K → Option ℕ) (r : Record K V) (key : K) → r.key ≡ key → row_at rows place ≡ None → get (places_of rows) r.number ≡ None → index key ≡ None
+      → ChangesAt (row_at rows) (row_at new) place (Some (record { number = r.number; stored = Some r; membership = None; timer = None }))
+      → ((q : K) → after q ≡ cond (eq key q) (Some place) (index q))
+      → Sees eq new after nodes (map (member_at rows) nodes)
+  inserted after r key own vacant fresh unknown c u =
+      let row : Row (Record K V) = record { number = r.number; stored = Some r; membership = None; timer = None } in
+      record {
+        tied = record {
+          numbered = (shows-inserted rows new place t.numbered r.number r vacant fresh c).numbered;
+          named = named-changed (row_at rows) (row_at new) place t.named row c (λ s e. let same : r ≡ s = cc in ap (λ (r : Record K V). r.number) (sym same));
+          indexed = index-added eq (key_at rows) (key_at new) index after t.indexed laws place key (read-other key_in (row_at rows) (row_at new) place (Some row) c) (ap (option_and_then key_in) vacant) (ap (option_and_then key_in) c.changed ∙ ap Some own) unknown u;
+          linked = linked-same (access_at rows) (access_at new) (λ s. lookup (nat_eq s) nodes) (λ s. lookup (nat_eq s) nodes) t.linked (read-same access_in (row_at rows) (row_at new) place (Some row) c (sym (ap (option_and_then access_in) vacant))) (λ s. refl);
+          distinct = t.distinct;
+          untimed = λ p. read-same (λ row. row.timer) (row_at rows) (row_at new) place (Some row) c (sym (t.untimed place)) p ∙ t.untimed p;
+        };
+        access = access-off rows new place (Some row) c nodes (λ m h e.
+            let w = in-nodes nodes m t.distinct h in
+            let bad : None ≡ Some m.0 = sym (ap (option_and_then access_in) vacant) ∙ ap (access_at rows) (sym e) ∙ t.linked.to_slot m.0 m.1 w in
+            cc);
+      }
+
+  module _ (was : Row (Record K V)) (at_is : row_at rows place ≡ Some was) where
+    same-members : (row : Row (Record K V)) → ChangesAt (row_at rows) (row_at new) place (Some row) → row.membership ≡ was.membership → IsLinked (access_at new) (λ s. lookup (nat_eq s) nodes)
+    same-members row c e = linked-same (access_at rows) (access_at new) (λ s. lookup (nat_eq s) nodes) (λ s. lookup (nat_eq s) nodes) t.linked
+        (read-same access_in (row_at rows) (row_at new) place (Some row) c (ap (option_map (λ (m : Membership). m.access)) e ∙ sym (ap (option_and_then access_in) at_is))) (λ s. refl)
+
+    same-keys : (row : Row (Record K V)) → ChangesAt (row_at rows) (row_at new) place (Some row) → key_in row ≡ key_in was → IsIndex eq (key_at new) index
+    same-keys row c e = index-same eq (key_at rows) (key_at new) index index t.indexed (read-same key_in (row_at rows) (row_at new) place (Some row) c (e ∙ sym (ap (option_and_then key_in) at_is))) (λ q. refl)
+
+    same-access : (row : Row (Record K V)) → ChangesAt (row_at rows) (row_at new) place (Some row) → row.number ≡ was.number → row.membership ≡ was.membership → map (member_at new) nodes ≡ map (member_at rows) nodes
+    same-access row c n e = access-kept rows new place (Some row) c nodes
+        (ap (λ n. member n (option_map_or (λ (m : Membership). m.counted) row.membership 0)) n ∙ ap (λ m. member was.number (option_map_or (λ (m : Membership). m.counted) m 0)) e
+        ∙ sym (ap (λ o. option_map_or member_in o (record { number = 0; counted = 0 })) at_is))
+
+    same-timer : (row : Row (Record K V)) → ChangesAt (row_at rows) (row_at new) place (Some row) → row.timer ≡ was.timer → (p : ℕ) → timer_at new p ≡ None
+    same-timer row c e p = read-same (λ row. row.timer) (row_at rows) (row_at new) place (Some row) c (e ∙ sym (ap (option_and_then (λ (row : Row (Record K V)). row.timer)) at_is)) p ∙ t.untimed p
+
+    same-named : (row : Row (Record K V)) → ChangesAt (row_at rows) (row_at new) place (Some row) → row.number ≡ was.number → row.stored ≡ was.stored → IsNamed (row_at new)
+    same-named row c n s = named-changed (row_at rows) (row_at new) place t.named row c (λ r e. t.named.same place was r at_is (sym s ∙ e) ∙ sym n)
+
+    -- another record of the same number and key
+    pub stored : (old r : Record K V) → was.stored ≡ Some old → r.number ≡ old.number → r.key ≡ old.key → ChangesAt (row_at rows) (row_at new) place (Some (record was { stored = Some r })) → Sees eq new index nodes (map (member_at rows) nodes)
+    stored old r is number key c =
+        let row : Row (Record K V) = record was { stored = Some r } in
+        record {
+          tied = record {
+            numbered = (shows-stored rows new place t.numbered was at_is r c).numbered;
+            named = named-changed (row_at rows) (row_at new) place t.named row c (λ s e. let same : r ≡ s = cc in ap (λ (r : Record K V). r.number) (sym same) ∙ number ∙ t.named.same place was old at_is is);
+            indexed = same-keys row c (ap Some key ∙ sym (ap (option_map (λ (r : Record K V). r.key)) is));
+            linked = same-members row c refl;
+            distinct = t.distinct;
+            untimed = same-timer row c refl;
+          };
+          access = same-access row c refl refl;
+        }
+
+    -- the record leaves the map
+    pub taken : (after : K → Option ℕ) (old : Record K V) → was.stored ≡ Some old → ChangesAt (row_at rows) (row_at new) place (Some (record was { stored = None })) → ((q : K) → after q ≡ cond (eq old.key q) None (index q)) → Sees eq new after nodes (map (member_at rows) nodes)
+    taken after old is c u =
+        let row : Row (Record K V) = record was { stored = None } in
+        record {
+          tied = record {
+            numbered = (shows-taken rows new place t.numbered was at_is c).numbered;
+            named = named-changed (row_at rows) (row_at new) place t.named row c (λ s e. cc);
+            indexed = index-removed eq (key_at rows) (key_at new) index after t.indexed laws place old.key (read-other key_in (row_at rows) (row_at new) place (Some row) c)
+                (ap (option_and_then key_in) at_is ∙ ap (option_map (λ (r : Record K V). r.key)) is) (ap (option_and_then key_in) c.changed) u;
+            linked = same-members row c refl;
+            distinct = t.distinct;
+            untimed = same-timer row c refl;
+          };
+          access = same-access row c refl refl;
+        }
+
+    -- the row becomes a member, whose node is behind all others
+    pub admitted : (m : Membership) (after : List (ℕ × ℕ)) → was.membership ≡ None → lookup (nat_eq m.access) nodes ≡ None → after ≡ nodes ++ (m.access, place) ∷ []
+        → ((s : ℕ) → lookup (nat_eq s) after ≡ cond (nat_eq s m.access) (Some place) (lookup (nat_eq s) nodes))
+        → ChangesAt (row_at rows) (row_at new) place (Some (record was { membership = Some m })) → Sees eq new index after (map (member_at rows) nodes ++ member was.number m.counted ∷ [])
+    admitted m after none free is u c =
+        let row : Row (Record K V) = record was { membership = Some m } in
+        record {
+          tied = record {
+            numbered = (shows-counted rows new place t.numbered was at_is m c).numbered;
+            named = same-named row c refl refl;
+            indexed = same-keys row c refl;
+            linked = linked-added (access_at rows) (access_at new) (λ s. lookup (nat_eq s) nodes) (λ s. lookup (nat_eq s) after) t.linked m.access place (read-other access_in (row_at rows) (row_at new) place (Some row) c)
+                (ap (option_and_then access_in) at_is ∙ ap (option_map (λ (m : Membership). m.access)) none) (ap (option_and_then access_in) c.changed) free u;
+            distinct = subst (λ l. IsDistinct nat_eq (keys_of l)) (sym is) (distinct-push nodes m.access place t.distinct free);
+            untimed = same-timer row c refl;
+          };
+          access =
+              ap (map (member_at new)) is ∙ map-append (member_at new) nodes ((m.access, place) ∷ [])
+              ∙ ap (λ l. l ++ member_at new (m.access, place) ∷ []) (access-off rows new place (Some row) c nodes (off-nodes eq rows index nodes t place was at_is none))
+              ∙ ap (λ o. map (member_at rows) nodes ++ option_map_or member_in o (record { number = 0; counted = 0 }) ∷ []) c.changed;
+        }
+
+    -- the member leaves the list
+    pub left : (m : Membership) (after : List (ℕ × ℕ)) → was.membership ≡ Some m → after ≡ remove_entry (nat_eq m.access) nodes
+        → ((s : ℕ) → lookup (nat_eq s) after ≡ cond (nat_eq m.access s) None (lookup (nat_eq s) nodes))
+        → ChangesAt (row_at rows) (row_at new) place (Some (record was { membership = None })) → Sees eq new index after (without_member was.number (map (member_at rows) nodes))
+    left m after member_is is u c =
+        let row : Row (Record K V) = record was { membership = None } in
+        let d : IsDistinct nat_eq (keys_of after) = subst (λ l. IsDistinct nat_eq (keys_of l)) (sym is) (distinct-remove (nat_eq m.access) nodes t.distinct) in
+        let l : IsLinked (access_at new) (λ s. lookup (nat_eq s) after) = linked-removed (access_at rows) (access_at new) (λ s. lookup (nat_eq s) nodes) (λ s. lookup (nat_eq s) after) t.linked m.access place (read-other access_in (row_at rows) (row_at new) place (Some row) c)
+        (ap (option_and_then access_in) at_is ∙ ap (option_map (λ (m : Membership). m.access)) member_is) (ap (option_and_then access_in) c.changed) u in
+        record {
+          tied = record {
+            numbered = (shows-uncounted rows new place t.numbered was at_is c).numbered;
+            named = same-named row c refl refl;
+            indexed = same-keys row c refl;
+            linked = l;
+            distinct = d;
+            untimed = same-timer row c refl;
+          };
+          access =
+              access-off rows new place (Some row) c after (λ k h e.
+              let there = l.to_slot k.0 k.1 (in-nodes after k d h) in
+              let bad : None ≡ Some k.0 = sym (ap (option_and_then access_in) c.changed) ∙ ap (access_at new) (sym e) ∙ there in
+              cc)
+              ∙ ap (map (member_at rows)) is
+              ∙ sym (without-row eq rows index nodes t place was at_is m member_is);
+        }
+
+    -- the member gets another weight, and its node goes to the back
+    pub recounted : (m : Membership) (weight : ℕ) (after : List (ℕ × ℕ)) → was.membership ≡ Some m → after ≡ remove_entry (nat_eq m.access) nodes ++ (m.access, place) ∷ []
+        → ((s : ℕ) → lookup (nat_eq s) after ≡ lookup (nat_eq s) nodes)
+        → ChangesAt (row_at rows) (row_at new) place (Some (record was { membership = Some (record m { counted = weight }) })) → Sees eq new index after (without_member was.number (map (member_at rows) nodes) ++ member was.number weight ∷ [])
+    recounted m weight after member_is is u c =
+        let row : Row (Record K V) = record was { membership = Some (record m { counted = weight }) } in
+        let there : access_at rows place ≡ Some m.access = ap (option_and_then access_in) at_is ∙ ap (option_map (λ (m : Membership). m.access)) member_is in
+        record {
+          tied = record {
+            numbered = (shows-counted rows new place t.numbered was at_is (record m { counted = weight }) c).numbered;
+            named = same-named row c refl refl;
+            indexed = same-keys row c refl;
+            linked = linked-same (access_at rows) (access_at new) (λ s. lookup (nat_eq s) nodes) (λ s. lookup (nat_eq s) after) t.linked (read-same access_in (row_at rows) (row_at new) place (Some row) c (sym there)) u;
+            distinct = subst (λ l. IsDistinct nat_eq (keys_of l)) (sym is) (distinct-push (remove_entry (nat_eq m.access) nodes) m.access place (distinct-remove (nat_eq m.access) nodes t.distinct) (lookup-removed m.access nodes t.distinct));
+            untimed = same-timer row c refl;
+          };
+          access =
+              ap (map (member_at new)) is ∙ map-append (member_at new) (remove_entry (nat_eq m.access) nodes) ((m.access, place) ∷ [])
+              ∙ ap (λ l. l ++ member_at new (m.access, place) ∷ []) (access-off rows new place (Some row) c (remove_entry (nat_eq m.access) nodes) (λ k h e.
+              let d = distinct-remove (nat_eq m.access) nodes t.distinct in
+              let found : lookup (nat_eq k.0) (remove_entry (nat_eq m.access) nodes) ≡ Some k.1 = in-nodes (remove_entry (nat_eq m.access) nodes) k d h in
+              let other = lookup-remove m.access k.0 nodes t.distinct in
+              elim (cases_eq m.access k.0) as (λ _. ⊥) [
+                | inl s ↦ let bad : None ≡ Some k.1 = sym (other ∙ cond-true (nat_eq m.access k.0) None (lookup (nat_eq k.0) nodes) (eq-eqb m.access k.0 s)) ∙ found in cc
+                | inr ne ↦
+                    let was_in : lookup (nat_eq k.0) nodes ≡ Some k.1 = sym (other ∙ cond-false (nat_eq m.access k.0) None (lookup (nat_eq k.0) nodes) (ne_eqb m.access k.0 ne)) ∙ found in
+                    let both : Some m.access ≡ Some k.0 = sym there ∙ ap (access_at rows) (sym e) ∙ t.linked.to_slot k.0 k.1 was_in in
+                    ne (cc)
+              ]))
+              ∙ ap (λ l. l ++ member_at new (m.access, place) ∷ []) (sym (without-row eq rows index nodes t place was at_is m member_is))
+              ∙ ap (λ o. without_member was.number (map (member_at rows) nodes) ++ option_map_or member_in o (record { number = 0; counted = 0 }) ∷ []) c.changed;
+        }
+
+    -- the row goes
+    pub forgotten : was.stored ≡ None → was.membership ≡ None → ChangesAt (row_at rows) (row_at new) place None → Sees eq new index nodes (map (member_at rows) nodes)
+    forgotten bare alone c = record {
+      tied = record {
+        numbered = (shows-forgotten rows new place t.numbered was at_is bare alone c).numbered;
+        named = named-gone (row_at rows) (row_at new) place t.named c;
+        indexed = index-same eq (key_at rows) (key_at new) index index t.indexed (read-same key_in (row_at rows) (row_at new) place None c (sym (ap (option_and_then key_in) at_is ∙ ap (option_map (λ (r : Record K V). r.key)) bare))) (λ q. refl);
+        linked = linked-same (access_at rows) (access_at new) (λ s. lookup (nat_eq s) nodes) (λ s. lookup (nat_eq s) nodes) t.linked
+            (read-same access_in (row_at rows) (row_at new) place None c (sym (ap (option_and_then access_in) at_is ∙ ap (option_map (λ (m : Membership). m.access)) alone))) (λ s. refl);
+        distinct = t.distinct;
+        untimed = λ p. read-same (λ row. row.timer) (row_at rows) (row_at new) place None c (sym (t.untimed place)) p ∙ t.untimed p;
+      };
+      access = access-off rows new place None c nodes (off-nodes eq rows index nodes t place was at_is alone);
+    }
+
+module _ {K V : Type 0} (eq : K → K → Bool) (rows : List (Option (Row (Record K V)))) (index : K → Option ℕ) (nodes after : List (ℕ × ℕ)) (place : ℕ) (t : IsTied eq rows index nodes) (was : Row (Record K V)) (at_is : row_at rows place ≡ Some was) where
+  -- the member's node goes to the back
+  pub moved : (m : Membership) → was.membership ≡ Some m → after ≡ remove_entry (nat_eq m.access) nodes ++ (m.access, place) ∷ [] → ((s : ℕ) → lookup (nat_eq s) after ≡ lookup (nat_eq s) nodes)
+      → Sees eq rows index after (to_back was.number (map (member_at rows) nodes))
+  moved m member_is is u =
+      record {
+        tied = record {
+          numbered = t.numbered;
+          named = t.named;
+          indexed = t.indexed;
+          linked = linked-same (access_at rows) (access_at rows) (λ s. lookup (nat_eq s) nodes) (λ s. lookup (nat_eq s) after) t.linked (λ p. refl) u;
+          distinct = subst (λ l. IsDistinct nat_eq (keys_of l)) (sym is) (distinct-push (remove_entry (nat_eq m.access) nodes) m.access place (distinct-remove (nat_eq m.access) nodes t.distinct) (lookup-removed m.access nodes t.distinct));
+          untimed = t.untimed;
+        };
+        access =
+            ap (map (member_at rows)) is ∙ map-append (member_at rows) (remove_entry (nat_eq m.access) nodes) ((m.access, place) ∷ [])
+            ∙ ap (λ l. l ++ member_at rows (m.access, place) ∷ []) (sym (without-row eq rows index nodes t place was at_is m member_is))
+            ∙ ap (λ o. without_member was.number (map (member_at rows) nodes) ++ option_map_or member_in o (record { number = 0; counted = 0 }) ∷ []) at_is
+            ∙ ap (λ o. without_member was.number (map (member_at rows) nodes) ++ member was.number (option_map_or (λ (m : Membership). m.counted) o 0) ∷ []) member_is
+            ∙ sym (ap (λ o. without_member was.number (map (member_at rows) nodes) ++ option_to_list (option_map (member was.number) o)) (counted-row eq rows index nodes t place was at_is ∙ ap (option_map (λ (m : Membership). m.counted)) member_is));
+      }
+
+-- the table after a write through a reference
+pub record Rewritten {K V : Type 0} (eq : K → K → Bool) (old new : Table (Record K V)) (index : K → Option ℕ) (nodes : List (ℕ × ℕ)) (number : ℕ) (r : Record K V) : Type 0 where
+  pub tied : IsTied eq new.rows index nodes
+  pub access : map (member_at new.rows) nodes ≡ map (member_at old.rows) nodes
+  pub records : records_of new.rows ≡ insert (records_of old.rows) number r
+  pub places : places_of new.rows ≡ places_of old.rows
+  pub len : count_by is_some new.rows ≡ count_by is_some old.rows
+  pub room : new.room ≡ old.room
+
+pub rewritten : {K V : Type 0} (eq : K → K → Bool) (laws : IsEquivalence eq) (old new : Table (Record K V)) (index : K → Option ℕ) (nodes : List (ℕ × ℕ)) (place number : ℕ) (r : Record K V)
+    → IsTied eq old.rows index nodes → (h : Handled old.rows place number) → r.number ≡ h.stored.number → r.key ≡ h.stored.key → new ≡ record old { rows = with_stored old.rows place r } → Rewritten eq old new index nodes number r
+rewritten {K} {V} eq laws old new index nodes place number r t h n k e =
+    let rows = with_stored old.rows place r in
+    let c = with_stored-changes old.rows place r h.row h.at_is in
+    let s = stored eq laws old.rows rows index nodes place t h.row h.at_is h.stored r h.stored_is n k c in
+    let m = shows-stored old.rows rows place t.numbered h.row h.at_is r c in
+    let is : new.rows ≡ rows = ap (λ (t : Table (Record K V)). t.rows) e in
+    record {
+      tied = subst (λ rows. IsTied eq rows index nodes) (sym is) s.tied;
+      access = ap (λ rows. map (member_at rows) nodes) is ∙ s.access;
+      records = ap records_of is ∙ m.records_is ∙ ap (λ n. insert (records_of old.rows) n r) h.number_is;
+      places = ap places_of is ∙ m.places_is;
+      len = ap (count_by is_some) is ∙ count-with_stored old.rows place r;
+      room = ap (λ (t : Table (Record K V)). t.room) e;
+    }
+
+-- the empty store
+pub tied-empty : {K V : Type 0} (eq : K → K → Bool) (rows : List (Option (Row (Record K V)))) (index : K → Option ℕ) (nodes : List (ℕ × ℕ)) → rows ≡ [] → ((q : K) → index q ≡ None) → nodes ≡ [] → IsTied eq rows index nodes
+tied-empty eq rows index nodes re ie ne =
+    let no_row : (p : ℕ) → row_at rows p ≡ None = λ p. ap (λ r. row_at r p) re in
+    record {
+      numbered = record { same = λ p q a b pe qe s. let bad : None ≡ Some a = sym (no_row p) ∙ pe in cc };
+      named = record { same = λ p row r e s. let bad : None ≡ Some row = sym (no_row p) ∙ e in cc };
+      indexed = record {
+        to_key = λ q p h. (let bad : None ≡ Some p = sym (ie q) ∙ h in cc);
+        to_place = λ q p h. (let bad : None ≡ Some h.found = sym (ap (option_and_then key_in) (no_row p)) ∙ h.at_is in cc);
+      };
+      linked = record {
+        to_slot = λ s p h. (let bad : None ≡ Some p = ap (lookup (nat_eq s)) (sym ne) ∙ h in cc);
+        to_place = λ s p h. (let bad : None ≡ Some s = sym (ap (option_and_then access_in) (no_row p)) ∙ h in cc);
+      };
+      distinct = subst (λ l. IsDistinct nat_eq (keys_of l)) (sym ne) distinct-none;
+      untimed = λ p. ap (option_and_then (λ (row : Row (Record _ _)). row.timer)) (no_row p);
+    }
+
+-- ---- how many records there are
+
+module _ {X : Type 0} (m : FinMap nat_cmp X) (n : ℕ) where
+  pub len-fresh : (x : X) → get m n ≡ None → len (insert m n x) ≡ len m + 1
+  len-fresh x h = len-insert nat_cmp_total m n x ∙ cond-false (is_some (get m n)) (len m) (len m + 1) (ap is_some h)
+
+  pub len-present : (x y : X) → get m n ≡ Some y → len (insert m n x) ≡ len m
+  len-present x y h = len-insert nat_cmp_total m n x ∙ cond-true (is_some (get m n)) (len m) (len m + 1) (ap is_some h)
+
+  pub len-removed : (y : X) → get m n ≡ Some y → len (remove m n) ≡ len m - 1
+  len-removed y h = len-remove nat_cmp_total m n ∙ cond-true (is_some (get m n)) (len m - 1) (len m) (ap is_some h)
+
+module _ {K V : Type 0} (eq : K → K → Bool) (laws : IsEquivalence eq) (rows : List (Option (Row (Record K V)))) (index : K → Option ℕ) (nodes : List (ℕ × ℕ)) (t : IsTied eq rows index nodes) where
+  -- the index leads from a record's key to its place
+  pub index-of : (place number : ℕ) → (h : Handled rows place number) → index h.stored.key ≡ Some place
+  index-of place number h = t.indexed.to_place h.stored.key place (record { found = h.stored.key; at_is = ap (option_and_then key_in) h.at_is ∙ ap (option_map (λ (r : Record K V). r.key)) h.stored_is; same = laws.refl h.stored.key })
+
+  -- a number without a row has no record
+  pub unrecorded : (number : ℕ) → get (places_of rows) number ≡ None → get (records_of rows) number ≡ None
+  unrecorded number h = elim (option-cases (get (records_of rows) number)) as (λ _. get (records_of rows) number ≡ None) [
+    | inl none ↦ none
+    | inr r ↦
+        let w = record_row rows t.numbered number r.0 r.1 in
+        let there = get-places rows t.numbered w.0 w.1 w.2 in
+        let bad : None ≡ Some w.0 = sym h ∙ ap (get (places_of rows)) (sym w.3) ∙ there in cc
+  ]

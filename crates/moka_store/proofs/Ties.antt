@@ -1,0 +1,203 @@
+-- What the calls of a `Store` use of its invariant.
+use Rattle.std.proofs.Common.{◌≡◌, ◌≢◌, ℕ, ◌<◌, ◌≤◌, ◌==◌, Bool, false, List, map, Option, Some, None, is_some, length, count_by, inl, inr, sym, ap, ◌∙◌, nat_eq, Contains}
+use Rattle.std.proofs.lemmas.Bool.{cases_eq, eq-eqb, ne_eqb}
+use Rattle.std.specs.FinMap.{get}
+use Rattle.std.specs.Map.{lookup, remove_entry}
+use Rattle.std.specs.Option.{option_map, option_and_then, option_map_or}
+use Rattle.moka_structures.proofs.TableCalls.{get-places}
+use Rattle.moka_structures.proofs.TableMaps.{option-cases}
+use Rattle.moka_structures.specs.declared.record_table.Membership.{Membership}
+use Rattle.moka_structures.specs.declared.record_table.Row.{Row}
+use Rattle.moka_structures.specs.Order.{next_after}
+use Rattle.moka_structures.specs.RecordTable.{row_at, ChangesAt, places_of}
+use Rattle.moka_store.proofs.Nodes.{in-nodes, map-agree, counted-none, counted-found, after-found, without-found, LeadsTo, length-nodes, length-nodes_below}
+use Rattle.moka_store.specs.Store.{member_after}
+use Rattle.moka_store.specs.StoreRows.{access_in, access_at, member_in, member_at}
+use Rattle.moka_store.specs.StoreTies.{IsNamed, IsTied}
+use Rattle.moka_parts.specs.declared.records.Record.{Record}
+use Rattle.moka_parts.specs.Records.{counted_of, without_member}
+
+Rows : Type 0 → Type 0 → Type 0
+Rows K V = List (Option (Row (Record K V)))
+
+-- ---- what is read of a row, before and after a change
+
+module _ {R X : Type 0} (g : Row R → Option X) (old new : ℕ → Option (Row R)) (place : ℕ) where
+  -- at every other place it stays
+  pub read-other : (o : Option (Row R)) → ChangesAt old new place o → (p : ℕ) → p ≢ place → option_and_then g (new p) ≡ option_and_then g (old p)
+  read-other o c p ne = ap (option_and_then g) (c.others p ne)
+
+  -- where the row's stays, it stays everywhere
+  pub read-same : (o : Option (Row R)) → ChangesAt old new place o → option_and_then g o ≡ option_and_then g (old place) → (p : ℕ) → option_and_then g (new p) ≡ option_and_then g (old p)
+  read-same o c e p = elim (cases_eq p place) as (λ _. option_and_then g (new p) ≡ option_and_then g (old p)) [
+    | inl q ↦ ap (λ p. option_and_then g (new p)) q ∙ ap (option_and_then g) c.changed ∙ e ∙ ap (λ p. option_and_then g (old p)) (sym q)
+    | inr ne ↦ read-other o c p ne
+  ]
+
+module _ {K V : Type 0} (old new : ℕ → Option (Row (Record K V))) (place : ℕ) (n : IsNamed old) where
+  -- the row's record, if there is one, has the row's number
+  pub named-changed : (row : Row (Record K V)) → ChangesAt old new place (Some row) → ((r : Record K V) → row.stored ≡ Some r → r.number ≡ row.number) → IsNamed new
+  named-changed row c own = record {
+    same = λ p other r e s. elim (cases_eq p place) as (λ _. r.number ≡ other.number) [
+      | inl q ↦
+          let both : Some other ≡ Some row = sym e ∙ ap new q ∙ c.changed in
+          let same : other ≡ row = cc in
+          own r (ap (λ x. x.stored) (sym same) ∙ s) ∙ ap (λ x. x.number) (sym same)
+      | inr ne ↦ n.same p other r (sym (c.others p ne) ∙ e) s
+    ];
+  }
+
+  pub named-gone : ChangesAt old new place None → IsNamed new
+  named-gone c = record {
+    same = λ p other r e s. elim (cases_eq p place) as (λ _. r.number ≡ other.number) [
+      | inl q ↦ let bad : None ≡ Some other = sym c.changed ∙ ap new (sym q) ∙ e in cc
+      | inr ne ↦ n.same p other r (sym (c.others p ne) ∙ e) s
+    ];
+  }
+
+-- ---- members
+
+module _ {K V : Type 0} (rows new : List (Option (Row (Record K V)))) (place : ℕ) (o : Option (Row (Record K V))) (c : ChangesAt (row_at rows) (row_at new) place o) (nodes : List (ℕ × ℕ)) where
+  -- a row that stands for the same member
+  pub access-kept : option_map_or member_in o (record { number = 0; counted = 0 }) ≡ option_map_or member_in (row_at rows place) (record { number = 0; counted = 0 }) → map (member_at new) nodes ≡ map (member_at rows) nodes
+  access-kept e = map-agree (member_at new) (member_at rows) nodes (λ m h. elim (cases_eq m.1 place) as (λ _. member_at new m ≡ member_at rows m) [
+    | inl q ↦
+        ap (λ p. option_map_or member_in (row_at new p) (record { number = 0; counted = 0 })) q
+        ∙ ap (λ o. option_map_or member_in o (record { number = 0; counted = 0 })) c.changed ∙ e
+        ∙ ap (λ p. option_map_or member_in (row_at rows p) (record { number = 0; counted = 0 })) (sym q)
+    | inr ne ↦ ap (λ o. option_map_or member_in o (record { number = 0; counted = 0 })) (c.others m.1 ne)
+  ])
+
+  -- no node leads to the row
+  pub access-off : ((m : ℕ × ℕ) → Contains nodes m → m.1 ≢ place) → map (member_at new) nodes ≡ map (member_at rows) nodes
+  access-off off = map-agree (member_at new) (member_at rows) nodes (λ m h. ap (λ o. option_map_or member_in o (record { number = 0; counted = 0 })) (c.others m.1 (off m h)))
+
+-- the row at a node's place, with its slot
+pub record NodeRow {K V : Type 0} (rows : List (Option (Row (Record K V)))) (node : ℕ × ℕ) : Type 0 where
+  pub row : Row (Record K V)
+  pub membership : Membership
+  pub at_is : row_at rows node.1 ≡ Some row
+  pub membership_is : row.membership ≡ Some membership
+  pub slot_is : membership.access ≡ node.0
+
+module _ {K V : Type 0} (rows : List (Option (Row (Record K V)))) where
+  access_at-row : (slot place : ℕ) → access_at rows place ≡ Some slot → NodeRow rows (slot, place)
+  access_at-row slot place h = elim (option-cases (row_at rows place)) as (λ _. NodeRow rows (slot, place)) [
+    | inl none ↦ let bad : None ≡ Some slot = sym (ap (option_and_then access_in) none) ∙ h in cc
+    | inr w ↦
+        let there : access_in w.0 ≡ Some slot = sym (ap (option_and_then access_in) w.1) ∙ h in
+        elim (option-cases w.0.membership) as (λ _. NodeRow rows (slot, place)) [
+          | inl none ↦ let bad : None ≡ Some slot = sym (ap (option_map (λ (m : Membership). m.access)) none) ∙ there in cc
+          | inr m ↦
+              let s : Some m.0.access ≡ Some slot = sym (ap (option_map (λ (m : Membership). m.access)) m.1) ∙ there in
+              record { row = w.0; membership = m.0; at_is = w.1; membership_is = m.1; slot_is = (let e : m.0.access ≡ slot = cc in e) }
+        ]
+  ]
+
+module _ {K V : Type 0} (eq : K → K → Bool) (rows : List (Option (Row (Record K V)))) (index : K → Option ℕ) (nodes : List (ℕ × ℕ)) (t : IsTied eq rows index nodes) where
+  pub node_row : (m : ℕ × ℕ) → Contains nodes m → NodeRow rows m
+  node_row m h = access_at-row rows m.0 m.1 (t.linked.to_slot m.0 m.1 (in-nodes nodes m t.distinct h))
+
+  leads : (m : ℕ × ℕ) → Contains nodes m → LeadsTo access_in rows m
+  leads m h = let w = node_row m h in (w.row, w.at_is, ap (option_map (λ (m : Membership). m.access)) w.membership_is ∙ ap Some w.slot_is)
+
+  -- there are no more nodes than rows
+  pub nodes-within : length nodes ≤ count_by is_some rows
+  nodes-within = length-nodes access_in nodes rows t.distinct leads
+
+  -- a number without a row is not counted
+  pub counted-unplaced : (number : ℕ) → get (places_of rows) number ≡ None → counted_of number (map (member_at rows) nodes) ≡ None
+  counted-unplaced number h = counted-none (member_at rows) number nodes (λ m c.
+      let w = node_row m c in
+      let its : (member_at rows m).number ≡ w.row.number = ap (λ o. (option_map_or member_in o (record { number = 0; counted = 0 })).number) w.at_is in
+      ne_eqb (member_at rows m).number number (λ e.
+      let there = get-places rows t.numbered m.1 w.row w.at_is in
+      let bad : None ≡ Some m.1 = sym h ∙ ap (get (places_of rows)) (sym e ∙ its) ∙ there in
+      cc))
+
+  module _ (place : ℕ) (row : Row (Record K V)) (at_is : row_at rows place ≡ Some row) where
+    -- and fewer, where some row is no member
+    pub nodes-below : row.membership ≡ None → length nodes < count_by is_some rows
+    nodes-below none = length-nodes_below access_in nodes rows place row t.distinct leads at_is (ap (option_map (λ (m : Membership). m.access)) none)
+
+    -- a node of the same number leads to the row
+    same-place : (m : ℕ × ℕ) → Contains nodes m → (member_at rows m).number ≡ row.number → m.1 ≡ place
+    same-place m h e =
+        let w = node_row m h in
+        let its : (member_at rows m).number ≡ w.row.number = ap (λ o. (option_map_or member_in o (record { number = 0; counted = 0 })).number) w.at_is in
+        t.numbered.same m.1 place w.row row w.at_is at_is (sym its ∙ e)
+
+    -- no node leads to a row that is no member
+    pub off-nodes : row.membership ≡ None → (m : ℕ × ℕ) → Contains nodes m → m.1 ≢ place
+    off-nodes none m h e =
+        let w = node_row m h in
+        let both : Some w.row ≡ Some row = sym w.at_is ∙ ap (row_at rows) e ∙ at_is in
+        let same : w.row ≡ row = cc in
+        let bad : None ≡ Some w.membership = sym none ∙ ap (λ r. r.membership) (sym same) ∙ w.membership_is in
+        cc
+
+    test-none : row.membership ≡ None → (m : ℕ × ℕ) → Contains nodes m → ((member_at rows m).number == row.number) ≡ false
+    test-none none m h = ne_eqb (member_at rows m).number row.number (λ e. off-nodes none m h (same-place m h e))
+
+    -- the node of a member is in its slot
+    pub node-of : (m : Membership) → row.membership ≡ Some m → lookup (nat_eq m.access) nodes ≡ Some place
+    node-of m is = t.linked.to_place m.access place (ap (option_and_then access_in) at_is ∙ ap (option_map (λ (m : Membership). m.access)) is)
+
+    test-same : (m : Membership) → row.membership ≡ Some m → (k : ℕ × ℕ) → Contains nodes k → ((member_at rows k).number == row.number) ≡ nat_eq m.access k.0
+    test-same m is k h =
+        let w = node_row k h in
+        let its : (member_at rows k).number ≡ w.row.number = ap (λ o. (option_map_or member_in o (record { number = 0; counted = 0 })).number) w.at_is in
+        elim (cases_eq m.access k.0) as (λ _. ((member_at rows k).number == row.number) ≡ nat_eq m.access k.0) [
+          | inl s ↦
+              let both : Some place ≡ Some k.1 = sym (node-of m is) ∙ ap (λ s. lookup (nat_eq s) nodes) s ∙ in-nodes nodes k t.distinct h in
+              let p : place ≡ k.1 = cc in
+              let rs : Some w.row ≡ Some row = sym w.at_is ∙ ap (row_at rows) (sym p) ∙ at_is in
+              let r : w.row ≡ row = cc in
+              eq-eqb (member_at rows k).number row.number (its ∙ ap (λ r. r.number) r) ∙ sym (eq-eqb m.access k.0 s)
+          | inr ne ↦
+              ne_eqb (member_at rows k).number row.number (λ e.
+              let p = same-place k h e in
+              let rs : Some w.row ≡ Some row = sym w.at_is ∙ ap (row_at rows) p ∙ at_is in
+              let r : w.row ≡ row = cc in
+              let ms : Some w.membership ≡ Some m = sym w.membership_is ∙ ap (λ r. r.membership) r ∙ is in
+              let same : w.membership ≡ m = cc in
+              ne (ap (λ m. m.access) (sym same) ∙ w.slot_is))
+              ∙ sym (ne_eqb m.access k.0 ne)
+        ]
+
+    member-is : (slot : ℕ) → member_at rows (slot, place) ≡ member_in row
+    member-is slot = ap (λ o. option_map_or member_in o (record { number = 0; counted = 0 })) at_is
+
+    -- what is counted for the row's number is what the row says
+    pub counted-row : counted_of row.number (map (member_at rows) nodes) ≡ option_map (λ (m : Membership). m.counted) row.membership
+    counted-row = elim (option-cases row.membership) as (λ _. counted_of row.number (map (member_at rows) nodes) ≡ option_map (λ (m : Membership). m.counted) row.membership) [
+      | inl none ↦ counted-none (member_at rows) row.number nodes (test-none none) ∙ sym (ap (option_map (λ (m : Membership). m.counted)) none)
+      | inr m ↦
+          counted-found (member_at rows) row.number m.0.access nodes place (test-same m.0 m.1) (node-of m.0 m.1)
+          ∙ ap (λ a. Some a.counted) (member-is m.0.access)
+          ∙ ap (λ o. Some (option_map_or (λ (m : Membership). m.counted) o 0)) m.1
+          ∙ sym (ap (option_map (λ (m : Membership). m.counted)) m.1)
+    ]
+
+    -- the list without the row's number
+    pub without-row : (m : Membership) → row.membership ≡ Some m → without_member row.number (map (member_at rows) nodes) ≡ map (member_at rows) (remove_entry (nat_eq m.access) nodes)
+    without-row m is = without-found (member_at rows) row.number m.access nodes t.distinct (test-same m is)
+
+    -- the member behind the row's
+    pub after-row : (m : Membership) → row.membership ≡ Some m → member_after row.number (map (member_at rows) nodes) ≡ option_map (member_at rows) (next_after m.access nodes)
+    after-row m is = after-found (member_at rows) row.number m.access nodes (test-same m is)
+
+    -- a row whose number is counted is a member, one whose number is not is none
+    pub member-from : (weight : ℕ) → counted_of row.number (map (member_at rows) nodes) ≡ Some weight → (m : Membership) × (row.membership ≡ Some m) × (m.counted ≡ weight)
+    member-from weight h = elim (option-cases row.membership) as (λ _. (m : Membership) × (row.membership ≡ Some m) × (m.counted ≡ weight)) [
+      | inl none ↦ let bad : None ≡ Some weight = sym (ap (option_map (λ (m : Membership). m.counted)) none) ∙ sym counted-row ∙ h in cc
+      | inr m ↦
+          let w : Some m.0.counted ≡ Some weight = sym (ap (option_map (λ (m : Membership). m.counted)) m.1) ∙ sym counted-row ∙ h in
+          (m.0, m.1, (let e : m.0.counted ≡ weight = cc in e))
+    ]
+
+    pub unlisted-from : counted_of row.number (map (member_at rows) nodes) ≡ None → row.membership ≡ None
+    unlisted-from h = elim (option-cases row.membership) as (λ _. row.membership ≡ None) [
+      | inl none ↦ none
+      | inr m ↦ let bad : Some m.0.counted ≡ None = sym (ap (option_map (λ (m : Membership). m.counted)) m.1) ∙ sym counted-row ∙ h in cc
+    ]

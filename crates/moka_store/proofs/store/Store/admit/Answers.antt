@@ -1,0 +1,48 @@
+use Rattle.std.specs.FinMap as finite
+use Rattle.std.proofs.Common.{◌≡◌, ◌+◌, map, length, None, refl, arith, sym, ap, ◌∙◌}
+use Rattle.moka_store.proofs.Members.{counted-admitted}
+use Rattle.moka_store.proofs.Ties.{nodes-below}
+use Rattle.moka_store.proofs.Steps.{placed, unlisted, admitted}
+use Rattle.moka_store.specs.StoreRows.{member_at}
+use Rattle.moka_store.proofs.store.Store.admit.Goals as goal
+
+pub push_back-access-requires : goal.push_back-access-requires
+push_back-access-requires g c =
+    let w = placed _ _ _ _ c.self.invariant.tied _ _ (rw (← c.self.view_is) at c.requires.placed) in
+    let none = unlisted _ _ _ _ c.self.invariant.tied _ _ (rw (← c.self.view_is) at c.requires.placed) w (rw (← c.self.view_is) at c.requires.apart) in
+    let below = nodes-below _ _ _ _ c.self.invariant.tied _ w.row w.at_is none in
+    let fits = c.self.invariant.fits in
+    omega arith
+
+pub set_membership-none-requires : goal.set_membership-none-requires
+set_membership-none-requires g c =
+    let w = placed _ _ _ _ c.self.invariant.tied _ _ (rw (← c.self.view_is) at c.requires.placed) in
+    rw w.at_is refl
+
+pub invariant_of-self : goal.invariant_of-self
+invariant_of-self g c =
+    let w = placed _ _ _ _ c.self.invariant.tied _ _ (rw (← c.self.view_is) at c.requires.placed) in
+    let none = unlisted _ _ _ _ c.self.invariant.tied _ _ (rw (← c.self.view_is) at c.requires.placed) w (rw (← c.self.view_is) at c.requires.apart) in
+    let s = admitted _ g.met.K.Eq.laws _ _ _ _ _ c.self.invariant.tied w.row w.at_is (record { counted = c.args.weight; access = c.push_back-access.result; written = None }) _ none c.push_back-access.ensures.fresh c.push_back-access.ensures.members c.push_back-access.ensures.lookups (c.set_membership-none.ensures.changes _ w.at_is) in
+    let len = c.push_back-access.ensures.len in
+    let room = c.push_back-access.ensures.room in
+    let rows = c.set_membership-none.ensures.len in
+    let fits = c.self.invariant.fits in
+    record { tied = s.tied; keyed = c.self.invariant.keyed ∙ sym (ap finite.len c.set_membership-none.ensures.records); fits = omega arith }
+
+pub returns-clause-step : goal.returns-clause-step
+returns-clause-step g c =
+    let w = placed _ _ _ _ c.self.invariant.tied _ _ (rw (← c.self.view_is) at c.requires.placed) in
+    let none = unlisted _ _ _ _ c.self.invariant.tied _ _ (rw (← c.self.view_is) at c.requires.placed) w (rw (← c.self.view_is) at c.requires.apart) in
+    let s = admitted _ g.met.K.Eq.laws _ _ _ _ _ c.self.invariant.tied w.row w.at_is (record { counted = c.args.weight; access = c.push_back-access.result; written = None }) _ none c.push_back-access.ensures.fresh c.push_back-access.ensures.members c.push_back-access.ensures.lookups (c.set_membership-none.ensures.changes _ w.at_is) in
+    let len = c.push_back-access.ensures.len in
+    let room = c.push_back-access.ensures.room in
+    let sum : length c.push_back-access.new.self.members + c.push_back-access.new.self.room ≡ length c.self.inside.access.members + c.self.inside.access.room = omega arith in
+    rw (s.access, c.set_membership-none.ensures.records, c.set_membership-none.ensures.places, c.set_membership-none.ensures.len, c.set_membership-none.ensures.room, sum, w.number_is, ← c.self.view_is) refl
+
+pub returns-clause-counted : goal.returns-clause-counted
+returns-clause-counted g c n =
+    let w = placed _ _ _ _ c.self.invariant.tied _ _ (rw (← c.self.view_is) at c.requires.placed) in
+    let none = unlisted _ _ _ _ c.self.invariant.tied _ _ (rw (← c.self.view_is) at c.requires.placed) w (rw (← c.self.view_is) at c.requires.apart) in
+    let s = admitted _ g.met.K.Eq.laws _ _ _ _ _ c.self.invariant.tied w.row w.at_is (record { counted = c.args.weight; access = c.push_back-access.result; written = None }) _ none c.push_back-access.ensures.fresh c.push_back-access.ensures.members c.push_back-access.ensures.lookups (c.set_membership-none.ensures.changes _ w.at_is) in
+    rw (s.access, w.number_is, ← c.self.view_is) (counted-admitted c.args.handle.number n c.args.weight (map (member_at c.self.inside.table.rows) c.self.inside.access.members) (rw (← c.self.view_is) at c.requires.apart))

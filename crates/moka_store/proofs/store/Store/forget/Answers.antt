@@ -1,0 +1,43 @@
+use Rattle.std.specs.FinMap as finite
+use Rattle.std.proofs.Common.{refl, ap, ◌∙◌, arith, sym}
+use Rattle.std.specs.FinMap.{get, remove}
+use Rattle.moka_structures.specs.RecordTable.{places_of}
+use Rattle.moka_structures.proofs.TableMaps.{get-past_remove}
+use Rattle.moka_store.proofs.Steps.{placed, bare-row, forgotten}
+use Rattle.moka_store.proofs.store.Store.forget.Goals as goal
+
+pub forget-requires : goal.forget-requires
+forget-requires g c =
+    let bare = bare-row _ _ _ _ c.self.invariant.tied _ _ (rw (← c.self.view_is) at c.requires.placed) (rw (← c.self.view_is) at c.requires.gone) (rw (← c.self.view_is) at c.requires.apart) in
+    bare
+
+pub invariant_of-self : goal.invariant_of-self
+invariant_of-self g c =
+    let bare = bare-row _ _ _ _ c.self.invariant.tied _ _ (rw (← c.self.view_is) at c.requires.placed) (rw (← c.self.view_is) at c.requires.gone) (rw (← c.self.view_is) at c.requires.apart) in
+    let w = placed _ _ _ _ c.self.invariant.tied _ _ (rw (← c.self.view_is) at c.requires.placed) in
+    let s = forgotten _ g.met.K.Eq.laws _ _ _ _ _ c.self.invariant.tied _ bare refl refl c.forget.ensures.changes in
+    let len = c.forget.ensures.len in
+    let fits = c.self.invariant.fits in
+    record { tied = s.tied; keyed = c.self.invariant.keyed ∙ sym (ap finite.len c.forget.ensures.records); fits = omega arith }
+
+pub returns-clause-step : goal.returns-clause-step
+returns-clause-step g c =
+    let bare = bare-row _ _ _ _ c.self.invariant.tied _ _ (rw (← c.self.view_is) at c.requires.placed) (rw (← c.self.view_is) at c.requires.gone) (rw (← c.self.view_is) at c.requires.apart) in
+    let w = placed _ _ _ _ c.self.invariant.tied _ _ (rw (← c.self.view_is) at c.requires.placed) in
+    let s = forgotten _ g.met.K.Eq.laws _ _ _ _ _ c.self.invariant.tied _ bare refl refl c.forget.ensures.changes in
+    rw (s.access, c.forget.ensures.records, c.forget.ensures.places, w.number_at_is, ← c.self.view_is) refl
+
+pub returns-clause-kept : goal.returns-clause-kept
+returns-clause-kept g c other ne e =
+    let w = placed _ _ _ _ c.self.invariant.tied _ _ (rw (← c.self.view_is) at c.requires.placed) in
+    let e' = rw (← c.self.view_is) at e in
+    ap (λ m. get m other.number) c.forget.ensures.places
+    ∙ ap (λ n. get (remove (places_of c.self.inside.table.rows) n) other.number) w.number_at_is
+    ∙ get-past_remove _ _ _ ne ∙ e'
+
+pub returns-clause-access : goal.returns-clause-access
+returns-clause-access g c =
+    let bare = bare-row _ _ _ _ c.self.invariant.tied _ _ (rw (← c.self.view_is) at c.requires.placed) (rw (← c.self.view_is) at c.requires.gone) (rw (← c.self.view_is) at c.requires.apart) in
+    let w = placed _ _ _ _ c.self.invariant.tied _ _ (rw (← c.self.view_is) at c.requires.placed) in
+    let s = forgotten _ g.met.K.Eq.laws _ _ _ _ _ c.self.invariant.tied _ bare refl refl c.forget.ensures.changes in
+    rw (s.access, ← c.self.view_is) refl

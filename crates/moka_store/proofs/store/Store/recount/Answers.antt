@@ -1,0 +1,37 @@
+use Rattle.std.specs.FinMap as finite
+use Rattle.std.proofs.Common.{map, refl, sym, ◌∙◌, arith, ap}
+use Rattle.moka_store.proofs.Members.{counted-recounted}
+use Rattle.moka_store.proofs.Steps.{member-there, member-row, recounted}
+use Rattle.moka_store.specs.StoreRows.{member_at}
+use Rattle.moka_store.proofs.store.Store.recount.Goals as goal
+
+pub unreachable-requires : goal.unreachable-requires
+unreachable-requires g c =
+    member-there _ _ _ _ c.self.invariant.tied _ _ (rw (← c.self.view_is) at c.requires.placed) (rw (← c.self.view_is) at c.requires.member) (sym c.membership.ensures ∙ c.in_default.is)
+
+pub move_to_back-requires : goal.move_to_back-requires
+move_to_back-requires g c =
+    let w = member-row _ _ _ _ c.self.invariant.tied _ _ (rw (← c.self.view_is) at c.requires.placed) _ (sym c.membership.ensures ∙ c.in-Some.is) in
+    rw w.node_is refl
+
+pub invariant_of-self : goal.invariant_of-self
+invariant_of-self g c =
+    let w = member-row _ _ _ _ c.self.invariant.tied _ _ (rw (← c.self.view_is) at c.requires.placed) _ (sym c.membership.ensures ∙ c.in-Some.is) in
+    let s = recounted _ g.met.K.Eq.laws _ _ _ _ _ c.self.invariant.tied w.row w.at_is c.in-Some.before c.args.weight _ w.membership_is (c.move_to_back.ensures.members _ w.node_is) c.move_to_back.ensures.lookups (c.set_counted.ensures.changes _ _ w.at_is w.membership_is) in
+    let len = c.move_to_back.ensures.len in
+    let room = c.move_to_back.ensures.room in
+    let rows = c.set_counted.ensures.len in
+    let fits = c.self.invariant.fits in
+    record { tied = s.tied; keyed = c.self.invariant.keyed ∙ sym (ap finite.len c.set_counted.ensures.records); fits = omega arith }
+
+pub returns-clause-step : goal.returns-clause-step
+returns-clause-step g c =
+    let w = member-row _ _ _ _ c.self.invariant.tied _ _ (rw (← c.self.view_is) at c.requires.placed) _ (sym c.membership.ensures ∙ c.in-Some.is) in
+    let s = recounted _ g.met.K.Eq.laws _ _ _ _ _ c.self.invariant.tied w.row w.at_is c.in-Some.before c.args.weight _ w.membership_is (c.move_to_back.ensures.members _ w.node_is) c.move_to_back.ensures.lookups (c.set_counted.ensures.changes _ _ w.at_is w.membership_is) in
+    rw (s.access, c.set_counted.ensures.records, c.set_counted.ensures.places, c.set_counted.ensures.len, c.set_counted.ensures.room, c.move_to_back.ensures.len, c.move_to_back.ensures.room, w.number_is, ← c.self.view_is) refl
+
+pub returns-clause-counted : goal.returns-clause-counted
+returns-clause-counted g c n =
+    let w = member-row _ _ _ _ c.self.invariant.tied _ _ (rw (← c.self.view_is) at c.requires.placed) _ (sym c.membership.ensures ∙ c.in-Some.is) in
+    let s = recounted _ g.met.K.Eq.laws _ _ _ _ _ c.self.invariant.tied w.row w.at_is c.in-Some.before c.args.weight _ w.membership_is (c.move_to_back.ensures.members _ w.node_is) c.move_to_back.ensures.lookups (c.set_counted.ensures.changes _ _ w.at_is w.membership_is) in
+    rw (s.access, w.number_is, ← c.self.view_is) (counted-recounted c.args.handle.number n c.args.weight (map (member_at c.self.inside.table.rows) c.self.inside.access.members))

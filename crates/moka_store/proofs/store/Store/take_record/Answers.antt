@@ -1,0 +1,49 @@
+use Rattle.moka_parts.specs.declared.records.Record.{Record}
+use Rattle.moka_store.proofs.Steps.{len-removed, index-of}
+use Rattle.std.specs.HashMap as hash
+use Rattle.std.specs.FinMap as finite
+use Rattle.std.proofs.Common.{◌≡◌, Some, refl, sym, ap, ◌∙◌, arith}
+use Rattle.std.specs.FinMap.{get, remove}
+use Rattle.moka_structures.specs.RecordTable.{records_of}
+use Rattle.moka_structures.proofs.TableMaps.{get-removed}
+use Rattle.moka_store.proofs.Steps.{handled, taken}
+use Rattle.moka_store.proofs.store.Store.take_record.Goals as goal
+
+pub take-taken-requires : goal.take-taken-requires
+take-taken-requires g c =
+    let h = handled _ _ _ _ c.self.invariant.tied _ _ (rw (← c.self.view_is) at c.requires.placed) (rw (← c.self.view_is) at c.requires.stored) in
+    rw h.stored_at_is refl
+
+pub invariant_of-self : goal.invariant_of-self
+invariant_of-self g c =
+    let h = handled _ _ _ _ c.self.invariant.tied _ _ (rw (← c.self.view_is) at c.requires.placed) (rw (← c.self.view_is) at c.requires.stored) in
+    let is : h.row.stored ≡ Some c.take-taken.result = h.stored_is ∙ sym h.stored_at_is ∙ c.take-taken.ensures.taken in
+    let s = taken _ g.met.K.Eq.laws _ _ _ _ _ c.self.invariant.tied h.row h.at_is _ c.take-taken.result is (c.take-taken.ensures.changes _ h.at_is) c.remove-place.ensures.updates.0 in
+    let len = c.take-taken.ensures.len in
+    let fits = c.self.invariant.fits in
+    let same : c.take-taken.result ≡ h.stored = (let x : Some c.take-taken.result ≡ Some h.stored = sym c.take-taken.ensures.taken ∙ h.stored_at_is in cc) in
+    let found = c.remove-place.ensures.value ∙ ap (λ (r : Record _ _). hash.get g.K.PartialEq.eq c.self.inside.index r.key) same ∙ index-of _ g.met.K.Eq.laws _ _ _ c.self.invariant.tied _ _ h in
+    let less = rw found at c.remove-place.ensures.len in
+    let shorter = ap finite.len c.take-taken.ensures.records ∙ ap (λ n. finite.len (finite.remove (records_of c.self.inside.table.rows) n)) h.number_at_is ∙ len-removed _ _ h.stored h.record_is in
+    let before = c.self.invariant.keyed in
+    let keyed : hash.hash_map_len c.remove-place.new.self ≡ finite.len (records_of c.take-taken.new.self.rows) = omega (arith, less, shorter, before) in
+    record { tied = s.tied; keyed = keyed; fits = omega arith }
+
+pub returns-clause-taken : goal.returns-clause-taken
+returns-clause-taken g c =
+    let h = handled _ _ _ _ c.self.invariant.tied _ _ (rw (← c.self.view_is) at c.requires.placed) (rw (← c.self.view_is) at c.requires.stored) in
+    rw (← c.self.view_is) (h.record_is ∙ sym h.stored_at_is ∙ c.take-taken.ensures.taken)
+
+pub returns-clause-step : goal.returns-clause-step
+returns-clause-step g c =
+    let h = handled _ _ _ _ c.self.invariant.tied _ _ (rw (← c.self.view_is) at c.requires.placed) (rw (← c.self.view_is) at c.requires.stored) in
+    let is : h.row.stored ≡ Some c.take-taken.result = h.stored_is ∙ sym h.stored_at_is ∙ c.take-taken.ensures.taken in
+    let s = taken _ g.met.K.Eq.laws _ _ _ _ _ c.self.invariant.tied h.row h.at_is _ c.take-taken.result is (c.take-taken.ensures.changes _ h.at_is) c.remove-place.ensures.updates.0 in
+    rw (s.access, c.take-taken.ensures.records, c.take-taken.ensures.places, h.number_at_is, ← c.self.view_is) refl
+
+pub returns-clause-gone : goal.returns-clause-gone
+returns-clause-gone g c =
+    let h = handled _ _ _ _ c.self.invariant.tied _ _ (rw (← c.self.view_is) at c.requires.placed) (rw (← c.self.view_is) at c.requires.stored) in
+    ap (λ m. get m c.args.handle.number) c.take-taken.ensures.records
+    ∙ ap (λ n. get (remove (records_of c.self.inside.table.rows) n) c.args.handle.number) h.number_at_is
+    ∙ get-removed _ _

@@ -1,0 +1,5 @@
+pub mod Store
+pub mod StoreRows
+pub mod StoreTies
+pub mod Updates
+pub mod Weights

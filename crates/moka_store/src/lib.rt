@@ -1,0 +1,6 @@
+//! The store of a cache: its records, found by key or by handle, and the orders in which they stand.
+#![tactic(auto)]
+
+pub mod store;
+
+pub use store::{Handle, Store, Update};

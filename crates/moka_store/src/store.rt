@@ -1,0 +1,509 @@
+//! Records, their order and the index of their keys, in one.
+//!
+//! moka: `sync::base_cache::Inner`, whose maps and deques these are.
+ghost use Rattle.std.specs.Prelude.{◌==◌, if◌then◌else◌, ◌≡◌, ◌≢◌, ◌+◌, ◌<◌, ◌≤◌, ℕ, [], ◌∷◌, ◌++◌, length, map, IsPermutation, OnOk, IfOk, IfSome, IsOk, IsSome, None, Some, slice_get, option_map, option_copied, IsTrue, ◌↔◌};
+ghost use Rattle.std.specs.FinMap as finite;
+ghost use Rattle.moka_store.specs.Store.{member_after, IsPlaced, IsHandle, IsOneEach};
+ghost use Rattle.moka_store.specs.declared.store.Handle.{Handle};
+ghost use Rattle.moka_parts.specs.declared.records.Record.{Record};
+ghost use Rattle.moka_store.specs.Updates.{updated};
+ghost use Rattle.moka_parts.specs.Records.{member, counted_of, record_of_key, with_record, without_member, is_member, is_settled, to_back};
+
+use moka_parts::policy::Instant;
+use moka_parts::records::Record;
+use moka_structures::{Membership, OrderList, RecordTable};
+use std::alloc::{AllocError, Global};
+use std::collections::HashMap;
+use std::hash::{BuildHasher, Hash};
+use std::marker::Model;
+
+mod changes;
+
+/// A number that has a row, with the row's place.
+#[derive(Clone, Copy, Debug, PartialEq, Eq)]
+pub struct Handle {
+    pub number: u64,
+    pub place: usize,
+}
+
+/// What an insert changes in the record of a key that has one.
+#[derive(Drop)]
+pub struct Update<V> {
+    pub value: V,
+    /// When it is inserted, which counts as a read too.
+    pub now: Instant,
+    pub expires: Option<Instant>,
+    pub weight: u32,
+    pub generation: u64,
+}
+
+/// The records of a cache, found by key or by handle, with their order of access.
+#[derive(Drop)]
+pub struct Store<K: Eq + Hash, V, S: BuildHasher> {
+    index: HashMap<K, usize, S>,
+    table: RecordTable<Record<K, V>>,
+    access: OrderList,
+}
+
+impl<K: Eq + Hash, V, S: BuildHasher> Model for Store<K, V, S> {
+    ghost use Rattle.std.specs.Prelude.{◌+◌, ◌-◌, ◌≤◌, min, length, map, is_some, count_by};
+    ghost use Rattle.std.specs.HashMap.{spare, get, hash_map_len};
+    ghost use Rattle.moka_structures.specs.RecordTable.{records_of, places_of};
+    ghost use Rattle.moka_store.specs.Store.{Kept, kept_code};
+
+    ghost Value = { Kept K V };
+
+    ghost coded = { kept_code K.code V.code };
+
+    ghost use Rattle.moka_store.specs.StoreRows.{member_at};
+    ghost use Rattle.moka_store.specs.StoreTies.{IsStore};
+
+    ghost view = { λ a. record {
+      records = records_of a.table.rows;
+      access = map (member_at a.table.rows) a.access.members;
+      places = places_of a.table.rows;
+      room = min (spare a.index) (min a.table.room (length a.access.members + a.access.room - count_by is_some a.table.rows));
+    } };
+
+    ghost invariant = { λ a. IsStore K.eq a.table.rows (get K.eq a.index) (hash_map_len a.index) a.access.members (length a.access.members + a.access.room) };
+}
+
+impl<K: Eq + Hash, V, S: BuildHasher> Store<K, V, S> {
+    /// An empty store.
+    pub fn new(alloc: Global, hasher: S) -> Result<Self, AllocError>
+    where
+        S: Drop,
+        ensures records { IfOk result (λ s. s.records ≡ finite.empty) }
+        ensures access { IfOk result (λ s. s.access ≡ []) }
+        ensures places { IfOk result (λ s. s.places ≡ finite.empty) }
+    {
+        let access = OrderList::new(alloc)?;
+        Ok(Store {
+            index: HashMap::with_hasher(alloc, hasher),
+            table: RecordTable::new(alloc),
+            access,
+        })
+    }
+
+    /// Makes room for `additional` more records: for their keys, their rows and their members.
+    pub fn reserve(&mut self, additional: usize) -> Result<(), AllocError>
+        ensures room { OnOk result (additional ≤ self.new.room) }
+        ensures succeeds { additional ≤ self.old.room → IsOk result }
+        ensures rest { self.new ≡ record self.old { room = self.new.room } }
+        ensures kept { self.old.room ≤ self.new.room }
+    {
+        self.table.reserve(additional)?;
+        self.index.reserve(additional)?;
+        let rows = self.table.len() + additional;
+        self.access.reserve(rows - self.access.len())
+    }
+
+    /// The record whose key is equal, with its handle.
+    pub fn find_by_key(&self, key: &K) -> Option<(Handle, &Record<K, V>)>
+        ensures handle { IfSome result (λ f. IsHandle self.now f.0) }
+        ensures found { IfSome result (λ f. finite.get self.now.records f.0.number ≡ Some f.1.now) }
+        ensures value { option_map (λ f. f.1.now) result ≡ record_of_key K.eq self.now.records key.now }
+        ensures one_each { IsOneEach K.eq self.now.records }
+    {
+        let Some(&place) = self.index.get(key) else {
+            return None;
+        };
+        let Some(row) = self.table.row(place) else {
+            unreachable!()
+        };
+        let Some(stored) = &row.stored else {
+            unreachable!()
+        };
+        let handle = Handle {
+            number: row.number,
+            place,
+        };
+        Some((handle, stored))
+    }
+
+    /// The record at this handle, if it is still there.
+    pub fn find(&self, handle: Handle) -> Option<&Record<K, V>>
+        ensures found { IsPlaced self.now handle → option_copied result ≡ finite.get self.now.records handle.number }
+        ensures elsewhere { (IsPlaced self.now handle → ⊥) → option_copied result ≡ None }
+        ensures handle { IsSome result → IsHandle self.now handle }
+        ensures one_each { IsOneEach K.eq self.now.records }
+    {
+        self.table.find(handle.place, handle.number)
+    }
+
+    /// Whether the number at this handle has its row there.
+    pub fn has_row(&self, handle: Handle) -> bool
+        ensures placed { IsTrue result ↔ IsPlaced self.now handle }
+        ensures records { (n : ℕ) → IsSome (finite.get self.now.records n) → IsSome (finite.get self.now.places n) }
+        ensures members { (n : ℕ) → IsSome (counted_of n self.now.access) → IsSome (finite.get self.now.places n) }
+    {
+        match self.table.row(handle.place) {
+            Some(row) => row.number == handle.number,
+            None => false,
+        }
+    }
+
+    /// A new record of a key that has none; `kept` is the same key. It takes no memory.
+    pub fn insert_new(&mut self, stored: Record<K, V>, kept: K) -> Handle
+    where
+        K: Drop,
+        requires room { 0 < self.old.room }
+        requires fresh { finite.get self.old.places stored.number ≡ None }
+        requires unknown { record_of_key K.eq self.old.records stored.key ≡ None }
+        requires same { kept ≡ stored.key }
+        ensures number { result.number ≡ stored.number }
+        ensures step { self.new ≡ record self.old { records = with_record self.old.records stored; places = finite.insert self.old.places stored.number result.place; room = self.new.room } }
+        ensures room { self.old.room ≤ self.new.room + 1 }
+        ensures apart { counted_of stored.number self.new.access ≡ None }
+        ensures handle { IsHandle self.new result }
+        ensures kept { (other : Handle) → IsPlaced self.old other → IsPlaced self.new other }
+        ensures access { self.new.access ≡ self.old.access }
+    {
+        let number = stored.number;
+        let place = self.table.insert(number, stored);
+        match self.index.insert(kept, place) {
+            Ok(_) => {}
+            Err(_) => unreachable!(),
+        }
+        Handle { number, place }
+    }
+
+    /// A new value for the record at this handle, with what comes with it. The answer is the old value.
+    pub fn replace(&mut self, handle: Handle, update: Update<V>) -> V
+        requires { IsHandle self.old handle }
+        ensures value { (r : Record K V) → finite.get self.old.records handle.number ≡ Some r → result ≡ r.value }
+        ensures step { (r : Record K V) → finite.get self.old.records handle.number ≡ Some r → self.new ≡ record self.old { records = finite.insert self.old.records handle.number (updated update r) } }
+        ensures handle { IsHandle self.new handle }
+        ensures places { self.new.places ≡ self.old.places }
+        ensures access { self.new.access ≡ self.old.access }
+    {
+        changes::replace(&mut self.table, handle.place, update)
+    }
+
+    /// The record at this handle was read at this moment, and expires then.
+    pub fn touch(&mut self, handle: Handle, read: Instant, expires: Option<Instant>)
+        requires { IsHandle self.old handle }
+        ensures step { (r : Record K V) → finite.get self.old.records handle.number ≡ Some r → self.new ≡ record self.old { records = finite.insert self.old.records handle.number (record r { read = read; expires = expires }) } }
+        ensures handle { IsHandle self.new handle }
+        ensures places { self.new.places ≡ self.old.places }
+        ensures access { self.new.access ≡ self.old.access }
+    {
+        changes::touch(&mut self.table, handle.place, read, expires);
+    }
+
+    /// The operation of this generation was applied to the record at this handle.
+    pub fn set_applied(&mut self, handle: Handle, generation: u64)
+        requires { IsHandle self.old handle }
+        ensures step { (r : Record K V) → finite.get self.old.records handle.number ≡ Some r → self.new ≡ record self.old { records = finite.insert self.old.records handle.number (record r { applied = generation }) } }
+        ensures handle { IsHandle self.new handle }
+        ensures places { self.new.places ≡ self.old.places }
+        ensures access { self.new.access ≡ self.old.access }
+    {
+        changes::set_applied(&mut self.table, handle.place, generation);
+    }
+
+    /// The record at this handle leaves the map, and its number stays.
+    pub fn take_record(&mut self, handle: Handle) -> Record<K, V>
+    where
+        K: Drop,
+        requires { IsHandle self.old handle }
+        ensures taken { finite.get self.old.records handle.number ≡ Some result }
+        ensures step { self.new ≡ record self.old { records = finite.remove self.old.records handle.number; room = self.new.room } }
+        ensures room { self.old.room ≤ self.new.room }
+        ensures gone { finite.get self.new.records handle.number ≡ None }
+        ensures places { self.new.places ≡ self.old.places }
+        ensures access { self.new.access ≡ self.old.access }
+    {
+        let taken = self.table.take(handle.place);
+        let _place = self.index.remove(&taken.key);
+        taken
+    }
+
+    /// The weight that is counted for the number at this handle, if it is in the access list.
+    pub fn counted(&self, handle: Handle) -> Option<u32>
+        requires { IsPlaced self.now handle }
+        ensures { result ≡ counted_of handle.number self.now.access }
+    {
+        self.table.counted(handle.place)
+    }
+
+    /// Whether the number at this handle is in the access list.
+    pub fn is_member(&self, handle: Handle) -> bool
+        requires { IsPlaced self.now handle }
+        ensures { result ≡ is_member handle.number self.now.access }
+    {
+        self.counted(handle).is_some()
+    }
+
+    /// Whether the number at this handle is settled: its record is in the map and saw its newest operation.
+    pub fn is_settled(&self, handle: Handle) -> bool
+        requires { IsPlaced self.now handle }
+        ensures { result ≡ is_settled self.now.records handle.number }
+    {
+        match self.find(handle) {
+            Some(found) => found.applied == found.generation,
+            None => false,
+        }
+    }
+
+    /// The number at this handle comes to the back of the access list, with this weight. It takes no memory.
+    pub fn admit(&mut self, handle: Handle, weight: u32)
+        requires placed { IsPlaced self.old handle }
+        requires apart { counted_of handle.number self.old.access ≡ None }
+        ensures step { self.new ≡ record self.old { access = self.old.access ++ member handle.number weight ∷ [] } }
+        ensures counted { (n : ℕ) → counted_of n self.new.access ≡ (if n == handle.number then Some weight else counted_of n self.old.access) }
+        ensures places { self.new.places ≡ self.old.places }
+        ensures records { self.new.records ≡ self.old.records }
+    {
+        let access = self.access.push_back(handle.place as u64);
+        let _none = self.table.set_membership(
+            handle.place,
+            Membership {
+                counted: weight,
+                access,
+                written: None,
+            },
+        );
+    }
+
+    /// The number at this handle moves to the back of the access list.
+    pub fn move_to_back(&mut self, handle: Handle)
+        requires placed { IsPlaced self.old handle }
+        requires member { IsSome (counted_of handle.number self.old.access) }
+        ensures step { self.new ≡ record self.old { access = to_back handle.number self.old.access } }
+        ensures counted { (n : ℕ) → counted_of n self.new.access ≡ counted_of n self.old.access }
+        ensures places { self.new.places ≡ self.old.places }
+        ensures records { self.new.records ≡ self.old.records }
+    {
+        let Some(membership) = self.table.membership(handle.place) else {
+            unreachable!()
+        };
+        self.access.move_to_back(membership.access);
+    }
+
+    /// The number at this handle moves to the back of the access list, with this weight.
+    pub fn recount(&mut self, handle: Handle, weight: u32)
+        requires placed { IsPlaced self.old handle }
+        requires member { IsSome (counted_of handle.number self.old.access) }
+        ensures step { self.new ≡ record self.old { access = without_member handle.number self.old.access ++ member handle.number weight ∷ [] } }
+        ensures counted { (n : ℕ) → counted_of n self.new.access ≡ (if n == handle.number then Some weight else counted_of n self.old.access) }
+        ensures places { self.new.places ≡ self.old.places }
+        ensures records { self.new.records ≡ self.old.records }
+    {
+        let Some(before) = self.table.membership(handle.place) else {
+            unreachable!()
+        };
+        self.table.set_counted(handle.place, weight);
+        self.access.move_to_back(before.access);
+    }
+
+    /// The number at this handle leaves the access list.
+    pub fn leave(&mut self, handle: Handle)
+        requires placed { IsPlaced self.old handle }
+        requires member { IsSome (counted_of handle.number self.old.access) }
+        ensures step { self.new ≡ record self.old { access = without_member handle.number self.old.access } }
+        ensures counted { (n : ℕ) → counted_of n self.new.access ≡ (if n == handle.number then None else counted_of n self.old.access) }
+        ensures places { self.new.places ≡ self.old.places }
+        ensures records { self.new.records ≡ self.old.records }
+    {
+        let Some(membership) = self.table.clear_membership(handle.place) else {
+            unreachable!()
+        };
+        let _place = self.access.unlink(membership.access);
+    }
+
+    /// How many records there are.
+    pub fn record_count(&self) -> usize
+        ensures { result ≡ finite.len self.now.records }
+    {
+        self.index.len()
+    }
+
+    /// Clones of the keys of all records, in no particular order.
+    pub fn keys(&self, alloc: Global) -> Result<Vec<K>, AllocError>
+    where
+        K: Clone + Drop,
+        requires clones { (x y : K) → K.is_clone x y → y ≡ x }
+        ensures { IfOk result (λ keys. IsPermutation (map (λ r. r.key) (finite.values self.now.records)) keys.items) }
+    {
+        let mut keys = Vec::with_capacity(alloc, self.record_count())?;
+        for place in 0..self.table.capacity() {
+            if let Some(stored) = self.table.record(place) {
+                keys.push(stored.key.clone()?)?;
+            }
+        }
+        Ok(keys)
+    }
+
+    /// How many members the access list has.
+    pub fn member_count(&self) -> usize
+        ensures { result ≡ length self.now.access }
+    {
+        self.access.len()
+    }
+
+    /// The first of the access list, with its weight.
+    pub fn front(&self) -> Option<(Handle, u32)>
+        ensures placed { IfSome result (λ f. IsPlaced self.now f.0) }
+        ensures front { option_map (λ f. member f.0.number f.1) result ≡ slice_get self.now.access 0 }
+    {
+        let (_, place) = self.access.front()?;
+        Some(changes::member_at(&self.table, place as usize))
+    }
+
+    /// The member behind the one at this handle in the access list, with its weight.
+    pub fn next(&self, handle: Handle) -> Option<(Handle, u32)>
+        requires placed { IsPlaced self.now handle }
+        requires member { IsSome (counted_of handle.number self.now.access) }
+        ensures placed { IfSome result (λ f. IsPlaced self.now f.0) }
+        ensures next { option_map (λ f. member f.0.number f.1) result ≡ member_after handle.number self.now.access }
+    {
+        let Some(membership) = self.table.membership(handle.place) else {
+            unreachable!()
+        };
+        let (_, place) = self.access.next(membership.access)?;
+        Some(changes::member_at(&self.table, place as usize))
+    }
+
+    /// The record at this handle leaves the map and, if it is a member, the access list. Its number stays.
+    pub fn take_out(&mut self, handle: Handle) -> Record<K, V>
+    where
+        K: Drop,
+        requires { IsHandle self.old handle }
+        ensures taken { finite.get self.old.records handle.number ≡ Some result }
+        ensures step { self.new ≡ record self.old { records = finite.remove self.old.records handle.number; access = without_member handle.number self.old.access; room = self.new.room } }
+        ensures room { self.old.room ≤ self.new.room }
+        ensures gone { finite.get self.new.records handle.number ≡ None }
+        ensures counted { (n : ℕ) → counted_of n self.new.access ≡ (if n == handle.number then None else counted_of n self.old.access) }
+        ensures places { self.new.places ≡ self.old.places }
+    {
+        if self.is_member(handle) {
+            self.leave(handle);
+            return self.take_record(handle);
+        }
+        self.take_record(handle)
+    }
+
+    /// The number at this handle goes. Its record left the map, and it is no member.
+    pub fn forget(&mut self, handle: Handle)
+    where
+        K: Drop,
+        V: Drop,
+        requires placed { IsPlaced self.old handle }
+        requires gone { finite.get self.old.records handle.number ≡ None }
+        requires apart { counted_of handle.number self.old.access ≡ None }
+        ensures step { self.new ≡ record self.old { places = finite.remove self.old.places handle.number; room = self.new.room } }
+        ensures room { self.old.room ≤ self.new.room }
+        ensures kept { (other : Handle) → other.number ≢ handle.number → IsPlaced self.old other → IsPlaced self.new other }
+        ensures records { self.new.records ≡ self.old.records }
+        ensures access { self.new.access ≡ self.old.access }
+    {
+        self.table.forget(handle.place);
+    }
+}
+
+#[cfg(test)]
+mod tests {
+    use super::*;
+    use std::hash::{BuildHasherDefault, FoldHasher};
+    use std::test::Fail;
+
+    type TestStore = Store<u64, u64, BuildHasherDefault<FoldHasher>>;
+
+    fn record(number: u64, key: u64, value: u64) -> Record<u64, u64>
+        ensures number { result.number ≡ number }
+        ensures key { result.key ≡ key }
+    {
+        Record {
+            number,
+            key,
+            hash: key,
+            value,
+            written: Instant(5),
+            read: Instant(5),
+            expires: None,
+            weight: 1,
+            generation: 1,
+            applied: 0,
+        }
+    }
+
+    #[test]
+    #[tactic(auto, using(moka_structures::proofs::Gets::map_calls))]
+    fn keeps_an_order(rt: HostRuntime) -> Result<(), Fail> {
+        let mut store: TestStore = Store::new(rt.alloc(), BuildHasherDefault::new())?;
+        store.reserve(2)?;
+        assert!(rt; store.find_by_key(&10).is_none());
+        let first = store.insert_new(record(1, 10, 100), 10);
+        assert!(rt; store.find_by_key(&20).is_none());
+        let second = store.insert_new(record(2, 20, 200), 20);
+        store.admit(first, 7);
+        store.admit(second, 8);
+        assert_eq!(rt; store.front(), Some((first, 7)));
+        assert_eq!(rt; store.next(first), Some((second, 8)));
+        store.move_to_back(first);
+        assert_eq!(rt; store.front(), Some((second, 8)));
+        store.recount(second, 9);
+        assert_eq!(rt; store.counted(second), Some(9));
+        assert_eq!(rt; store.member_count(), 2);
+        assert_eq!(rt; store.record_count(), 2);
+        store.leave(first);
+        assert!(rt; !store.is_member(first));
+        assert_eq!(rt; store.next(second), None);
+        Ok(())
+    }
+
+    #[test]
+    #[tactic(auto, using(moka_structures::proofs::Gets::map_calls))]
+    fn lets_a_record_go(rt: HostRuntime) -> Result<(), Fail> {
+        let mut store: TestStore = Store::new(rt.alloc(), BuildHasherDefault::new())?;
+        store.reserve(1)?;
+        assert!(rt; store.find_by_key(&10).is_none());
+        let handle = store.insert_new(record(1, 10, 100), 10);
+        store.admit(handle, 7);
+        let old = store.replace(
+            handle,
+            Update {
+                value: 101,
+                now: Instant(6),
+                expires: None,
+                weight: 2,
+                generation: 2,
+            },
+        );
+        assert_eq!(rt; old, 100);
+        store.touch(handle, Instant(8), Some(Instant(9)));
+        store.set_applied(handle, 2);
+        assert_eq!(rt;
+            store.find(handle).map(|r| (r.value, r.read, r.applied)),
+            Some((101, Instant(8), 2))
+        );
+        let taken = store.take_out(handle);
+        assert_eq!(rt;
+            (taken.written, taken.expires),
+            (Instant(6), Some(Instant(9)))
+        );
+        assert!(rt; store.find(handle).is_none());
+        store.forget(handle);
+        assert!(rt; store.front().is_none());
+        assert!(rt; store.find_by_key(&10).is_none());
+        Ok(())
+    }
+
+    #[test]
+    #[tactic(auto, using(moka_structures::proofs::Gets::map_calls))]
+    fn lists_its_keys(rt: HostRuntime) -> Result<(), Fail> {
+        let mut store: TestStore = Store::new(rt.alloc(), BuildHasherDefault::new())?;
+        store.reserve(2)?;
+        assert!(rt; store.find_by_key(&10).is_none());
+        let _first = store.insert_new(record(1, 10, 100), 10);
+        assert!(rt; store.find_by_key(&20).is_none());
+        let second = store.insert_new(record(2, 20, 200), 20);
+        let mut keys = store.keys(rt.alloc())?;
+        keys.sort()?;
+        assert_eq!(rt; keys.as_slice(), [10, 20].as_slice());
+        let _taken = store.take_out(second);
+        assert_eq!(rt; store.keys(rt.alloc())?.as_slice(), [10].as_slice());
+        Ok(())
+    }
+}

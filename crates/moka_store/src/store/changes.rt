@@ -1,0 +1,98 @@
+//! Changes and reads at one place of the table.
+ghost use Rattle.std.specs.Prelude.{◌≡◌, IsSome, Some};
+ghost use Rattle.moka_store.specs.StoreRows.{member_in};
+ghost use Rattle.moka_store.specs.Updates.{updated};
+ghost use Rattle.moka_parts.specs.declared.records.Record.{Record};
+ghost use Rattle.moka_parts.specs.Records.{member};
+ghost use Rattle.moka_structures.specs.declared.record_table.Row.{Row};
+ghost use Rattle.moka_structures.specs.RecordTable.{row_at, stored_at, with_stored};
+
+use super::{Handle, Update};
+use moka_parts::policy::Instant;
+use moka_parts::records::Record;
+use moka_structures::RecordTable;
+use std::mem;
+
+// Writes what an update brings into a record. The answer is the old value.
+fn write_update<K, V>(stored: &mut Record<K, V>, update: Update<V>) -> V
+    ensures value { result ≡ stored.old.value }
+    ensures stored { stored.new ≡ updated update stored.old }
+{
+    let Update {
+        value,
+        now,
+        expires,
+        weight,
+        generation,
+    } = update;
+    stored.written = now;
+    stored.read = now;
+    stored.expires = expires;
+    stored.weight = weight;
+    stored.generation = generation;
+    mem::replace(&mut stored.value, value)
+}
+
+// A new value, with what comes with it, for the record at this place.
+pub(crate) fn replace<K, V>(
+    table: &mut RecordTable<Record<K, V>>,
+    place: usize,
+    update: Update<V>,
+) -> V
+    requires { IsSome (stored_at table.old.rows place) }
+    ensures value { (r : Record K V) → stored_at table.old.rows place ≡ Some r → result ≡ r.value }
+    ensures table { (r : Record K V) → stored_at table.old.rows place ≡ Some r → table.new ≡ record table.old { rows = with_stored table.old.rows place (updated update r) } }
+{
+    let Some(stored) = table.record_mut(place) else {
+        unreachable!()
+    };
+    write_update(stored, update)
+}
+
+// When the record at this place was read, and when it expires.
+pub(crate) fn touch<K, V>(
+    table: &mut RecordTable<Record<K, V>>,
+    place: usize,
+    read: Instant,
+    expires: Option<Instant>,
+)
+    requires { IsSome (stored_at table.old.rows place) }
+    ensures { (r : Record K V) → stored_at table.old.rows place ≡ Some r → table.new ≡ record table.old { rows = with_stored table.old.rows place (record r { read = read; expires = expires }) } }
+{
+    let Some(stored) = table.record_mut(place) else {
+        unreachable!()
+    };
+    stored.read = read;
+    stored.expires = expires;
+}
+
+// The generation that was applied to the record at this place.
+pub(crate) fn set_applied<K, V>(
+    table: &mut RecordTable<Record<K, V>>,
+    place: usize,
+    generation: u64,
+)
+    requires { IsSome (stored_at table.old.rows place) }
+    ensures { (r : Record K V) → stored_at table.old.rows place ≡ Some r → table.new ≡ record table.old { rows = with_stored table.old.rows place (record r { applied = generation }) } }
+{
+    let Some(stored) = table.record_mut(place) else {
+        unreachable!()
+    };
+    stored.applied = generation;
+}
+
+// The handle of the row at this place, with its counted weight.
+pub(crate) fn member_at<K, V>(table: &RecordTable<Record<K, V>>, place: usize) -> (Handle, u32)
+    requires { IsSome (row_at table.now.rows place) }
+    ensures place { result.0.place ≡ place }
+    ensures member { (row : Row (Record K V)) → row_at table.now.rows place ≡ Some row → member result.0.number result.1 ≡ member_in row }
+{
+    let Some(row) = table.row(place) else {
+        unreachable!()
+    };
+    let handle = Handle {
+        number: row.number,
+        place,
+    };
+    (handle, row.membership.map_or(0, |m| m.counted))
+}
