@@ -179,6 +179,18 @@ module _ {K V X P W : Type 0} (says : P → K → V → Bool → Type 0) (s : St
       less : (capacity a rest total : ℕ) → total ≡ a + rest → rest - capacity ≡ (total - capacity) - a
       less capacity a rest total e = grind (arith, e)
 
+  -- each removal is for too much weight
+  all_for_size : (test : Choice → Bool) → ((n : ℕ) → test (Removes n Size) ≡ true) → (c : Contents K V) (xs : List Choice) → IsPlain s now c → AreJustified says (tests_of s now) c [] xs → list_all test xs ≡ true
+  all_for_size test passed c [] h may = refl
+  all_for_size test passed c (x ∷ xs) h may =
+      let f = takes_front c x xs h may in
+      ap (λ y. test y && list_all test xs) f.step ∙ ap (λ b. b && list_all test xs) (passed f.first.number) ∙ all_for_size test passed (after_choice c x) xs f.plain f.may
+
+  -- it stays so through all the steps
+  still_plain : (c : Contents K V) (xs : List Choice) → IsPlain s now c → AreJustified says (tests_of s now) c [] xs → IsPlain s now (after_choices c xs)
+  still_plain c [] h may = h
+  still_plain c (x ∷ xs) h may = let f = takes_front c x xs h may in still_plain (after_choice c x) xs f.plain f.may
+
   plain_surplus : (capacity : ℕ) (c : Contents K V) → IsPlainSurplus s now capacity c → IsDistinct (◌==◌) (numbers_of c.access) → IsPlain s now c
   plain_surplus capacity c h once = record { once = once; settled = λ n there. settled_member c.records c.access n h.settled there; fresh = h.fresh }
 
@@ -193,3 +205,14 @@ module _ {K V X P W : Type 0} (says : P → K → V → Bool → Type 0) (s : St
     -- steps that remove so many remove just the first ones
     pub removed_are_first : (batch : ℕ) → length (removed_by xs) ≡ batch → removed_by xs ≡ numbers_of (take batch c.access)
     removed_are_first batch many = front_removed c xs (plain_surplus capacity c h once) none_registered ∙ ap (λ k. numbers_of (take k c.access)) many
+
+    plain : IsPlain s now c
+    plain = plain_surplus capacity c h once
+
+    -- a test that each removal for too much weight passes, all the steps pass
+    pub only_for_size : (test : Choice → Bool) → ((n : ℕ) → test (Removes n Size) ≡ true) → list_all test xs ≡ true
+    only_for_size test passed = all_for_size test passed c xs plain none_registered
+
+    -- all members that are left are settled
+    pub left_settled : (n : ℕ) → is_member n (after_choices c xs).access ≡ true → is_settled (after_choices c xs).records n ≡ true
+    left_settled = (still_plain c xs plain none_registered).settled
