@@ -7,6 +7,7 @@ pub mod Consistent
 pub mod Applied
 pub mod RunKeepsSound
 pub mod AtEnd
+pub mod RunReturns
 pub mod Rising
 pub mod CallsKeep
 pub mod StepsKeep

@@ -1,0 +1,3 @@
+pub mod TestedSteps
+pub mod Telling
+pub mod Promises
