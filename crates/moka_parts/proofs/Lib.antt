@@ -16,7 +16,8 @@ pub mod Surplus
 pub mod OneMore
 pub mod Conserved
 pub mod ConservedCalls
-pub mod Laws
+pub mod Quiet
+pub mod Dropped
 pub mod StaysHidden
 pub mod Examples
 pub mod WriteExamples

@@ -15,6 +15,7 @@ use Rattle.moka_parts.specs.State.{State, Meaning, Events, is_disabled}
 use Rattle.moka_parts.specs.Maintenance.{Terms, Course, MaintenanceRun}
 use Rattle.moka_parts.specs.Calls.{after_hit, hit_at, hit_operation, RunStep, KeeperRun, RunsIfDue, Unchanged, RecordsRead, GetsAt, GetStep}
 use Rattle.moka_parts.specs.Runs.{CallStep, Step, Cache, AreSteps, MakesCalls, ReferenceRun, PromisedRun, Drives}
+use Rattle.moka_parts.specs.Laws.{IsOfReference}
 use Rattle.moka_parts.proofs.RunsGoOn.{promised_is_run}
 
 module _ {K V X L P W C I : Type 0} (m : Meaning K V X L P W C I) (More Less : State K V X P W → Terms → Course → List (Notice K V) → State K V X P W → Type 0)
@@ -94,3 +95,7 @@ pub drives_is_reference : {K V S X L P W C I : Type 0} (m : Meaning K V X L P W 
     (d : Drives m calls replies old clock ids new clock_after ids_after) → ReferenceRun m calls replies d.steps old clock ids new clock_after ids_after
 drives_is_reference m calls replies old new clock clock_after ids ids_after d =
     weaker_is_run m (PromisedRun m.says m.read) (MaintenanceRun m.says) (promised_is_run m.says m.read) calls replies d.steps old new clock clock_after ids ids_after d.is_run
+
+-- so are calls whose runs keep all promises
+pub is_of_reference : {K V X L P W C I : Type 0} (m : Meaning K V X L P W C I) → IsOfReference m
+is_of_reference m s steps h = weaker_steps m (PromisedRun m.says m.read) (MaintenanceRun m.says) (promised_is_run m.says m.read) s steps h

@@ -1,21 +1,19 @@
 -- A run with all that is promised of it, as a call of a cache; and one of a disabled cache.
-use Rattle.std.proofs.Common.{◌≡◌, refl, ℕ, Bool, true, false, true≢false, ◌&&◌, min, List, [], length, inl, Option, Some, None, option_map, ap, sym, subst, ◌∙◌, arith}
-use Rattle.std.specs.List.{IsDistinct, list_any}
-use Rattle.std.specs.Ordering.{nat_cmp}
-use Rattle.std.specs.FinMap.{get, len, get-empty}
+use Rattle.std.proofs.Common.{◌≡◌, refl, ℕ, Bool, true, false, true≢false, ◌&&◌, List, [], inl, Option, Some, None, ap, sym, subst, ◌∙◌, arith}
+use Rattle.std.specs.List.{list_any}
+use Rattle.std.specs.FinMap.{get, len}
 use Rattle.moka_parts.specs.declared.notification.RemovalCause.{RemovalCause}
 use Rattle.moka_parts.specs.declared.policy.Instant.{Instant}
 use Rattle.moka_parts.specs.declared.records.Record.{Record}
-use Rattle.moka_parts.specs.Time.{greatest}
-use Rattle.moka_parts.specs.Records.{Notice, is_settled, total_weight}
+use Rattle.moka_parts.specs.Records.{Notice, is_settled}
 use Rattle.moka_parts.specs.State.{State, Events, is_disabled}
 use Rattle.moka_parts.specs.Surroundings.{Leads, Heard}
 use Rattle.moka_parts.specs.Maintenance.{Terms, Course, is_late}
-use Rattle.moka_parts.specs.Exact.{AreExactMembers, IsExact, IsWithin}
+use Rattle.moka_parts.specs.Exact.{IsWithin}
 use Rattle.moka_parts.specs.Settling.{IsBare, LeavesBehind, Settles}
 use Rattle.moka_parts.specs.Calls.{run_events, RunStep}
 use Rattle.moka_parts.specs.Runs.{Cache, Befalls, PromisedRun}
-use Rattle.moka_parts.proofs.Counting.{exact_count, exact_weight}
+use Rattle.moka_parts.proofs.AtEnd.{bare_is_exact}
 use Rattle.moka_parts.proofs.Maps.{nothing_at}
 
 -- a run with all that is promised of it, and what listener and clock go through
@@ -49,18 +47,6 @@ nothing_heard tells None = refl
 nothing_heard tells (Some l) = refl
 
 module _ {K V X P W : Type 0} (s : State K V X P W) (bare : IsBare s.records s.access s.count s.weight) where
-  exact_members : AreExactMembers s.records s.access
-  unfolding IsDistinct
-  exact_members = rw (bare.no_records, bare.no_members) (record { once = tt; members = λ n. sym (ap (option_map (λ (r : Record K V). r.weight)) (get-empty nat_cmp n)) })
-
-  -- where nothing is kept, nothing is reported
-  pub bare_exact : IsExact s
-  bare_exact = record {
-    exact = exact_members;
-    count = bare.no_count ∙ sym (ap length bare.no_members) ∙ exact_count s.records s.access exact_members;
-    weight = bare.no_weight ∙ sym (ap (λ a. min (total_weight a) greatest) bare.no_members) ∙ ap (λ w. min w greatest) (exact_weight s.records s.access exact_members);
-  }
-
   empty_within : (capacity : Option ℕ) → IsWithin capacity []
   empty_within None = tt
   empty_within (Some c) = omega arith
@@ -89,13 +75,13 @@ module _ {K V X P W : Type 0} (s : State K V X P W) (bare : IsBare s.records s.a
       unfinished = λ whole left some. absurd (true≢false (sym some ∙ ap (list_any (λ a. is_settled s.records a.number)) bare.no_members));
       idle = λ enabled uncut none. absurd (true≢false (sym disabled ∙ enabled));
       count_high = rw bare.no_count (omega arith);
-      count_low = let none : len s.records ≡ 0 = sym bare_exact.count ∙ bare.no_count in rw none (omega arith);
+      count_low = let none : len s.records ≡ 0 = sym (bare_is_exact s bare).count ∙ bare.no_count in rw none (omega arith);
     }
 
     module _ (says : P → K → V → Bool → Type 0) (read : X → K → V → ℕ → Option ℕ → ℕ → Option ℕ) where
       settles : Settles says read s terms idle s
       settles = record {
-        exact = λ whole all. bare_exact;
+        exact = λ whole all. bare_is_exact s bare;
         within = λ whole all. is_within;
         expired = λ whole all never n r there. absurd (not_there n r there);
         predicates = λ whole all enabled supported enough. absurd (true≢false (sym disabled ∙ enabled));

@@ -1,5 +1,5 @@
 -- Laws that users rely on, as facts of the reference cache.
-use Rattle.std.specs.Prelude.{◌≡◌, ℕ, Bool, true, false, ◌<◌, ◌≤◌, List, [], ◌∷◌, ◌++◌, map, Option, Some, None, option_map, Result, Ok, Err, Contains, IsPermutation, ⊤}
+use Rattle.std.specs.Prelude.{◌≡◌, ℕ, Bool, true, false, ◌<◌, ◌≤◌, List, [], ◌∷◌, ◌++◌, map, Option, Some, None, option_map, Result, Ok, Err, ◌⊎◌, slice_get, IsPermutation, ⊤}
 use Rattle.std.specs.FinMap.{get, values}
 use Rattle.moka_parts.specs.declared.policy.Instant.{Instant}
 use Rattle.moka_parts.specs.declared.records.Record.{Record}
@@ -13,18 +13,18 @@ use Rattle.moka_parts.specs.declared.error.OutOfMemory.{OutOfMemory}
 use Rattle.moka_parts.specs.declared.calls.Entry.{Entry}
 use Rattle.moka_parts.specs.declared.calls.KvEntry.{KvEntry}
 use Rattle.moka_parts.specs.declared.calls.Ticket.{Ticket}
-use Rattle.moka_parts.specs.Settling.{IsWellNumbered, IsValid}
+use Rattle.moka_parts.specs.Settling.{IsWellNumbered, IsValid, IsAllSent}
 use Rattle.std.specs.Cmp.{IsEquivalence}
 use Rattle.moka_parts.specs.Time.{moment_of, is_before}
-use Rattle.moka_parts.specs.Records.{Records, Notice, record_of_key, total_weight}
-use Rattle.moka_parts.specs.State.{State, Contents, Meaning, Events}
-use Rattle.moka_parts.specs.Visibility.{Covers}
+use Rattle.moka_parts.specs.Records.{Records, Notice, record_of_key, with_record, total_weight}
+use Rattle.moka_parts.specs.State.{State, Settings, Contents, Meaning, Events, new_state}
 use Rattle.moka_sketch.specs.Frequency.{frequency}
 use Rattle.moka_parts.specs.Candidates.{frequency_of_all}
 use Rattle.moka_parts.specs.Writes.{fate_by_policy, Preferred}
-use Rattle.moka_parts.specs.Maintenance.{Freedom, Terms, Course, AreFree, left_in_run, at_end, predicates_at_end, MaintenanceRun}
+use Rattle.moka_parts.specs.Maintenance.{Choice, Removes, MovesToBack, Drops, Freedom, Terms, Course, after_choice, kept_by_choice, CoversNothing, before_steps, AreFree, left_in_run, at_end, MaintenanceRun}
+use Rattle.moka_parts.specs.Exact.{IsExact}
 use Rattle.moka_parts.specs.Calls.{GetStep, PeekStep, ContainsStep, RemoveStep, entry_of}
-use Rattle.moka_parts.specs.Runs.{Step, AreSteps, last_state}
+use Rattle.moka_parts.specs.Runs.{Step, AreSteps, PromisedRun, last_state}
 use Rattle.moka_parts.specs.declared.policy.EvictionPolicy.TheVariants.{TinyLfu}
 
 -- ---- gets and looks
@@ -108,9 +108,21 @@ module _ {K V X L P W C I : Type 0} (m : Meaning K V X L P W C I) where
 
 -- ---- predicates, removals, admissions
 
--- a predicate that a run drops covers no record that is left
+module _ {K V P : Type 0} (says : P → K → V → Bool → Type 0) where
+  -- a predicate that the step drops covers no record of the map at that moment
+  abbrev pub DropsIdle : Contents K V → List (Registered P) → Choice → Type 0
+  DropsIdle c ps (Removes n cause) = ⊤
+  DropsIdle c ps (MovesToBack n) = ⊤
+  DropsIdle c ps (Drops i) = (p : Registered P) → slice_get ps i ≡ Some p → CoversNothing says c p
+
+  -- the same of each step when it is taken
+  abbrev pub AllDropIdle : Contents K V → List (Registered P) → List Choice → Type 0
+  AllDropIdle c ps [] = Unit {0}
+  AllDropIdle c ps (x ∷ xs) = DropsIdle c ps x × AllDropIdle (after_choice c x) (kept_by_choice ps x) xs
+
+-- a run drops a predicate only when it covers no record of the map
 abbrev pub DropsOnlyIdle : {K V X P W : Type 0} → (P → K → V → Bool → Type 0) → State K V X P W → ℕ → Freedom → Type 0
-DropsOnlyIdle {K} {V} {X} {P} {W} says s now ch = AreFree says s now ch → (p : Registered P) (n : ℕ) (r : Record K V) → Contains s.predicates p → get (at_end s ch).records n ≡ Some r → Covers says p r → Contains (predicates_at_end s ch) p
+DropsOnlyIdle says s now ch = AreFree says s now ch → AllDropIdle says (before_steps s ch) s.predicates ch.steps
 
 -- a removal gives the stored entry, shown or not, and every other key's record stays
 abbrev pub RemovesJustOne : {K V X P W : Type 0} → (K → K → Bool) → State K V X P W → Type 0
@@ -161,15 +173,29 @@ TellsEachOnce {K} {V} {X} {L} {P} {W} m = (s : State K V X P W) (steps : List (S
 
 -- ---- looks that leave no trace
 
--- queues, access list, report and housekeeper stay
-pub record LeavesNoTrace {K V X P W : Type 0} (s t : State K V X P W) : Type 0 where
-  pub reads : t.reads ≡ s.reads
-  pub writes : t.writes ≡ s.writes
-  pub outstanding : t.outstanding ≡ s.outstanding
-  pub access : t.access ≡ s.access
-  pub report : (t.count ≡ s.count) × (t.weight ≡ s.weight)
-  pub housekeeping : t.housekeeping ≡ s.housekeeping
+-- nothing changes but the last read and the expiry of the record that the key has
+abbrev pub LeavesNoTrace : {K V X P W : Type 0} → (K → K → Bool) → State K V X P W → K → State K V X P W → Type 0
+LeavesNoTrace {K} {V} eq s key t = (t ≡ s) ⊎ ((r : Record K V) × (read : Instant) × (expires : Option Instant) × (record_of_key eq s.records key ≡ Some r) × (t ≡ record s { records = with_record s.records (record r { read = read; expires = expires }) }))
 
--- a get that records nothing changes no queue and starts no run
+-- a get that records nothing leaves no trace
 abbrev pub PeeksQuietly : {K V X P : Type 0} → (W : Type 0) → (K → K → Bool) → (P → K → V → Bool → Type 0) → (X → K → V → ℕ → Option ℕ → ℕ → Option ℕ) → Type 0
-PeeksQuietly {K} {V} {X} {P} W eq says read = (s : State K V X P W) (key : K) (ignored : Bool) (now : ℕ) (a : Result (Option V) OutOfMemory) (t : State K V X P W) → PeekStep says read eq s key ignored now a t → LeavesNoTrace s t
+PeeksQuietly {K} {V} {X} {P} W eq says read = (s : State K V X P W) (key : K) (ignored : Bool) (now : ℕ) (a : Result (Option V) OutOfMemory) (t : State K V X P W) → PeekStep says read eq s key ignored now a t → LeavesNoTrace eq s key t
+
+-- ---- what always holds, and what runs come to
+
+-- a new cache is valid
+abbrev pub StartsValid : (K V X P W : Type 0) → (K → K → Bool) → Type 0
+StartsValid K V X P W eq = (settings : Settings X W) (capacity : Option ℕ) (now first_ticket : ℕ) → IsValid eq (new_state {K = K} {V = V} {P = P} settings capacity now first_ticket)
+
+-- each run ends exact once every operation was sent
+abbrev pub EndsExact : {K V P : Type 0} → (X W : Type 0) → (K → K → Bool) → (P → K → V → Bool → Type 0) → Type 0
+EndsExact {K} {V} {P} X W eq says = (s : State K V X P W) (terms : Terms) (course : Course) (notices : List (Notice K V)) (t : State K V X P W) → IsValid eq s → IsAllSent s → MaintenanceRun says s terms course notices t → IsExact t
+
+module _ {K V X L P W C I : Type 0} (m : Meaning K V X L P W C I) where
+  -- every list of calls keeps a state valid
+  abbrev pub StaysValid : Type 0
+  StaysValid = (s : State K V X P W) (steps : List (Step K V X P W)) → IsEquivalence m.eq → IsValid m.eq s → AreSteps m (MaintenanceRun m.says) s steps → IsValid m.eq (last_state s steps)
+
+  -- calls whose runs keep all promises are calls of the reference cache
+  abbrev pub IsOfReference : Type 0
+  IsOfReference = (s : State K V X P W) (steps : List (Step K V X P W)) → AreSteps m (PromisedRun m.says m.read) s steps → AreSteps m (MaintenanceRun m.says) s steps

@@ -155,6 +155,11 @@ module _ {K V : Type 0} (q : Tests) where
   HasGround c n r Size = (is_front n c.access && is_over q.capacity c.access) ≡ true
   HasGround c n r Replaced = ⊥
 
+module _ {K V P : Type 0} (says : P → K → V → Bool → Type 0) where
+  -- the predicate covers no record of the map
+  abbrev pub CoversNothing : Contents K V → Registered P → Type 0
+  CoversNothing c p = (n : ℕ) (r : Record K V) → finite.get c.records n ≡ Some r → Covers says p r → ⊥
+
 module _ {K V P : Type 0} (says : P → K → V → Bool → Type 0) (q : Tests) where
   -- the cause fits a record that the run may take out: by a ground of its own, or since a predicate covers it
   abbrev pub HasCause : Contents K V → List (Registered P) → ℕ → Record K V → RemovalCause → Type 0
@@ -163,15 +168,11 @@ module _ {K V P : Type 0} (says : P → K → V → Bool → Type 0) (q : Tests)
   HasCause c ps n r Size = HasGround q c n r Size
   HasCause c ps n r Replaced = ⊥
 
-  -- the predicate covers no record of the map
-  abbrev pub CoversNothing : Contents K V → Registered P → Type 0
-  CoversNothing c p = (n : ℕ) (r : Record K V) → finite.get c.records n ≡ Some r → Covers says p r → ⊥
-
   -- a step that a run may take: a settled member leaves for a cause that fits, an unsettled one goes to the back, or a predicate that covers nothing leaves
   abbrev pub IsJustified : Contents K V → List (Registered P) → Choice → Type 0
   IsJustified c ps (Removes n cause) = (r : Record K V) × (finite.get c.records n ≡ Some r) × (is_member n c.access && is_settled c.records n ≡ true) × HasCause c ps n r cause
   IsJustified c ps (MovesToBack n) = (is_member n c.access ≡ true) × (is_settled c.records n ≡ false)
-  IsJustified c ps (Drops i) = (p : Registered P) × (slice_get ps i ≡ Some p) × CoversNothing c p
+  IsJustified c ps (Drops i) = (p : Registered P) × (slice_get ps i ≡ Some p) × CoversNothing says c p
 
   -- each step may be taken when it is
   abbrev pub AreJustified : Contents K V → List (Registered P) → List Choice → Type 0
