@@ -12,6 +12,7 @@ pub mod Rising
 pub mod CallsKeep
 pub mod StepsKeep
 pub mod Promises
+pub mod SettingsStay
 pub mod Surplus
 pub mod OneMore
 pub mod Conserved
@@ -28,3 +29,4 @@ pub mod Lookup
 pub mod Contained
 pub mod Admission
 pub mod RunsGoOn
+pub mod ListsOfCalls
