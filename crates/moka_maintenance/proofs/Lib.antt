@@ -1,3 +1,8 @@
-pub mod TestedSteps
-pub mod Telling
+pub mod Popped
+pub mod Placed
+pub mod Told
+pub mod Fates
+pub mod Entered
+pub mod AllApplied
+pub mod Stepped
 pub mod Promises

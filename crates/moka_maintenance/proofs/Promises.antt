@@ -1,5 +1,5 @@
 -- What applying the queues and the passes make of a state is a run of the reference cache that keeps its promises.
-use Rattle.std.proofs.Common.{◌≡◌, refl, ℕ, ◌+◌, ◌-◌, ◌<◌, Bool, true, false, true≢false, not, ◌==◌, ◌||◌, List, [], ◌∷◌, length, ◌⊎◌, inl, inr, Option, Some, None, is_some, option_map, ap, sym, subst, ◌∙◌, arith, eqb→eq, if◌then◌else◌}
+use Rattle.std.proofs.Common.{◌≡◌, refl, ℕ, ◌+◌, ◌-◌, ◌<◌, Bool, true, false, true≢false, not, ◌==◌, ◌&&◌, ◌||◌, List, [], ◌∷◌, length, ◌⊎◌, inl, inr, Option, Some, None, is_some, option_map, ap, sym, subst, ◌∙◌, arith, eqb→eq, if◌then◌else◌}
 use Rattle.std.specs.Bool.{passes}
 use Rattle.std.specs.Prelude.{Contains, take}
 use Rattle.std.specs.List.{IsDistinct, list_any}
@@ -33,8 +33,8 @@ use Rattle.moka_maintenance.specs.Steps.{HasUnsettled, Told, makes_room}
 use Rattle.moka_maintenance.specs.Queues.{AreApplied}
 use Rattle.moka_maintenance.specs.Sweeps.{tests_in}
 use Rattle.moka_maintenance.specs.Passes.{IsRan, sweeps_reads}
-use Rattle.moka_maintenance.proofs.TestedSteps.{steps_justified, steps_drop_none}
-use Rattle.moka_maintenance.proofs.Telling.{told_both, late_where_listening, limited_where_listening}
+use Rattle.moka_maintenance.proofs.Told.{told-on}
+use Rattle.moka_maintenance.proofs.Stepped.{steps_justified, steps_keep_predicates}
 
 -- ---- small facts
 
@@ -78,6 +78,16 @@ joined live true invalid over a b c off e f g = rw (off, ← e) refl
 joined live false true over a b c off e f g = rw (off, ← e, ← f) refl
 joined live false false over a b c off e f g = rw (off, ← e, ← f) g
 
+-- late by the limit of a run that has one only where a listener is set
+late_where_listening : (b : Bool) (limit : Option ℕ) (readings : List Instant) → (b && is_late limit readings) ≡ is_late (if b then limit else None) readings
+late_where_listening true limit readings = refl
+late_where_listening false limit readings = refl
+
+-- the same of whether it has one
+limited_where_listening : (b : Bool) (limit : Option ℕ) → (b && is_some limit) ≡ is_some (if b then limit else None)
+limited_where_listening true limit = refl
+limited_where_listening false limit = refl
+
 -- ---- the run
 
 -- what a run asks to know of a state
@@ -115,7 +125,7 @@ module _ {K V X P W L C : Type 0} {tells : L → K → V → RemovalCause → L 
 
   -- it is the reference cache's
   pub run_same : after_run s choices ≡ left_state
-  run_same = ap (with_contents s (at_end s choices)) (steps_drop_none (tests_in q) c s.predicates ran.by.steps ran.by.may) ∙ ap (λ c. with_contents s c s.predicates) end_same
+  run_same = ap (with_contents s (at_end s choices)) (steps_keep_predicates (tests_in q) (λ (p : P) (k : K) (v : V) (b : Bool). Unit {0}) s.predicates c ran.by.steps ran.by.may) ∙ ap (λ c. with_contents s c s.predicates) end_same
 
   -- afterwards only what was not sent waits
   pub end_consistent : IsConsistentState left_state
@@ -190,7 +200,7 @@ module _ {K V X P W L C : Type 0} {tells : L → K → V → RemovalCause → L 
     justified : AreJustified says (tests_of s terms.now) (before_steps s choices) s.predicates ran.by.steps
     justified =
         subst (λ t. AreJustified says t (before_steps s choices) s.predicates ran.by.steps) by_state
-        (subst (λ b. AreJustified says (tests_in q) b s.predicates ran.by.steps) (sym before_same) (steps_justified says (tests_in q) c s.predicates ran.by.steps ran.by.may))
+        (subst (λ b. AreJustified says (tests_in q) b s.predicates ran.by.steps) (sym before_same) (steps_justified (tests_in q) says s.predicates c ran.by.steps ran.by.may))
 
     is_free : AreFree says s terms.now choices
     is_free = (applied.may, justified)
@@ -235,7 +245,7 @@ module _ {K V X P W L C : Type 0} {tells : L → K → V → RemovalCause → L 
   pub promised_told : s.settings.listening ≡ is_some l → Heard tells l (when_listening s.settings.listening (left_in_run s choices)) n
   promised_told listening =
       subst (λ b. Heard tells l (when_listening b (left_in_run s choices)) n) (sym listening)
-      (told_both tells l m n (left_by_writes s.capacity s.settings.policy (after_queued_reads s) s.writes applied.moves) (left_by_choices (before_steps s choices) ran.by.steps) applied.told
+      (told-on tells l m n (left_by_writes s.capacity s.settings.policy (after_queued_reads s) s.writes applied.moves) (left_by_choices (before_steps s choices) ran.by.steps) applied.told
           (subst (λ b. Told tells m (left_by_choices b ran.by.steps) n) (sym before_same) ran.by.told))
 
 -- ---- the run, with the premises as they come
