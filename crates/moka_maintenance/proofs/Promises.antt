@@ -21,10 +21,11 @@ use Rattle.moka_parts.specs.Maintenance as parts
 use Rattle.moka_parts.specs.Maintenance.{Terms, Course, Freedom, after_choices, left_by_choices, after_queued_reads, before_steps, at_end, after_run, left_in_run, with_sketch, is_over, is_cut, is_late, is_timed, tests_of, AreJustified, AreFree}
 use Rattle.moka_parts.specs.Bounds.{removed_by, IsPlainSurplus, IsBounded}
 use Rattle.moka_parts.specs.Exact.{IsExact, IsWithin}
-use Rattle.moka_parts.specs.Settling.{IsAllSent, IsWaitingIn, IsWhole, IsConsistentState, LeavesBehind, Settles, leaves_more_idle}
+use Rattle.moka_parts.specs.Settling.{IsAllSent, IsWaitingIn, IsWhole, IsConsistentState, IsValid, LeavesBehind, Settles, leaves_more_idle}
 use Rattle.moka_parts.specs.Runs.{PromisedRun}
 use Rattle.moka_parts.proofs.RunKeeps.{run_keeps}
 use Rattle.moka_parts.proofs.RunKeepsSound.{run_kept}
+use Rattle.moka_parts.proofs.StepsKeep.{run_valid}
 use Rattle.moka_parts.proofs.AtEnd.{nothing_waits, all_settled, count_is_near, run_is_exact}
 use Rattle.moka_parts.proofs.RunReturns.{IsPromised}
 use Rattle.moka_parts.proofs.Surplus.{surplus_is_front, removed_are_first, only_for_size, left_settled}
@@ -33,7 +34,7 @@ use Rattle.moka_maintenance.specs.Steps.{HasUnsettled, Told, makes_room}
 use Rattle.moka_maintenance.specs.Queues.{AreApplied}
 use Rattle.moka_maintenance.specs.Sweeps.{tests_in}
 use Rattle.moka_maintenance.specs.Passes.{IsRan, sweeps_reads}
-use Rattle.moka_maintenance.proofs.Told.{told-on}
+use Rattle.moka_maintenance.proofs.Told.{told_same, told-on}
 use Rattle.moka_maintenance.proofs.Stepped.{steps_justified, steps_keep_predicates}
 
 -- ---- small facts
@@ -130,6 +131,10 @@ module _ {K V X P W L C : Type 0} {tells : L → K → V → RemovalCause → L 
   -- afterwards only what was not sent waits
   pub end_consistent : IsConsistentState left_state
   end_consistent = subst IsConsistentState run_same (run_kept s choices simple.consistent)
+
+  -- the state is as valid as before
+  pub end_valid : (eq : K → K → Bool) → IsValid eq s → IsValid eq left_state
+  end_valid eq valid = subst (IsValid eq) run_same (run_valid eq s choices simple.enabled valid)
 
   -- no record has an expiry of its own
   pub end_lasting : (k : ℕ) (r : Record K V) → get d.records k ≡ Some r → r.expires ≡ None
@@ -269,6 +274,10 @@ module _ {K V X P W L C : Type 0} {tells : L → K → V → RemovalCause → L 
     led = ran_by_terms.read;
   }
 
+  -- a listener stays set
+  pub run_keeps_listening : is_some n ≡ is_some l
+  run_keeps_listening = told_same tells m n (left_by_choices c ran.by.steps) ran.by.told ∙ told_same tells l m (left_by_writes s.capacity s.settings.policy b s.writes applied.moves) applied.told
+
   -- it leaves a state from which the next may start
   pub run_leaves_simple : IsSimple (with_contents s d s.predicates)
   run_leaves_simple = record {
@@ -279,6 +288,10 @@ module _ {K V X P W L C : Type 0} {tells : L → K → V → RemovalCause → L 
     consistent = end_consistent s simple terms q by_state applied_to_state ran_by_terms;
     lasting = end_lasting s simple terms q by_state applied_to_state ran_by_terms;
   }
+
+  -- the state is as valid as before
+  pub run_leaves_valid : (eq : K → K → Bool) → IsValid eq s → IsValid eq (with_contents s d s.predicates)
+  run_leaves_valid eq valid = end_valid s simple terms q by_state applied_to_state ran_by_terms eq valid
 
   -- once everything was sent, the report is exact, whatever the batch
   pub run_leaves_exact : IsAllSent s → IsExact (with_contents s d s.predicates)
