@@ -220,7 +220,7 @@ module _ {K V X P W L C : Type 0} {tells : L → K → V → RemovalCause → L 
           elim (at_rest whole) [
             | inl some ↦
                 let settled = subst (λ (e : Contents K V). is_member some.number e.access ≡ true → is_settled e.records some.number ≡ true) end_same
-                    (left_settled says s terms.now capacity (before_steps s choices) ran.by.steps plain once_before justified some.number) in
+                (left_settled says s terms.now capacity (before_steps s choices) ran.by.steps plain once_before justified some.number) in
                 absurd (true≢false (sym (settled some.is_in) ∙ some.unsettled))
             | inr within ↦ surplus_is_front says s terms.now capacity (before_steps s choices) ran.by.steps plain once_before justified (subst (λ (e : Contents K V). IsWithin s.capacity e.access) (sym end_same) within)
           ]
@@ -251,7 +251,7 @@ module _ {K V X P W L C : Type 0} {tells : L → K → V → RemovalCause → L 
   promised_told listening =
       subst (λ b. Heard tells l (when_listening b (left_in_run s choices)) n) (sym listening)
       (told-on tells l m n (left_by_writes s.capacity s.settings.policy (after_queued_reads s) s.writes applied.moves) (left_by_choices (before_steps s choices) ran.by.steps) applied.told
-          (subst (λ b. Told tells m (left_by_choices b ran.by.steps) n) (sym before_same) ran.by.told))
+      (subst (λ b. Told tells m (left_by_choices b ran.by.steps) n) (sym before_same) ran.by.told))
 
 -- ---- the run, with the premises as they come
 
