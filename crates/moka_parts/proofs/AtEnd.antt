@@ -17,9 +17,9 @@ use Rattle.moka_parts.specs.Records.{Records, Operations, counted_of, is_applied
 use Rattle.moka_parts.specs.State.{State, is_disabled}
 use Rattle.moka_parts.specs.Maintenance.{Freedom, after_run, at_end, DoesNothing, RunsBy}
 use Rattle.moka_parts.specs.Exact.{AreExactMembers, IsExact}
-use Rattle.moka_parts.specs.Settling.{number_of, IsSound, IsConsistent, IsConsistentState, IsWaitingIn, IsAllSent, IsBare}
-use Rattle.moka_parts.proofs.Maps.{same_or_apart, itself_tested, get_removed, get_past_remove, same_by_test, nothing_at}
-use Rattle.moka_parts.specs.Laws.{EndsExact}
+use Rattle.moka_parts.specs.Settling.{number_of, IsSound, IsConsistent, IsConsistentState, IsWaitingIn, IsBare, IsAllSent}
+use Rattle.moka_parts.specs.Laws.{EndsExact, IsNear, CountsNearly}
+use Rattle.moka_parts.proofs.Maps.{same_or_apart, get_removed, get_past_remove, same_by_test, nothing_at, itself_tested}
 use Rattle.moka_parts.proofs.AccessList.{counted_taken_out, counted_past_taken_out, absent_taken_out, distinct_taken_out}
 use Rattle.moka_parts.proofs.Values.{values_removed, len_removed, remove_absent}
 use Rattle.moka_parts.proofs.Counting.{front_once, rest_once, same_numbers, exact_count, exact_weight}
@@ -173,5 +173,13 @@ count_is_near {K} {V} outstanding records access h =
     go n (Some r) (Some w) s = inl refl
 
 -- after any run the reported count is off by no more than the operations not sent
-pub run_count_is_near : {K V X P W : Type 0} (s : State K V X P W) (ch : Freedom) → IsConsistentState s → ((after_run s ch).count ≤ len (after_run s ch).records + len (after_run s ch).outstanding) × (len (after_run s ch).records ≤ (after_run s ch).count + len (after_run s ch).outstanding)
+pub run_count_is_near : {K V X P W : Type 0} (s : State K V X P W) (ch : Freedom) → IsConsistentState s → IsNear (after_run s ch)
 run_count_is_near s ch h = count_is_near s.outstanding (at_end s ch).records (at_end s ch).access (run_kept s ch h)
+
+-- after a run of the reference cache from a valid state
+pub counts_nearly : {K V P : Type 0} (X W : Type 0) (eq : K → K → Bool) (says : P → K → V → Bool → Type 0) → CountsNearly X W eq says
+counts_nearly {K} {V} {P} X W eq says s terms course notices t h run =
+    elim (is_disabled s.capacity) as (λ b. is_disabled s.capacity ≡ b → MatchBool b (DoesNothing s course notices t) ((ch : Freedom) × RunsBy says s terms ch course notices t × Unit {0}) → IsNear t) [
+      | true ↦ λ off nothing. subst IsNear (sym nothing.0) (let exact = bare_is_exact s (h.numbered.disabled off) in let same = exact.count in (omega arith, omega arith))
+      | false ↦ λ on by. subst IsNear (sym by.1.1) (run_count_is_near s by.0 h.consistent)
+    ] refl run.0

@@ -298,7 +298,7 @@ module _ {K V X L P W C I : Type 0} (m : Meaning K V X L P W C I) (laws : IsEqui
       go (Some r) false found look = refl
       go (Some r) true found look = let at = record_of_key_found m.eq s.records key r found in absurd (not_both m.says s r now (h at.0 r at.1 at.2) look)
 
--- a key that is not shown stays so until it is inserted again
+-- a key that is hidden stays so until it is inserted again
 pub stays_hidden : {K V X L P W C I : Type 0} (m : Meaning K V X L P W C I) → StaysHidden m
 stays_hidden m s steps key now later shown laws valid are forward never last look after =
     hides_look m laws key (last_state s steps) later shown

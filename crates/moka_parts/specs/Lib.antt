@@ -23,3 +23,4 @@ pub mod Bounds
 pub mod Runs
 pub mod Laws
 pub mod Synchronous
+pub mod Texts

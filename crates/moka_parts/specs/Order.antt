@@ -93,7 +93,7 @@ written_after_fate kept n ns (Preferred victims) = entered_by kept n (without_nu
 written_after_fate kept n ns Refused = ns
 
 module _ {K V : Type 0} (kept : Bool) (capacity : Option ℕ) (policy : EvictionPolicy) where
-  -- the list after a write; what TinyLFU's choice moves stays where it is
+  -- the list after a write; what TinyLFU's comparison moves stays where it is
   abbrev pub written_after_write : Contents K V → List ℕ → Operation → List ℕ
   written_after_write c ns (Removal number generation) = without_number number ns
   written_after_write c ns (Upsert number generation weight hash) = written_after_fate kept number ns (fate capacity policy c (Upsert number generation weight hash))
@@ -116,5 +116,5 @@ written_after_choices ns [] = ns
 written_after_choices ns (x ∷ xs) = written_after_choices (written_after_choice ns x) xs
 
 -- the list after a run by these choices
-abbrev pub written_at_end : {K V X P W : Type 0} → State K V X P W → List ℕ → Freedom → List ℕ
-written_at_end s ns ch = written_after_choices (written_after_writes (keeps_write_list s.settings) s.capacity s.settings.policy (after_queued_reads s) ns s.writes ch.moves) ch.steps
+abbrev pub write_list_at_end : {K V X P W : Type 0} → State K V X P W → List ℕ → Freedom → List ℕ
+write_list_at_end s ns ch = written_after_choices (written_after_writes (keeps_write_list s.settings) s.capacity s.settings.policy (after_queued_reads s) ns s.writes ch.moves) ch.steps

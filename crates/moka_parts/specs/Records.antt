@@ -21,7 +21,7 @@ Operations = FinMap nat_cmp Operation
 abbrev pub Notice : Type 0 → Type 0 → Type 0
 Notice K V = K × V × RemovalCause
 
--- what is told where a listener is set
+-- what a listener is notified of, where one is set
 abbrev pub when_listening : {N : Type 0} → Bool → List N → List N
 when_listening true notices = notices
 when_listening false notices = []

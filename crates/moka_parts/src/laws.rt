@@ -2,10 +2,10 @@
 //! each is a law, and whoever calls it may rely on that.
 ghost use Rattle.std.specs.Prelude.{ℕ, List};
 ghost use Rattle.moka_parts.specs.declared.records.Member.{Member};
-ghost use Rattle.moka_parts.specs.State.{State, Contents, Meaning};
+ghost use Rattle.moka_parts.specs.State.{State, Contents};
 ghost use Rattle.moka_parts.specs.Maintenance.{Freedom};
 ghost use Rattle.moka_parts.specs.Runs.{PromisedRun};
-ghost use Rattle.moka_parts.specs.Laws.{GetsWhatIsContained, StaysHidden, DropsOnlyIdle, RemovesJustOne, AdmitsWell, TellsEachOnce, PeeksQuietly, StartsValid, StaysValid, EndsExact, IsOfReference};
+ghost use Rattle.moka_parts.specs.Laws.{GetsWhatIsContained, StaysHidden, DropsOnlyIdle, RemovesJustOne, AdmitsWell, TellsEachOnce, PeeksQuietly, StartsValid, StaysValid, EndsExact, CountsNearly, RemovesEnough, RemovesFirst, IsOfReference};
 
 use crate::closures::{PredicateFn, Weigher};
 use crate::housekeeper::Clock;
@@ -18,7 +18,7 @@ pub fn gets_what_is_contained<K: Eq, V, X: Expiry<K, V>, P: PredicateFn<K, V>, W
     ensures { GetsWhatIsContained {W = W} K.eq P.says X.read (PromisedRun P.says X.read) }
 {}
 
-/// A key that is not shown stays so until it is inserted again, where moments never go back.
+/// A key that is hidden stays so until it is inserted again, where moments never go back.
 pub fn stays_hidden<
     K: Eq,
     V,
@@ -37,7 +37,7 @@ pub fn drops_only_idle<K, V, X, P: PredicateFn<K, V>, W>()
     ensures { (s : State K V X P W) (now : ℕ) (free : Freedom) → DropsOnlyIdle P.says s now free }
 {}
 
-/// A removal hands out the entry of its key, shown or not, and every other key's record stays.
+/// A removal hands out the entry of its key, visible or hidden, and every other key's record stays.
 pub fn removes_just_one<K: Eq, V, X, P, W>()
     ensures { (s : State K V X P W) → RemovesJustOne K.eq s }
 {}
@@ -90,10 +90,27 @@ pub fn ends_exact<K: Eq, V, X, P: PredicateFn<K, V>, W>()
     ensures { EndsExact X W K.eq P.says }
 {}
 
-/// Calls whose runs keep all that is promised are calls of the reference cache, so every law holds of them.
+/// After each run the reported count is off by no more than the operations that were not sent.
+pub fn counts_nearly<K: Eq, V, X, P: PredicateFn<K, V>, W>()
+    ensures { CountsNearly X W K.eq P.says }
+{}
+
+/// Where weight is the only ground for a removal, a run that ends within the capacity removes just enough from the least
+/// recently used end.
+pub fn removes_enough<K, V, X, P: PredicateFn<K, V>, W>()
+    ensures { (s : State K V X P W) (now : ℕ) (free : Freedom) → RemovesEnough P.says s now free }
+{}
+
+/// Where weight is the only ground for a removal, a run removes the least recently used first.
+pub fn removes_first<K, V, X, P: PredicateFn<K, V>, W>()
+    ensures { (s : State K V X P W) (now : ℕ) (free : Freedom) → RemovesFirst P.says s now free }
+{}
+
+/// Calls whose runs of maintenance keep their promises are a run of the reference cache, so every law holds of them.
 pub fn is_of_reference<
     K: Eq,
     V,
+    S,
     X: Expiry<K, V>,
     L: Listener<K, V>,
     P: PredicateFn<K, V>,
@@ -101,5 +118,5 @@ pub fn is_of_reference<
     C: Clock,
     I: IdSource,
 >()
-    ensures { IsOfReference (record { eq = K.eq; tells = L.tells; says = P.says; weighs = W.weighs; observes = C.reads; gives = I.gives; created = X.created; read = X.read; updated = X.updated }) }
+    ensures { IsOfReference S (record { eq = K.eq; tells = L.tells; says = P.says; weighs = W.weighs; observes = C.reads; gives = I.gives; created = X.created; read = X.read; updated = X.updated }) }
 {}
