@@ -9,7 +9,8 @@ use Rattle.moka_parts.specs.Exact.{IsWithin}
 use Rattle.moka_engine.specs.Applied.{Held}
 use Rattle.moka_engine.specs.Evictions.{Turn, Evicts, PassesOver, turn_of, after_turn, TakesTurn, after_turns, MayTurn, MayTake, IsEvicted, HasUnsettled}
 use Rattle.moka_store.proofs.Gets.{get-past_remove, some_same}
-use Rattle.moka_store.proofs.Members.{counted-without, counted-to_back}
+use Rattle.moka_parts.proofs.AccessList.{counted-to_back}
+use Rattle.moka_store.proofs.Members.{counted-without}
 
 -- the number and the weight of the first member
 pub first_is : (xs : List Member) (n w : ℕ) → Some (member n w) ≡ slice_get xs 0 → (is_front n xs ≡ true) × (counted_of n xs ≡ Some w)

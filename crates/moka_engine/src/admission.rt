@@ -34,13 +34,7 @@ pub(crate) fn apply_write<K: Eq + Hash + Drop, V: Drop, S: BuildHasher>(
             generation,
             weight: own,
             ..
-        } => apply_upsert(
-            store,
-            capacity,
-            Handle { number, place },
-            generation,
-            own,
-        ),
+        } => apply_upsert(store, capacity, Handle { number, place }, generation, own),
         Operation::Removal { number, .. } => apply_removal(store, Handle { number, place }),
     }
 }
@@ -113,11 +107,7 @@ pub(crate) fn depart<K: Drop, V: Drop>(taken: Record<K, V>, cause: RemovalCause)
 }
 
 /// The number comes to the back of the access list with this weight, whether it was there or not.
-fn enter<K: Eq + Hash, V, S: BuildHasher>(
-    store: &mut Store<K, V, S>,
-    handle: Handle,
-    own: u32,
-)
+fn enter<K: Eq + Hash, V, S: BuildHasher>(store: &mut Store<K, V, S>, handle: Handle, own: u32)
     requires { IsPlaced store.old handle }
     ensures { store.new ≡ record store.old { access = without_member handle.number store.old.access ++ member handle.number own ∷ [] } }
 {
@@ -157,10 +147,7 @@ fn apply_removal<K: Eq + Hash + Drop, V: Drop, S: BuildHasher>(
 }
 
 /// The member of this number, if there is one, leaves the access list.
-fn leave<K: Eq + Hash, V, S: BuildHasher>(
-    store: &mut Store<K, V, S>,
-    handle: Handle,
-)
+fn leave<K: Eq + Hash, V, S: BuildHasher>(store: &mut Store<K, V, S>, handle: Handle)
     requires { IsPlaced store.old handle }
     ensures { store.new ≡ record store.old { access = without_member handle.number store.old.access } }
 {

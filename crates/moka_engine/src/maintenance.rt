@@ -148,9 +148,7 @@ fn is_over(capacity: Option<u64>, weight: u128) -> bool
 }
 
 /// One turn: the front leaves for want of room where it is settled, else it goes to the back. Whether it left.
-fn turn<K: Eq + Hash + Drop, V: Drop, S: BuildHasher>(
-    store: &mut Store<K, V, S>,
-) -> bool
+fn turn<K: Eq + Hash + Drop, V: Drop, S: BuildHasher>(store: &mut Store<K, V, S>) -> bool
     requires some { 0 < length store.old.access }
     ensures turned { TakesTurn (held store.old) (held store.new) result }
     ensures places { (n p : ℕ) → finite.get store.new.places n ≡ Some p → finite.get store.old.places n ≡ Some p }

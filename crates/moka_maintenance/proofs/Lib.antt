@@ -5,4 +5,6 @@ pub mod Fates
 pub mod Entered
 pub mod AllApplied
 pub mod Stepped
+pub mod Fronts
+pub mod Sweeping
 pub mod Promises

@@ -2,7 +2,7 @@
 use Rattle.std.proofs.Common.{◌≡◌, refl, ℕ, ◌+◌, ◌-◌, ◌<◌, Bool, true, false, true≢false, not, ◌==◌, ◌&&◌, ◌||◌, List, [], ◌∷◌, length, ◌⊎◌, inl, inr, Option, Some, None, is_some, option_map, ap, sym, subst, ◌∙◌, arith, eqb→eq, if◌then◌else◌}
 use Rattle.std.specs.Bool.{passes}
 use Rattle.std.specs.Prelude.{Contains, take}
-use Rattle.std.specs.List.{IsDistinct, list_any}
+use Rattle.std.specs.List.{list_any}
 use Rattle.std.specs.Duration.{as_nanos}
 use Rattle.std.specs.FinMap.{get}
 use Rattle.moka_parts.specs.declared.notification.RemovalCause.{RemovalCause}
@@ -28,7 +28,7 @@ use Rattle.moka_parts.proofs.RunKeepsSound.{run_kept}
 use Rattle.moka_parts.proofs.StepsKeep.{run_valid}
 use Rattle.moka_parts.proofs.AtEnd.{nothing_waits, all_settled, count_is_near, run_is_exact}
 use Rattle.moka_parts.proofs.RunReturns.{IsPromised}
-use Rattle.moka_parts.proofs.Surplus.{surplus_is_front, removed_are_first, only_for_size, left_settled}
+use Rattle.moka_parts.proofs.Surplus.{removes_enough, removes_first, removes_for_size_alone, leaves_settled}
 use Rattle.moka_maintenance.specs.declared.sweep.Tests.{Tests}
 use Rattle.moka_maintenance.specs.Steps.{HasUnsettled, Told, makes_room}
 use Rattle.moka_maintenance.specs.Queues.{AreApplied}
@@ -58,7 +58,7 @@ some_unsettled records (a ∷ access) n there waiting = at (λ later. some_unset
     at later true same there = ap (λ k. not (is_settled records k) || list_any (λ a. not (is_settled records a.number)) access) (eqb→eq a.number n (passes _ same)) ∙ ap (λ b. not b || list_any (λ a. not (is_settled records a.number)) access) waiting
     at later false same there = behind (not (is_settled records a.number)) (list_any (λ a. not (is_settled records a.number)) access) (later there)
 
--- where TinyLFU never has to choose the sketch does not come on
+-- where TinyLFU never has to compare, the sketch is not enabled
 stays_off : {K V : Type 0} (capacity : Option ℕ) (policy : EvictionPolicy) → (policy ≡ Lru) ⊎ (capacity ≡ None) → (weighing : Bool) (c : Contents K V) → with_sketch capacity policy weighing false c ≡ c
 stays_off None policy plain weighing c = refl
 stays_off (Some capacity) policy (inl lru) weighing c = ap (λ p. with_sketch (Some capacity) p weighing false c) lru
@@ -94,7 +94,7 @@ limited_where_listening false limit = refl
 -- what a run asks to know of a state
 pub record IsSimple {K V X P W : Type 0} (s : State K V X P W) : Type 0 where
   pub enabled : is_disabled s.capacity ≡ false
-  -- TinyLFU never has to choose
+  -- TinyLFU never has to compare
   pub policy : (s.settings.policy ≡ Lru) ⊎ (s.capacity ≡ None)
   pub unregistered : s.predicates ≡ []
   -- no order of writing is kept
@@ -210,9 +210,6 @@ module _ {K V X P W L C : Type 0} {tells : L → K → V → RemovalCause → L 
     is_free : AreFree says s terms.now choices
     is_free = (applied.may, justified)
 
-    once_before : IsDistinct (◌==◌) (numbers_of (before_steps s choices).access)
-    once_before = (run_kept s (record choices { steps = [] }) simple.consistent).once
-
     module _ (capacity : ℕ) (plain : IsPlainSurplus s terms.now capacity (before_steps s choices)) where
       -- a surplus is removed from the front, and nothing else
       just_surplus : IsWhole s terms course → (front : List Member) × (prefix (before_steps s choices).access (total_weight (before_steps s choices).access - capacity) ≡ Some front) × (removed_by ran.by.steps ≡ numbers_of front)
@@ -220,16 +217,16 @@ module _ {K V X P W L C : Type 0} {tells : L → K → V → RemovalCause → L 
           elim (at_rest whole) [
             | inl some ↦
                 let settled = subst (λ (e : Contents K V). is_member some.number e.access ≡ true → is_settled e.records some.number ≡ true) end_same
-                (left_settled says s terms.now capacity (before_steps s choices) ran.by.steps plain once_before justified some.number) in
+                (leaves_settled says s terms.now choices capacity simple.consistent is_free plain some.number) in
                 absurd (true≢false (sym (settled some.is_in) ∙ some.unsettled))
-            | inr within ↦ surplus_is_front says s terms.now capacity (before_steps s choices) ran.by.steps plain once_before justified (subst (λ (e : Contents K V). IsWithin s.capacity e.access) (sym end_same) within)
+            | inr within ↦ removes_enough says s terms.now choices capacity simple.consistent is_free plain (subst (λ (e : Contents K V). IsWithin s.capacity e.access) (sym end_same) within)
           ]
 
       -- as far as a run comes that is cut after its first pass
       first_batch : is_cut s.settings terms course ≡ true → passes ≡ 1 → removed_by ran.by.steps ≡ numbers_of (take terms.batch (before_steps s choices).access)
       first_batch cut one =
-          removed_are_first says s terms.now capacity (before_steps s choices) ran.by.steps plain once_before justified terms.batch
-          (ran.batch_used (sym cut_late ∙ cut) one (only_for_size says s terms.now capacity (before_steps s choices) ran.by.steps plain once_before justified makes_room (λ n. refl)))
+          removes_first says s terms.now choices capacity terms.batch simple.consistent is_free plain
+          (ran.batch_used (sym cut_late ∙ cut) one (removes_for_size_alone says s terms.now choices capacity simple.consistent is_free plain makes_room (λ n. refl)))
 
     bounded : IsBounded s terms choices course
     bounded = record {
@@ -246,7 +243,7 @@ module _ {K V X P W L C : Type 0} {tells : L → K → V → RemovalCause → L 
     pub promised : PromisedRun says read s terms course (when_listening s.settings.listening (left_in_run s choices)) left_state
     promised = (rw simple.enabled (choices, (is_free, sym run_same, refl), bounded), (leaves, settles))
 
-  -- the listener is told what leaves
+  -- the listener is notified of what leaves
   pub promised_told : s.settings.listening ≡ is_some l → Heard tells l (when_listening s.settings.listening (left_in_run s choices)) n
   promised_told listening =
       subst (λ b. Heard tells l (when_listening b (left_in_run s choices)) n) (sym listening)

@@ -1,12 +1,8 @@
-use Rattle.std.proofs.Common.{◌≡◌, refl, ◌-◌, Some, IsSome, sym, ap, subst, ◌∙◌}
+use Rattle.std.proofs.Common.{◌≡◌, Some, sym, ap, subst, ◌∙◌}
 use Rattle.std.specs.FinMap as finite
 use Rattle.moka_store.specs.Store.{Kept}
 use Rattle.moka_store.proofs.Gets.{after_remove}
-use Rattle.moka_engine.proofs.Turns.{first_is}
 use Rattle.moka_engine.proofs.maintenance.turn.Goals as goal
-
-
-
 
 pub returns-clause-places : goal.returns-clause-places
 returns-clause-places g c = λ n p there.

@@ -3,7 +3,7 @@ use Rattle.std.specs.FinMap as finite
 use Rattle.circular_buffer.specs.Buffer.{Buffer}
 use Rattle.moka_store.specs.Store.{Kept}
 use Rattle.moka_engine.specs.Inner.{IsInner}
-use Rattle.moka_engine.specs.Interior.{reads_of, writes_of}
+use Rattle.moka_engine.specs.Interior.{writes_of}
 use Rattle.moka_engine.specs.Applied.{held, after_writes}
 use Rattle.moka_engine.proofs.InnerLemmas.{read_at}
 use Rattle.moka_engine.proofs.QueuesApplied.{inner-applied}
@@ -11,7 +11,6 @@ use Rattle.moka_engine.proofs.inner.Inner.apply_queues.Goals as goal
 
 pub apply_reads-requires : goal.apply_reads-requires
 apply_reads-requires g c = λ q there. read_at c.self.inside.store.places c.self.inside.next_number q.place q.read (c.self.invariant.placed.seen q there)
-
 
 pub invariant_of-self : goal.invariant_of-self
 invariant_of-self g c =
