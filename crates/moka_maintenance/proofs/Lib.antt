@@ -10,3 +10,4 @@ pub mod Sweeping
 pub mod PassSteps
 pub mod Clocked
 pub mod Passing
+pub mod Promises

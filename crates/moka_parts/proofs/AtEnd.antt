@@ -3,6 +3,7 @@ use Rattle.std.proofs.Common.{◌≡◌, refl, ℕ, ◌+◌, ◌<◌, ◌≤◌,
 use Rattle.std.proofs.lemmas.List.{length-map}
 use Rattle.std.specs.Prelude.{Contains}
 use Rattle.std.specs.List.{IsDistinct}
+use Rattle.std.specs.Option.{option_map_or}
 use Rattle.std.specs.Ordering.{nat_cmp}
 use Rattle.std.proofs.lemmas.List.Elements.{Contains-append_left, Contains-append_cases, Contains-push, Contains-push_cases}
 use Rattle.std.proofs.lemmas.List.Sorted.{IsPermutation-map, Contains-permutation}
@@ -12,13 +13,13 @@ use Rattle.moka_parts.specs.declared.records.Member.{Member}
 use Rattle.moka_parts.specs.declared.records.Operation.{Operation}
 use Rattle.moka_parts.specs.declared.records.Operation.TheVariants.{Upsert, Removal}
 use Rattle.moka_parts.specs.Time.{greatest}
-use Rattle.moka_parts.specs.Records.{Records, Operations, counted_of, is_member, numbers_of, without_member, total_weight}
+use Rattle.moka_parts.specs.Records.{Records, Operations, counted_of, is_applied, is_member, is_settled, numbers_of, without_member, total_weight}
 use Rattle.moka_parts.specs.State.{State, is_disabled}
 use Rattle.moka_parts.specs.Maintenance.{Freedom, after_run, at_end, DoesNothing, RunsBy}
 use Rattle.moka_parts.specs.Exact.{AreExactMembers, IsExact}
 use Rattle.moka_parts.specs.Settling.{number_of, IsSound, IsConsistent, IsConsistentState, IsWaitingIn, IsBare, IsAllSent}
 use Rattle.moka_parts.specs.Laws.{EndsExact, IsNear, CountsNearly}
-use Rattle.moka_parts.proofs.Maps.{same_or_apart, get_removed, get_past_remove, same_by_test, nothing_at}
+use Rattle.moka_parts.proofs.Maps.{same_or_apart, get_removed, get_past_remove, same_by_test, nothing_at, itself_tested}
 use Rattle.moka_parts.proofs.AccessList.{counted_taken_out, counted_past_taken_out, absent_taken_out, distinct_taken_out}
 use Rattle.moka_parts.proofs.Values.{values_removed, len_removed, remove_absent}
 use Rattle.moka_parts.proofs.Counting.{front_once, rest_once, same_numbers, exact_count, exact_weight}
@@ -44,9 +45,22 @@ exact_when_nothing_waits {K} {V} Waits records access h none = record { once = h
         applied (inl e) = e
         applied (inr below) = let p = s.pending below in absurd (none (Upsert n r.generation r.weight p.0) p.1)
 
-nothing_waits : (outstanding : Operations) → outstanding ≡ empty → (o : Operation) → IsWaitingIn outstanding [] o → ⊥
+-- where every operation was sent, none waits after a run
+pub nothing_waits : (outstanding : Operations) → outstanding ≡ empty → (o : Operation) → IsWaitingIn outstanding [] o → ⊥
 nothing_waits outstanding all o (inl p) = nothing_at p.0 o (sym (ap (λ m. get m p.0) all) ∙ p.1)
 nothing_waits outstanding all o (inr q) = let below : q.1.0 < 0 = q.1.1 in absurd (omega arith)
+
+-- where nothing waits, every member is settled
+pub all_settled : {K V : Type 0} (Waits : Operation → Type 0) (records : Records K V) (access : List Member) → IsConsistent Waits records access → ((o : Operation) → Waits o → ⊥) → (n : ℕ) → is_member n access ≡ true → is_settled records n ≡ true
+all_settled {K} {V} Waits records access h none n there = go (get records n) (counted_of n access) (h.sound n) there
+  where
+    go : (o : Option (Record K V)) (counted : Option ℕ) → IsSound Waits n o counted → is_some counted ≡ true → option_map_or is_applied o false ≡ true
+    go None None s there = cc
+    go None (Some w) s there = absurd (none (Removal n s.0) s.1)
+    go (Some r) counted s there = elim (same_or_apart r.applied r.generation) [
+      | inl same ↦ ap (λ k. k == r.generation) same ∙ itself_tested r.generation
+      | inr apart ↦ let below : r.applied < r.generation = (let differ = apart.forth in let le = s.applied in grind arith) in let p = s.pending below in absurd (none (Upsert n r.generation r.weight p.0) p.1)
+    ]
 
 -- after a run with every operation sent, counts and weights are exactly the records'
 pub run_is_exact : {K V X P W : Type 0} (s : State K V X P W) (ch : Freedom) → IsConsistentState s → IsAllSent s → IsExact (after_run s ch)

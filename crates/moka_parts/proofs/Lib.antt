@@ -7,10 +7,12 @@ pub mod Consistent
 pub mod Applied
 pub mod RunKeepsSound
 pub mod AtEnd
+pub mod RunReturns
 pub mod Rising
 pub mod CallsKeep
 pub mod StepsKeep
 pub mod Promises
+pub mod SettingsStay
 pub mod Surplus
 pub mod OneMore
 pub mod Conserved
@@ -29,3 +31,4 @@ pub mod Admission
 pub mod RunsGoOn
 pub mod Registry
 pub mod Scanned
+pub mod ListsOfCalls
