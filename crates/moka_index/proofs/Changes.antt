@@ -1,0 +1,284 @@
+-- The groups after each call.
+use Rattle.std.proofs.Common.{◌≡◌, ◌≢◌, ℕ, ◌+◌, ◌-◌, ◌*◌, ◌/◌, ◌%◌, ◌^◌, ◌<◌, ◌≤◌, max, Some, None, List, length, ◌⊎◌, inl, inr, refl, sym, ap, subst, ◌∙◌, arith}
+use Rattle.std.proofs.lemmas.Bool.{cases_eq}
+use Rattle.std.proofs.lemmas.List.{length-set}
+use Rattle.std.specs.Prelude.{slice_set}
+use Rattle.std.specs.FinMap.{FinMap, get, insert, remove, len}
+use Rattle.std.specs.Ordering.{nat_cmp}
+use Rattle.moka_index.specs.declared.group.Group.{Group}
+use Rattle.moka_index.specs.Group.{lane_hash, lane_place, entry_in, with_entry, without_lane, raised, home, HasLanes}
+use Rattle.moka_index.specs.Groups.{entry_at, group_at, pushed, with_reach, probe, distance, upto, entries_of, IsShaped, IsReached, IsGroups}
+use Rattle.moka_index.proofs.Probes.{distance-probe}
+use Rattle.moka_index.proofs.Lanes.{entry-here, entry-free, entry-below, with-here, with-other, with-lanes, without-last, without-here, without-other, without-lanes, group-set, group-past_set, entry-inside, entry-at_lane, lane-group, some-same}
+use Rattle.moka_index.proofs.Maps.{Becomes, becomes-insert_entry, becomes-removed, becomes-same, has-upto, found-upto, len-full}
+
+pub lanes-of : (groups : List Group) → IsGroups groups → (i : ℕ) → HasLanes (group_at groups i)
+lanes-of groups g i = (g.shaped i).lanes
+
+pub inside-of : (groups : List Group) → IsGroups groups → (q : ℕ) (e : ℕ × ℕ) → entry_at groups q ≡ Some e → (q / 7 < length groups) × (q < 7 * length groups)
+inside-of groups g q e h = entry-inside groups (lanes-of groups g) q e h
+
+-- a group that is written, and all others
+pub group-cases : (groups : List Group) (at : ℕ) (g : Group) (i : ℕ) → at < length groups → ((i ≡ at) × (group_at (slice_set groups at g) i ≡ g)) ⊎ ((i ≢ at) × (group_at (slice_set groups at g) i ≡ group_at groups i))
+group-cases groups at g i l = elim (cases_eq i at) as (λ _. ((i ≡ at) × (group_at (slice_set groups at g) i ≡ g)) ⊎ ((i ≢ at) × (group_at (slice_set groups at g) i ≡ group_at groups i))) [
+  | inl s ↦ inl (s, ap (group_at (slice_set groups at g)) s ∙ group-set groups at g l)
+  | inr ne ↦ inr (ne, group-past_set groups at i g ne)
+]
+
+-- the map has the hash of the place in each lane
+pub get-entry : (groups : List Group) → IsGroups groups → (q p h : ℕ) → entry_at groups q ≡ Some (p, h) → get (entries_of groups) p ≡ Some h
+unfolding entries_of
+get-entry groups g q p h e = has-upto (entry_at groups) g.apart (7 * length groups) p h q (inside-of groups g q (p, h) e).1 e
+
+-- the lane that a place of the map is in
+pub entry-found : (groups : List Group) (p h : ℕ) → get (entries_of groups) p ≡ Some h → (q : ℕ) × ((q < 7 * length groups) × (entry_at groups q ≡ Some (p, h)))
+unfolding entries_of
+entry-found groups p h e = let w = found-upto (entry_at groups) (7 * length groups) p h e in (w.lane, (w.within, w.at_is))
+
+-- where no group has a free lane, the table is full
+pub full-len : (groups : List Group) → IsGroups groups → ((i : ℕ) → i < length groups → 7 ≤ (group_at groups i).count) → len (entries_of groups) ≡ 7 * length groups
+unfolding entries_of
+full-len groups g full = len-full (entry_at groups) g.apart (7 * length groups) (λ q l none.
+    let i : q / 7 < length groups = omega arith in
+    let lane : q % 7 < (group_at groups (q / 7)).count = omega (arith, full (q / 7) i) in
+    let some = entry-here (group_at groups (q / 7)) (q % 7) lane in
+    let bad : None ≡ Some (lane_place (group_at groups (q / 7)) (q % 7), lane_hash (group_at groups (q / 7)) (q % 7)) = sym none ∙ some in absurd cc)
+
+-- the reach of a group changes no place
+pub record-reach : (g : Group) (r lane : ℕ) → entry_in (record g { reach = r }) lane ≡ entry_in g lane
+unfolding entry_in
+record-reach g r lane = refl
+
+-- all that a call leaves behind
+pub record Leaves (old new : List Group) (m : FinMap nat_cmp ℕ) : Type 0 where
+  pub groups : IsGroups new
+  pub entries : entries_of new ≡ m
+  pub len : length new ≡ length old
+
+leaves : (old new : List Group) (m : FinMap nat_cmp ℕ) → length new ≡ length old → Becomes (entry_at new) (7 * length old) m → ((i : ℕ) → IsShaped (length old) (group_at new i)) → IsReached (length old) (entry_at new) (λ i. (group_at new i).reach) → length old ≤ 2 ^ 32 → Leaves old new m
+unfolding entries_of
+leaves old new m len b s r bound = record {
+  groups = record {
+    shaped = λ i. subst (λ n. IsShaped n (group_at new i)) (sym len) (s i);
+    apart = b.apart;
+    reached = subst (λ n. IsReached n (entry_at new) (λ i. (group_at new i).reach)) (sym len) r;
+    bounded = omega arith;
+  };
+  entries = ap (λ n. upto (entry_at new) (7 * n)) len ∙ b.map_is;
+  len = len;
+}
+
+-- ---- a place is added
+module _ (groups : List Group) (g : IsGroups groups) (first at step hash place : ℕ) (from : first ≡ home (length groups) hash) (first_in : first < length groups) (at_in : at < length groups) (step_in : step < length groups) (there : at ≡ probe (length groups) first step) (room : (group_at groups at).count < 7) (fresh : get (entries_of groups) place ≡ None) where
+  abbrev mid : List Group
+  mid = pushed groups at hash place
+
+  abbrev new : List Group
+  new = with_reach mid first step
+
+  mid-len : length mid ≡ length groups
+  mid-len = length-set groups at (with_entry (group_at groups at) hash place)
+
+  new-len : length new ≡ length groups
+  new-len = length-set mid first (raised (group_at mid first) step) ∙ mid-len
+
+  new-entry : (q : ℕ) → entry_at new q ≡ entry_at mid q
+  new-entry q = elim (group-cases mid first (raised (group_at mid first) step) (q / 7) (omega (arith, mid-len))) as (λ _. entry_at new q ≡ entry_at mid q) [
+    | inl c ↦ ap (λ x. entry_in x (q % 7)) c.1 ∙ record-reach (group_at mid first) (max (group_at mid first).reach step) (q % 7) ∙ ap (λ i. entry_in (group_at mid i) (q % 7)) (sym c.0)
+    | inr c ↦ ap (λ x. entry_in x (q % 7)) c.1
+  ]
+
+  free : entry_at groups (7 * at + (group_at groups at).count) ≡ None
+  free = entry-at_lane groups at (group_at groups at).count room ∙ entry-free (group_at groups at) (group_at groups at).count (omega arith)
+
+  here : entry_at new (7 * at + (group_at groups at).count) ≡ Some (place, hash)
+  here =
+      new-entry (7 * at + (group_at groups at).count)
+      ∙ entry-at_lane mid at (group_at groups at).count room
+      ∙ ap (λ x. entry_in x (group_at groups at).count) (group-set groups at (with_entry (group_at groups at) hash place) at_in)
+      ∙ with-here (group_at groups at) (lanes-of groups g at) hash place room
+
+  others : (q : ℕ) → q ≢ 7 * at + (group_at groups at).count → entry_at new q ≡ entry_at groups q
+  others q ne =
+      new-entry q
+      ∙ elim (group-cases groups at (with_entry (group_at groups at) hash place) (q / 7) at_in) as (λ _. entry_at mid q ≡ entry_at groups q) [
+        | inl c ↦
+            let away : q % 7 ≢ (group_at groups at).count = (λ s. let c0 = c.0 in ne (omega arith)) in
+            ap (λ x. entry_in x (q % 7)) c.1 ∙ with-other (group_at groups at) (lanes-of groups g at) hash place room (q % 7) away ∙ ap (λ i. entry_in (group_at groups i) (q % 7)) (sym c.0)
+        | inr c ↦ ap (λ x. entry_in x (q % 7)) c.1
+      ]
+
+  mid-reach : (i : ℕ) → (group_at mid i).reach ≡ (group_at groups i).reach
+  mid-reach i = elim (group-cases groups at (with_entry (group_at groups at) hash place) i at_in) as (λ _. (group_at mid i).reach ≡ (group_at groups i).reach) [
+    | inl c ↦ ap (λ x. x.reach) c.1 ∙ ap (λ j. (group_at groups j).reach) (sym c.0)
+    | inr c ↦ ap (λ x. x.reach) c.1
+  ]
+
+  first-reach : (group_at new first).reach ≡ max (group_at groups first).reach step
+  first-reach = ap (λ x. x.reach) (group-set mid first (raised (group_at mid first) step) (omega (arith, mid-len))) ∙ ap (λ r. max r step) (mid-reach first)
+
+  more-reach : (i : ℕ) → (group_at groups i).reach ≤ (group_at new i).reach
+  more-reach i = elim (group-cases mid first (raised (group_at mid first) step) i (omega (arith, mid-len))) as (λ _. (group_at groups i).reach ≤ (group_at new i).reach) [
+    | inl c ↦
+        let e : (group_at new i).reach ≡ max (group_at mid first).reach step = ap (λ x. x.reach) c.1 in
+        let f : (group_at mid first).reach ≡ (group_at groups i).reach = mid-reach first ∙ ap (λ j. (group_at groups j).reach) (sym c.0) in
+        omega arith
+    | inr c ↦ let e : (group_at new i).reach ≡ (group_at mid i).reach = ap (λ x. x.reach) c.1 in omega (arith, mid-reach i)
+  ]
+
+  mid-lanes : (i : ℕ) → HasLanes (group_at mid i)
+  mid-lanes i = elim (group-cases groups at (with_entry (group_at groups at) hash place) i at_in) as (λ _. HasLanes (group_at mid i)) [
+    | inl c ↦ subst HasLanes (sym c.1) (with-lanes (group_at groups at) (lanes-of groups g at) hash place room)
+    | inr c ↦ subst HasLanes (sym c.1) (lanes-of groups g i)
+  ]
+
+  new-shaped : (i : ℕ) → IsShaped (length groups) (group_at new i)
+  new-shaped i = elim (group-cases mid first (raised (group_at mid first) step) i (omega (arith, mid-len))) as (λ _. IsShaped (length groups) (group_at new i)) [
+    | inl c ↦
+        let m = mid-lanes first in
+        subst (IsShaped (length groups)) (sym c.1) (record { lanes = record { hashes = m.hashes; places = m.places; count = m.count }; reach = λ p. omega (arith, mid-reach first, (g.shaped first).reach p) })
+    | inr c ↦ subst (IsShaped (length groups)) (sym c.1) (record { lanes = mid-lanes i; reach = λ p. omega (arith, mid-reach i, (g.shaped i).reach p) })
+  ]
+
+  new-reached : IsReached (length groups) (entry_at new) (λ i. (group_at new i).reach)
+  new-reached = record {
+    within = λ q e h. elim (cases_eq q (7 * at + (group_at groups at).count)) as (λ _. distance (length groups) (home (length groups) e.1) (q / 7) ≤ (group_at new (home (length groups) e.1)).reach) [
+      | inl s ↦
+          let e_is : e ≡ (place, hash) = some-same e (place, hash) (sym h ∙ ap (entry_at new) s ∙ here) in
+          let begins : home (length groups) e.1 ≡ first = ap (λ (x : ℕ × ℕ). home (length groups) x.1) e_is ∙ sym from in
+          let group_is : q / 7 ≡ at = ap (λ x. x / 7) s ∙ lane-group at (group_at groups at).count room in
+          let far : distance (length groups) first at ≡ step = ap (distance (length groups) first) there ∙ distance-probe (length groups) first step first_in step_in in
+          let distance_is : distance (length groups) (home (length groups) e.1) (q / 7) ≡ step = (λ i. distance (length groups) (begins i) (group_is i)) ∙ far in
+          let reach_is : (group_at new (home (length groups) e.1)).reach ≡ max (group_at groups first).reach step = ap (λ j. (group_at new j).reach) begins ∙ first-reach in
+          omega arith
+      | inr ne ↦
+          let was = g.reached.within q e (sym (others q ne) ∙ h) in
+          let more = more-reach (home (length groups) e.1) in
+          omega arith
+    ];
+  }
+
+  pub pushed-leaves : Leaves groups new (insert (entries_of groups) place hash)
+  unfolding entries_of
+  pushed-leaves = leaves groups new (insert (entries_of groups) place hash) new-len
+      (becomes-insert_entry (entry_at groups) (entry_at new) (7 * length groups) g.apart (7 * at + (group_at groups at).count) place hash (omega arith) free here others (λ q e h. (inside-of groups g q e h).1) fresh)
+      new-shaped new-reached g.bounded
+
+-- ---- a place is removed
+module _ (groups : List Group) (g : IsGroups groups) (at lane p h : ℕ) (at_in : at < length groups) (lane_in : lane < 7) (there : entry_at groups (7 * at + lane) ≡ Some (p, h)) where
+  abbrev left : List Group
+  left = slice_set groups at (without_lane (group_at groups at) lane)
+
+  left-len : length left ≡ length groups
+  left-len = length-set groups at (without_lane (group_at groups at) lane)
+
+  pub lane-below : lane < (group_at groups at).count
+  lane-below = entry-below (group_at groups at) lane (p, h) (sym (entry-at_lane groups at lane lane_in) ∙ there)
+
+  last-in : (group_at groups at).count - 1 < 7
+  last-in = omega (arith, (lanes-of groups g at).count, lane-below)
+
+  left-at : (other : ℕ) → other < 7 → entry_at left (7 * at + other) ≡ entry_in (without_lane (group_at groups at) lane) other
+  left-at other l = entry-at_lane left at other l ∙ ap (λ x. entry_in x other) (group-set groups at (without_lane (group_at groups at) lane) at_in)
+
+  gone : entry_at left (7 * at + ((group_at groups at).count - 1)) ≡ None
+  gone = left-at ((group_at groups at).count - 1) last-in ∙ without-last (group_at groups at) (lanes-of groups g at) lane lane-below
+
+  moved : 7 * at + lane ≢ 7 * at + ((group_at groups at).count - 1) → entry_at left (7 * at + lane) ≡ entry_at groups (7 * at + ((group_at groups at).count - 1))
+  moved ne =
+      left-at lane lane_in
+      ∙ without-here (group_at groups at) (lanes-of groups g at) lane lane-below (λ s. ne (ap (λ x. 7 * at + x) s))
+      ∙ sym (entry-at_lane groups at ((group_at groups at).count - 1) last-in)
+
+  kept : (q : ℕ) → q ≢ 7 * at + lane → q ≢ 7 * at + ((group_at groups at).count - 1) → entry_at left q ≡ entry_at groups q
+  kept q ne nl = elim (group-cases groups at (without_lane (group_at groups at) lane) (q / 7) at_in) as (λ _. entry_at left q ≡ entry_at groups q) [
+    | inl c ↦
+        let c0 = c.0 in
+        let a : q % 7 ≢ lane = (λ s. ne (omega arith)) in
+        let b : q % 7 ≢ (group_at groups at).count - 1 = (λ s. nl (omega arith)) in
+        ap (λ x. entry_in x (q % 7)) c.1 ∙ without-other (group_at groups at) (lanes-of groups g at) lane lane-below (q % 7) a b ∙ ap (λ i. entry_in (group_at groups i) (q % 7)) (sym c.0)
+    | inr c ↦ ap (λ x. entry_in x (q % 7)) c.1
+  ]
+
+  left-reach : (i : ℕ) → (group_at left i).reach ≡ (group_at groups i).reach
+  left-reach i = elim (group-cases groups at (without_lane (group_at groups at) lane) i at_in) as (λ _. (group_at left i).reach ≡ (group_at groups i).reach) [
+    | inl c ↦ ap (λ x. x.reach) c.1 ∙ ap (λ j. (group_at groups j).reach) (sym c.0)
+    | inr c ↦ ap (λ x. x.reach) c.1
+  ]
+
+  left-shaped : (i : ℕ) → IsShaped (length groups) (group_at left i)
+  left-shaped i = elim (group-cases groups at (without_lane (group_at groups at) lane) i at_in) as (λ _. IsShaped (length groups) (group_at left i)) [
+    | inl c ↦ subst (IsShaped (length groups)) (sym c.1) (record { lanes = without-lanes (group_at groups at) (lanes-of groups g at) lane lane-below; reach = λ p. (g.shaped at).reach p })
+    | inr c ↦ subst (IsShaped (length groups)) (sym c.1) (g.shaped i)
+  ]
+
+  -- the place in a lane was in a lane of the same group
+  came : (q : ℕ) (e : ℕ × ℕ) → entry_at left q ≡ Some e → (o : ℕ) × ((entry_at groups o ≡ Some e) × (o / 7 ≡ q / 7))
+  came q e qe = elim (cases_eq q (7 * at + ((group_at groups at).count - 1))) as (λ _. (o : ℕ) × ((entry_at groups o ≡ Some e) × (o / 7 ≡ q / 7))) [
+    | inl s ↦ let bad : None ≡ Some e = sym gone ∙ ap (entry_at left) (sym s) ∙ qe in absurd cc
+    | inr nl ↦ elim (cases_eq q (7 * at + lane)) as (λ _. (o : ℕ) × ((entry_at groups o ≡ Some e) × (o / 7 ≡ q / 7))) [
+      | inl s ↦ (7 * at + ((group_at groups at).count - 1), (sym (moved (λ t. nl (s ∙ t))) ∙ ap (entry_at left) (sym s) ∙ qe, lane-group at ((group_at groups at).count - 1) last-in ∙ sym (lane-group at lane lane_in) ∙ ap (λ x. x / 7) (sym s)))
+      | inr ne ↦ (q, (sym (kept q ne nl) ∙ qe, refl))
+    ]
+  ]
+
+  left-reached : IsReached (length groups) (entry_at left) (λ i. (group_at left i).reach)
+  left-reached = record {
+    within = λ q e qe.
+        let w = came q e qe in
+        let was = g.reached.within w.0 e w.1.0 in
+        let same = left-reach (home (length groups) e.1) in
+        let near : distance (length groups) (home (length groups) e.1) (w.0 / 7) ≡ distance (length groups) (home (length groups) e.1) (q / 7) = ap (distance (length groups) (home (length groups) e.1)) w.1.1 in
+        omega arith;
+  }
+
+  pub removed-leaves : Leaves groups left (remove (entries_of groups) p)
+  unfolding entries_of
+  removed-leaves = leaves groups left (remove (entries_of groups) p) left-len
+      (becomes-removed (entry_at groups) (entry_at left) (7 * length groups) g.apart (7 * at + lane) p h (7 * at + ((group_at groups at).count - 1)) (omega arith) there gone moved kept (λ q e x. (inside-of groups g q e x).1))
+      left-shaped left-reached g.bounded
+
+-- ---- a reach is lowered
+module _ (groups : List Group) (g : IsGroups groups) (first r : ℕ) (first_in : first < length groups) (less : r ≤ (group_at groups first).reach) (enough : (q : ℕ) (e : ℕ × ℕ) → entry_at groups q ≡ Some e → home (length groups) e.1 ≡ first → distance (length groups) first (q / 7) ≤ r) where
+  abbrev lowered : List Group
+  lowered = slice_set groups first (record (group_at groups first) { reach = r })
+
+  lowered-len : length lowered ≡ length groups
+  lowered-len = length-set groups first (record (group_at groups first) { reach = r })
+
+  lowered-entry : (q : ℕ) → entry_at lowered q ≡ entry_at groups q
+  lowered-entry q = elim (group-cases groups first (record (group_at groups first) { reach = r }) (q / 7) first_in) as (λ _. entry_at lowered q ≡ entry_at groups q) [
+    | inl c ↦ ap (λ x. entry_in x (q % 7)) c.1 ∙ record-reach (group_at groups first) r (q % 7) ∙ ap (λ i. entry_in (group_at groups i) (q % 7)) (sym c.0)
+    | inr c ↦ ap (λ x. entry_in x (q % 7)) c.1
+  ]
+
+  lowered-shaped : (i : ℕ) → IsShaped (length groups) (group_at lowered i)
+  lowered-shaped i = elim (group-cases groups first (record (group_at groups first) { reach = r }) i first_in) as (λ _. IsShaped (length groups) (group_at lowered i)) [
+    | inl c ↦
+        let m = lanes-of groups g first in
+        subst (IsShaped (length groups)) (sym c.1) (record { lanes = record { hashes = m.hashes; places = m.places; count = m.count }; reach = λ p. omega (arith, (g.shaped first).reach p) })
+    | inr c ↦ subst (IsShaped (length groups)) (sym c.1) (g.shaped i)
+  ]
+
+  lowered-reached : IsReached (length groups) (entry_at lowered) (λ i. (group_at lowered i).reach)
+  lowered-reached = record {
+    within = λ q e qe.
+        let was : entry_at groups q ≡ Some e = sym (lowered-entry q) ∙ qe in
+        elim (group-cases groups first (record (group_at groups first) { reach = r }) (home (length groups) e.1) first_in) as (λ _. distance (length groups) (home (length groups) e.1) (q / 7) ≤ (group_at lowered (home (length groups) e.1)).reach) [
+          | inl c ↦
+              let now : (group_at lowered (home (length groups) e.1)).reach ≡ r = ap (λ x. x.reach) c.1 in
+              let near = enough q e was c.0 in
+              let same : distance (length groups) (home (length groups) e.1) (q / 7) ≡ distance (length groups) first (q / 7) = ap (λ f. distance (length groups) f (q / 7)) c.0 in
+              omega arith
+          | inr c ↦
+              let now : (group_at lowered (home (length groups) e.1)).reach ≡ (group_at groups (home (length groups) e.1)).reach = ap (λ x. x.reach) c.1 in
+              let near = g.reached.within q e was in
+              omega arith
+        ];
+  }
+
+  pub lowered-leaves : Leaves groups lowered (entries_of groups)
+  unfolding entries_of
+  lowered-leaves = leaves groups lowered (entries_of groups) lowered-len
+      (becomes-same (entry_at groups) (entry_at lowered) (7 * length groups) g.apart lowered-entry)
+      lowered-shaped lowered-reached g.bounded

@@ -1,0 +1,64 @@
+-- What a search has seen so far.
+use Rattle.std.proofs.Common.{◌≡◌, ◌≢◌, ℕ, ◌-◌, ◌/◌, ◌%◌, ◌<◌, ◌≤◌, Some, List, length, ◌⊎◌, inl, inr, sym, ap, subst, ◌∙◌, arith}
+use Rattle.std.proofs.lemmas.Bool.{cases_eq}
+use Rattle.std_collections.specs.IndexTable.Group.{IsBitSet}
+use Rattle.moka_index.specs.declared.group.Group.{Group}
+use Rattle.moka_index.specs.Group.{entry_in, lane_hash, home}
+use Rattle.moka_index.specs.Groups.{group_at, entry_at, probe, distance, IsGroups}
+use Rattle.moka_index.proofs.Probes.{home-lt, distance-lt, probe-distance}
+use Rattle.moka_index.proofs.Lanes.{entry-is}
+use Rattle.std_collections.proofs.IndexTableLemmas.Bits.{no_bit_zero}
+use Rattle.moka_index.proofs.Changes.{inside-of}
+
+-- each lane with the hash still has its bit, or its place failed the test
+pub record LanesLeft (P : ℕ → Type 0) (g : Group) (hash matches : ℕ) : Type 0 where
+  pub rest : (lane p : ℕ) → entry_in g lane ≡ Some (p, hash) → IsBitSet matches lane ⊎ P p
+
+pub none-left : (P : ℕ → Type 0) (g : Group) (hash matches : ℕ) → LanesLeft P g hash matches → matches ≡ 0 → (lane p : ℕ) → entry_in g lane ≡ Some (p, hash) → P p
+none-left P g hash matches l z lane p e = elim (l.rest lane p e) as (λ _. P p) [
+  | inl set ↦ absurd (no_bit_zero lane (subst (λ n. IsBitSet n lane) z set))
+  | inr done ↦ done
+]
+
+-- the places with the hash in the groups so far failed the test
+pub record GroupsLeft (P : ℕ → Type 0) (groups : List Group) (hash step : ℕ) : Type 0 where
+  pub seen : (k : ℕ) → k < step → (lane p : ℕ) → entry_in (group_at groups (probe (length groups) (home (length groups) hash) k)) lane ≡ Some (p, hash) → P p
+
+pub all-seen : (P : ℕ → Type 0) (groups : List Group) (hash step : ℕ) → IsGroups groups → GroupsLeft P groups hash step → (group_at groups (home (length groups) hash)).reach < step → (q p : ℕ) → entry_at groups q ≡ Some (p, hash) → P p
+all-seen P groups hash step g s far q p e =
+    let within = (inside-of groups g q (p, hash) e).0 in
+    let some : 0 < length groups = omega arith in
+    let first_in = home-lt (length groups) hash some in
+    let near = g.reached.within q (p, hash) e in
+    let at = probe-distance (length groups) (home (length groups) hash) (q / 7) first_in within in
+    s.seen (distance (length groups) (home (length groups) hash) (q / 7)) (omega arith) (q % 7) p (subst (λ i. entry_in (group_at groups i) (q % 7) ≡ Some (p, hash)) (sym at) e)
+
+-- no group so far has a free lane
+pub record Full (groups : List Group) (first step : ℕ) : Type 0 where
+  pub full : (k : ℕ) → k < step → 7 ≤ (group_at groups (probe (length groups) first k)).count
+
+pub full-all : (groups : List Group) (first : ℕ) → first < length groups → Full groups first (length groups) → (i : ℕ) → i < length groups → 7 ≤ (group_at groups i).count
+full-all groups first l f i h =
+    subst (λ j. 7 ≤ (group_at groups j).count) (probe-distance (length groups) first i l h) (f.full (distance (length groups) first i) (distance-lt (length groups) first i l h))
+
+-- no place whose home is the first group is farther from it
+pub record Falls (groups : List Group) (first r : ℕ) : Type 0 where
+  pub less : r ≤ (group_at groups first).reach
+  pub enough : (q : ℕ) (e : ℕ × ℕ) → entry_at groups q ≡ Some e → home (length groups) e.1 ≡ first → distance (length groups) first (q / 7) ≤ r
+
+pub falls-next : (groups : List Group) (first r : ℕ) → IsGroups groups → first < length groups → Falls groups first r → ((lane : ℕ) → lane < (group_at groups (probe (length groups) first r)).count → home (length groups) (lane_hash (group_at groups (probe (length groups) first r)) lane) ≢ first) → Falls groups first (r - 1)
+falls-next groups first r g l f none = record {
+  less = omega (arith, f.less);
+  enough = λ q e h s.
+      let near = f.enough q e h s in
+      elim (cases_eq (distance (length groups) first (q / 7)) r) as (λ _. distance (length groups) first (q / 7) ≤ r - 1) [
+        | inl far ↦
+            let within = (inside-of groups g q e h).0 in
+            let there : probe (length groups) first r ≡ q / 7 = ap (probe (length groups) first) (sym far) ∙ probe-distance (length groups) first (q / 7) l within in
+            let w = entry-is (group_at groups (q / 7)) (q % 7) e.0 e.1 h in
+            let lane : q % 7 < (group_at groups (probe (length groups) first r)).count = subst (λ i. q % 7 < (group_at groups i).count) (sym there) w.0 in
+            let hash : lane_hash (group_at groups (probe (length groups) first r)) (q % 7) ≡ e.1 = ap (λ i. lane_hash (group_at groups i) (q % 7)) there ∙ w.1.1 in
+            absurd (none (q % 7) lane (ap (home (length groups)) hash ∙ s))
+        | inr ne ↦ omega arith
+      ];
+}

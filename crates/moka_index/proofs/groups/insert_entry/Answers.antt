@@ -1,0 +1,86 @@
+use Rattle.std.proofs.Common.{◌≡◌, ◌<◌, ◌≤◌, List, length, slice_index_or, inl, inr, refl, sym, ap, subst, ◌∙◌, arith}
+use Rattle.std.proofs.lemmas.Bool.{cases_eq}
+use Rattle.std.specs.FinMap as finite
+use Rattle.moka_index.specs.declared.group.Group.{Group}
+use Rattle.moka_index.specs.Group.{home}
+use Rattle.moka_index.specs.Groups.{probe, group_at, pushed, with_reach, entries_of}
+use Rattle.moka_index.proofs.Probes.{home-lt}
+use Rattle.moka_index.proofs.Changes.{Leaves, full-len, pushed-leaves}
+use Rattle.moka_index.proofs.Moves.{group-read}
+use Rattle.moka_index.proofs.Search.{Full, full-all}
+use Rattle.moka_index.proofs.groups.insert_entry.Goals as goal
+
+pub loop-step-init : goal.loop-step-init
+loop-step-init c = record { same = refl; full = record { full = λ k l. absurd (omega arith) } }
+
+pub probe-at-requires-clause-first : goal.probe-at-requires-clause-first
+probe-at-requires-clause-first c =
+    let some : 0 < c.len-count.result = omega arith in
+    subst (λ i. i < c.len-count.result) (sym c.home-first.ensures) (home-lt c.len-count.result c.args.hash some)
+
+pub push_at-requires-clause-first : goal.push_at-requires-clause-first
+push_at-requires-clause-first c =
+    let some : 0 < c.len-count.result = omega arith in
+    let h = subst (λ i. i < c.len-count.result) (sym c.home-first.ensures) (home-lt c.len-count.result c.args.hash some) in
+    let same = c.loop-step.invariant.same in
+    let n : length c.loop-step.groups.items ≡ length c.args.groups.now.items = ap (λ v. length v.items) same in
+    omega (arith, h, n)
+
+left : (c : goal.After-push_at) → Leaves c.args.groups.now.items c.push_at.new.groups.items (finite.insert (entries_of c.args.groups.now.items) c.args.place c.args.hash)
+left c =
+    let items : List Group = c.args.groups.now.items in
+    let same = c.loop-step.invariant.same in
+    let n_is : c.len-count.result ≡ length items = omega arith in
+    let some : 0 < length items = omega arith in
+    let from : c.home-first.result ≡ home (length items) c.args.hash = c.home-first.ensures ∙ ap (λ n. home n c.args.hash) n_is in
+    let first_in : c.home-first.result < length items = subst (λ i. i < length items) (sym from) (home-lt (length items) c.args.hash some) in
+    let at_in : c.probe-at.result < length items = omega (arith, c.probe-at.ensures.within) in
+    let step_in : c.loop-step.step < length items = omega (arith, c.loop-step-test.true) in
+    let there : c.probe-at.result ≡ probe (length items) c.home-first.result c.loop-step.step = c.probe-at.ensures.value ∙ ap (λ n. probe n c.home-first.result c.loop-step.step) n_is in
+    let read : c.index.result.now ≡ group_at items c.probe-at.result = c.index.ensures ∙ ap (λ v. slice_index_or v.items c.probe-at.result c.index.result.now) same ∙ group-read items c.probe-at.result c.index.result.now at_in in
+    let room : (group_at items c.probe-at.result).count < 7 = subst (λ x. x.count < 7) read c.if-index-lt-LANES.true in
+    let new_is : c.push_at.new.groups.items ≡ with_reach (pushed items c.probe-at.result c.args.hash c.args.place) c.home-first.result c.loop-step.step =
+    c.push_at.ensures ∙ ap (λ v. with_reach (pushed v.items c.probe-at.result c.args.hash c.args.place) c.home-first.result c.loop-step.step) same in
+    subst (λ new. Leaves items new (finite.insert (entries_of items) c.args.place c.args.hash)) (sym new_is)
+    (pushed-leaves items c.requires.groups c.home-first.result c.probe-at.result c.loop-step.step c.args.hash c.args.place from first_in at_in step_in there room c.requires.fresh)
+
+pub returns-then-index-lt-LANES-clause-groups : goal.returns-then-index-lt-LANES-clause-groups
+returns-then-index-lt-LANES-clause-groups c = (left c).groups
+
+pub returns-then-index-lt-LANES-clause-entries : goal.returns-then-index-lt-LANES-clause-entries
+returns-then-index-lt-LANES-clause-entries c = (left c).entries
+
+pub returns-then-index-lt-LANES-clause-len : goal.returns-then-index-lt-LANES-clause-len
+returns-then-index-lt-LANES-clause-len c = (left c).len
+
+pub loop-step-preserved : goal.loop-step-preserved
+loop-step-preserved c =
+    let items : List Group = c.loop-step.groups.items in
+    let same = c.loop-step.invariant.same in
+    let n_is : c.len-count.result ≡ length items = omega (arith, ap (λ v. length v.items) same) in
+    let at_in : c.probe-at.result < length items = omega (arith, c.probe-at.ensures.within) in
+    let read : c.index.result.now ≡ group_at items c.probe-at.result = c.index.ensures ∙ group-read items c.probe-at.result c.index.result.now at_in in
+    let here : 7 ≤ (group_at items c.probe-at.result).count = subst (λ x. 7 ≤ x.count) read c.if-index-lt-LANES.false in
+    let there : c.probe-at.result ≡ probe (length items) c.home-first.result c.loop-step.step = c.probe-at.ensures.value ∙ ap (λ n. probe n c.home-first.result c.loop-step.step) n_is in
+    record {
+      same = same;
+      full = record {
+        full = λ k l. elim (cases_eq k c.loop-step.step) as (λ _. 7 ≤ (group_at items (probe (length items) c.home-first.result k)).count) [
+          | inl s ↦ subst (λ i. 7 ≤ (group_at items i).count) (there ∙ ap (probe (length items) c.home-first.result) (sym s)) here
+          | inr ne ↦ c.loop-step.invariant.full.full k (omega arith)
+        ];
+      };
+    }
+
+pub unreachable-requires : goal.unreachable-requires
+unreachable-requires c =
+    let items : List Group = c.args.groups.now.items in
+    let same = c.loop-step.invariant.same in
+    let n_is : c.len-count.result ≡ length items = omega arith in
+    let some : 0 < length items = omega (arith, c.requires.room) in
+    let first_in : c.home-first.result < length items = subst (λ i. i < length items) (sym (c.home-first.ensures ∙ ap (λ n. home n c.args.hash) n_is)) (home-lt (length items) c.args.hash some) in
+    let steps_is : c.loop-step.step ≡ length items = omega arith in
+    let full = subst (λ v. Full v.items c.home-first.result c.loop-step.step) same c.loop-step.invariant.full in
+    let all = subst (Full items c.home-first.result) steps_is full in
+    let len_is = full-len items c.requires.groups (full-all items c.home-first.result first_in all) in
+    omega (arith, c.requires.room, len_is)

@@ -1,0 +1,50 @@
+use Rattle.std.proofs.Common.{◌≡◌, ◌≢◌, ℕ, ◌/◌, ◌<◌, ◌≤◌, List, length, slice_set, sym, ap, subst, ◌∙◌, arith}
+use Rattle.moka_index.specs.declared.group.Group.{Group}
+use Rattle.moka_index.specs.Group.{home, lane_hash}
+use Rattle.moka_index.specs.Groups.{probe, distance, group_at, entries_of}
+use Rattle.moka_index.proofs.Changes.{Leaves, lowered-leaves}
+use Rattle.moka_index.proofs.Moves.{group-read}
+use Rattle.moka_index.proofs.Search.{falls-next}
+use Rattle.moka_index.proofs.groups.lower_reach.Goals as goal
+
+pub loop-reach-init : goal.loop-reach-init
+loop-reach-init c =
+    let items : List Group = c.args.groups.now.items in
+    let read : c.index.result.now ≡ group_at items c.args.first = c.index.ensures ∙ group-read items c.args.first c.index.result.now c.requires.first in
+    let r : c.index.result.now.reach ≡ (group_at items c.args.first).reach = ap (λ x. x.reach) read in
+    record {
+      less = omega arith;
+      enough = λ q e h s. subst (λ x. distance (length items) c.args.first (q / 7) ≤ x) (sym r) (subst (λ f. distance (length items) f (q / 7) ≤ (group_at items f).reach) s (c.requires.groups.reached.within q e h));
+    }
+
+pub probe-requires-clause-step : goal.probe-requires-clause-step
+probe-requires-clause-step c =
+    let items : List Group = c.args.groups.now.items in
+    let n_is : c.len-count.result ≡ length items = omega arith in
+    let some : 0 < length items = omega (arith, c.requires.first) in
+    omega (arith, c.loop-reach.invariant.less, (c.requires.groups.shaped c.args.first).reach some)
+
+pub loop-reach-preserved : goal.loop-reach-preserved
+loop-reach-preserved c =
+    let items : List Group = c.args.groups.now.items in
+    let n_is : c.len-count.result ≡ length items = omega arith in
+    let at_in : c.probe.result < length items = omega (arith, c.probe.ensures.within) in
+    let there : c.probe.result ≡ probe (length items) c.args.first c.loop-reach.reach = c.probe.ensures.value ∙ ap (λ n. probe n c.args.first c.loop-reach.reach) n_is in
+    let read : c.index-in-loop-reach.result.now ≡ group_at items (probe (length items) c.args.first c.loop-reach.reach) =
+    c.index-in-loop-reach.ensures ∙ group-read items c.probe.result c.index-in-loop-reach.result.now at_in ∙ ap (group_at items) there in
+    let none = c.has_home.ensures c.if-not-has_home.true in
+    falls-next items c.args.first c.loop-reach.reach c.requires.groups c.requires.first c.loop-reach.invariant
+    (subst (λ x. (lane : ℕ) → lane < x.count → home (length items) (lane_hash x lane) ≢ c.args.first) read (subst (λ n. (lane : ℕ) → lane < c.index-in-loop-reach.result.now.count → home n (lane_hash c.index-in-loop-reach.result.now lane) ≢ c.args.first) n_is none))
+
+left : (c : goal.After-groups-1) → Leaves c.args.groups.now.items (slice_set c.args.groups.now.items c.args.first (record c.index_mut.result.now { reach = c.loop-reach.reach })) (entries_of c.args.groups.now.items)
+left c =
+    let items : List Group = c.args.groups.now.items in
+    let read : c.index_mut.result.now ≡ group_at items c.args.first = c.index_mut.ensures.value ∙ group-read items c.args.first c.index_mut.result.now c.requires.first in
+    subst (λ (x : Group). Leaves items (slice_set items c.args.first (record x { reach = c.loop-reach.reach })) (entries_of items)) (sym read)
+    (lowered-leaves items c.requires.groups c.args.first c.loop-reach.reach c.requires.first c.loop-reach.invariant.less c.loop-reach.invariant.enough)
+
+pub returns-clause-groups : goal.returns-clause-groups
+returns-clause-groups c = (left c).groups
+
+pub returns-clause-entries : goal.returns-clause-entries
+returns-clause-entries c = (left c).entries

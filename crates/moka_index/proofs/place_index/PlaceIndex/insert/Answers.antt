@@ -1,0 +1,27 @@
+use Rattle.std.proofs.Common.{ap, arith}
+use Rattle.std.specs.FinMap as finite
+use Rattle.moka_index.specs.Groups.{entries_of}
+use Rattle.moka_index.proofs.Maps.{len-inserted}
+use Rattle.moka_index.proofs.place_index.PlaceIndex.insert.Goals as goal
+
+pub insert_entry-requires-clause-groups : goal.insert_entry-requires-clause-groups
+insert_entry-requires-clause-groups c = c.self.invariant.groups_are
+
+pub insert_entry-requires-clause-fresh : goal.insert_entry-requires-clause-fresh
+insert_entry-requires-clause-fresh c = rw (← c.self.view_is) at c.requires.fresh
+
+pub insert_entry-requires-clause-room : goal.insert_entry-requires-clause-room
+insert_entry-requires-clause-room c =
+    let room = rw (← c.self.view_is) at c.requires.room in
+    omega (arith, room, c.self.invariant.counted, c.self.invariant.fits)
+
+pub invariant_of-self : goal.invariant_of-self
+invariant_of-self c =
+    let room = rw (← c.self.view_is) at c.requires.room in
+    let fresh = rw (← c.self.view_is) at c.requires.fresh in
+    let more = len-inserted (entries_of c.self.inside.groups.items) c.args.place c.args.hash fresh in
+    record {
+      groups_are = c.insert_entry.ensures.groups;
+      counted = omega (arith, ap finite.len c.insert_entry.ensures.entries, more, c.self.invariant.counted);
+      fits = omega (arith, room, c.insert_entry.ensures.len);
+    }

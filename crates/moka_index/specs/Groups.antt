@@ -1,0 +1,75 @@
+-- How the groups of an index hold its places. No public clause cites this module.
+use Rattle.std.specs.Prelude.{◌≡◌, ℕ, zero, suc, ◌+◌, ◌-◌, ◌*◌, ◌/◌, ◌%◌, ◌^◌, ◌<◌, ◌≤◌, cond, nat_lt, nat_le, Option, Some, None, List, length, slice_index_or, slice_set}
+use Rattle.std.specs.FinMap as finite
+use Rattle.std.specs.FinMap.{FinMap}
+use Rattle.std.specs.Ordering.{nat_cmp}
+use Rattle.moka_index.specs.declared.group.Group.{Group}
+use Rattle.moka_index.specs.Group.{home, empty_group, entry_in, with_entry, raised, HasLanes}
+
+-- ---- round the table
+
+-- the group that is k groups past the first, of n
+abbrev pub probe : ℕ → ℕ → ℕ → ℕ
+probe n first k = cond (nat_lt (first + k) n) (first + k) (first + k - n)
+
+-- how many groups one is past the first, of n
+abbrev pub distance : ℕ → ℕ → ℕ → ℕ
+distance n first at = cond (nat_le first at) (at - first) (at + n - first)
+
+-- ---- the groups
+
+-- the group at a position
+abbrev pub group_at : List Group → ℕ → Group
+group_at groups i = slice_index_or groups i empty_group
+
+-- the groups with one more place in the group at a position
+abbrev pub pushed : List Group → ℕ → ℕ → ℕ → List Group
+pushed groups at hash place = slice_set groups at (with_entry (group_at groups at) hash place)
+
+-- the groups, of which one has a reach of at least this
+abbrev pub with_reach : List Group → ℕ → ℕ → List Group
+with_reach groups first step = slice_set groups first (raised (group_at groups first) step)
+
+-- the place and the hash in a lane, where the lanes of all groups are numbered through
+abbrev pub entry_at : List Group → ℕ → Option (ℕ × ℕ)
+entry_at groups q = entry_in (group_at groups (q / 7)) (q % 7)
+
+-- the map with this entry, if there is one
+abbrev pub put_entry : Option (ℕ × ℕ) → FinMap nat_cmp ℕ → FinMap nat_cmp ℕ
+put_entry None m = m
+put_entry (Some e) m = finite.insert m e.0 e.1
+
+-- the map of the first entries
+abbrev pub upto : (ℕ → Option (ℕ × ℕ)) → ℕ → FinMap nat_cmp ℕ
+upto at zero = finite.empty
+upto at (suc k) = put_entry (at k) (upto at k)
+
+-- the hash of each place
+unfoldable pub entries_of : List Group → FinMap nat_cmp ℕ
+entries_of groups = upto (entry_at groups) (7 * length groups)
+
+-- no place is in two lanes
+pub record IsApart (at : ℕ → Option (ℕ × ℕ)) : Type 0 where
+  pub same : (p q : ℕ) (a b : ℕ × ℕ) → at p ≡ Some a → at q ≡ Some b → a.0 ≡ b.0 → p ≡ q
+
+-- the group has its lanes, and its reach does not go round the table of n groups
+pub record IsShaped (n : ℕ) (g : Group) : Type 0 where
+  pub lanes : HasLanes g
+  pub reach : 0 < n → g.reach < n
+
+-- each place is within reach of the home of its hash
+pub record IsReached (n : ℕ) (at : ℕ → Option (ℕ × ℕ)) (reach : ℕ → ℕ) : Type 0 where
+  pub within : (q : ℕ) (e : ℕ × ℕ) → at q ≡ Some e → distance n (home n e.1) (q / 7) ≤ reach (home n e.1)
+
+-- what holds of the groups of every index
+pub record IsGroups (groups : List Group) : Type 0 where
+  pub shaped : (i : ℕ) → IsShaped (length groups) (group_at groups i)
+  pub apart : IsApart (entry_at groups)
+  pub reached : IsReached (length groups) (entry_at groups) (λ i. (group_at groups i).reach)
+  pub bounded : length groups ≤ 2 ^ 32
+
+-- the places are counted, and a group has at most four on average
+pub record IsIndex (groups : List Group) (len : ℕ) : Type 0 where
+  pub groups_are : IsGroups groups
+  pub counted : len ≡ finite.len (entries_of groups)
+  pub fits : len ≤ 4 * length groups
