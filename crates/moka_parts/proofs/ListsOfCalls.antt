@@ -51,6 +51,6 @@ module _ {K V X L P W C I : Type 0} (m : Meaning K V X L P W C I) where
       orderly = λ empty in_order. steps_orderly_unordered old.state steps unordered made.are_steps;
     }
 
-    -- where a listener is set, it is told of each value that leaves the map other than by a caller's removal, once
+    -- where a listener is set, it is notified once of each value that leaves the map other than by a caller's removal
     pub calls_tell_each_once : IsEquivalence m.eq → IsValid m.eq old.state → old.state.settings.listening ≡ true → AllConserveValues old.state steps
     calls_tell_each_once laws valid listening = tells_each_once m old.state steps laws valid listening (is_of_reference S m calls replies steps old new clock clock_after ids ids_after made).are_steps

@@ -41,7 +41,7 @@ run_returns {K} {V} {S} {X} {L} {P} {W} {C} {says} {read} {tells} {reads} {old} 
 
 -- ---- a disabled cache
 
--- who is told nothing stays the same
+-- a listener that is notified of nothing stays the same
 nothing_heard : {K V L : Type 0} (tells : L → K → V → RemovalCause → L → Type 0) (l : Option L) → Heard {K = K} {V = V} tells l [] l
 nothing_heard tells None = refl
 nothing_heard tells (Some l) = refl
