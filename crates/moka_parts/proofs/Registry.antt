@@ -60,11 +60,6 @@ module _ {P : Type 0} (ps : List (Registered P)) where
 -- ---- as the call of a cache
 
 module _ {K V X P W : Type 0} (s : State K V X P W) where
-  first_free_id : (ids : List Uuid) (id : Uuid) → FirstFree s.predicates ids id → calls.FirstFree s ids id
-  first_free_id [] id h = h
-  first_free_id (x ∷ []) id h = h
-  first_free_id (x ∷ y ∷ ids) id h = (h.0, first_free_id (y ∷ ids) id h.1)
-
   refusal : (error : PredicateError) (ids : List Uuid) → s.settings.invalidator ≡ true → RegistrationRefusal s.predicates error ids → calls.PredicateRefusal s error ids
   refusal predicate_error.InvalidationClosuresDisabled ids on h = absurd h
   refusal predicate_error.OutOfMemory ids on h = (on, h)
@@ -72,5 +67,5 @@ module _ {K V X P W : Type 0} (s : State K V X P W) where
 
   -- where predicates are supported, a registration is a call's step
   pub invalidate_step : (predicate : P) (now : Instant) (a : Result Uuid (PredicateRefused P)) (ids : List Uuid) (qs : List (Registered P)) → s.settings.invalidator ≡ true → RegistrationStep s.predicates predicate now a ids qs → calls.InvalidateStep s predicate now a ids (record s { predicates = qs })
-  invalidate_step predicate now (Ok id) ids qs on h = (on, h.0.0, first_free_id ids id h.0.1, ap (λ ps. record s { predicates = ps }) h.1)
+  invalidate_step predicate now (Ok id) ids qs on h = (on, h.0.0, h.0.1, ap (λ ps. record s { predicates = ps }) h.1)
   invalidate_step predicate now (Err refused) ids qs on h = (h.0, refusal refused.error ids on h.1, ap (λ ps. record s { predicates = ps }) h.2)

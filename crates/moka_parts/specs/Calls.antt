@@ -27,6 +27,7 @@ use Rattle.moka_parts.specs.Records.{Notice, when_listening, record_of_key, with
 use Rattle.moka_parts.specs.State.{State, Settings, Events, is_disabled}
 use Rattle.moka_parts.specs.Housekeeping.{is_due, after_run_due, limit_of_run}
 use Rattle.moka_parts.specs.Visibility.{IsVisible, IsHidden, IsShown}
+use Rattle.moka_parts.specs.Registry.{most_ids, IsTaken, FirstFree}
 use Rattle.moka_parts.specs.Expiry.{is_renewal, renewed, expires_at_first, expires_updated, moment_of_hit, answer_to_hit}
 use Rattle.moka_parts.specs.Causes.{cause_of_replacement, cause_of_removal}
 use Rattle.moka_parts.specs.Maintenance.{Terms, Course}
@@ -150,30 +151,16 @@ module _ {K V X P W : Type 0} where
 
 -- ---- invalidation
 
--- so many identifiers are asked for at most
-abbrev pub most_ids : ℕ
-most_ids = 1000
-
 module _ {K V X P W : Type 0} where
-  -- an identifier that the registry holds
-  abbrev pub IsTaken : State K V X P W → Uuid → Type 0
-  IsTaken s id = (p : Registered P) × Contains s.predicates p × (p.id ≡ id)
-
-  -- all identifiers asked for but the last were taken, and the last is free
-  abbrev pub FirstFree : State K V X P W → List Uuid → Uuid → Type 0
-  FirstFree s [] id = ⊥
-  FirstFree s (asked ∷ []) id = (asked ≡ id) × (IsTaken s id → ⊥)
-  FirstFree s (asked ∷ next ∷ ids) id = IsTaken s asked × FirstFree s (next ∷ ids) id
-
   -- why a predicate is refused, and the identifiers that were asked for
   abbrev pub PredicateRefusal : State K V X P W → PredicateError → List Uuid → Type 0
   PredicateRefusal s predicate_error.InvalidationClosuresDisabled ids = (s.settings.invalidator ≡ false) × (ids ≡ [])
   PredicateRefusal s predicate_error.OutOfMemory ids = (s.settings.invalidator ≡ true) × (ids ≡ [])
-  PredicateRefusal s predicate_error.NoFreeId ids = (s.settings.invalidator ≡ true) × (length ids ≡ most_ids) × AllByRecursion (IsTaken s) ids
+  PredicateRefusal s predicate_error.NoFreeId ids = (s.settings.invalidator ≡ true) × (length ids ≡ most_ids) × AllByRecursion (IsTaken s.predicates) ids
 
   -- the predicate is registered under the first free identifier
   abbrev pub InvalidateStep : State K V X P W → P → Instant → Result Uuid (PredicateRefused P) → List Uuid → State K V X P W → Type 0
-  InvalidateStep s predicate now (Ok id) ids t = (s.settings.invalidator ≡ true) × (length ids ≤ most_ids) × FirstFree s ids id × (t ≡ record s { predicates = s.predicates ++ record { id = id; predicate = predicate; registered = now } ∷ [] })
+  InvalidateStep s predicate now (Ok id) ids t = (s.settings.invalidator ≡ true) × (length ids ≤ most_ids) × FirstFree s.predicates ids id × (t ≡ record s { predicates = s.predicates ++ record { id = id; predicate = predicate; registered = now } ∷ [] })
   InvalidateStep s predicate now (Err refused) ids t = (refused.predicate ≡ predicate) × PredicateRefusal s refused.error ids × (t ≡ s)
 
   -- the capacity changes and nothing else; capacity 0 neither comes nor goes

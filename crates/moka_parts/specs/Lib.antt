@@ -18,8 +18,8 @@ pub mod Maintenance
 pub mod Scan
 pub mod Exact
 pub mod Settling
-pub mod Calls
 pub mod Registry
+pub mod Calls
 pub mod Order
 pub mod Bounds
 pub mod Runs

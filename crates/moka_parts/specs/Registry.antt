@@ -1,5 +1,5 @@
 -- The registry of predicates: which identifiers are taken, and what a registration does.
-use Rattle.std.specs.Prelude.{◌≡◌, ◌≤◌, List, [], ◌∷◌, ◌++◌, length, Option, Some, None, Result, Ok, Err, Contains}
+use Rattle.std.specs.Prelude.{◌≡◌, ℕ, ◌≤◌, List, [], ◌∷◌, ◌++◌, length, Option, Some, None, Result, Ok, Err, Contains}
 use Rattle.std.specs.List.{AllByRecursion}
 use Rattle.uuid.specs.declared.Uuid.{Uuid}
 use Rattle.moka_parts.specs.declared.policy.Instant.{Instant}
@@ -7,8 +7,11 @@ use Rattle.moka_parts.specs.declared.records.Registered.{Registered}
 use Rattle.moka_parts.specs.declared.error.PredicateError.{PredicateError}
 use Rattle.moka_parts.specs.declared.error.PredicateError.TheVariants.{InvalidationClosuresDisabled, NoFreeId, OutOfMemory}
 use Rattle.moka_parts.specs.declared.error.PredicateRefused.{PredicateRefused}
-use Rattle.moka_parts.specs.Calls.{most_ids}
 use Rattle.moka_parts.specs.Surroundings.{Leads}
+
+-- so many identifiers are asked for at most
+abbrev pub most_ids : ℕ
+most_ids = 1000
 
 module _ {P : Type 0} where
   -- an identifier that a registered predicate has
