@@ -9,6 +9,7 @@ mod print;
 mod replay;
 mod script;
 mod sources;
+mod streams;
 mod weigher;
 mod word;
 mod words;

@@ -1,5 +1,5 @@
 use super::*;
-use std::io;
+use std::io::{self, ErrorKind, Read, Write};
 use std::process::Abort;
 use std::test::Fail;
 
