@@ -3,8 +3,6 @@ use Rattle.std.specs.Prelude.{◌≡◌, ◌≢◌, ℕ, Bool, List, ◌++◌, c
 use Rattle.std.specs.IoError.{error_kind}
 use Rattle.std.specs.declared.io.Error.{Error}
 use Rattle.std.specs.declared.io.ErrorKind.TheVariants as kind
-use Rattle.moka_replay.specs.declared.script.ScriptError.{ScriptError}
-use Rattle.moka_replay.specs.declared.script.ScriptError.TheVariants as script_error
 use Rattle.moka_replay.specs.declared.failure.Failure.{Failure}
 use Rattle.moka_replay.specs.declared.failure.Failure.TheVariants.{Usage, BadLine, CannotRead, OutOfMemory}
 
@@ -31,8 +29,3 @@ abbrev pub IsReadFailure : Error → Failure → Type 0
 IsReadFailure error OutOfMemory = error_kind error ≡ kind.OutOfMemory
 IsReadFailure error CannotRead = error_kind error ≢ kind.OutOfMemory
 IsReadFailure error failure = ⊥
-
--- why a script that could not be read stops a replay
-abbrev pub failure_of : ScriptError → Failure
-failure_of (script_error.BadLine number) = BadLine number
-failure_of script_error.OutOfMemory = OutOfMemory

@@ -1,5 +1,4 @@
-pub mod Words
-pub mod LineError
+pub mod Lex
 pub mod Settings
 pub mod Calls
 pub mod Script

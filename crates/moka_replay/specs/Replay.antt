@@ -1,5 +1,5 @@
 -- What a replay does to its reader and its writers.
-use Rattle.std.specs.Prelude.{◌≡◌, ℕ, Bool, ◌⊎◌, List, Result, Ok, Err, if◌then◌else◌}
+use Rattle.std.specs.Prelude.{◌≡◌, ℕ, Bool, ◌⊎◌, List, Result, Ok, Err, IsOk, true, if◌then◌else◌}
 use Rattle.std.specs.List.{list_any}
 use Rattle.std.specs.declared.alloc.Global.{Global}
 use Rattle.std.specs.declared.io.Error.{Error}
@@ -11,7 +11,7 @@ use Rattle.moka_replay.specs.declared.failure.Failure.TheVariants.{BadLine, OutO
 use Rattle.moka_replay.specs.declared.play.Played.{Played}
 use Rattle.moka_replay.specs.declared.script.Script.{Script}
 use Rattle.moka_replay.specs.Failure.{failure_text, status_of, IsWritten, IsReadFailure}
-use Rattle.moka_replay.specs.Script.{ScriptText, script_of, text_of}
+use Rattle.moka_replay.specs.Script.{ScriptText, script_of, asks_for_memory, text_of}
 use Rattle.moka_replay.specs.Played.{AreReplies}
 use Rattle.moka_replay.specs.Text.{AreInOrder, replay_text, is_refused_memory}
 
@@ -24,11 +24,15 @@ abbrev pub Says : Reading → ScriptText → Type 0
 Says (Ok text) script = script_of text.items ≡ Ok script
 Says (Err error) script = ⊥
 
+-- memory may be refused to the calls in front of the first faulty line, and to the play of a right script
+abbrev pub MayWantMemory : List ℕ → Type 0
+MayWantMemory text = (asks_for_memory text ≡ true) ⊎ IsOk (script_of text)
+
 -- why a replay stops: the input was not read, its first faulty line is named, or memory was refused
 abbrev pub Stops : Reading → Failure → Type 0
 Stops (Err error) failure = IsReadFailure error failure
 Stops (Ok text) (BadLine number) = script_of text.items ≡ Err number
-Stops (Ok text) OutOfMemory = Unit {0}
+Stops (Ok text) OutOfMemory = MayWantMemory text.items
 Stops (Ok text) failure = ⊥
 
 -- the script is what the input says, or the reading stops with reason

@@ -2,9 +2,9 @@
 ghost use Rattle.std.specs.Prelude.{IfSome};
 ghost use Rattle.moka_replay.specs.Failure.{failure_text, status_of, IsWritten};
 
-use crate::script::ScriptError;
 use crate::streams::Sink;
 use moka_parts::error::OutOfMemory;
+use std::alloc::{AllocError, AllocFailed};
 use std::fmt::Display;
 use std::io::ErrorKind;
 use std::{fmt, io};
@@ -84,17 +84,25 @@ impl From<OutOfMemory> for Failure {
     }
 }
 
-impl From<ScriptError> for Failure {
+impl From<AllocError> for Failure {
     ghost use Rattle.std.specs.Prelude.{◌≡◌};
-    ghost use Rattle.moka_replay.specs.Failure.{failure_of};
+    ghost use Rattle.moka_replay.specs.declared.failure.Failure.TheVariants.{OutOfMemory};
 
-    ghost from_gives = { λ error failure. failure ≡ failure_of error };
+    ghost from_gives = { λ _ failure. failure ≡ OutOfMemory };
 
-    fn from(error: ScriptError) -> Failure {
-        match error {
-            ScriptError::BadLine(number) => Failure::BadLine(number),
-            ScriptError::OutOfMemory => Failure::OutOfMemory,
-        }
+    fn from(_error: AllocError) -> Failure {
+        Failure::OutOfMemory
+    }
+}
+
+impl<T: Drop> From<AllocFailed<T>> for Failure {
+    ghost use Rattle.std.specs.Prelude.{◌≡◌};
+    ghost use Rattle.moka_replay.specs.declared.failure.Failure.TheVariants.{OutOfMemory};
+
+    ghost from_gives = { λ _ failure. failure ≡ OutOfMemory };
+
+    fn from(_error: AllocFailed<T>) -> Failure {
+        Failure::OutOfMemory
     }
 }
 

@@ -12,7 +12,7 @@ mod sources;
 mod streams;
 mod weigher;
 mod word;
-mod words;
+mod lex;
 
 use crate::failure::{Failure, tell};
 use crate::replay::replay;

@@ -49,7 +49,7 @@ fn names_the_first_faulty_line(rt: HostRuntime) -> Result<(), Fail> {
         assert!(rt; text.len() < 100);
         match parse(rt.alloc(), text.as_bytes()) {
             Ok(_) => assert!(rt; false, "{text:?} was read"),
-            Err(error) => assert_eq!(rt; error, ScriptError::BadLine(line), "at {text:?}"),
+            Err(error) => assert_eq!(rt; error, Failure::BadLine(line), "at {text:?}"),
         }
     }
     Ok(())
