@@ -4,5 +4,6 @@ pub mod Calls
 pub mod Script
 pub mod Text
 pub mod Failure
+pub mod Arguments
 pub mod Replay
 pub mod Played

@@ -1,9 +1,11 @@
 -- What a replay does to its reader and its writers.
-use Rattle.std.specs.Prelude.{◌≡◌, ℕ, Bool, ◌⊎◌, List, Result, Ok, Err, IsOk, true, if◌then◌else◌}
+use Rattle.std.specs.Prelude.{◌≡◌, ℕ, Bool, ◌⊎◌, List, [], Result, Ok, Err, IsOk, true, if◌then◌else◌}
 use Rattle.std.specs.List.{list_any}
 use Rattle.std.specs.declared.alloc.Global.{Global}
 use Rattle.std.specs.declared.io.Error.{Error}
+use Rattle.std.specs.declared.io.BufWriter.{BufWriter}
 use Rattle.std.specs.declared.vec.Vec.{Vec}
+use Rattle.std.specs.Io.Buffered.{writer_inner, writer_buffer}
 use Rattle.moka_parts.specs.declared.calls.Reply.{Reply}
 use Rattle.moka_replay.specs.declared.key_range.KeyRange.{KeyRange}
 use Rattle.moka_replay.specs.declared.failure.Failure.{Failure}
@@ -54,8 +56,22 @@ abbrev pub status_of_replies : List (Reply ℕ (List ℕ) KeyRange) → ℕ
 status_of_replies replies = if list_any is_refused_memory replies then 3 else 0
 
 -- the input's script was played and all of it printed, nothing said; or the replay stopped with reason, said it and printed nothing
+abbrev pub Ends : {W E : Type 0} → (W → List ℕ → Bool → W → Type 0) → (E → List ℕ → Bool → E → Type 0) → Reading → ℕ → W → E → W → E → Type 0
+Ends prints says read status out err out_after err_after =
+    ((played : Played) × IsPlayed read (Ok played) × IsWritten prints (replay_text played.replies.items played.total) (status_of_replies played.replies.items) status out out_after × (err_after ≡ err))
+    ⊎ ((failure : Failure) × Stops read failure × IsWritten says (failure_text failure) (status_of failure) status err err_after × (out_after ≡ out))
+
+-- the replay ends as the input's answer has it
 abbrev pub IsReplayed : {R W E : Type 0} → (R → Reading → R → Type 0) → (W → List ℕ → Bool → W → Type 0) → (E → List ℕ → Bool → E → Type 0) → ℕ → R → W → E → R → W → E → Type 0
-IsReplayed gives prints says status input out err input_after out_after err_after =
-    (read : Reading) × gives input read input_after ×
-    (((played : Played) × IsPlayed read (Ok played) × IsWritten prints (replay_text played.replies.items played.total) (status_of_replies played.replies.items) status out out_after × (err_after ≡ err))
-    ⊎ ((failure : Failure) × Stops read failure × IsWritten says (failure_text failure) (status_of failure) status err err_after × (out_after ≡ out)))
+IsReplayed gives prints says status input out err input_after out_after err_after = (read : Reading) × gives input read input_after × Ends prints says read status out err out_after err_after
+
+-- an input that could not be opened answers why
+abbrev pub Answers : {R : Type 0} → (R → Reading → R → Type 0) → Result R Error → Reading → Type 0
+Answers {R} gives (Ok input) read = (after : R) × gives input read after
+Answers {R} gives (Err error) read = read ≡ Err error
+
+-- the replay ends over an empty buffer in front of the output, or memory for that buffer was refused and one line says so
+abbrev pub IsReplayedBuffered : {R W E : Type 0} → (R → Reading → R → Type 0) → (BufWriter W Global → List ℕ → Bool → BufWriter W Global → Type 0) → (E → List ℕ → Bool → E → Type 0) → ℕ → Result R Error → W → E → E → Type 0
+IsReplayedBuffered {R} {W} gives prints says status input out err err_after =
+    ((read : Reading) × Answers gives input read × (buffer after : BufWriter W Global) × (writer_inner buffer ≡ out) × (writer_buffer buffer ≡ []) × Ends prints says read status buffer err after err_after)
+    ⊎ IsWritten says (failure_text OutOfMemory) (status_of OutOfMemory) status err err_after

@@ -1,15 +1,12 @@
 //! Reads a script, makes its calls on a cache, and prints what comes of it.
-ghost use Rattle.std.specs.Prelude.{◌≡◌, ℕ, IfOk, Result};
+ghost use Rattle.std.specs.Prelude.{◌≡◌, IfOk};
 ghost use Rattle.std.specs.List.{AllByRecursion};
-ghost use Rattle.std.specs.declared.alloc.Global.{Global};
-ghost use Rattle.std.specs.declared.io.Error.{Error};
-ghost use Rattle.std.specs.declared.vec.Vec.{Vec};
 ghost use Rattle.moka_drive.specs.Served.{IsServed};
 ghost use Rattle.moka_engine.specs.BaseCache.{IsLruWhereBounded};
 ghost use Rattle.moka_replay.specs.Failure.{IsWritten};
 ghost use Rattle.moka_replay.specs.Played.{chosen_policy};
 ghost use Rattle.moka_replay.specs.Text.{replay_text};
-ghost use Rattle.moka_replay.specs.Replay.{IsReplayed, IsPlayed, IsScriptRead, status_of_replies};
+ghost use Rattle.moka_replay.specs.Replay.{Reading, Answers, Ends, IsReplayed, IsPlayed, IsScriptRead, status_of_replies};
 
 use crate::failure::{Failure, REFUSED, REPLAYED, tell, write_with_status};
 use crate::play::{Played, play};
@@ -17,6 +14,7 @@ use crate::print::{ReplayText, is_refused_memory, sort_keys};
 use crate::script::{Script, ScriptReply, parse};
 use crate::streams::{Sink, Source};
 use std::alloc::Global;
+use std::io;
 
 /// Replays the script that a reader gives: prints a line for each reply, and then the count and
 /// the weight. Where it stops, one line says why, and nothing is printed.
@@ -37,9 +35,24 @@ pub fn replay<R: Source, W: Sink, E: Sink>(
     }
 }
 
+/// Replays the script of an input that was to be opened. Where it could not be, one line says so.
+pub fn replay_opened<R: Source + Drop, W: Sink, E: Sink>(
+    alloc: Global,
+    input: io::Result<R>,
+    out: &mut W,
+    err: &mut E,
+) -> u8
+    ensures { (read : Reading) × Answers R.gives input read × Ends W.takes E.takes read result out.old err.old out.new err.new }
+{
+    match input {
+        Ok(mut input) => replay(alloc, &mut input, out, err),
+        Err(error) => tell(err, Failure::from(error)),
+    }
+}
+
 /// Makes the calls of the script that a reader gives, and puts the keys of each reply in order.
 fn play_script<R: Source>(alloc: Global, input: &mut R) -> Result<Played, Failure>
-    ensures { (read : Result (Vec ℕ Global) Error) × R.gives input.old read input.new × IsPlayed read result }
+    ensures { (read : Reading) × R.gives input.old read input.new × IsPlayed read result }
 {
     let script = read_script(alloc, input)?;
     let mut played = play(alloc, script)?;
@@ -71,7 +84,7 @@ fn status_of(replies: &[ScriptReply]) -> u8
 
 /// Reads a script to its end.
 fn read_script<R: Source>(alloc: Global, input: &mut R) -> Result<Script, Failure>
-    ensures read { (read : Result (Vec ℕ Global) Error) × R.gives input.old read input.new × IsScriptRead read result }
+    ensures read { (read : Reading) × R.gives input.old read input.new × IsScriptRead read result }
     ensures served { IfOk result (λ script. AllByRecursion IsServed script.calls.items) }
     ensures bounded { IfOk result (λ script. IsLruWhereBounded script.settings.capacity (chosen_policy script.settings)) }
 {
