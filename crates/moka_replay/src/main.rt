@@ -1,11 +1,13 @@
 //! `moka-replay [file]` replays a script on the cache, from the file or from standard input.
 #![tactic(auto)]
+
 ghost use Rattle.moka_replay.specs.Replay.{IsReplayedBuffered};
 
 mod arguments;
 mod failure;
 mod first_ticket;
 mod key_range;
+mod lex;
 mod play;
 mod print;
 mod replay;
@@ -14,7 +16,6 @@ mod sources;
 mod streams;
 mod weigher;
 mod word;
-mod lex;
 
 use crate::arguments::script_path;
 use crate::failure::{Failure, tell};

@@ -144,6 +144,3 @@ pub fn parse(alloc: Global, text: &[u8]) -> Result<Script, Failure>
     }
     Ok(script)
 }
-
-#[cfg(test)]
-mod tests;

@@ -1,6 +1,6 @@
 //! The weigher of a script.
-use crate::word::Word;
 use crate::lex::small_number;
+use crate::word::Word;
 use moka_parts::closures::Weigher;
 
 /// The most digits of a weight.

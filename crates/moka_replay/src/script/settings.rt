@@ -4,8 +4,8 @@ ghost use Rattle.moka_replay.specs.Lex.{texts};
 ghost use Rattle.moka_replay.specs.Settings.{first_of, capacity_of, policy_of, policy_named, weigh_of, setting_of};
 
 use crate::first_ticket::FirstTicket;
-use crate::weigher::NumberWeigher;
 use crate::lex::number;
+use crate::weigher::NumberWeigher;
 use moka_parts::policy::EvictionPolicy;
 
 /// What a script sets before its first call; `None` where it has no such line.
