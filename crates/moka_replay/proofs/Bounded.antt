@@ -8,11 +8,10 @@ use Rattle.moka_engine.specs.BaseCache.{IsLruWhereBounded}
 use Rattle.moka_replay.specs.declared.script.settings.Settings.{Settings}
 use Rattle.moka_replay.specs.declared.script.settings.Setting.{Setting}
 use Rattle.moka_replay.specs.declared.script.settings.Setting.TheVariants.{First, Capacity, Policy, Weigh}
-use Rattle.moka_replay.specs.declared.script.Line.{Line}
 use Rattle.moka_replay.specs.declared.script.Line.TheVariants as line
 use Rattle.moka_replay.specs.Settings.{is_allowed, put_in, filled}
 use Rattle.moka_replay.specs.Calls.{CallText}
-use Rattle.moka_replay.specs.Script.{ScriptText, asked_in, lru_in, has_lru, joined, with_line, lines_read, lines_of, no_text, script_of}
+use Rattle.moka_replay.specs.Script.{LineText, ScriptText, asked_in, lru_in, has_lru, joined, with_line, lines_read, lines_of, no_text, script_of}
 use Rattle.moka_replay.specs.Played.{chosen_policy}
 
 -- where the policy stands among the settings, it is set or a later line sets it; else no capacity other than 0 is set
@@ -67,7 +66,7 @@ promises_called true policy capacity later (inl set) = inl set
 promises_called true policy capacity later (inr waits) = cc
 promises_called false policy capacity later p = p
 
-promises_joined : (with_lru : Bool) (script : ScriptText) (asked : Option Line) (later : Bool) → Promises with_lru script.0.policy script.0.capacity (unwrap_or (lru_in asked) later) → PromisesAll with_lru (option_and_then (joined with_lru script) asked) later
+promises_joined : (with_lru : Bool) (script : ScriptText) (asked : Option LineText) (later : Bool) → Promises with_lru script.0.policy script.0.capacity (unwrap_or (lru_in asked) later) → PromisesAll with_lru (option_and_then (joined with_lru script) asked) later
 promises_joined with_lru script None later p = tt
 promises_joined with_lru script (Some line.Nothing) later p = p
 promises_joined with_lru script (Some (line.Setting setting)) later p = promises_if with_lru _ (is_allowed with_lru setting) _ later (promises_put with_lru script.0 setting script.1 later p)

@@ -6,7 +6,7 @@ use Rattle.std.specs.Str.Parse.{digits_value, ParsesUnsigned}
 use Rattle.std.specs.Result.{OkIff, result_ok}
 use Rattle.std.proofs.lemmas.Bool.Decides.{nat_tests}
 use Rattle.std.proofs.lemmas.Str.Parse.{IsNumeralModel, numerals_by_value, parse_digits, IsDigitsTest}
-use Rattle.moka_replay.specs.Words.{number_of, is_numeral}
+use Rattle.moka_replay.specs.Lex.{number_of, is_numeral}
 
 -- a text of digits, by std's words
 is_digits_test : IsDigitsTest (λ ds. list_all is_ascii_digit ds ≡ true)

@@ -3,7 +3,7 @@ use Rattle.std.proofs.Common.{◌≡◌, refl, ℕ, zero, suc, Bool, true, false
 use Rattle.std.specs.List.{list_all}
 use Rattle.std.specs.Str.{IsAscii}
 use Rattle.std.proofs.lemmas.Bool.Decides.{nat_tests}
-use Rattle.moka_replay.specs.Words.{is_printable}
+use Rattle.moka_replay.specs.Lex.{is_printable}
 
 both : (a b c : Bool) → (a && b && c) ≡ true → (b ≡ true) × (c ≡ true)
 both true true true e = (refl, refl)

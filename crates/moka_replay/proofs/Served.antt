@@ -6,12 +6,11 @@ use Rattle.std.specs.Str.{bytes_eq}
 use Rattle.moka_drive.specs.Served.{IsServed}
 use Rattle.moka_replay.specs.declared.script.settings.Settings.{Settings}
 use Rattle.moka_replay.specs.declared.script.settings.Setting.{Setting}
-use Rattle.moka_replay.specs.declared.script.Line.{Line}
 use Rattle.moka_replay.specs.declared.script.Line.TheVariants as line
-use Rattle.moka_replay.specs.Words.{number_of, is_printable, words_of}
+use Rattle.moka_replay.specs.Lex.{number_of, is_printable, words_of}
 use Rattle.moka_replay.specs.Settings.{setting_of, put_in}
 use Rattle.moka_replay.specs.Calls.{CallText, insert_of, send_of, get_of, contains_of, key_of, remove_of, run_of, keys_of, report_of, call_of}
-use Rattle.moka_replay.specs.Script.{ScriptText, asked_by_name, asked_by, asked_in, is_comment, has_lru, joined, with_line, lines_read, lines_of, no_text, script_of}
+use Rattle.moka_replay.specs.Script.{LineText, ScriptText, asked_by_name, asked_by, asked_in, is_comment, has_lru, joined, with_line, lines_read, lines_of, no_text, script_of}
 
 -- ---- calls
 
@@ -91,13 +90,13 @@ serves_call name arguments =
 -- ---- lines
 
 -- the call that a line asks for, if it asks for one, is served
-abbrev ServesLine : Option Line → Type 0
+abbrev ServesLine : Option LineText → Type 0
 ServesLine None = Unit {0}
 ServesLine (Some line.Nothing) = Unit {0}
 ServesLine (Some (line.Setting setting)) = Unit {0}
 ServesLine (Some (line.Call call)) = IsServed call
 
-serves_line_if : (b : Bool) (x y : Option Line) → ServesLine x → ServesLine y → ServesLine (if b then x else y)
+serves_line_if : (b : Bool) (x y : Option LineText) → ServesLine x → ServesLine y → ServesLine (if b then x else y)
 serves_line_if true x y p q = p
 serves_line_if false x y p q = q
 
@@ -129,7 +128,7 @@ serves_set true None calls all = tt
 serves_set true (Some settings) calls all = all
 serves_set false set calls all = tt
 
-serves_joined : (with_lru : Bool) (script : ScriptText) (asked : Option Line) → AllByRecursion IsServed script.1 → ServesLine asked → ServesAll (option_and_then (joined with_lru script) asked)
+serves_joined : (with_lru : Bool) (script : ScriptText) (asked : Option LineText) → AllByRecursion IsServed script.1 → ServesLine asked → ServesAll (option_and_then (joined with_lru script) asked)
 serves_joined with_lru script None all asks = tt
 serves_joined with_lru script (Some line.Nothing) all asks = all
 serves_joined with_lru script (Some (line.Setting setting)) all asks = serves_set _ (put_in script.0 setting) script.1 all

@@ -4,11 +4,18 @@ use Rattle.std.specs.Str.{bytes_eq}
 use Rattle.moka_parts.specs.declared.calls.Call.{Call}
 use Rattle.moka_parts.specs.declared.calls.Call.TheVariants.{Insert, Send, Get, Contains, Key, Remove, Run, Keys, Report}
 use Rattle.moka_replay.specs.declared.key_range.KeyRange.{KeyRange}
-use Rattle.moka_replay.specs.Words.{number_of, ◌>>=◌}
+use Rattle.moka_replay.specs.declared.script.calls.LineCall.{LineCall}
+use Rattle.moka_replay.specs.declared.script.calls.LineCall.TheVariants as line_call
+use Rattle.moka_replay.specs.Lex.{number_of, ◌>>=◌}
 
 -- a call whose value is its bytes
 abbrev pub CallText : Type 0
 CallText = Call ℕ (List ℕ) KeyRange
+
+-- the call of a line, whose hash is its key
+abbrev pub call_text : LineCall → CallText
+call_text (line_call.Insert key value now) = Insert key key value.now now
+call_text (line_call.Other call) = call
 
 -- `insert KEY VALUE NOW`; the hash is the key
 abbrev pub insert_of : List (List ℕ) → Option CallText

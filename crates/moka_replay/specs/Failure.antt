@@ -1,10 +1,10 @@
 -- Why a replay stops, and how it says so.
-use Rattle.std.specs.Prelude.{◌≡◌, ℕ, List, ◌++◌, Option, codes, decimal, ◌⊎◌}
-use Rattle.std.specs.Io.KnownBytes.{Appends}
-use Rattle.moka_replay.specs.declared.script.ScriptError.{ScriptError}
-use Rattle.moka_replay.specs.declared.script.ScriptError.TheVariants as script_error
+use Rattle.std.specs.Prelude.{◌≡◌, ◌≢◌, ℕ, Bool, List, ◌++◌, codes, decimal, if◌then◌else◌}
+use Rattle.std.specs.IoError.{error_kind}
+use Rattle.std.specs.declared.io.Error.{Error}
+use Rattle.std.specs.declared.io.ErrorKind.TheVariants as kind
 use Rattle.moka_replay.specs.declared.failure.Failure.{Failure}
-use Rattle.moka_replay.specs.declared.failure.Failure.TheVariants.{Usage, BadLine, CannotRead, OutOfMemory, CannotWrite}
+use Rattle.moka_replay.specs.declared.failure.Failure.TheVariants.{Usage, BadLine, CannotRead, OutOfMemory}
 
 -- the text, without its line feed
 abbrev pub failure_text : Failure → List ℕ
@@ -12,11 +12,6 @@ failure_text Usage = codes "usage: moka-replay [file]"
 failure_text (BadLine number) = codes "line " ++ (decimal number ++ codes ": bad script")
 failure_text CannotRead = codes "cannot read"
 failure_text OutOfMemory = codes "out of memory"
-failure_text CannotWrite = codes "cannot write"
-
--- the line that is written
-abbrev pub failure_line : Failure → List ℕ
-failure_line failure = failure_text failure ++ codes "\n"
 
 -- 2 for what the caller gave, 3 for what the system refused
 abbrev pub status_of : Failure → ℕ
@@ -24,18 +19,13 @@ status_of Usage = 2
 status_of (BadLine number) = 2
 status_of CannotRead = 3
 status_of OutOfMemory = 3
-status_of CannotWrite = 3
 
--- the line was written and the status is the failure's, or the status is that of a refused write
-abbrev pub IsSaid : Failure → ℕ → Option (List ℕ) → Option (List ℕ) → Type 0
-IsSaid failure status old new = ((status ≡ status_of failure) × Appends old new (failure_line failure)) ⊎ (status ≡ 3)
+-- the line is taken and the status is the one given, or it is refused and the status is 3
+abbrev pub IsWritten : {S : Type 0} → (S → List ℕ → Bool → S → Type 0) → List ℕ → ℕ → ℕ → S → S → Type 0
+IsWritten takes line good status old new = (taken : Bool) × takes old line taken new × (status ≡ (if taken then good else 3))
 
--- of a refused write nothing is said
-abbrev pub IsToldAs : Failure → ℕ → Option (List ℕ) → Option (List ℕ) → Type 0
-IsToldAs CannotWrite status old new = (status ≡ 3) × (new ≡ old)
-IsToldAs failure status old new = IsSaid failure status old new
-
--- why a script that could not be read stops a replay
-abbrev pub failure_of : ScriptError → Failure
-failure_of (script_error.BadLine number) = BadLine number
-failure_of script_error.OutOfMemory = OutOfMemory
+-- why reading stops: for memory exactly where the system says so
+abbrev pub IsReadFailure : Error → Failure → Type 0
+IsReadFailure error OutOfMemory = error_kind error ≡ kind.OutOfMemory
+IsReadFailure error CannotRead = error_kind error ≢ kind.OutOfMemory
+IsReadFailure error failure = ⊥

@@ -1,9 +1,9 @@
-pub mod Words
-pub mod LineError
+pub mod Lex
 pub mod Settings
 pub mod Calls
 pub mod Script
 pub mod Text
 pub mod Failure
+pub mod Arguments
 pub mod Replay
 pub mod Played

@@ -16,7 +16,7 @@ use Rattle.moka_replay.specs.declared.sources.CountedIds.{CountedIds}
 use Rattle.moka_replay.specs.declared.sources.StoppedClock.{StoppedClock}
 use Rattle.moka_replay.specs.declared.weigher.NumberWeigher.{NumberWeigher}
 use Rattle.moka_replay.specs.Script.{ScriptText}
-use Rattle.moka_replay.specs.Words.{weight_of}
+use Rattle.moka_replay.specs.Lex.{weight_of}
 
 -- keys are numbers, values are words
 abbrev pub ScriptState : Type 0

@@ -1,36 +1,47 @@
 -- What the lines of a script ask for.
-use Rattle.std.specs.Prelude.{◌≡◌, ℕ, ◌+◌, ◌==◌, Bool, true, false, ◌&&◌, List, [], ◌∷◌, ◌++◌, length, Option, Some, None, Result, Ok, Err, option_map, unwrap_or, slice_index, if◌then◌else◌}
+use Rattle.std.specs.Prelude.{◌≡◌, ℕ, ◌+◌, ◌==◌, Bool, true, false, ◌&&◌, ◌||◌, List, [], ◌∷◌, ◌++◌, length, Option, Some, None, Result, Ok, Err, option_map, unwrap_or, slice_index, if◌then◌else◌}
 use Rattle.std.specs.List.{slice_split, list_all}
 use Rattle.std.specs.Option.{option_or, option_map_or}
 use Rattle.moka_parts.specs.declared.policy.EvictionPolicy.TheVariants.{Lru}
 use Rattle.moka_replay.specs.declared.script.settings.Settings.{Settings}
 use Rattle.moka_replay.specs.declared.script.settings.Setting.TheVariants.{Policy}
 use Rattle.moka_replay.specs.declared.script.Script.{Script}
+use Rattle.moka_replay.specs.declared.script.calls.LineCall.{LineCall}
 use Rattle.moka_replay.specs.declared.script.Line.{Line}
 use Rattle.moka_replay.specs.declared.script.Line.TheVariants as line
-use Rattle.moka_replay.specs.declared.script.ScriptError.{ScriptError}
-use Rattle.moka_replay.specs.declared.script.ScriptError.TheVariants as script_error
-use Rattle.moka_replay.specs.Words.{is_printable, words_of, ◌>>=◌}
+use Rattle.moka_replay.specs.declared.failure.Failure.{Failure}
+use Rattle.moka_replay.specs.declared.failure.Failure.TheVariants as failure
+use Rattle.moka_replay.specs.Lex.{is_printable, words_of, ◌>>=◌}
 use Rattle.moka_replay.specs.Settings.{setting_of, no_settings, is_allowed, put_in}
-use Rattle.moka_replay.specs.Calls.{CallText, call_of}
+use Rattle.moka_replay.specs.Calls.{CallText, call_text, call_of}
 
 -- ---- lines
+
+-- what a line asks for
+abbrev pub LineText : Type 0
+LineText = Line CallText
+
+-- the same, where a value is still a part of the line
+abbrev pub line_text : Line LineCall → LineText
+line_text line.Nothing = line.Nothing
+line_text (line.Setting setting) = line.Setting setting
+line_text (line.Call call) = line.Call (call_text call)
 
 -- whether a word begins with `#`
 abbrev pub is_comment : List ℕ → Bool
 is_comment word = slice_index word 0 == 35
 
 -- the setting, or else the call
-abbrev pub asked_by_name : List ℕ → List (List ℕ) → Option Line
+abbrev pub asked_by_name : List ℕ → List (List ℕ) → Option LineText
 asked_by_name name arguments = option_or (option_map line.Setting (setting_of name arguments)) (option_map line.Call (call_of name arguments))
 
 -- what words ask for; a comment asks for nothing
-abbrev pub asked_by : List (List ℕ) → Option Line
+abbrev pub asked_by : List (List ℕ) → Option LineText
 asked_by [] = Some line.Nothing
 asked_by (name ∷ arguments) = if is_comment name then Some line.Nothing else asked_by_name name arguments
 
 -- what a line asks for
-abbrev pub asked_in : List ℕ → Option Line
+abbrev pub asked_in : List ℕ → Option LineText
 asked_in text = if list_all is_printable text then asked_by (words_of text) else None
 
 -- ---- scripts
@@ -48,7 +59,7 @@ abbrev pub text_of : Script → ScriptText
 text_of script = (script.settings, script.calls.items)
 
 -- whether a line tells that `policy lru` stands among the settings: it does itself, or a call ends them
-abbrev pub lru_in : Option Line → Option Bool
+abbrev pub lru_in : Option LineText → Option Bool
 lru_in (Some (line.Setting (Policy Lru))) = Some true
 lru_in (Some (line.Call call)) = Some false
 lru_in asked = None
@@ -59,7 +70,7 @@ has_lru [] = false
 has_lru (text ∷ lines) = unwrap_or (lru_in (asked_in text)) (has_lru lines)
 
 -- settings come before the first call
-abbrev pub joined : Bool → ScriptText → Line → Option ScriptText
+abbrev pub joined : Bool → ScriptText → LineText → Option ScriptText
 joined with_lru script line.Nothing = Some script
 joined with_lru script (line.Setting setting) = if length script.1 == 0 && is_allowed with_lru setting then option_map (λ settings. (settings, script.1)) (put_in script.0 setting) else None
 joined with_lru script (line.Call call) = Some (script.0, script.1 ++ call ∷ [])
@@ -81,8 +92,30 @@ lines_of text = slice_split (λ byte. byte == 10) text
 abbrev pub script_of : List ℕ → Result ScriptText ℕ
 script_of text = lines_read (has_lru (lines_of text)) 1 no_text (lines_of text)
 
--- reading succeeds exactly where each line is right, but for memory, and else the first faulty line is named
-abbrev pub IsParseOf : List ℕ → Result Script ScriptError → Type 0
+-- whether the line asks for a call
+abbrev pub is_call : Option LineText → Bool
+is_call (Some (line.Call call)) = true
+is_call asked = false
+
+-- whether a call stands in front of the first faulty line
+abbrev pub has_call : Bool → ScriptText → List (List ℕ) → Bool
+has_call with_lru script [] = false
+has_call with_lru script (text ∷ lines) = is_call (asked_in text) || option_map_or (λ more. has_call with_lru more lines) (with_line with_lru script text) false
+
+-- whether the text asks for memory: only a call does
+abbrev pub asks_for_memory : List ℕ → Bool
+asks_for_memory text = has_call (has_lru (lines_of text)) no_text (lines_of text)
+
+-- what a line asks for is added exactly where it is right, and memory may be refused to a call alone
+abbrev pub IsAdded : Bool → ℕ → ScriptText → List ℕ → Result (Unit {0}) Failure → ScriptText → Type 0
+IsAdded with_lru number old text (Ok _) new = with_line with_lru old text ≡ Some new
+IsAdded with_lru number old text (Err (failure.BadLine n)) new = (n ≡ number) × (with_line with_lru old text ≡ None)
+IsAdded with_lru number old text (Err failure.OutOfMemory) new = is_call (asked_in text) ≡ true
+IsAdded with_lru number old text (Err _) new = ⊥
+
+-- reading succeeds exactly where each line is right, and else the first faulty line is named; memory may be refused to the calls in front of it
+abbrev pub IsParseOf : List ℕ → Result Script Failure → Type 0
 IsParseOf text (Ok script) = script_of text ≡ Ok (text_of script)
-IsParseOf text (Err (script_error.BadLine number)) = script_of text ≡ Err number
-IsParseOf text (Err script_error.OutOfMemory) = Unit {0}
+IsParseOf text (Err (failure.BadLine number)) = script_of text ≡ Err number
+IsParseOf text (Err failure.OutOfMemory) = asks_for_memory text ≡ true
+IsParseOf text (Err _) = ⊥

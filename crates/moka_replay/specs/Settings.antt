@@ -6,7 +6,7 @@ use Rattle.moka_parts.specs.declared.policy.EvictionPolicy.TheVariants.{Lru}
 use Rattle.moka_replay.specs.declared.script.settings.Settings.{Settings}
 use Rattle.moka_replay.specs.declared.script.settings.Setting.{Setting}
 use Rattle.moka_replay.specs.declared.script.settings.Setting.TheVariants.{First, Capacity, Policy, Weigh}
-use Rattle.moka_replay.specs.Words.{number_of, ◌>>=◌}
+use Rattle.moka_replay.specs.Lex.{number_of, ◌>>=◌}
 
 -- `first N`, where N is not 0
 abbrev pub first_of : List (List ℕ) → Option Setting

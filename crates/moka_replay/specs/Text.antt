@@ -111,9 +111,9 @@ reply_text (SetCapacity (Err _)) = codes "refused zero"
 abbrev pub reply_lines : List (Reply ℕ (List ℕ) KeyRange) → List ℕ
 reply_lines replies = flat_map (λ reply. reply_text reply ++ codes "\n") replies
 
--- a line for each reply, and then the total
+-- a line for each reply, and then the total, without the last line feed
 abbrev pub replay_text : List (Reply ℕ (List ℕ) KeyRange) → Total → List ℕ
-replay_text replies total = reply_lines replies ++ (total_text total ++ codes "\n")
+replay_text replies total = reply_lines replies ++ total_text total
 
 -- a reply, and the same with its keys, if it has any, in rising order
 abbrev pub IsInOrder : Reply ℕ (List ℕ) KeyRange → Reply ℕ (List ℕ) KeyRange → Type 0

@@ -1,12 +1,12 @@
 //! Why a replay stops, and how it says so.
-ghost use Rattle.std.specs.Prelude.{OnOk};
-ghost use Rattle.std.specs.Io.KnownBytes.{Appends};
-ghost use Rattle.moka_replay.specs.Failure.{failure_line, IsToldAs};
+ghost use Rattle.std.specs.Prelude.{IfSome};
+ghost use Rattle.moka_replay.specs.Failure.{failure_text, status_of, IsWritten};
 
-use crate::script::ScriptError;
+use crate::streams::Sink;
 use moka_parts::error::OutOfMemory;
-use std::alloc::AllocError;
-use std::io::Write;
+use std::alloc::{AllocError, AllocFailed};
+use std::fmt::Display;
+use std::io::ErrorKind;
 use std::{fmt, io};
 
 /// The status of a replay that was made, each reply with its memory.
@@ -18,7 +18,7 @@ pub const FAULTY: u8 = 2;
 /// The status where memory, a read or a write was refused.
 pub const REFUSED: u8 = 3;
 
-/// Why a replay stopped.
+/// Why a replay stopped before it printed anything.
 #[derive(Clone, Copy, Debug, PartialEq, Eq)]
 pub enum Failure {
     /// There are more arguments than one.
@@ -27,8 +27,6 @@ pub enum Failure {
     BadLine(u64),
     CannotRead,
     OutOfMemory,
-    /// Of this nothing is said.
-    CannotWrite,
 }
 
 impl Failure {
@@ -41,7 +39,7 @@ impl Failure {
     {
         match self {
             Failure::Usage | Failure::BadLine(_) => FAULTY,
-            Failure::CannotRead | Failure::OutOfMemory | Failure::CannotWrite => REFUSED,
+            Failure::CannotRead | Failure::OutOfMemory => REFUSED,
         }
     }
 }
@@ -58,19 +56,20 @@ impl fmt::Display for Failure {
             Failure::BadLine(number) => write!(f, "line {number}: bad script"),
             Failure::CannotRead => f.write_str("cannot read"),
             Failure::OutOfMemory => f.write_str("out of memory"),
-            Failure::CannotWrite => f.write_str("cannot write"),
         }
     }
 }
 
-impl From<AllocError> for Failure {
-    ghost use Rattle.std.specs.Prelude.{◌≡◌};
-    ghost use Rattle.moka_replay.specs.declared.failure.Failure.TheVariants.{OutOfMemory};
+impl From<io::Error> for Failure {
+    ghost use Rattle.moka_replay.specs.Failure.{IsReadFailure};
 
-    ghost from_gives = { λ _ failure. failure ≡ OutOfMemory };
+    ghost from_gives = { IsReadFailure };
 
-    fn from(_error: AllocError) -> Failure {
-        Failure::OutOfMemory
+    fn from(error: io::Error) -> Failure {
+        match error.kind() {
+            ErrorKind::OutOfMemory => Failure::OutOfMemory,
+            _ => Failure::CannotRead,
+        }
     }
 }
 
@@ -85,37 +84,41 @@ impl From<OutOfMemory> for Failure {
     }
 }
 
-impl From<ScriptError> for Failure {
+impl From<AllocError> for Failure {
     ghost use Rattle.std.specs.Prelude.{◌≡◌};
-    ghost use Rattle.moka_replay.specs.Failure.{failure_of};
+    ghost use Rattle.moka_replay.specs.declared.failure.Failure.TheVariants.{OutOfMemory};
 
-    ghost from_gives = { λ error failure. failure ≡ failure_of error };
+    ghost from_gives = { λ _ failure. failure ≡ OutOfMemory };
 
-    fn from(error: ScriptError) -> Failure {
-        match error {
-            ScriptError::BadLine(number) => Failure::BadLine(number),
-            ScriptError::OutOfMemory => Failure::OutOfMemory,
-        }
+    fn from(_error: AllocError) -> Failure {
+        Failure::OutOfMemory
     }
 }
 
-/// Says why a replay stopped, in one line, and answers the status. Where that line cannot be
-/// written, the status is that of a refused write.
-pub fn tell<E: Write>(err: &mut E, failure: Failure) -> u8
-    ensures { IsToldAs failure result (E.contents err.old) (E.contents err.new) }
-{
-    if failure == Failure::CannotWrite {
-        return REFUSED;
+impl<T: Drop> From<AllocFailed<T>> for Failure {
+    ghost use Rattle.std.specs.Prelude.{◌≡◌};
+    ghost use Rattle.moka_replay.specs.declared.failure.Failure.TheVariants.{OutOfMemory};
+
+    ghost from_gives = { λ _ failure. failure ≡ OutOfMemory };
+
+    fn from(_error: AllocFailed<T>) -> Failure {
+        Failure::OutOfMemory
     }
-    match say(err, failure) {
-        Ok(()) => failure.status(),
+}
+
+/// Writes a line, and answers the status; where the line is refused, that of a refusal.
+pub fn write_with_status<S: Sink, D: Display + Drop>(sink: &mut S, line: D, status: u8) -> u8
+    ensures { IfSome (D.output line) (λ text. IsWritten S.takes text status result sink.old sink.new) }
+{
+    match sink.write_line(line) {
+        Ok(()) => status,
         Err(_) => REFUSED,
     }
 }
 
-fn say<E: Write>(err: &mut E, failure: Failure) -> io::Result<()>
-    ensures { OnOk result (Appends (E.contents err.old) (E.contents err.new) (failure_line failure)) }
+/// Says why a replay stopped, in one line, and answers the status.
+pub fn tell<E: Sink>(err: &mut E, failure: Failure) -> u8
+    ensures { IsWritten E.takes (failure_text failure) (status_of failure) result err.old err.new }
 {
-    writeln!(err, "{failure}")?;
-    err.flush()
+    write_with_status(err, failure, failure.status())
 }

@@ -1,24 +1,30 @@
 //! `moka-replay [file]` replays a script on the cache, from the file or from standard input.
 #![tactic(auto)]
 
+ghost use Rattle.moka_replay.specs.Replay.{IsReplayedBuffered};
+
+mod arguments;
 mod failure;
 mod first_ticket;
 mod key_range;
+mod lex;
 mod play;
 mod print;
 mod replay;
 mod script;
 mod sources;
+mod streams;
 mod weigher;
 mod word;
-mod words;
 
+use crate::arguments::script_path;
 use crate::failure::{Failure, tell};
-use crate::replay::replay;
+use crate::replay::replay_opened;
+use crate::streams::{Sink, Source};
 use std::alloc::Global;
 use std::env;
 use std::fs::File;
-use std::io::{BufWriter, ErrorKind, Read, Write};
+use std::io::{self, BufWriter, Write};
 use std::process::ExitCode;
 use std::rt::Env;
 
@@ -26,43 +32,37 @@ use std::rt::Env;
 /// and with 3 where the file cannot be opened.
 fn main(rt: HostRuntime) -> ExitCode {
     let mut err = rt.stderr();
-    let status = match script_path(&rt) {
-        Ok(None) => replay_buffered(rt.alloc(), &mut rt.stdin(), rt.stdout(), &mut err),
-        Ok(Some(path)) => match File::open(&rt, path.as_str()) {
-            Ok(mut file) => replay_buffered(rt.alloc(), &mut file, rt.stdout(), &mut err),
-            Err(_) => tell(&mut err, Failure::CannotRead),
+    let status = match arguments_of(&rt) {
+        Ok(arguments) => match script_path(&arguments) {
+            Ok(None) => replay_buffered(rt.alloc(), Ok(rt.stdin()), rt.stdout(), &mut err),
+            Ok(Some(path)) => {
+                replay_buffered(rt.alloc(), File::open(&rt, path), rt.stdout(), &mut err)
+            }
+            Err(failure) => tell(&mut err, failure),
         },
         Err(failure) => tell(&mut err, failure),
     };
     ExitCode::from(status)
 }
 
-/// The one argument, if there is one.
-fn script_path<R: Env + AllocGlobal>(rt: &R) -> Result<Option<String>, Failure> {
-    let mut arguments = match env::args(rt) {
-        Ok(arguments) => arguments,
-        Err(error) if error.kind() == ErrorKind::OutOfMemory => return Err(Failure::OutOfMemory),
-        Err(_) => return Err(Failure::CannotRead),
-    };
-    let _program = arguments.next();
-    let path = arguments.next();
-    if arguments.next().is_some() {
-        return Err(Failure::Usage);
-    }
-    Ok(path)
+/// The arguments, the first of which is the program's name.
+fn arguments_of<R: Env + AllocGlobal>(rt: &R) -> Result<Vec<String>, Failure> {
+    Ok(env::args(rt)?.collect(rt.alloc())?)
 }
 
-/// Replays a script over a buffer in front of a writer.
-fn replay_buffered<R: Read, W: Write + Drop, E: Write>(
+/// Replays a script over a buffer in front of a writer. Where memory for the buffer is refused, one line says so.
+fn replay_buffered<R: Source + Drop, W: Write + Drop, E: Sink>(
     alloc: Global,
-    input: &mut R,
+    input: io::Result<R>,
     out: W,
     err: &mut E,
-) -> u8 {
+) -> u8
+    ensures { IsReplayedBuffered R.gives ⟦<BufWriter<W> as Sink>⟧.takes E.takes result input out err.old err.new }
+{
     let Ok(mut buffer) = BufWriter::new(alloc, out) else {
         return tell(err, Failure::OutOfMemory);
     };
-    let status = replay(alloc, input, &mut buffer, err);
+    let status = replay_opened(alloc, input, &mut buffer, err);
     // What a refused write left is let go, and not written after all.
     let (_out, _unwritten) = buffer.into_parts();
     status

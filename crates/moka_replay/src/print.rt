@@ -1,15 +1,13 @@
 //! What a replay prints.
-ghost use Rattle.std.specs.Prelude.{◌≡◌, OnOk};
-ghost use Rattle.moka_replay.specs.Text.{insert_error_text, send_error_text, predicate_error_text, is_refused_memory, reply_lines, replay_text, value_text, key_text, keys_text, removal_text, report_text, pending_text, ticket_text, IsInOrder, AreInOrder};
-ghost use Rattle.std.specs.Io.KnownBytes.{Appends};
+ghost use Rattle.std.specs.Prelude.{◌≡◌};
+ghost use Rattle.moka_replay.specs.Text.{insert_error_text, send_error_text, predicate_error_text, is_refused_memory, value_text, key_text, keys_text, removal_text, report_text, pending_text, ticket_text, IsInOrder, AreInOrder};
 ghost use Rattle.std.specs.Fmt.{WritesOnOk};
 
 use crate::script::ScriptReply;
 use crate::word::Word;
 use moka_parts::calls::{KvEntry, Reply, Ticket};
 use moka_parts::error::{InsertError, OutOfMemory, PredicateError, SendError};
-use std::io::Write;
-use std::{fmt, io};
+use std::fmt;
 
 /// A reply as it is printed, without its line feed.
 #[derive(Clone, Copy)]
@@ -172,6 +170,27 @@ impl fmt::Display for Total {
     }
 }
 
+/// All that a replay prints, without the last line feed: a line for each reply, and then the total.
+#[derive(Clone, Copy)]
+pub struct ReplayText<'a> {
+    pub replies: &'a [ScriptReply],
+    pub total: Total,
+}
+
+impl fmt::Display for ReplayText<'_> {
+    ghost use Rattle.std.specs.Prelude.{Some};
+    ghost use Rattle.moka_replay.specs.Text.{replay_text};
+
+    ghost output = { λ text. Some (replay_text text.replies.now text.total) };
+
+    fn fmt<W: fmt::Write>(&self, f: &mut fmt::Formatter<W>) -> fmt::Result {
+        for reply in self.replies {
+            writeln!(f, "{}", ReplyText(reply))?;
+        }
+        write!(f, "{}", self.total)
+    }
+}
+
 /// The keys in their order, one space before each.
 #[derive(Clone, Copy)]
 struct KeyList<'a>(&'a [u32]);
@@ -226,25 +245,6 @@ fn sort_keys_of(reply: &mut ScriptReply)
     if let Reply::Keys(Ok(Some(keys))) = reply {
         keys.sort_unstable();
     }
-}
-
-/// Writes a line for each reply, and then the total.
-pub fn print<W: Write>(out: &mut W, replies: &[ScriptReply], total: Total) -> io::Result<()>
-    ensures { OnOk result (Appends (W.contents out.old) (W.contents out.new) (replay_text replies.now total)) }
-{
-    print_replies(out, replies)?;
-    writeln!(out, "{total}")?;
-    out.flush()
-}
-
-/// Writes a line for each reply.
-fn print_replies<W: Write>(out: &mut W, replies: &[ScriptReply]) -> io::Result<()>
-    ensures { OnOk result (Appends (W.contents out.old) (W.contents out.new) (reply_lines replies.now)) }
-{
-    for reply in replies {
-        writeln!(out, "{}", ReplyText(reply))?;
-    }
-    Ok(())
 }
 
 fn insert_error_text(error: InsertError) -> &'static str

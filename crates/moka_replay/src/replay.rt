@@ -1,49 +1,74 @@
 //! Reads a script, makes its calls on a cache, and prints what comes of it.
-ghost use Rattle.std.specs.Prelude.{◌≡◌, ◌⊎◌, IfOk, IfErr, IfSome};
+ghost use Rattle.std.specs.Prelude.{◌≡◌, IfOk};
 ghost use Rattle.std.specs.List.{AllByRecursion};
 ghost use Rattle.moka_drive.specs.Served.{IsServed};
 ghost use Rattle.moka_engine.specs.BaseCache.{IsLruWhereBounded};
+ghost use Rattle.moka_replay.specs.Failure.{IsWritten};
 ghost use Rattle.moka_replay.specs.Played.{chosen_policy};
-ghost use Rattle.moka_replay.specs.Replay.{IsScriptRead, IsRun, IsReplayed, status_of_replies};
+ghost use Rattle.moka_replay.specs.Text.{replay_text};
+ghost use Rattle.moka_replay.specs.Replay.{Reading, Answers, Ends, IsReplayed, IsPlayed, IsScriptRead, status_of_replies};
 
-use crate::failure::{Failure, REFUSED, REPLAYED, tell};
-use crate::play::play;
-use crate::print::{is_refused_memory, print, sort_keys};
+use crate::failure::{Failure, REFUSED, REPLAYED, tell, write_with_status};
+use crate::play::{Played, play};
+use crate::print::{ReplayText, is_refused_memory, sort_keys};
 use crate::script::{Script, ScriptReply, parse};
+use crate::streams::{Sink, Source};
 use std::alloc::Global;
-use std::io::{ErrorKind, Read, Write};
+use std::io;
 
 /// Replays the script that a reader gives: prints a line for each reply, and then the count and
-/// the weight. Where it stops, one line says why, and nothing but a refused write leaves a part
-/// of the output.
+/// the weight. Where it stops, one line says why, and nothing is printed.
 ///
 /// The answer is the status to end with: 0, 2 where the script is faulty, and 3 where memory, a
 /// read or a write was refused, also to a single reply.
-pub fn replay<R: Read, W: Write, E: Write>(
+pub fn replay<R: Source, W: Sink, E: Sink>(
     alloc: Global,
     input: &mut R,
     out: &mut W,
     err: &mut E,
 ) -> u8
-    ensures { IsReplayed (R.remaining input.old) result (W.contents out.old) (W.contents out.new) (E.contents err.old) (E.contents err.new) }
+    ensures { IsReplayed R.gives W.takes E.takes result input.old out.old err.old input.new out.new err.new }
 {
-    match run(alloc, input, out) {
-        Ok(status) => status,
+    match play_script(alloc, input) {
+        Ok(played) => print(out, &played),
         Err(failure) => tell(err, failure),
     }
 }
 
-/// Replays a script, and answers the status.
-fn run<R: Read, W: Write>(alloc: Global, input: &mut R, out: &mut W) -> Result<u8, Failure>
-    ensures { IsRun (R.remaining input.old) result (W.contents out.old) (W.contents out.new) }
+/// Replays the script of an input that was to be opened. Where it could not be, one line says so.
+pub fn replay_opened<R: Source + Drop, W: Sink, E: Sink>(
+    alloc: Global,
+    input: io::Result<R>,
+    out: &mut W,
+    err: &mut E,
+) -> u8
+    ensures { (read : Reading) × Answers R.gives input read × Ends W.takes E.takes read result out.old err.old out.new err.new }
+{
+    match input {
+        Ok(mut input) => replay(alloc, &mut input, out, err),
+        Err(error) => tell(err, Failure::from(error)),
+    }
+}
+
+/// Makes the calls of the script that a reader gives, and puts the keys of each reply in order.
+fn play_script<R: Source>(alloc: Global, input: &mut R) -> Result<Played, Failure>
+    ensures { (read : Reading) × R.gives input.old read input.new × IsPlayed read result }
 {
     let script = read_script(alloc, input)?;
     let mut played = play(alloc, script)?;
     sort_keys(&mut played.replies);
-    match print(out, &played.replies, played.total) {
-        Ok(()) => Ok(status_of(&played.replies)),
-        Err(_) => Err(Failure::CannotWrite),
-    }
+    Ok(played)
+}
+
+/// Prints what came of the calls, and answers the status.
+fn print<W: Sink>(out: &mut W, played: &Played) -> u8
+    ensures { IsWritten W.takes (replay_text played.now.replies.items played.now.total) (status_of_replies played.now.replies.items) result out.old out.new }
+{
+    let text = ReplayText {
+        replies: &played.replies,
+        total: played.total,
+    };
+    write_with_status(out, text, status_of(&played.replies))
 }
 
 /// The status of a replay with these replies.
@@ -57,26 +82,13 @@ fn status_of(replies: &[ScriptReply]) -> u8
     }
 }
 
-/// All that a reader gives.
-fn read_all<R: Read>(alloc: Global, input: &mut R) -> Result<Vec<u8>, Failure>
-    ensures bytes { IfOk result (λ text. IfSome (R.remaining input.old) (λ bytes. text.items ≡ bytes)) }
-    ensures refused { IfErr result (λ failure. (failure ≡ Failure.CannotRead) ⊎ (failure ≡ Failure.OutOfMemory)) }
-{
-    let mut text = Vec::new(alloc);
-    match input.read_to_end(&mut text) {
-        Ok(_) => Ok(text),
-        Err(error) if error.kind() == ErrorKind::OutOfMemory => Err(Failure::OutOfMemory),
-        Err(_) => Err(Failure::CannotRead),
-    }
-}
-
 /// Reads a script to its end.
-fn read_script<R: Read>(alloc: Global, input: &mut R) -> Result<Script, Failure>
-    ensures read { IsScriptRead (R.remaining input.old) result }
+fn read_script<R: Source>(alloc: Global, input: &mut R) -> Result<Script, Failure>
+    ensures read { (read : Reading) × R.gives input.old read input.new × IsScriptRead read result }
     ensures served { IfOk result (λ script. AllByRecursion IsServed script.calls.items) }
     ensures bounded { IfOk result (λ script. IsLruWhereBounded script.settings.capacity (chosen_policy script.settings)) }
 {
-    let text = read_all(alloc, input)?;
+    let text = input.read_all(alloc)?;
     Ok(parse(alloc, &text)?)
 }
 

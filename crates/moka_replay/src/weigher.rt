@@ -1,6 +1,6 @@
 //! The weigher of a script.
+use crate::lex::small_number;
 use crate::word::Word;
-use crate::words::small_number;
 use moka_parts::closures::Weigher;
 
 /// The most digits of a weight.
@@ -13,7 +13,7 @@ pub struct NumberWeigher;
 
 impl Weigher<u32, Word> for NumberWeigher {
     ghost use Rattle.std.specs.Prelude.{◌≡◌};
-    ghost use Rattle.moka_replay.specs.Words.{weight_of};
+    ghost use Rattle.moka_replay.specs.Lex.{weight_of};
     ghost use Rattle.std.proofs.Common.{◌∙◌, sym};
 
     ghost weighs = { λ _ _ value weight. weight ≡ weight_of value };

@@ -1,5 +1,5 @@
 use super::*;
-use std::io;
+use std::io::{self, ErrorKind, Read, Write};
 use std::process::Abort;
 use std::test::Fail;
 
@@ -73,35 +73,293 @@ fn check<R: Abort + AllocGlobal>(
     Ok(())
 }
 
+/// A script is faulty in that line.
+fn check_fault<R: Abort + AllocGlobal>(rt: &R, script: &str, line: u64) -> Result<(), Fail> {
+    let said = format!(in rt.alloc(); "line {line}: bad script\n")?;
+    check(rt, script, "", said.as_str(), 2)
+}
+
 #[test]
-fn stops_at_the_first_faulty_line(rt: HostRuntime) -> Result<(), Fail> {
-    for (script, said) in [
-        ("capacity 4\n\ninsert 1 a\n", "line 1: bad script\n"),
-        ("first 0\nreport\n", "line 1: bad script\n"),
-        ("report\nfirst 2\n", "line 2: bad script\n"),
-        ("report\n# comment\n\n  reports\n", "line 4: bad script\n"),
-        ("get 1 000000000000000000001\n", "line 1: bad script\n"),
+fn replays_scripts(rt: HostRuntime) -> Result<(), Fail> {
+    for (script, printed) in [
         (
-            "get 4294967295 18446744073709551615\nget 4294967296 0\n",
-            "line 2: bad script\n",
+            "insert 1 a 0\nsend 1\nrun 0 10\nget 1 0\n",
+            "ticket 1\nsent\ndone\nvalue a\ncount 1 weight 1\n",
         ),
-        ("get 1 18446744073709551616\n", "line 1: bad script\n"),
-        ("get 1\t0\n", "line 1: bad script\n"),
-        ("report\r\n", "line 1: bad script\n"),
-        ("report\n# \u{1}\nreports\n", "line 2: bad script\n"),
-        ("run 0 1\nrun 0 1 5\n", "line 2: bad script\n"),
-        ("report\npending\n", "line 2: bad script\n"),
-        ("report\nresize 1\n", "line 2: bad script\n"),
-        ("policy tinylfu\n", "line 1: bad script\n"),
         (
-            "policy lru\ncapacity 4\ncapacity 4\nreport\n",
-            "line 3: bad script\n",
+            "get 1 0\nrun 0 10\nreport\n",
+            "none\ndone\ncount 0 weight 0 predicates 0\ncount 0 weight 0\n",
         ),
-        ("remove 1\nremove 1 4\n", "line 2: bad script\n"),
+        ("\n", "count 0 weight 0\n"),
+        (
+            "#first 0\n  insert   1 a 0  \nsend 00000000000000000001\nrun 0 0010",
+            "ticket 1\nsent\ndone\ncount 1 weight 1\n",
+        ),
+        (
+            "first 18446744073709551614\ninsert 1 a 0\ninsert 2 b 0\ninsert 1 c 0\n",
+            "ticket 18446744073709551614\nrefused numbers\nrefused numbers\ncount 0 weight 0\n",
+        ),
+        (
+            "insert 1 a 0\ncontains 1 0\ncontains 2 0\nkey 1\nkey 2\nremove 1\nremove 1\ncontains 1 0\nkey 1\n",
+            "ticket 1\nyes\nno\nkey 1\nnone\nremoved a ticket 2\nnone\nno\nnone\ncount 0 weight 0\n",
+        ),
+        (
+            "insert 3 a 0\ninsert 4294967295 b 0\ninsert 10 c 0\ninsert 1 d 0\ninsert 2 e 0\nkeys\nremove 3\nkeys\n",
+            "ticket 1\nticket 2\nticket 3\nticket 4\nticket 5\n\
+            keys 1 2 3 10 4294967295\nremoved a ticket 6\nkeys 1 2 10 4294967295\ncount 0 weight 0\n",
+        ),
+        (
+            "first 18446744073709551614\ninsert 1 a 0\ninsert 2 b 0\ninsert 1 c 0\nremove 1\ninsert 2 d 0\n",
+            "ticket 18446744073709551614\nrefused numbers\nrefused numbers\n\
+            removed a ticket 18446744073709551615\nrefused numbers\ncount 0 weight 0\n",
+        ),
+        (
+            "weigh\ninsert 1 1 0\ninsert 2 20 0\nsend 1\nsend 2\nrun 0 10\n\
+            insert 1 10 1\nremove 1\nsend 3\nsend 4\nrun 1 10\nreport\n",
+            "ticket 1\nticket 2\nsent\nsent\ndone\n\
+            ticket 3\nremoved 10 ticket 4\nsent\nsent\ndone\n\
+            count 1 weight 20 predicates 0\ncount 1 weight 20\n",
+        ),
+        (
+            "weigh\ninsert 1 1 0\nsend 1\nrun 0 10\ninsert 1 5 1\ninsert 1 3 2\nsend 3\nrun 2 10\nreport\n\
+            send 2\nrun 2 10\nreport\n",
+            "ticket 1\nsent\ndone\nticket 2\nticket 3\nsent\ndone\ncount 1 weight 3 predicates 0\n\
+            sent\ndone\ncount 1 weight 3 predicates 0\ncount 1 weight 3\n",
+        ),
+        (
+            "weigh\ninsert 1 4294967295 0\ninsert 2 4294967295 0\nsend 1\nsend 2\nrun 0 10\nreport\n",
+            "ticket 1\nticket 2\nsent\nsent\ndone\n\
+            count 2 weight 8589934590 predicates 0\ncount 2 weight 8589934590\n",
+        ),
+        (
+            "capacity 4\npolicy lru\ninsert 0 a 1\nsend 1\nrun 1 10\n\
+            insert 0 b 2\ninsert 1 c 3\ninsert 2 d 3\ninsert 3 e 3\ninsert 4 f 3\n\
+            send 3\nsend 4\nsend 5\nsend 6\nrun 4 10\nkeys\nreport\n",
+            "ticket 1\nsent\ndone\nticket 2\nticket 3\nticket 4\nticket 5\nticket 6\n\
+            sent\nsent\nsent\nsent\ndone\nkeys 0 2 3 4\n\
+            count 4 weight 4 predicates 0\ncount 4 weight 4\n",
+        ),
+        (
+            "capacity 4\npolicy lru\nweigh\ninsert 1 1 0\ninsert 2 1 0\ninsert 3 1 0\n\
+            send 1\nsend 2\nsend 3\nrun 0 10\nreport\n\
+            insert 3 9 1\nsend 4\nrun 1 10\nreport\ninsert 4 5 2\nsend 5\nrun 2 10\nreport\n",
+            "ticket 1\nticket 2\nticket 3\nsent\nsent\nsent\ndone\ncount 3 weight 3 predicates 0\n\
+            ticket 4\nsent\ndone\ncount 0 weight 0 predicates 0\n\
+            ticket 5\nsent\ndone\ncount 0 weight 0 predicates 0\ncount 0 weight 0\n",
+        ),
+        (
+            "capacity 2\npolicy lru\ninsert 1 a 0\ninsert 2 b 0\ninsert 3 c 0\ninsert 4 d 0\n\
+            run 0 10\nreport\nkeys\nsend 1\nsend 2\nsend 3\nsend 4\nrun 0 10\nreport\nkeys\n",
+            "ticket 1\nticket 2\nticket 3\nticket 4\ndone\ncount 0 weight 0 predicates 0\n\
+            keys 1 2 3 4\nsent\nsent\nsent\nsent\ndone\ncount 2 weight 2 predicates 0\nkeys 3 4\n\
+            count 2 weight 2\n",
+        ),
+        (
+            "capacity 1\npolicy lru\ninsert 1 a 0\nsend 1\nrun 0 10\nremove 1\n\
+            insert 2 b 1\nsend 3\nrun 1 10\nreport\nkeys\nsend 2\nrun 2 10\nreport\n",
+            "ticket 1\nsent\ndone\nremoved a ticket 2\nticket 3\nsent\ndone\n\
+            count 1 weight 1 predicates 0\nkeys\nsent\ndone\ncount 0 weight 0 predicates 0\n\
+            count 0 weight 0\n",
+        ),
+        (
+            "capacity 1\npolicy lru\ninsert 1 a 0\ninsert 2 b 0\nsend 1\nsend 2\nrun 0 0\nreport\n\
+            run 0 10\nreport\n",
+            "ticket 1\nticket 2\nsent\nsent\nmore\ncount 2 weight 2 predicates 0\n\
+            done\ncount 1 weight 1 predicates 0\ncount 1 weight 1\n",
+        ),
+        (
+            "capacity 0\ninsert 1 a 0\nget 1 0\nrun 0 10\n",
+            "disabled\nnone\ndone\ncount 0 weight 0\n",
+        ),
+        ("", "count 0 weight 0\n"),
+        ("  \n# report", "count 0 weight 0\n"),
+        (
+            "capacity 18446744073709551615\nfirst 18446744073709551615\n#first 0\nweigh\npolicy lru\n\n  \
+            insert  4294967295 #v! 007 \nget 4294967295 18446744073709551615\nrun 3 4294967295\nreport",
+            "refused numbers\nnone\ndone\ncount 0 weight 0 predicates 0\ncount 0 weight 0\n",
+        ),
     ] {
-        check(&rt, script, "", said, 2)?;
+        check(&rt, script, printed, "", 0)?;
     }
     Ok(())
+}
+
+/// A key is put in, removed and put in again, its operations sent out of order; then fifty other keys drive it out, and
+/// runs without work keep what is left.
+fn keeps_the_latest_of_many<R: Abort + AllocGlobal>(rt: &R) -> Result<(), Fail> {
+    let mut script = String::new(rt.alloc());
+    let mut printed = String::new(rt.alloc());
+    script.push_str(
+        "capacity 4\npolicy lru\ninsert 0 a 0\nsend 1\nrun 0 10\nreport\n\
+        insert 0 b 0\nremove 0\nsend 3\nrun 0 10\nreport\nsend 2\nrun 0 10\nreport\n\
+        insert 0 c 0\nsend 4\nrun 0 10\nreport\n",
+    )?;
+    printed.push_str(
+        "ticket 1\nsent\ndone\ncount 1 weight 1 predicates 0\n\
+        ticket 2\nremoved b ticket 3\nsent\ndone\ncount 0 weight 0 predicates 0\n\
+        sent\ndone\ncount 0 weight 0 predicates 0\n\
+        ticket 4\nsent\ndone\ncount 1 weight 1 predicates 0\n",
+    )?;
+    for ticket in 5..55u64 {
+        let key = ticket + 95;
+        writeln!(script, "insert {key} v 0\nsend {ticket}\nrun 0 10")?;
+        writeln!(printed, "ticket {ticket}\nsent\ndone")?;
+    }
+    for _ in 0..20 {
+        script.push_str("run 0 10\nreport\n")?;
+        printed.push_str("done\ncount 4 weight 4 predicates 0\n")?;
+    }
+    script.push_str("keys\n")?;
+    printed.push_str("keys 146 147 148 149\ncount 4 weight 4\n")?;
+    check(rt, script.as_str(), printed.as_str(), "", 0)
+}
+
+/// 385 inserts, of one key or of distinct keys, all sent, where one too many is refused; then a
+/// run, and the refused one is sent once more, and once again.
+fn fills_the_queue<R: Abort + AllocGlobal>(
+    rt: &R,
+    is_one_key: bool,
+    count: u64,
+) -> Result<(), Fail> {
+    let mut script = String::new(rt.alloc());
+    let mut printed = String::new(rt.alloc());
+    for ticket in 1..386u64 {
+        let key = if is_one_key { 1 } else { ticket };
+        writeln!(script, "insert {key} v 0")?;
+        writeln!(printed, "ticket {ticket}")?;
+    }
+    for ticket in 1..386u64 {
+        writeln!(script, "send {ticket}")?;
+        printed.push_str(if ticket < 385 { "sent\n" } else { "full\n" })?;
+    }
+    script.push_str("run 0 10\nsend 385\nsend 385\n")?;
+    writeln!(printed, "done\nsent\nunknown\ncount {count} weight {count}")?;
+    check(rt, script.as_str(), printed.as_str(), "", 0)
+}
+
+#[test]
+fn replays_long_scripts(rt: HostRuntime) -> Result<(), Fail> {
+    keeps_the_latest_of_many(&rt)?;
+    fills_the_queue(&rt, false, 384)?;
+    fills_the_queue(&rt, true, 1)
+}
+
+#[test]
+fn names_the_first_faulty_line(rt: HostRuntime) -> Result<(), Fail> {
+    for (script, line) in [
+        ("capacity 4\n\ninsert 1 a\n", 1),
+        ("first 0\nreport\n", 1),
+        ("first 1\nfirst 2\n", 2),
+        ("first 1 2\n", 1),
+        ("first\n", 1),
+        ("policy tinylfu\n", 1),
+        ("policy\n", 1),
+        ("policy lru lru\n", 1),
+        ("policy lru\n\npolicy lru\n", 3),
+        ("policy lru\ncapacity 4\ncapacity 4\nreport\n", 3),
+        ("capacity 0\ncapacity 0\n", 2),
+        ("policy lru\ncapacity\n", 2),
+        ("policy lru\ncapacity x\n", 2),
+        ("weigh\nweigh\n", 2),
+        ("weigh 1\n", 1),
+        ("report\nweigh\n", 2),
+        ("first 2\ncapacity 4\nfirst 0\n", 2),
+        ("capacity 4\nfirst 0\npolicy lru\n", 2),
+        ("capacity 4\nreport\npolicy lru\n", 1),
+        ("remove 1\nremove 1 4\n", 2),
+        ("contains 1\n", 1),
+        ("key 1 0\n", 1),
+        ("keys 0\n", 1),
+        ("report\nfirst 2\n", 2),
+        ("report\n# comment\n\n  reports\n", 4),
+        ("report report", 1),
+        ("insert 1 a 0 0\ninsert 1 a\n", 1),
+        ("send\n", 1),
+        ("send +1\n", 1),
+        ("send -1\n", 1),
+        ("send 1a\n", 1),
+        ("run 0 4294967296\n", 1),
+        ("run 0 1\nrun 0 1 5\n", 2),
+        ("get 1 000000000000000000001\n", 1),
+        ("get 4294967295 18446744073709551615\nget 4294967296 0\n", 2),
+        ("get 1 18446744073709551616\n", 1),
+        ("get 1\t0\n", 1),
+        ("report\r\n", 1),
+        ("report\n# \u{1}\nreports\n", 2),
+        ("\n\u{7f}", 2),
+        ("\n\n# é\n", 3),
+    ] {
+        check_fault(&rt, script, line)?;
+    }
+    Ok(())
+}
+
+/// Every setting and every call with one word more or less, and with each number faulty in turn: behind a right call,
+/// which memory could be refused to, and alone.
+#[test]
+fn finds_each_fault(rt: HostRuntime) -> Result<(), Fail> {
+    for fault in [
+        "first x",
+        "capacity x",
+        "capacity 1 1",
+        "policy x",
+        "weigh x",
+        "insert",
+        "insert 1 a",
+        "insert 1 a 0 0",
+        "insert x a 0",
+        "insert 4294967296 a 0",
+        "insert 1 a x",
+        "insert 1 a 18446744073709551616",
+        "send",
+        "send 1 1",
+        "send x",
+        "get 1",
+        "get 1 0 0",
+        "get x 0",
+        "get 4294967296 0",
+        "get 1 x",
+        "contains 1",
+        "contains 1 0 0",
+        "contains x 0",
+        "contains 1 x",
+        "key",
+        "key 1 0",
+        "key x",
+        "remove",
+        "remove x",
+        "remove 1 0 0",
+        "run 0",
+        "run x 1",
+        "run 0 x",
+        "run 0 4294967296",
+        "keys 0",
+        "report 0",
+        "a b c d e f g",
+    ] {
+        check_fault(&rt, fault, 1)?;
+        let behind = format!(in rt.alloc(); "insert 1 a 0\n{fault}\nreport")?;
+        check_fault(&rt, behind.as_str(), 2)?;
+    }
+    Ok(())
+}
+
+/// Comments, values, spaces and faults that reach over 4,096 bytes.
+#[test]
+fn reads_long_lines(rt: HostRuntime) -> Result<(), Fail> {
+    let mut word = String::new(rt.alloc());
+    let mut gap = String::new(rt.alloc());
+    for _ in 0..5000 {
+        word.push('x')?;
+        gap.push(' ')?;
+    }
+    let script = format!(in rt.alloc(); "#{word}\ninsert{gap}1 {word} 0\nget 1 0{gap}\n")?;
+    let printed = format!(in rt.alloc(); "ticket 1\nvalue {word}\ncount 0 weight 0\n")?;
+    check(&rt, script.as_str(), printed.as_str(), "", 0)?;
+    let script = format!(in rt.alloc(); "insert 1 {word} 0\ninsert 1 {word} {word}\n")?;
+    check_fault(&rt, script.as_str(), 2)?;
+    let script = format!(in rt.alloc(); "insert 1 {word} 0\n#{word}\u{1}\n")?;
+    check_fault(&rt, script.as_str(), 2)
 }
 
 #[test]
@@ -141,199 +399,6 @@ fn ends_where_it_cannot_say_why(rt: HostRuntime) -> Result<(), Fail> {
         assert_eq!(rt; err.failures, 1, "after {calls} calls");
     }
     Ok(())
-}
-
-#[test]
-fn replays_scripts(rt: HostRuntime) -> Result<(), Fail> {
-    for (script, printed) in [
-        (
-            "insert 1 a 0\nsend 1\nrun 0 10\nget 1 0\n",
-            "ticket 1\nsent\ndone\nvalue a\ncount 1 weight 1\n",
-        ),
-        (
-            "get 1 0\nrun 0 10\nreport\n",
-            "none\ndone\ncount 0 weight 0 predicates 0\ncount 0 weight 0\n",
-        ),
-        ("\n", "count 0 weight 0\n"),
-        (
-            "#first 0\n  insert   1 a 0  \nsend 00000000000000000001\nrun 0 0010",
-            "ticket 1\nsent\ndone\ncount 1 weight 1\n",
-        ),
-        (
-            "first 18446744073709551614\ninsert 1 a 0\ninsert 2 b 0\ninsert 1 c 0\n",
-            "ticket 18446744073709551614\nrefused numbers\nrefused numbers\ncount 0 weight 0\n",
-        ),
-    ] {
-        check(&rt, script, printed, "", 0)?;
-    }
-    Ok(())
-}
-
-#[test]
-fn keeps_nothing_at_capacity_0(rt: HostRuntime) -> Result<(), Fail> {
-    let script = "capacity 0\ninsert 1 a 0\nget 1 0\nrun 0 10\n";
-    check(
-        &rt,
-        script,
-        "disabled\nnone\ndone\ncount 0 weight 0\n",
-        "",
-        0,
-    )
-}
-
-#[test]
-fn looks_up_and_removes(rt: HostRuntime) -> Result<(), Fail> {
-    for (script, printed) in [
-        (
-            "insert 1 a 0\ncontains 1 0\ncontains 2 0\nkey 1\nkey 2\nremove 1\nremove 1\ncontains 1 0\nkey 1\n",
-            "ticket 1\nyes\nno\nkey 1\nnone\nremoved a ticket 2\nnone\nno\nnone\ncount 0 weight 0\n",
-        ),
-        (
-            "insert 3 a 0\ninsert 4294967295 b 0\ninsert 10 c 0\ninsert 1 d 0\ninsert 2 e 0\nkeys\nremove 3\nkeys\n",
-            "ticket 1\nticket 2\nticket 3\nticket 4\nticket 5\n\
-            keys 1 2 3 10 4294967295\nremoved a ticket 6\nkeys 1 2 10 4294967295\ncount 0 weight 0\n",
-        ),
-        (
-            "first 18446744073709551614\ninsert 1 a 0\ninsert 2 b 0\ninsert 1 c 0\nremove 1\ninsert 2 d 0\n",
-            "ticket 18446744073709551614\nrefused numbers\nrefused numbers\n\
-            removed a ticket 18446744073709551615\nrefused numbers\ncount 0 weight 0\n",
-        ),
-    ] {
-        check(&rt, script, printed, "", 0)?;
-    }
-    Ok(())
-}
-
-#[test]
-fn weighs_values(rt: HostRuntime) -> Result<(), Fail> {
-    for (script, printed) in [
-        (
-            "weigh\ninsert 1 1 0\ninsert 2 20 0\nsend 1\nsend 2\nrun 0 10\n\
-            insert 1 10 1\nremove 1\nsend 3\nsend 4\nrun 1 10\nreport\n",
-            "ticket 1\nticket 2\nsent\nsent\ndone\n\
-            ticket 3\nremoved 10 ticket 4\nsent\nsent\ndone\n\
-            count 1 weight 20 predicates 0\ncount 1 weight 20\n",
-        ),
-        (
-            "weigh\ninsert 1 1 0\nsend 1\nrun 0 10\ninsert 1 5 1\ninsert 1 3 2\nsend 3\nrun 2 10\nreport\n\
-            send 2\nrun 2 10\nreport\n",
-            "ticket 1\nsent\ndone\nticket 2\nticket 3\nsent\ndone\ncount 1 weight 3 predicates 0\n\
-            sent\ndone\ncount 1 weight 3 predicates 0\ncount 1 weight 3\n",
-        ),
-        (
-            "weigh\ninsert 1 4294967295 0\ninsert 2 4294967295 0\nsend 1\nsend 2\nrun 0 10\nreport\n",
-            "ticket 1\nticket 2\nsent\nsent\ndone\n\
-            count 2 weight 8589934590 predicates 0\ncount 2 weight 8589934590\n",
-        ),
-    ] {
-        check(&rt, script, printed, "", 0)?;
-    }
-    Ok(())
-}
-
-#[test]
-fn keeps_to_the_capacity(rt: HostRuntime) -> Result<(), Fail> {
-    for (script, printed) in [
-        (
-            "capacity 4\npolicy lru\ninsert 0 a 1\nsend 1\nrun 1 10\n\
-            insert 0 b 2\ninsert 1 c 3\ninsert 2 d 3\ninsert 3 e 3\ninsert 4 f 3\n\
-            send 3\nsend 4\nsend 5\nsend 6\nrun 4 10\nkeys\nreport\n",
-            "ticket 1\nsent\ndone\nticket 2\nticket 3\nticket 4\nticket 5\nticket 6\n\
-            sent\nsent\nsent\nsent\ndone\nkeys 0 2 3 4\n\
-            count 4 weight 4 predicates 0\ncount 4 weight 4\n",
-        ),
-        (
-            "capacity 4\npolicy lru\nweigh\ninsert 1 1 0\ninsert 2 1 0\ninsert 3 1 0\n\
-            send 1\nsend 2\nsend 3\nrun 0 10\nreport\n\
-            insert 3 9 1\nsend 4\nrun 1 10\nreport\ninsert 4 5 2\nsend 5\nrun 2 10\nreport\n",
-            "ticket 1\nticket 2\nticket 3\nsent\nsent\nsent\ndone\ncount 3 weight 3 predicates 0\n\
-            ticket 4\nsent\ndone\ncount 0 weight 0 predicates 0\n\
-            ticket 5\nsent\ndone\ncount 0 weight 0 predicates 0\ncount 0 weight 0\n",
-        ),
-        (
-            "capacity 2\npolicy lru\ninsert 1 a 0\ninsert 2 b 0\ninsert 3 c 0\ninsert 4 d 0\n\
-            run 0 10\nreport\nkeys\nsend 1\nsend 2\nsend 3\nsend 4\nrun 0 10\nreport\nkeys\n",
-            "ticket 1\nticket 2\nticket 3\nticket 4\ndone\ncount 0 weight 0 predicates 0\n\
-            keys 1 2 3 4\nsent\nsent\nsent\nsent\ndone\ncount 2 weight 2 predicates 0\nkeys 3 4\n\
-            count 2 weight 2\n",
-        ),
-        (
-            "capacity 1\npolicy lru\ninsert 1 a 0\nsend 1\nrun 0 10\nremove 1\n\
-            insert 2 b 1\nsend 3\nrun 1 10\nreport\nkeys\nsend 2\nrun 2 10\nreport\n",
-            "ticket 1\nsent\ndone\nremoved a ticket 2\nticket 3\nsent\ndone\n\
-            count 1 weight 1 predicates 0\nkeys\nsent\ndone\ncount 0 weight 0 predicates 0\n\
-            count 0 weight 0\n",
-        ),
-        (
-            "capacity 1\npolicy lru\ninsert 1 a 0\ninsert 2 b 0\nsend 1\nsend 2\nrun 0 0\nreport\n\
-            run 0 10\nreport\n",
-            "ticket 1\nticket 2\nsent\nsent\nmore\ncount 2 weight 2 predicates 0\n\
-            done\ncount 1 weight 1 predicates 0\ncount 1 weight 1\n",
-        ),
-    ] {
-        check(&rt, script, printed, "", 0)?;
-    }
-    Ok(())
-}
-
-/// A key is put in, removed and put in again, its operations sent out of order; then fifty other keys drive it out, and
-/// runs without work keep what is left.
-#[test]
-fn keeps_the_latest_of_many(rt: HostRuntime) -> Result<(), Fail> {
-    let mut script = String::new(rt.alloc());
-    let mut printed = String::new(rt.alloc());
-    script.push_str(
-        "capacity 4\npolicy lru\ninsert 0 a 0\nsend 1\nrun 0 10\nreport\n\
-        insert 0 b 0\nremove 0\nsend 3\nrun 0 10\nreport\nsend 2\nrun 0 10\nreport\n\
-        insert 0 c 0\nsend 4\nrun 0 10\nreport\n",
-    )?;
-    printed.push_str(
-        "ticket 1\nsent\ndone\ncount 1 weight 1 predicates 0\n\
-        ticket 2\nremoved b ticket 3\nsent\ndone\ncount 0 weight 0 predicates 0\n\
-        sent\ndone\ncount 0 weight 0 predicates 0\n\
-        ticket 4\nsent\ndone\ncount 1 weight 1 predicates 0\n",
-    )?;
-    for ticket in 5..55u64 {
-        let key = ticket + 95;
-        writeln!(script, "insert {key} v 0\nsend {ticket}\nrun 0 10")?;
-        writeln!(printed, "ticket {ticket}\nsent\ndone")?;
-    }
-    for _ in 0..20 {
-        script.push_str("run 0 10\nreport\n")?;
-        printed.push_str("done\ncount 4 weight 4 predicates 0\n")?;
-    }
-    script.push_str("keys\n")?;
-    printed.push_str("keys 146 147 148 149\ncount 4 weight 4\n")?;
-    check(&rt, script.as_str(), printed.as_str(), "", 0)
-}
-
-/// 385 inserts, of one key or of distinct keys, all sent, where one too many is refused; then a
-/// run, and the refused one is sent once more, and once again.
-fn fills_the_queue<R: Abort + AllocGlobal>(
-    rt: &R,
-    is_one_key: bool,
-    count: u64,
-) -> Result<(), Fail> {
-    let mut script = String::new(rt.alloc());
-    let mut printed = String::new(rt.alloc());
-    for ticket in 1..386u64 {
-        let key = if is_one_key { 1 } else { ticket };
-        writeln!(script, "insert {key} v 0")?;
-        writeln!(printed, "ticket {ticket}")?;
-    }
-    for ticket in 1..386u64 {
-        writeln!(script, "send {ticket}")?;
-        printed.push_str(if ticket < 385 { "sent\n" } else { "full\n" })?;
-    }
-    script.push_str("run 0 10\nsend 385\nsend 385\n")?;
-    writeln!(printed, "done\nsent\nunknown\ncount {count} weight {count}")?;
-    check(rt, script.as_str(), printed.as_str(), "", 0)
-}
-
-#[test]
-fn refuses_what_the_queue_cannot_hold(rt: HostRuntime) -> Result<(), Fail> {
-    fills_the_queue(&rt, false, 384)?;
-    fills_the_queue(&rt, true, 1)
 }
 
 #[test]

@@ -1,16 +1,14 @@
 //! The calls of a script.
-ghost use Rattle.std.specs.Prelude.{◌≡◌};
-ghost use Rattle.moka_replay.specs.Words.{texts};
-ghost use Rattle.moka_replay.specs.LineError.{IsRead};
-ghost use Rattle.moka_replay.specs.Calls.{call_of, insert_of, send_of, get_of, contains_of, key_of, remove_of, run_of, keys_of, report_of};
+ghost use Rattle.std.specs.Prelude.{◌≡◌, option_map};
+ghost use Rattle.moka_replay.specs.Lex.{texts};
+ghost use Rattle.moka_replay.specs.Calls.{call_of, call_text, insert_of, send_of, get_of, contains_of, key_of, remove_of, run_of, keys_of, report_of};
 
 use crate::key_range::KeyRange;
-use crate::script::line_error::LineError;
+use crate::lex::{number, small_number};
 use crate::word::Word;
-use crate::words::{number, small_number};
 use moka_parts::calls::{Call, Reply, Ticket};
 use moka_parts::policy::Instant;
-use std::alloc::Global;
+use std::alloc::{AllocError, Global};
 
 /// A call of a script.
 pub type ScriptCall = Call<u32, Word, KeyRange>;
@@ -18,22 +16,47 @@ pub type ScriptCall = Call<u32, Word, KeyRange>;
 /// The reply to a call of a script.
 pub type ScriptReply = Reply<u32, Word, KeyRange>;
 
+/// A call as a line asks for it. The value of an insert still stands in the line, so reading needs no memory.
+#[derive(Drop)]
+pub enum LineCall<'a> {
+    Insert {
+        key: u32,
+        value: &'a str,
+        now: Instant,
+    },
+    Other(ScriptCall),
+}
+
+impl LineCall<'_> {
+    ghost use Rattle.std.specs.Prelude.{◌≡◌, IfOk};
+    ghost use Rattle.moka_replay.specs.Calls.{call_text};
+
+    /// The call, with a copy of its value. The hash is the key.
+    pub fn into_call(self, alloc: Global) -> Result<ScriptCall, AllocError>
+        ensures { IfOk result (λ call. call ≡ call_text self.entry) }
+    {
+        match self {
+            LineCall::Insert { key, value, now } => Ok(Call::Insert {
+                key,
+                hash: u64::from(key),
+                value: Word::new(alloc, value)?,
+                now,
+            }),
+            LineCall::Other(call) => Ok(call),
+        }
+    }
+}
+
 /// `insert KEY VALUE NOW`
-fn insert(alloc: Global, arguments: &[&str]) -> Result<ScriptCall, LineError>
-    ensures { IsRead result (insert_of (texts arguments.now)) }
+fn insert<'a>(arguments: &[&'a str]) -> Option<LineCall<'a>>
+    ensures { option_map call_text result ≡ insert_of (texts arguments.now) }
 {
     let [key, value, now] = arguments else {
-        return Err(LineError::Bad);
+        return None;
     };
-    let key = small_number(key).ok_or(LineError::Bad)?;
-    let now = Instant(number(now).ok_or(LineError::Bad)?);
-    let value = Word::new(alloc, value)?;
-    Ok(Call::Insert {
-        key,
-        hash: u64::from(key),
-        value,
-        now,
-    })
+    let key = small_number(key)?;
+    let now = Instant(number(now)?);
+    Some(LineCall::Insert { key, value, now })
 }
 
 /// `send TICKET`
@@ -148,20 +171,21 @@ fn report(arguments: &[&str]) -> Option<ScriptCall>
     }
 }
 
-/// The call of that name.
-pub fn parse_call(alloc: Global, name: &str, arguments: &[&str]) -> Result<ScriptCall, LineError>
-    ensures { IsRead result (call_of name.now (texts arguments.now)) }
+/// The call of that name, if there is one.
+pub fn parse_call<'a>(name: &str, arguments: &[&'a str]) -> Option<LineCall<'a>>
+    ensures { option_map call_text result ≡ call_of name.now (texts arguments.now) }
 {
-    match name {
-        "insert" => insert(alloc, arguments),
-        "send" => send(arguments).ok_or(LineError::Bad),
-        "get" => get(arguments).ok_or(LineError::Bad),
-        "contains" => contains(arguments).ok_or(LineError::Bad),
-        "key" => key(arguments).ok_or(LineError::Bad),
-        "remove" => remove(arguments).ok_or(LineError::Bad),
-        "run" => run(arguments).ok_or(LineError::Bad),
-        "keys" => keys(arguments).ok_or(LineError::Bad),
-        "report" => report(arguments).ok_or(LineError::Bad),
-        _ => Err(LineError::Bad),
-    }
+    let call = match name {
+        "insert" => return insert(arguments),
+        "send" => send(arguments)?,
+        "get" => get(arguments)?,
+        "contains" => contains(arguments)?,
+        "key" => key(arguments)?,
+        "remove" => remove(arguments)?,
+        "run" => run(arguments)?,
+        "keys" => keys(arguments)?,
+        "report" => report(arguments)?,
+        _ => return None,
+    };
+    Some(LineCall::Other(call))
 }

@@ -1,13 +1,11 @@
 //! The settings of a script.
-ghost use Rattle.std.specs.Prelude.{◌≡◌, OnErr};
-ghost use Rattle.moka_replay.specs.Words.{texts};
-ghost use Rattle.moka_replay.specs.LineError.{IsReadAs};
-ghost use Rattle.moka_replay.specs.Settings.{filled, first_of, capacity_of, policy_of, policy_named, weigh_of, setting_of};
+ghost use Rattle.std.specs.Prelude.{◌≡◌};
+ghost use Rattle.moka_replay.specs.Lex.{texts};
+ghost use Rattle.moka_replay.specs.Settings.{first_of, capacity_of, policy_of, policy_named, weigh_of, setting_of};
 
 use crate::first_ticket::FirstTicket;
-use crate::script::line_error::LineError;
+use crate::lex::number;
 use crate::weigher::NumberWeigher;
-use crate::words::number;
 use moka_parts::policy::EvictionPolicy;
 
 /// What a script sets before its first call; `None` where it has no such line.
@@ -24,8 +22,7 @@ pub struct Settings {
 }
 
 impl Settings {
-    ghost use Rattle.std.specs.Prelude.{◌≡◌, OnErr};
-    ghost use Rattle.moka_replay.specs.LineError.{IsReadAs};
+    ghost use Rattle.std.specs.Prelude.{◌≡◌};
     ghost use Rattle.moka_replay.specs.Settings.{no_settings, put_in};
 
     /// Nothing is set.
@@ -40,16 +37,28 @@ impl Settings {
         }
     }
 
-    /// Puts a setting in that is not there yet.
-    pub fn put(&mut self, setting: Setting) -> Result<(), LineError>
-        ensures added { IsReadAs (λ _. self.new) result (put_in self.old setting) }
-        ensures err { OnErr result (self.new ≡ self.old) }
+    /// The settings with one more, unless it is there already.
+    pub fn with(self, setting: Setting) -> Option<Settings>
+        ensures { result ≡ put_in self setting }
     {
         match setting {
-            Setting::First(first) => fill(&mut self.first, first),
-            Setting::Capacity(capacity) => fill(&mut self.capacity, capacity),
-            Setting::Policy(policy) => fill(&mut self.policy, policy),
-            Setting::Weigh(weigher) => fill(&mut self.weigher, weigher),
+            Setting::First(first) if self.first.is_none() => Some(Settings {
+                first: Some(first),
+                ..self
+            }),
+            Setting::Capacity(capacity) if self.capacity.is_none() => Some(Settings {
+                capacity: Some(capacity),
+                ..self
+            }),
+            Setting::Policy(policy) if self.policy.is_none() => Some(Settings {
+                policy: Some(policy),
+                ..self
+            }),
+            Setting::Weigh(weigher) if self.weigher.is_none() => Some(Settings {
+                weigher: Some(weigher),
+                ..self
+            }),
+            _ => None,
         }
     }
 }
@@ -76,18 +85,6 @@ impl Setting {
             Setting::First(_) | Setting::Policy(_) | Setting::Weigh(_) => true,
         }
     }
-}
-
-/// Fills a place that is empty.
-fn fill<T: Copy>(place: &mut Option<T>, value: T) -> Result<(), LineError>
-    ensures added { IsReadAs (λ _. place.new) result (filled place.old value) }
-    ensures err { OnErr result (place.new ≡ place.old) }
-{
-    if place.is_some() {
-        return Err(LineError::Bad);
-    }
-    *place = Some(value);
-    Ok(())
 }
 
 /// `first N`

@@ -1,13 +1,14 @@
 //! The words and the numbers of a line.
-ghost use Rattle.std.specs.Prelude.{◌≡◌, IfOk};
+ghost use Rattle.std.specs.Prelude.{◌≡◌, ◌≤◌, take};
 ghost use Rattle.std.specs.List.{list_all};
 ghost use Rattle.std.specs.Char.{is_ascii_digit};
-ghost use Rattle.moka_replay.specs.Words.{texts, words_of, number_of, is_numeral, is_printable};
-
-use std::alloc::{AllocError, Global};
+ghost use Rattle.moka_replay.specs.Lex.{texts, words_of, number_of, is_numeral, is_printable};
 
 /// A number has at most twenty digits.
 const MOST_DIGITS: usize = 20;
+
+/// One word more than the longest line with a meaning has.
+pub const MOST_WORDS: usize = 6;
 
 /// Tells whether each byte may stand in a line.
 pub fn is_printable(line: &[u8]) -> bool
@@ -52,11 +53,17 @@ pub fn small_number(word: &str) -> Option<u32>
     }
 }
 
-/// What stands between the spaces of a text.
-pub fn words(alloc: Global, text: &str) -> Result<Vec<&str>, AllocError>
-    ensures { IfOk result (λ v. texts v.items ≡ words_of text.now) }
+/// What stands between the spaces of a text: its first words, and how many of these there are.
+pub fn first_words(text: &str) -> ([&str; MOST_WORDS], usize)
+    ensures words { texts (take result.1 result.0) ≡ take MOST_WORDS (words_of text.now) }
+    ensures fits { result.1 ≤ MOST_WORDS }
 {
-    text.split(' ')
-        .filter(|word| !word.is_empty())
-        .collect(alloc)
+    let mut words = [""; MOST_WORDS];
+    let mut count = 0;
+    let all = text.split(' ').filter(|word| !word.is_empty());
+    for word in all.take(MOST_WORDS) {
+        words[count] = word;
+        count += 1;
+    }
+    (words, count)
 }
