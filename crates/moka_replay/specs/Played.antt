@@ -8,7 +8,7 @@ use Rattle.moka_parts.specs.declared.policy.NoExpiry.{NoExpiry}
 use Rattle.moka_parts.specs.declared.notification.NoListener.{NoListener}
 use Rattle.moka_parts.specs.State.{State, Meaning, new_state}
 use Rattle.moka_parts.specs.Housekeeping.{new_housekeeping, without_automatic}
-use Rattle.moka_parts.specs.Runs.{Step, calls_of, replies_of, last_state, AreSteps, SettlingRun}
+use Rattle.moka_parts.specs.Runs.{Step, calls_of, replies_of, last_state, AreSteps, PromisedRun}
 use Rattle.moka_replay.specs.declared.key_range.KeyRange.{KeyRange}
 use Rattle.moka_replay.specs.declared.print.Total.{Total}
 use Rattle.moka_replay.specs.declared.script.settings.Settings.{Settings}
@@ -32,7 +32,7 @@ script_meaning = record {
   tells = λ before _ _ _ after. after ≡ before;
   says = λ range key _ answer. answer ≡ (nat_le range.low key && nat_le key range.high);
   weighs = λ _ _ value weight. weight ≡ weight_of value;
-  reads = λ before moment after. (moment.0 ≡ 0) × (after ≡ before);
+  observes = λ before moment after. (moment.0 ≡ 0) × (after ≡ before);
   gives = λ before id after. (after.given ≡ min (before.given + 1) (2 ^ 64 - 1)) × (id ≡ to_be_bytes w128 after.given);
   created = λ _ _ _ _. None;
   read = λ _ _ _ _ told _. told;
@@ -64,4 +64,4 @@ total_of state = record { count = state.count; weight = state.weight }
 
 -- the calls, made one after the other on a new reference cache, give the replies and leave that total
 abbrev pub AreReplies : ScriptText → List (Reply ℕ (List ℕ) KeyRange) → Total → Type 0
-AreReplies script replies total = (steps : List ScriptStep) × (calls_of steps ≡ script.1) × (replies_of steps ≡ replies) × AreSteps script_meaning (SettlingRun script_meaning.says script_meaning.read) (first_state script.0) steps × (total ≡ total_of (last_state (first_state script.0) steps))
+AreReplies script replies total = (steps : List ScriptStep) × (calls_of steps ≡ script.1) × (replies_of steps ≡ replies) × AreSteps script_meaning (PromisedRun script_meaning.says script_meaning.read) (first_state script.0) steps × (total ≡ total_of (last_state (first_state script.0) steps))
