@@ -8,6 +8,11 @@ pub mod Applied
 pub mod RunKeepsSound
 pub mod AtEnd
 pub mod Rising
+pub mod Rises
+pub mod WriteList
+pub mod Entries
+pub mod InOrder
+pub mod OrderKept
 pub mod CallsKeep
 pub mod StepsKeep
 pub mod Promises
