@@ -1,5 +1,7 @@
 -- The steps of a pass joined, and passes one after the other.
 use Rattle.std.proofs.Common.{◌≡◌, refl, ℕ, ◌+◌, ◌*◌, ◌<◌, ◌≤◌, ◌⊎◌, Bool, true, false, true≢false, cond, not, ◌==◌, ◌&&◌, ◌||◌, List, [], ◌∷◌, ◌++◌, length, Option, Some, None, is_some, inl, inr, ap, sym, subst, ◌∙◌, arith}
+use Rattle.std.proofs.lemmas.Bool.{cases_eq}
+use Rattle.std.proofs.lemmas.List.Folds.{list_all-append}
 use Rattle.std.specs.List.{list_all}
 use Rattle.std.specs.Duration.{as_nanos}
 use Rattle.std.specs.Option.{option_map}
@@ -35,6 +37,7 @@ module _ {K V L : Type 0} (tells : L → K → V → RemovalCause → L → Type
     turns = inr rest;
     count = refl;
     full = λ is. absurd (true≢false (sym is));
+    more = λ used some. absurd (omega arith);
     rest = λ _. inr rest;
   }
 
@@ -77,13 +80,12 @@ none_makes_room q c (Removes n cause ∷ xs) may all = absurd (true≢false (sym
 none_makes_room q c (MovesToBack n ∷ xs) may all = absurd (true≢false (sym all))
 none_makes_room q c (Drops i ∷ xs) may all = absurd may.0
 
-all_first : (xs ys : List Choice) → list_all makes_room (xs ++ ys) ≡ true → list_all makes_room xs ≡ true
-all_first [] ys all = refl
-all_first (x ∷ xs) ys all = go (makes_room x) (all_first xs ys) all
+pub both_make_room : (xs ys : List Choice) → list_all makes_room (xs ++ ys) ≡ true → (list_all makes_room xs ≡ true) × (list_all makes_room ys ≡ true)
+both_make_room xs ys all = go (list_all makes_room xs) (list_all makes_room ys) (sym (list_all-append makes_room xs ys) ∙ all)
   where
-    go : (b : Bool) → (list_all makes_room (xs ++ ys) ≡ true → list_all makes_room xs ≡ true) → (b && list_all makes_room (xs ++ ys)) ≡ true → (b && list_all makes_room xs) ≡ true
-    go true rest all = rest all
-    go false rest all = cc
+    go : (a b : Bool) → (a && b) ≡ true → (a ≡ true) × (b ≡ true)
+    go true b e = (refl, e)
+    go false b e = cc
 
 empty_list : {A : Type 0} (xs : List A) → length xs ≤ 0 → xs ≡ []
 empty_list [] h = refl
@@ -104,13 +106,33 @@ module _ {K V L : Type 0} (tells : L → K → V → RemovalCause → L → Type
   -- where all its steps make room, only the second made any
   only_second : x || y ≡ true → 1 ≤ r + s → list_all makes_room (first.by.steps ++ second.by.steps) ≡ true → r + s ≡ batch
   only_second is removed all =
-      let none = none_makes_room q a first.by.steps first.by.may (all_first first.by.steps second.by.steps all) in
+      let none = none_makes_room q a first.by.steps first.by.may (both_make_room first.by.steps second.by.steps all).0 in
       let nothing : r ≡ 0 = first.count ∙ ap (λ xs. length (removed_by xs)) none in
       go x first.full nothing is
     where
       go : (x : Bool) → (x ≡ true → r ≡ batch) → r ≡ 0 → x || y ≡ true → r + s ≡ batch
       go true f none is = (let e = f refl in let few = second.few in let less = removed-few second.by.steps in let count = second.count in omega arith)
       go false f none is = (let e = second.full is in omega arith)
+
+  last_left : x || y ≡ false → y ≡ false
+  last_left = go x
+    where
+      go : (x : Bool) → x || y ≡ false → y ≡ false
+      go true is = cc
+      go false is = is
+
+  -- and that made less than a batch where it left nothing
+  less : x || y ≡ false → 1 ≤ batch → list_all makes_room (first.by.steps ++ second.by.steps) ≡ true → r + s < batch
+  less is batch_made all =
+      let none = none_makes_room q a first.by.steps first.by.may (both_make_room first.by.steps second.by.steps all).0 in
+      let nothing : r ≡ 0 = first.count ∙ ap (λ xs. length (removed_by xs)) none in
+      let few = second.few in
+      let fewer = removed-few second.by.steps in
+      let count = second.count in
+      elim (cases_eq s batch) as (λ _. r + s < batch) [
+        | inl used ↦ absurd (true≢false (sym (second.more used batch_made) ∙ last_left is))
+        | inr other ↦ omega arith
+      ]
 
   -- each of a batch of turns was made
   used_up : x || y ≡ true → batch ≤ length (first.by.steps ++ second.by.steps)
@@ -122,13 +144,6 @@ module _ {K V L : Type 0} (tells : L → K → V → RemovalCause → L → Type
       go : (x : Bool) → (x ≡ true → r ≡ batch) → x || y ≡ true → batch ≤ length (first.by.steps ++ second.by.steps)
       go true f is = (let e = f refl in let less = removed-few first.by.steps in let count = first.count in let all = many in omega arith)
       go false f is = (let e = second.full is in let less = removed-few second.by.steps in let count = second.count in let all = many in omega arith)
-
-  last_left : x || y ≡ false → y ≡ false
-  last_left = go x
-    where
-      go : (x : Bool) → x || y ≡ false → y ≡ false
-      go true is = cc
-      go false is = is
 
   used_last : IsWithin q.capacity c.access ⊎ (HasNoSettled c ⊎ (batch ≤ length (first.by.steps ++ second.by.steps)))
   used_last = elim second.turns [
@@ -153,6 +168,8 @@ module _ {K V L : Type 0} (tells : L → K → V → RemovalCause → L → Type
         (stepped-also tells (MayTurn q Surplus) (MayStep (tests_in q)) (turn_allowed q Surplus) b c m k second.by);
     count = (let e = first.count in let f = second.count in let both = removed-on first.by.steps second.by.steps in omega arith);
     more = some;
+    many = (let few = first.few in let fewer = second.few in let both = length-on first.by.steps second.by.steps in omega arith);
+    fewer = less;
     batch_used = only_second;
     rest = λ is. second.rest (last_left is);
     turned = used_up;

@@ -1,6 +1,7 @@
 -- Passes one after the other.
-use Rattle.std.proofs.Common.{◌≡◌, refl, ℕ, ◌+◌, ◌*◌, ◌≤◌, ◌⊎◌, Bool, true, false, true≢false, cond, not, ◌==◌, ◌&&◌, List, [], ◌∷◌, ◌++◌, length, Option, Some, None, is_some, inl, inr, ap, sym, subst, ◌∙◌, arith, if◌then◌else◌}
+use Rattle.std.proofs.Common.{◌≡◌, refl, ℕ, ◌+◌, ◌*◌, ◌/◌, ◌<◌, ◌≤◌, ◌⊎◌, Bool, true, false, true≢false, cond, not, ◌==◌, ◌&&◌, List, [], ◌∷◌, ◌++◌, length, Option, Some, None, is_some, inl, inr, ap, sym, subst, ◌∙◌, arith, if◌then◌else◌}
 use Rattle.std.proofs.lemmas.Bool.{cases_eq}
+use Rattle.std.proofs.lemmas.Nat.{div-mul-add}
 use Rattle.std.specs.List.{list_all}
 use Rattle.std.specs.Option.{option_map}
 use Rattle.std.specs.Prelude.{option_to_list}
@@ -17,6 +18,7 @@ use Rattle.moka_maintenance.specs.Steps.{MayStep, MayAll, IsStepped, HasNoSettle
 use Rattle.moka_maintenance.specs.Sweeps.{tests_in}
 use Rattle.moka_maintenance.specs.Passes.{IsPass, IsRan}
 use Rattle.moka_maintenance.proofs.Stepped.{length-on, removed-on, stepped-none, stepped-on}
+use Rattle.moka_maintenance.proofs.PassSteps.{both_make_room}
 use Rattle.moka_maintenance.proofs.Clocked.{Clocked, IsChecked}
 
 -- ---- each removal makes the access list shorter
@@ -60,19 +62,27 @@ pub record IsMoving {K V L : Type 0} (tells : L → K → V → RemovalCause →
   pub by : IsStepped tells (MayStep (tests_in q)) first now l m
   pub few : passes ≤ length (removed_by by.steps)
   pub turned : passes * batch ≤ length by.steps
+  pub many : length by.steps ≤ passes * (batch + batch)
+  pub exact : list_all makes_room by.steps ≡ true → length (removed_by by.steps) ≡ passes * batch
   pub none : passes ≡ 0 → by.steps ≡ []
   pub some : 1 ≤ passes → 1 ≤ batch
 
 pub moving-none : {K V L : Type 0} (tells : L → K → V → RemovalCause → L → Type 0) (q : Tests) (batch : ℕ) (c : Contents K V) (l : Option L) → IsMoving tells q batch c c l l 0
 unfolding stepped-none
-moving-none tells q batch c l = record { by = stepped-none tells (MayStep (tests_in q)) c l; few = omega arith; turned = omega arith; none = λ _. refl; some = λ lt. absurd (omega arith) }
+moving-none tells q batch c l = record { by = stepped-none tells (MayStep (tests_in q)) c l; few = omega arith; turned = omega arith; many = omega arith; exact = λ _. omega arith; none = λ _. refl; some = λ lt. absurd (omega arith) }
 
 -- there are no more passes than members
 pub moving-few : {K V L : Type 0} (tells : L → K → V → RemovalCause → L → Type 0) (q : Tests) (batch : ℕ) (first now : Contents K V) (l m : Option L) (passes : ℕ) → IsMoving tells q batch first now l m passes → passes ≤ length first.access
 moving-few tells q batch first now l m passes h = let s = shrinks (tests_in q) first h.by.steps h.by.may in let f = h.few in omega arith
 
+times_next : (passes batch : ℕ) → (passes + 1) * batch ≡ passes * batch + batch
+times_next passes batch = grind arith
+
+one_less : (passes batch a b c : ℕ) → a ≤ passes * (batch + batch) → b ≤ batch + batch → c ≡ a + b → c ≤ (passes + 1) * (batch + batch)
+one_less passes batch a b c h k e = let plus : (passes + 1) * (batch + batch) ≡ passes * (batch + batch) + (batch + batch) = times_next passes (batch + batch) in omega arith
+
 one_more : (passes batch a b c : ℕ) → passes * batch ≤ a → batch ≤ b → c ≡ a + b → (passes + 1) * batch ≤ c
-one_more passes batch a b c h k e = let plus : (passes + 1) * batch ≡ passes * batch + batch = grind arith in omega arith
+one_more passes batch a b c h k e = let plus = times_next passes batch in omega arith
 
 module _ {K V L : Type 0} (tells : L → K → V → RemovalCause → L → Type 0) (q : Tests) (batch : ℕ) (first now next : Contents K V) (l m n : Option L) (passes removed : ℕ) (more : Bool) (h : IsMoving tells q batch first now l m passes) (p : IsPass tells q batch now next m n removed more) where
   -- the access list became shorter by what was removed
@@ -89,12 +99,19 @@ module _ {K V L : Type 0} (tells : L → K → V → RemovalCause → L → Type
   counted : length (removed_by (h.by.steps ++ p.by.steps)) ≡ length (removed_by h.by.steps) + removed
   counted = let c = p.count in let a = removed-on h.by.steps p.by.steps in omega arith
 
+  many_all : length (h.by.steps ++ p.by.steps) ≤ (passes + 1) * (batch + batch)
+  many_all = one_less passes batch (length h.by.steps) (length p.by.steps) (length (h.by.steps ++ p.by.steps)) h.many p.many (length-on h.by.steps p.by.steps)
+
   pub moving-on : 1 ≤ removed → more ≡ true → IsMoving tells q batch first next l n (passes + 1)
   unfolding stepped-on
   moving-on some is = record {
     by = stepped-on tells (MayStep (tests_in q)) first now next l m n h.by p.by;
     few = (let f = h.few in let c = counted in omega arith);
     turned = one_more passes batch (length h.by.steps) (length p.by.steps) (length (h.by.steps ++ p.by.steps)) h.turned (p.turned is) (length-on h.by.steps p.by.steps);
+    many = many_all;
+    exact = λ all.
+        (let rooms = both_make_room h.by.steps p.by.steps all in
+        counted ∙ ap (λ k. k + removed) (h.exact rooms.0) ∙ ap (λ k. passes * batch + k) (p.batch_used is some rooms.1) ∙ sym (times_next passes batch));
     none = λ e. absurd (omega arith);
     some = λ _. some_batch some;
   }
@@ -122,6 +139,7 @@ module _ {K V L : Type 0} (tells : L → K → V → RemovalCause → L → Type
     ran-out k out = record {
       by = stepped-on tells (MayStep (tests_in q)) first now next l m n h.by p.by;
       made = omega arith;
+      many = many_all;
       few = (let f = h.few in let c = counted in omega arith);
       readings = k.readings;
       read = k.read;
@@ -132,6 +150,11 @@ module _ {K V L : Type 0} (tells : L → K → V → RemovalCause → L → Type
       removing = λ late. absurd (true≢false (sym late ∙ k.early));
       rest = p.rest;
       used = λ is. turned_all (p.used is);
+      exact = λ _ some all.
+          (let rooms = both_make_room h.by.steps p.by.steps all in
+          let total = counted ∙ ap (λ k. k + removed) (h.exact rooms.0) in
+          let whole = ap (λ k. k / batch) total ∙ div-mul-add passes batch removed (p.fewer (decide more (λ is. (let o = out is in let s = p.more is some in absurd (omega arith)))) some rooms.1) in
+          sym (ap (λ k. k + 1) whole));
       idle = λ none. (let i = p.idle none in (i.0 ∙ first_idle none, i.1));
       batch_used = λ late. absurd (true≢false (sym late ∙ k.early));
     }
@@ -146,6 +169,7 @@ module _ {K V L : Type 0} (tells : L → K → V → RemovalCause → L → Type
     ran-late k is some = record {
       by = stepped-on tells (MayStep (tests_in q)) first now next l m n h.by p.by;
       made = omega arith;
+      many = many_all;
       few = (let f = h.few in let c = counted in omega arith);
       readings = k.readings;
       read = k.read;
@@ -156,6 +180,7 @@ module _ {K V L : Type 0} (tells : L → K → V → RemovalCause → L → Type
       removing = λ _. (let f = h.few in let c = counted in omega arith);
       rest = λ is. absurd (true≢false is);
       used = λ is. absurd (true≢false is);
+      exact = λ early. absurd (true≢false (sym k.lateness ∙ early));
       idle = λ none. (let batch_made = some_batch some in absurd (omega arith));
       batch_used = λ _ one all. first_batch (omega arith) all;
     }

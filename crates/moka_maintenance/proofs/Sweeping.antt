@@ -164,8 +164,8 @@ module _ {K V L : Type 0} (tells : L → K → V → RemovalCause → L → Type
       joined s t u a s' a' made one e same = omega arith
 
   -- it comes to rest
-  pub sweeping-ended : TakesTurn tells q sweep now next m k Ended → IsSwept tells q sweep batch first next l k removed false
-  sweeping-ended t =
+  pub sweeping-ended : 1 ≤ turns → TakesTurn tells q sweep now next m k Ended → IsSwept tells q sweep batch first next l k removed false
+  sweeping-ended some t =
       subst (λ x. IsSwept tells q sweep batch first x l k removed false) (sym t.1)
       (subst (λ k. IsSwept tells q sweep batch first now l k removed false) (sym t.2)
       (record {
@@ -174,6 +174,7 @@ module _ {K V L : Type 0} (tells : L → K → V → RemovalCause → L → Type
         turns = inr t.0;
         count = h.count;
         full = λ is. absurd (true≢false (sym is));
+        more = λ used _. (let most = h.most in absurd (omega arith));
         rest = λ _. inr t.0;
       }))
     where
@@ -209,6 +210,11 @@ module _ {K V L : Type 0} (tells : L → K → V → RemovalCause → L → Type
       at_most : (a b c : ℕ) → a + b ≡ c → b ≤ c
       at_most a b c e = omega arith
 
+  -- where each removed a record, all members it met are settled
+  pub sweeping-all : (all : Bool) → Sweeping tells q sweep batch first now l m removed turns passed all → removed ≡ batch → all ≡ true
+  sweeping-all true h used = refl
+  sweeping-all false h used = (let lt = (h.unsettled refl).1 in absurd (omega arith))
+
   -- all turns are made
   pub sweeping-over : (all : Bool) → turns ≡ 0 → Sweeping tells q sweep batch first now l m removed turns passed all → IsSwept tells q sweep batch first now l m removed all
   sweeping-over all e h = record {
@@ -217,6 +223,7 @@ module _ {K V L : Type 0} (tells : L → K → V → RemovalCause → L → Type
     turns = inl (h.rounds, no_turns (length h.by.steps) turns (h.rounds * length now.access) e h.made, h.round);
     count = h.count;
     full = λ is. (let s = h.settled is in omega arith);
+    more = λ used _. sweeping-all all h used;
     rest = λ is. inl (h.unsettled is).0;
   }
     where
@@ -225,8 +232,3 @@ module _ {K V L : Type 0} (tells : L → K → V → RemovalCause → L → Type
 
       no_turns : (s t a : ℕ) → t ≡ 0 → s + t + a ≡ batch → s + a ≡ batch
       no_turns s t a none e = omega arith
-
-  -- where each removed a record, all members it met are settled
-  pub sweeping-all : (all : Bool) → Sweeping tells q sweep batch first now l m removed turns passed all → removed ≡ batch → all ≡ true
-  sweeping-all true h used = refl
-  sweeping-all false h used = (let lt = (h.unsettled refl).1 in absurd (omega arith))

@@ -63,5 +63,6 @@ module _ {K V L : Type 0} (tells : L → K → V → RemovalCause → L → Type
     pub count : removed ≡ length (removed_by by.steps)
     -- each of all its turns removed a record
     pub full : left ≡ true → removed ≡ batch
+    pub more : removed ≡ batch → 1 ≤ batch → left ≡ true
     -- it came to rest, or met an unsettled member
     pub rest : left ≡ false → HasUnsettled after ⊎ IsAtRest q sweep after

@@ -13,7 +13,7 @@ loop-turns-init g c = record {
 }
 
 pub returns-in-Ended-clause-swept : goal.returns-in-Ended-clause-swept
-returns-in-Ended-clause-swept g c = sweeping-ended g.L.Listener.tells c.args.tests c.args.sweep c.args.batch _ _ _ _ _ _ _ _ _ _ c.loop-turns.invariant.sweeping c.in-Ended.ensures.turn
+returns-in-Ended-clause-swept g c = sweeping-ended g.L.Listener.tells c.args.tests c.args.sweep c.args.batch _ _ _ _ _ _ _ _ _ _ c.loop-turns.invariant.sweeping c.loop-turns-test.true c.in-Ended.ensures.turn
 
 pub loop-turns-preserved-in-Removed : goal.loop-turns-preserved-in-Removed
 loop-turns-preserved-in-Removed g c =
