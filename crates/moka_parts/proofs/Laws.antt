@@ -1,24 +1,15 @@
 -- Laws that follow from the definitions: looks that leave no trace, and predicates that are dropped.
-use Rattle.std.proofs.Common.{◌≡◌, refl, ℕ, ◌<◌, Bool, true, false, List, [], ◌∷◌, Option, Some, None, Result, Ok, Err, ap, sym, ◌∙◌, subst, inl, inr, MatchBool, arith}
+use Rattle.std.proofs.Common.{◌≡◌, refl, ℕ, ◌<◌, Bool, true, false, List, [], ◌∷◌, Option, Some, None, Result, Ok, Err, ap, sym, subst, inl, inr, MatchBool, arith}
 use Rattle.std.specs.Prelude.{Contains, slice_get, remove}
 use Rattle.std.specs.FinMap as finite
 use Rattle.moka_parts.specs.declared.records.Record.{Record}
 use Rattle.moka_parts.specs.declared.records.Registered.{Registered}
 use Rattle.moka_parts.specs.declared.error.OutOfMemory.{OutOfMemory}
-use Rattle.std.specs.Option.{option_map_or}
 use Rattle.std.proofs.lemmas.Option.{slice_get_within, get_or_from_slice_get}
 use Rattle.std.proofs.lemmas.List.Elements.{Contains-append_cases, Contains-push_cases}
 use Rattle.std.proofs.lemmas.List.Sorted.{Contains-permutation, IsPermutation-remove}
-use Rattle.moka_parts.specs.declared.policy.EvictionPolicy.{EvictionPolicy}
-use Rattle.moka_parts.specs.declared.records.Ticketed.{Ticketed}
-use Rattle.moka_parts.specs.declared.records.Operation.{Operation}
-use Rattle.moka_parts.specs.declared.records.Operation.TheVariants.{Upsert, Removal}
-use Rattle.moka_parts.specs.declared.records.ReadOperation.{ReadOperation}
-use Rattle.moka_parts.specs.declared.records.ReadOperation.TheVariants.{Hit, Miss}
-use Rattle.moka_parts.specs.Reads.{after_read, after_reads}
-use Rattle.moka_parts.specs.Writes.{Fate, Ignored, Overtaken, Counted, Admitted, TooHeavy, Preferred, Refused, fate, after_fate, after_write, after_writes}
 use Rattle.moka_parts.specs.Records.{record_of_key}
-use Rattle.moka_parts.specs.State.{State, Contents, contents, is_disabled}
+use Rattle.moka_parts.specs.State.{State, Contents, is_disabled}
 use Rattle.moka_parts.specs.Visibility.{Covers}
 use Rattle.moka_parts.specs.Maintenance.{Choice, Removes, MovesToBack, Drops, Freedom, after_choice, after_choices, kept_by_choices, before_steps, tests_of, AreJustified}
 use Rattle.moka_parts.specs.Calls.{PeeksAt}

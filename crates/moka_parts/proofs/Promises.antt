@@ -93,4 +93,4 @@ weaker_is_run m More Less weaker calls replies steps old new clock clock_after i
 pub drives_is_reference : {K V S X L P W C I : Type 0} (m : Meaning K V X L P W C I) (calls : List (Call K V P)) (replies : List (Reply K V P)) (old new : Cache K V S X L P W) (clock clock_after : C) (ids ids_after : I) →
     (d : Drives m calls replies old clock ids new clock_after ids_after) → ReferenceRun m calls replies d.steps old clock ids new clock_after ids_after
 drives_is_reference m calls replies old new clock clock_after ids ids_after d =
-    weaker_is_run m (PromisedRun m) (MaintenanceRun m.says) (promised_is_run m) calls replies d.steps old new clock clock_after ids ids_after d.is_run
+    weaker_is_run m (PromisedRun m.says m.read) (MaintenanceRun m.says) (promised_is_run m.says m.read) calls replies d.steps old new clock clock_after ids ids_after d.is_run

@@ -286,7 +286,7 @@ module _ {K V X L P W C I : Type 0} (m : Meaning K V X L P W C I) (laws : IsEqui
       go : (o : Option (Record K V)) → record_of_key m.eq s.records key ≡ o → IsShown m.says s o now false → IsHidden m.says s r now
       go None found look = absurd (true≢false (sym same ∙ absent_key m.eq s.records key found k r there))
       go (Some q) found look =
-          let both : Some q ≡ Some r = sym found ∙ present_key m.eq s.records key laws n.one_each k r there same in
+          let both : Some q ≡ Some r = sym found ∙ present_key m.eq s.records key laws n.numbered.one_each k r there same in
           let one : q ≡ r = cc in
           subst (λ x. IsHidden m.says s x now) one look
 
