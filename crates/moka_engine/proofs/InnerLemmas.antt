@@ -27,8 +27,6 @@ use Rattle.moka_parts.specs.Settling.{IsWaitingIn, IsConsistent}
 use Rattle.moka_parts.proofs.Consistent.{insert_kept, replace_kept, renew_kept, take_kept, waiting_alike}
 use Rattle.moka_parts.proofs.Values.{len_removed}
 use Rattle.moka_parts.proofs.Waiting.{hands_out, waits_sent}
-use Rattle.moka_store.specs.Weights.{IsWeighed}
-use Rattle.moka_store.proofs.Weights.{weighed-empty}
 use Rattle.moka_engine.specs.Interior.{operations_of, writes_of, handed_of}
 use Rattle.moka_engine.proofs.ValuesLemmas.{get-map_values, map_values-insert, map_values-remove, map_values-found}
 use Rattle.moka_engine.specs.Inner.{IsInner, AreKeyed, AreLocated, AreTicketed}
@@ -183,9 +181,9 @@ never_waits out writes reads places t n h x (inr queued) same =
     let e = ap (λ (y : Ticketed). number_of y.operation) q.2 in
     omega arith
 
-module _ {K V : Type 0} (eq : K → K → Bool) (laws : IsEquivalence eq) (kept after : Kept K V) (out handed : Pending PlacedWrite) (writes : List QueuedWrite) (reads : List QueuedRead) (ws rs t n size weight : ℕ) where
+module _ {K V : Type 0} (eq : K → K → Bool) (laws : IsEquivalence eq) (kept after : Kept K V) (out handed : Pending PlacedWrite) (writes : List QueuedWrite) (reads : List QueuedRead) (ws rs t n size : ℕ) where
   -- a new record with its operation
-  pub inner-inserted : (r : Record K V) (place : ℕ) (w : PlacedWrite) → IsInner eq kept out writes ws reads rs t n size weight → after.records ≡ insert kept.records n r → after.access ≡ kept.access → after.places ≡ insert kept.places n place → handed.items ≡ insert out.items t w → r.number ≡ n → r.generation ≡ 1 → r.applied ≡ 0 → (hash : ℕ) → w.operation ≡ Upsert n 1 r.weight hash → w.place ≡ place → ((m : ℕ) (q : Record K V) → get kept.records m ≡ Some q → eq r.key q.key ≡ false) → t + len kept.records + 1 < 2 ^ 64 → len kept.records + 1 ≤ handed.room → IsInner eq after handed writes ws reads rs (t + 1) (n + 1) (size + 1) weight
+  pub inner-inserted : (r : Record K V) (place : ℕ) (w : PlacedWrite) → IsInner eq kept out writes ws reads rs t n size → after.records ≡ insert kept.records n r → after.access ≡ kept.access → after.places ≡ insert kept.places n place → handed.items ≡ insert out.items t w → r.number ≡ n → r.generation ≡ 1 → r.applied ≡ 0 → (hash : ℕ) → w.operation ≡ Upsert n 1 r.weight hash → w.place ≡ place → ((m : ℕ) (q : Record K V) → get kept.records m ≡ Some q → eq r.key q.key ≡ false) → t + len kept.records + 1 < 2 ^ 64 → len kept.records + 1 ≤ handed.room → IsInner eq after handed writes ws reads rs (t + 1) (n + 1) (size + 1)
   inner-inserted r place w h records access places items number generation applied hash operation here fresh tickets room =
       let none : get kept.records n ≡ None = elim (option-cases (get kept.records n)) [
         | inl none ↦ none
@@ -203,7 +201,6 @@ module _ {K V : Type 0} (eq : K → K → Bool) (laws : IsEquivalence eq) (kept 
         placed = subst (λ ps. AreLocated ps (n + 1) handed.items writes reads) (sym places) (subst (λ is. AreLocated (insert kept.places n place) (n + 1) is writes reads) (sym items) (placed_all-inserted kept.places n place out.items writes reads t w h.placed is_of here));
         ticketed = subst (λ is. AreTicketed is writes (t + 1)) (sym items) (ticketed-handed out.items writes t w h.ticketed);
         numbers = (let n = h.numbers in (omega arith, omega arith));
-        weighed = subst (λ a. IsWeighed a weight) (sym access) h.weighed;
         sized = (let e = h.sized in omega arith);
         tickets = omega arith;
         removals = omega arith;
@@ -212,7 +209,7 @@ module _ {K V : Type 0} (eq : K → K → Bool) (laws : IsEquivalence eq) (kept 
       }
 
   -- a record changed with its operation
-  pub inner-updated : (m : ℕ) (old r : Record K V) (w : PlacedWrite) → IsInner eq kept out writes ws reads rs t n size weight → get kept.records m ≡ Some old → after.records ≡ insert kept.records m r → after.access ≡ kept.access → after.places ≡ kept.places → handed.items ≡ insert out.items t w → r.number ≡ old.number → r.key ≡ old.key → r.generation ≡ old.generation + 1 → r.applied ≡ old.applied → (hash : ℕ) → w.operation ≡ Upsert m (old.generation + 1) r.weight hash → get kept.places m ≡ Some w.place → t + len kept.records < 2 ^ 64 → len kept.records ≤ handed.room → IsInner eq after handed writes ws reads rs (t + 1) n size weight
+  pub inner-updated : (m : ℕ) (old r : Record K V) (w : PlacedWrite) → IsInner eq kept out writes ws reads rs t n size → get kept.records m ≡ Some old → after.records ≡ insert kept.records m r → after.access ≡ kept.access → after.places ≡ kept.places → handed.items ≡ insert out.items t w → r.number ≡ old.number → r.key ≡ old.key → r.generation ≡ old.generation + 1 → r.applied ≡ old.applied → (hash : ℕ) → w.operation ≡ Upsert m (old.generation + 1) r.weight hash → get kept.places m ≡ Some w.place → t + len kept.records < 2 ^ 64 → len kept.records ≤ handed.room → IsInner eq after handed writes ws reads rs (t + 1) n size
   inner-updated m old r w h there records access places items number key generation applied hash operation placed tickets room =
       let count = ap len records ∙ len-kept kept.records m r old there in
       let g = h.keyed.generations m old there in
@@ -226,7 +223,6 @@ module _ {K V : Type 0} (eq : K → K → Bool) (laws : IsEquivalence eq) (kept 
         placed = subst (λ ps. AreLocated ps n handed.items writes reads) (sym places) (subst (λ is. AreLocated kept.places n is writes reads) (sym items) (placed_all-handed kept.places n out.items writes reads t w h.placed here));
         ticketed = subst (λ is. AreTicketed is writes (t + 1)) (sym items) (ticketed-handed out.items writes t w h.ticketed);
         numbers = (let n = h.numbers in (omega arith, omega arith));
-        weighed = subst (λ a. IsWeighed a weight) (sym access) h.weighed;
         sized = (let e = h.sized in omega arith);
         tickets = omega arith;
         removals = omega arith;
@@ -235,7 +231,7 @@ module _ {K V : Type 0} (eq : K → K → Bool) (laws : IsEquivalence eq) (kept 
       }
 
   -- a record taken out with its operation
-  pub inner-removed : (m : ℕ) (old : Record K V) (w : PlacedWrite) → IsInner eq kept out writes ws reads rs t n size weight → get kept.records m ≡ Some old → after.records ≡ remove kept.records m → after.access ≡ kept.access → after.places ≡ kept.places → handed.items ≡ insert out.items t w → (generation : ℕ) → w.operation ≡ Removal m generation → get kept.places m ≡ Some w.place → out.room ≤ handed.room + 1 → IsInner eq after handed writes ws reads rs (t + 1) n (size - 1) weight
+  pub inner-removed : (m : ℕ) (old : Record K V) (w : PlacedWrite) → IsInner eq kept out writes ws reads rs t n size → get kept.records m ≡ Some old → after.records ≡ remove kept.records m → after.access ≡ kept.access → after.places ≡ kept.places → handed.items ≡ insert out.items t w → (generation : ℕ) → w.operation ≡ Removal m generation → get kept.places m ≡ Some w.place → out.room ≤ handed.room + 1 → IsInner eq after handed writes ws reads rs (t + 1) n (size - 1)
   inner-removed m old w h there records access places items generation operation placed room =
       let count = ap len records in
       let one = len_removed kept.records m old there in
@@ -249,7 +245,6 @@ module _ {K V : Type 0} (eq : K → K → Bool) (laws : IsEquivalence eq) (kept 
         placed = subst (λ ps. AreLocated ps n handed.items writes reads) (sym places) (subst (λ is. AreLocated kept.places n is writes reads) (sym items) (placed_all-handed kept.places n out.items writes reads t w h.placed here));
         ticketed = subst (λ is. AreTicketed is writes (t + 1)) (sym items) (ticketed-handed out.items writes t w h.ticketed);
         numbers = (let n = h.numbers in (omega arith, omega arith));
-        weighed = subst (λ a. IsWeighed a weight) (sym access) h.weighed;
         sized = (let e = h.sized in omega arith);
         tickets = (let e = h.tickets in omega arith);
         removals = (let e = h.removals in omega arith);
@@ -258,14 +253,13 @@ module _ {K V : Type 0} (eq : K → K → Bool) (laws : IsEquivalence eq) (kept 
       }
 
   -- more room
-  pub inner-roomier : IsInner eq kept out writes ws reads rs t n size weight → after.records ≡ kept.records → after.access ≡ kept.access → after.places ≡ kept.places → handed.items ≡ out.items → out.room ≤ handed.room → IsInner eq after handed writes ws reads rs t n size weight
+  pub inner-roomier : IsInner eq kept out writes ws reads rs t n size → after.records ≡ kept.records → after.access ≡ kept.access → after.places ≡ kept.places → handed.items ≡ out.items → out.room ≤ handed.room → IsInner eq after handed writes ws reads rs t n size
   inner-roomier h records access places items room = record {
     consistent = subst (λ is. IsConsistent (IsWaitingIn (operations_of is) (writes_of writes)) after.records after.access) (sym items) (subst (λ a. IsConsistent (IsWaitingIn (operations_of out.items) (writes_of writes)) after.records a) (sym access) (subst (λ rs. IsConsistent (IsWaitingIn (operations_of out.items) (writes_of writes)) rs kept.access) (sym records) h.consistent));
     keyed = subst (λ rs. AreKeyed eq rs t n) (sym records) h.keyed;
     placed = subst (λ ps. AreLocated ps n handed.items writes reads) (sym places) (subst (λ is. AreLocated kept.places n is writes reads) (sym items) h.placed);
     ticketed = subst (λ is. AreTicketed is writes t) (sym items) h.ticketed;
     numbers = h.numbers;
-    weighed = subst (λ a. IsWeighed a weight) (sym access) h.weighed;
     sized = (let e = ap len records in let f = h.sized in omega arith);
     tickets = subst (λ rs. t + len rs ≤ 2 ^ 64) (sym records) h.tickets;
     removals = (let e = ap len records in let f = h.removals in omega arith);
@@ -274,7 +268,7 @@ module _ {K V : Type 0} (eq : K → K → Bool) (laws : IsEquivalence eq) (kept 
   }
 
   -- a record changed, and nothing handed out
-  pub inner-touched : (m : ℕ) (old r : Record K V) → IsInner eq kept out writes ws reads rs t n size weight → get kept.records m ≡ Some old → after.records ≡ insert kept.records m r → after.access ≡ kept.access → after.places ≡ kept.places → r.number ≡ old.number → r.key ≡ old.key → r.generation ≡ old.generation → r.applied ≡ old.applied → r.weight ≡ old.weight → IsInner eq after out writes ws reads rs t n size weight
+  pub inner-touched : (m : ℕ) (old r : Record K V) → IsInner eq kept out writes ws reads rs t n size → get kept.records m ≡ Some old → after.records ≡ insert kept.records m r → after.access ≡ kept.access → after.places ≡ kept.places → r.number ≡ old.number → r.key ≡ old.key → r.generation ≡ old.generation → r.applied ≡ old.applied → r.weight ≡ old.weight → IsInner eq after out writes ws reads rs t n size
   inner-touched m old r h there records access places number key generation applied same_weight =
       let count = ap len records ∙ len-kept kept.records m r old there in
       let g = h.keyed.generations m old there in
@@ -284,7 +278,6 @@ module _ {K V : Type 0} (eq : K → K → Bool) (laws : IsEquivalence eq) (kept 
         placed = subst (λ ps. AreLocated ps n out.items writes reads) (sym places) h.placed;
         ticketed = h.ticketed;
         numbers = h.numbers;
-        weighed = subst (λ a. IsWeighed a weight) (sym access) h.weighed;
         sized = (let e = h.sized in omega arith);
         tickets = (let e = h.tickets in omega arith);
         removals = (let e = h.removals in omega arith);
@@ -303,9 +296,9 @@ last_one x y h = at_one x y h.0 h.1 h.2
 contains-back : {A : Type 0} (xs : List A) (x y : A) → Contains (xs ++ x ∷ []) y → (Contains xs y) ⊎ (y ≡ x)
 contains-back xs x y h = elim (Contains-append_cases xs (x ∷ []) y h) [ inl old ↦ inl old | inr new ↦ inr (last_one x y new) ]
 
-module _ {K V : Type 0} (eq : K → K → Bool) (kept : Kept K V) (out left : Pending PlacedWrite) (writes : List QueuedWrite) (reads : List QueuedRead) (ws rs t n size weight : ℕ) where
+module _ {K V : Type 0} (eq : K → K → Bool) (kept : Kept K V) (out left : Pending PlacedWrite) (writes : List QueuedWrite) (reads : List QueuedRead) (ws rs t n size : ℕ) where
   -- an operation goes from those handed out to the back of the queue
-  pub inner-sent : (ticket : ℕ) (w : PlacedWrite) (wide : ℕ) → IsInner eq kept out writes ws reads rs t n size weight → get out.items ticket ≡ Some w → left.items ≡ remove out.items ticket → out.room ≤ left.room → length writes < ws → wide ≡ ws → IsInner eq kept left (writes ++ record { ticket = ticket; write = w } ∷ []) wide reads rs t n size weight
+  pub inner-sent : (ticket : ℕ) (w : PlacedWrite) (wide : ℕ) → IsInner eq kept out writes ws reads rs t n size → get out.items ticket ≡ Some w → left.items ≡ remove out.items ticket → out.room ≤ left.room → length writes < ws → wide ≡ ws → IsInner eq kept left (writes ++ record { ticket = ticket; write = w } ∷ []) wide reads rs t n size
   inner-sent ticket w wide h there items room fits same = record {
     consistent =
         let after : Ticketed = record { ticket = ticket; operation = w.operation } in
@@ -333,7 +326,6 @@ module _ {K V : Type 0} (eq : K → K → Bool) (kept : Kept K V) (out left : Pe
       ];
     };
     numbers = h.numbers;
-    weighed = h.weighed;
     sized = h.sized;
     tickets = h.tickets;
     removals = (let e = h.removals in omega arith);
@@ -342,7 +334,7 @@ module _ {K V : Type 0} (eq : K → K → Bool) (kept : Kept K V) (out left : Pe
   }
 
   -- a read is queued
-  pub inner-read : (q : QueuedRead) (wide : ℕ) → IsInner eq kept out writes ws reads rs t n size weight → IsReadLocated kept.places n q.place q.read → length reads < rs → wide ≡ rs → IsInner eq kept out writes ws (reads ++ q ∷ []) wide t n size weight
+  pub inner-read : (q : QueuedRead) (wide : ℕ) → IsInner eq kept out writes ws reads rs t n size → IsReadLocated kept.places n q.place q.read → length reads < rs → wide ≡ rs → IsInner eq kept out writes ws (reads ++ q ∷ []) wide t n size
   inner-read r wide h there fits same = record {
     consistent = h.consistent;
     keyed = h.keyed;
@@ -357,7 +349,6 @@ module _ {K V : Type 0} (eq : K → K → Bool) (kept : Kept K V) (out left : Pe
     };
     ticketed = h.ticketed;
     numbers = h.numbers;
-    weighed = h.weighed;
     sized = h.sized;
     tickets = h.tickets;
     removals = h.removals;
@@ -366,12 +357,12 @@ module _ {K V : Type 0} (eq : K → K → Bool) (kept : Kept K V) (out left : Pe
   }
 
   -- a read is queued where there is room
-  pub inner-read_if : (q : QueuedRead) (result : Result (Unit {0}) QueuedRead) (after : Buffer QueuedRead) → IsInner eq kept out writes ws reads rs t n size weight → IsReadLocated kept.places n q.place q.read → (IsOk result → length reads < rs) → OnOk result (after ≡ buffer (reads ++ q ∷ []) rs) → IfErr result (λ x. (x ≡ q) × (after ≡ buffer reads rs)) → IsInner eq kept out writes ws after.items after.capacity t n size weight
-  inner-read_if q (Ok _) after h there fits ok err = subst (λ (b : Buffer QueuedRead). IsInner eq kept out writes ws b.items b.capacity t n size weight) (sym ok) (inner-read q rs h there (fits refl) refl)
-  inner-read_if q (Err x) after h there fits ok err = subst (λ (b : Buffer QueuedRead). IsInner eq kept out writes ws b.items b.capacity t n size weight) (sym err.1) h
+  pub inner-read_if : (q : QueuedRead) (result : Result (Unit {0}) QueuedRead) (after : Buffer QueuedRead) → IsInner eq kept out writes ws reads rs t n size → IsReadLocated kept.places n q.place q.read → (IsOk result → length reads < rs) → OnOk result (after ≡ buffer (reads ++ q ∷ []) rs) → IfErr result (λ x. (x ≡ q) × (after ≡ buffer reads rs)) → IsInner eq kept out writes ws after.items after.capacity t n size
+  inner-read_if q (Ok _) after h there fits ok err = subst (λ (b : Buffer QueuedRead). IsInner eq kept out writes ws b.items b.capacity t n size) (sym ok) (inner-read q rs h there (fits refl) refl)
+  inner-read_if q (Err x) after h there fits ok err = subst (λ (b : Buffer QueuedRead). IsInner eq kept out writes ws b.items b.capacity t n size) (sym err.1) h
 
 -- with no record and nothing waiting
-pub inner-new : {K V : Type 0} (eq : K → K → Bool) (kept : Kept K V) (out : Pending PlacedWrite) (writes : List QueuedWrite) (reads : List QueuedRead) (ws rs t : ℕ) → kept.records ≡ empty → kept.access ≡ [] → kept.places ≡ empty → out.items ≡ empty → writes ≡ [] → reads ≡ [] → ws ≡ 384 → rs ≡ 384 → 1 ≤ t → t ≤ 2 ^ 64 → IsInner eq kept out writes ws reads rs t 1 0 0
+pub inner-new : {K V : Type 0} (eq : K → K → Bool) (kept : Kept K V) (out : Pending PlacedWrite) (writes : List QueuedWrite) (reads : List QueuedRead) (ws rs t : ℕ) → kept.records ≡ empty → kept.access ≡ [] → kept.places ≡ empty → out.items ≡ empty → writes ≡ [] → reads ≡ [] → ws ≡ 384 → rs ≡ 384 → 1 ≤ t → t ≤ 2 ^ 64 → IsInner eq kept out writes ws reads rs t 1 0
 inner-new {K} {V} eq kept out writes reads ws rs t records access places items no_writes no_reads write_size read_size first last = record {
   consistent =
       let rs = sym records in
@@ -393,7 +384,6 @@ inner-new {K} {V} eq kept out writes reads ws rs t records access places items n
     sent = λ q there. absurd (not_in_empty q (subst (λ (xs : List QueuedWrite). Contains xs q) no_writes there));
   };
   numbers = (omega arith, omega arith);
-  weighed = subst (λ a. IsWeighed a 0) (sym access) weighed-empty;
   sized = sym (ap len records ∙ len-empty nat_cmp (Record K V));
   tickets = (let e = ap len records ∙ len-empty nat_cmp (Record K V) in omega arith);
   removals = (let e = ap len records ∙ len-empty nat_cmp (Record K V) in omega arith);

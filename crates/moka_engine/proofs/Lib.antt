@@ -7,7 +7,6 @@ pub mod Turns
 pub mod Settled
 pub mod CacheSteps
 pub mod CacheReturns
-pub mod Weights
 pub mod RecordsLeft
 pub mod InnerLemmas
 pub mod QueuesApplied

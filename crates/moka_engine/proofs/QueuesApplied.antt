@@ -13,7 +13,6 @@ use Rattle.moka_engine.specs.declared.inner.PlacedWrite.{PlacedWrite}
 use Rattle.moka_engine.specs.declared.inner.QueuedWrite.{QueuedWrite}
 use Rattle.moka_engine.specs.declared.inner.QueuedRead.{QueuedRead}
 use Rattle.moka_store.specs.Store.{Kept}
-use Rattle.moka_store.specs.Weights.{IsWeighed}
 use Rattle.moka_engine.specs.Applied.{Held, held, access_after_reads, after_writes}
 use Rattle.moka_engine.specs.Evictions.{IsEvicted}
 use Rattle.moka_engine.specs.Interior.{IsLocated, IsReadLocated, operations_of, writes_of, reads_of}
@@ -33,11 +32,11 @@ read_located-less places less n place (Miss hash) fewer h = tt
 not_in_empty : {A : Type 0} (q : A) → Contains [] q → ⊥
 not_in_empty q h = (let lt = h.1 in omega arith)
 
-module _ {K V : Type 0} (eq : K → K → Bool) (kept after : Kept K V) (out : Pending PlacedWrite) (writes : List QueuedWrite) (reads : List QueuedRead) (ws rs t n size weight sum count : ℕ) (h : IsInner eq kept out writes ws reads rs t n size weight)
-    (fewer : (k p : ℕ) → get after.places k ≡ Some p → get kept.places k ≡ Some p) (weighed : IsWeighed after.access sum) (counted : count ≡ len after.records) where
+module _ {K V : Type 0} (eq : K → K → Bool) (kept after : Kept K V) (out : Pending PlacedWrite) (writes : List QueuedWrite) (reads : List QueuedRead) (ws rs t n size count : ℕ) (h : IsInner eq kept out writes ws reads rs t n size)
+    (fewer : (k p : ℕ) → get after.places k ≡ Some p → get kept.places k ≡ Some p) (counted : count ≡ len after.records) where
   -- some records stay, with what waits of these queues
   inner-left : (qs : List QueuedWrite) (ds : List QueuedRead) → ((q : QueuedWrite) → Contains qs q → Contains writes q) → ((q : QueuedRead) → Contains ds q → Contains reads q) → length qs ≤ length writes → length ds ≤ length reads
-      → AreLeft kept.records after.records → IsConsistent (IsWaitingIn (operations_of out.items) (writes_of qs)) after.records after.access → IsInner eq after out qs ws ds rs t n count sum
+      → AreLeft kept.records after.records → IsConsistent (IsWaitingIn (operations_of out.items) (writes_of qs)) after.records after.access → IsInner eq after out qs ws ds rs t n count
   inner-left qs ds in_writes in_reads few_writes few_reads left consistent = record {
     consistent = consistent;
     keyed = keyed-left eq kept.records after.records t t n left.kept (omega arith) h.keyed;
@@ -49,7 +48,6 @@ module _ {K V : Type 0} (eq : K → K → Bool) (kept after : Kept K V) (out : P
     };
     ticketed = record { handed = h.ticketed.handed; sent = λ q there. h.ticketed.sent q (in_writes q there) };
     numbers = h.numbers;
-    weighed = weighed;
     sized = counted;
     tickets = (let e = h.tickets in let le = left.count in omega arith);
     removals = (let e = h.removals in let le = left.count in omega arith);
@@ -58,7 +56,7 @@ module _ {K V : Type 0} (eq : K → K → Bool) (kept after : Kept K V) (out : P
   }
 
   -- both queues were applied
-  pub inner-applied : (capacity : Option ℕ) → held after ≡ after_writes capacity (record { records = kept.records; access = access_after_reads kept.records kept.access (reads_of reads) }) (writes_of writes) → IsInner eq after out [] ws [] rs t n count sum
+  pub inner-applied : (capacity : Option ℕ) → held after ≡ after_writes capacity (record { records = kept.records; access = access_after_reads kept.records kept.access (reads_of reads) }) (writes_of writes) → IsInner eq after out [] ws [] rs t n count
   inner-applied capacity step =
       let start : Held K V = record { records = kept.records; access = access_after_reads kept.records kept.access (reads_of reads) } in
       let before : Contents K V (Unit {0}) = record { records = kept.records; access = kept.access; sketch = None; predicates = [] } in
@@ -69,7 +67,7 @@ module _ {K V : Type 0} (eq : K → K → Bool) (kept after : Kept K V) (out : P
       (subst (λ (x : Held K V). IsConsistent (IsWaitingIn (operations_of out.items) []) x.records x.access) (sym step) written_so)
 
   -- turns were taken
-  pub inner-evicted : (capacity : Option ℕ) → IsEvicted capacity (held kept) (held after) → IsInner eq after out writes ws reads rs t n count sum
+  pub inner-evicted : (capacity : Option ℕ) → IsEvicted capacity (held kept) (held after) → IsInner eq after out writes ws reads rs t n count
   inner-evicted capacity evicted =
       let before : Contents K V (Unit {0}) = record { records = kept.records; access = kept.access; sketch = None; predicates = [] } in
       let waits = IsWaitingIn (operations_of out.items) (writes_of writes) in

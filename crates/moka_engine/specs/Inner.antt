@@ -10,7 +10,6 @@ use Rattle.moka_engine.specs.declared.inner.QueuedRead.{QueuedRead}
 use Rattle.moka_store.specs.Store.{Kept}
 use Rattle.moka_structures.specs.Pending.{Pending}
 use Rattle.moka_parts.specs.Settling.{number_of, IsWaitingIn, IsConsistent}
-use Rattle.moka_store.specs.Weights.{IsWeighed}
 use Rattle.moka_engine.specs.Interior.{IsLocated, IsReadLocated, operations_of, writes_of}
 
 -- each record stands at its own number, and no two have equal keys
@@ -33,13 +32,12 @@ pub record AreTicketed (items : FinMap nat_cmp PlacedWrite) (writes : List Queue
   pub handed : (t : ℕ) (w : PlacedWrite) → get items t ≡ Some w → t < next_ticket
   pub sent : (q : QueuedWrite) → Contains writes q → q.ticket < next_ticket
 
-pub record IsInner {K V : Type 0} (eq : K → K → Bool) (kept : Kept K V) (out : Pending PlacedWrite) (writes : List QueuedWrite) (write_size : ℕ) (reads : List QueuedRead) (read_size next_ticket next_number size weight : ℕ) : Type 0 where
+pub record IsInner {K V : Type 0} (eq : K → K → Bool) (kept : Kept K V) (out : Pending PlacedWrite) (writes : List QueuedWrite) (write_size : ℕ) (reads : List QueuedRead) (read_size next_ticket next_number size : ℕ) : Type 0 where
   pub consistent : IsConsistent (IsWaitingIn (operations_of out.items) (writes_of writes)) kept.records kept.access
   pub keyed : AreKeyed eq kept.records next_ticket next_number
   pub placed : AreLocated kept.places next_number out.items writes reads
   pub ticketed : AreTicketed out.items writes next_ticket
   pub numbers : (1 ≤ next_number) × (next_number ≤ next_ticket)
-  pub weighed : IsWeighed kept.access weight
   pub sized : size ≡ len kept.records
   -- a ticket and a place are kept for the removal of each record
   pub tickets : next_ticket + len kept.records ≤ 2 ^ 64

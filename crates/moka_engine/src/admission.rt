@@ -9,7 +9,6 @@ ghost use Rattle.moka_parts.specs.Records.{counted_of, has_room, member, to_back
 ghost use Rattle.moka_store.specs.Store.{IsPlaced, IsHandle};
 ghost use Rattle.moka_parts.specs.Settling.{number_of};
 ghost use Rattle.moka_engine.specs.Interior.{IsAt};
-ghost use Rattle.moka_store.specs.Weights.{IsWeighed};
 ghost use Rattle.moka_engine.specs.Applied.{held, rejected, after_upsert, after_write};
 
 use crate::inner::PlacedWrite;
@@ -21,15 +20,12 @@ use std::hash::{BuildHasher, Hash};
 /// Applies a queued write.
 pub(crate) fn apply_write<K: Eq + Hash + Drop, V: Drop, S: BuildHasher>(
     store: &mut Store<K, V, S>,
-    weight: &mut u128,
     capacity: Option<u64>,
     write: PlacedWrite,
 )
     requires at { IsAt store.old.places (number_of write.operation) write.place }
-    requires weighed { IsWeighed store.old.access weight.old }
     ensures step { held store.new ≡ after_write capacity (held store.old) write.operation }
     ensures places { (n p : ℕ) → finite.get store.new.places n ≡ Some p → finite.get store.old.places n ≡ Some p }
-    ensures weighed { IsWeighed store.new.access weight.new }
 {
     let place = write.place;
     match write.operation {
@@ -40,13 +36,12 @@ pub(crate) fn apply_write<K: Eq + Hash + Drop, V: Drop, S: BuildHasher>(
             ..
         } => apply_upsert(
             store,
-            weight,
             capacity,
             Handle { number, place },
             generation,
             own,
         ),
-        Operation::Removal { number, .. } => apply_removal(store, weight, Handle { number, place }),
+        Operation::Removal { number, .. } => apply_removal(store, Handle { number, place }),
     }
 }
 
@@ -54,17 +49,14 @@ pub(crate) fn apply_write<K: Eq + Hash + Drop, V: Drop, S: BuildHasher>(
 /// the back.
 fn apply_upsert<K: Eq + Hash + Drop, V: Drop, S: BuildHasher>(
     store: &mut Store<K, V, S>,
-    weight: &mut u128,
     capacity: Option<u64>,
     handle: Handle,
     generation: u64,
     own: u32,
 )
     requires at { IsAt store.old.places handle.number handle.place }
-    requires weighed { IsWeighed store.old.access weight.old }
     ensures step { held store.new ≡ after_upsert capacity (held store.old) handle.number generation own (finite.get store.old.records handle.number) }
     ensures places { (n p : ℕ) → finite.get store.new.places n ≡ Some p → finite.get store.old.places n ≡ Some p }
-    ensures weighed { IsWeighed store.new.access weight.new }
 {
     if !store.has_row(handle) {
         return;
@@ -76,7 +68,7 @@ fn apply_upsert<K: Eq + Hash + Drop, V: Drop, S: BuildHasher>(
         pass(store, handle);
     } else if store.is_member(handle) || fits_alone(capacity, own) {
         store.set_applied(handle, generation);
-        enter(store, weight, handle, own);
+        enter(store, handle, own);
     } else {
         reject(store, handle, generation);
     }
@@ -123,26 +115,16 @@ pub(crate) fn depart<K: Drop, V: Drop>(taken: Record<K, V>, cause: RemovalCause)
 /// The number comes to the back of the access list with this weight, whether it was there or not.
 fn enter<K: Eq + Hash, V, S: BuildHasher>(
     store: &mut Store<K, V, S>,
-    weight: &mut u128,
     handle: Handle,
     own: u32,
 )
-    requires placed { IsPlaced store.old handle }
-    requires weighed { IsWeighed store.old.access weight.old }
-    ensures step { store.new ≡ record store.old { access = without_member handle.number store.old.access ++ member handle.number own ∷ [] } }
-    ensures weighed { IsWeighed store.new.access weight.new }
+    requires { IsPlaced store.old handle }
+    ensures { store.new ≡ record store.old { access = without_member handle.number store.old.access ++ member handle.number own ∷ [] } }
 {
-    // Fewer than 2^64 members of 32 bits each: the sum fits.
-    let _members = store.member_count();
-    match store.counted(handle) {
-        Some(counted) => {
-            store.recount(handle, own);
-            *weight = *weight - counted as u128 + own as u128;
-        }
-        None => {
-            store.admit(handle, own);
-            *weight += own as u128;
-        }
+    if store.is_member(handle) {
+        store.recount(handle, own);
+    } else {
+        store.admit(handle, own);
     }
 }
 
@@ -159,19 +141,16 @@ pub(crate) fn pass<K: Eq + Hash, V, S: BuildHasher>(store: &mut Store<K, V, S>, 
 /// Applies a removal: the number goes, if its member is still there.
 fn apply_removal<K: Eq + Hash + Drop, V: Drop, S: BuildHasher>(
     store: &mut Store<K, V, S>,
-    weight: &mut u128,
     handle: Handle,
 )
     requires at { IsAt store.old.places handle.number handle.place }
-    requires weighed { IsWeighed store.old.access weight.old }
     ensures step { store.new ≡ record store.old { access = without_member handle.number store.old.access; places = store.new.places; room = store.new.room } }
     ensures places { (n p : ℕ) → finite.get store.new.places n ≡ Some p → finite.get store.old.places n ≡ Some p }
-    ensures weighed { IsWeighed store.new.access weight.new }
 {
     if !store.has_row(handle) {
         return;
     }
-    leave(store, weight, handle);
+    leave(store, handle);
     if store.find(handle).is_none() {
         store.forget(handle);
     }
@@ -180,16 +159,12 @@ fn apply_removal<K: Eq + Hash + Drop, V: Drop, S: BuildHasher>(
 /// The member of this number, if there is one, leaves the access list.
 fn leave<K: Eq + Hash, V, S: BuildHasher>(
     store: &mut Store<K, V, S>,
-    weight: &mut u128,
     handle: Handle,
 )
-    requires placed { IsPlaced store.old handle }
-    requires weighed { IsWeighed store.old.access weight.old }
-    ensures step { store.new ≡ record store.old { access = without_member handle.number store.old.access } }
-    ensures weighed { IsWeighed store.new.access weight.new }
+    requires { IsPlaced store.old handle }
+    ensures { store.new ≡ record store.old { access = without_member handle.number store.old.access } }
 {
-    if let Some(counted) = store.counted(handle) {
+    if store.is_member(handle) {
         store.leave(handle);
-        *weight -= counted as u128;
     }
 }

@@ -54,15 +54,6 @@ pub struct QueuedRead {
     pub read: ReadOperation,
 }
 
-/// What a new record starts with, or an old one goes on with.
-pub struct Written<V> {
-    pub hash: u64,
-    pub value: V,
-    pub now: Instant,
-    pub expires: Option<Instant>,
-    pub weight: u32,
-}
-
 /// The inner part of the cache. moka: `sync::base_cache::Inner`.
 #[derive(Drop)]
 pub struct Inner<K: Eq + Hash, V, S: BuildHasher> {
@@ -75,8 +66,6 @@ pub struct Inner<K: Eq + Hash, V, S: BuildHasher> {
     next_number: u64,
     // How many records are in the map.
     size: usize,
-    // The sum of the weights that are counted for the members.
-    weight: u128,
 }
 
 impl<K: Eq + Hash, V, S: BuildHasher> Model for Inner<K, V, S> {
@@ -104,7 +93,7 @@ impl<K: Eq + Hash, V, S: BuildHasher> Model for Inner<K, V, S> {
       operation_room = a.outstanding.room - finite.len a.store.records;
     } };
 
-    ghost invariant = { λ a. IsInner K.eq a.store a.outstanding a.writes.items a.writes.capacity a.reads.items a.reads.capacity (a.last_ticket + 1) a.next_number a.size a.weight };
+    ghost invariant = { λ a. IsInner K.eq a.store a.outstanding a.writes.items a.writes.capacity a.reads.items a.reads.capacity (a.last_ticket + 1) a.next_number a.size };
 }
 
 impl<K: Eq + Hash, V, S: BuildHasher> Inner<K, V, S> {
@@ -133,7 +122,6 @@ impl<K: Eq + Hash, V, S: BuildHasher> Inner<K, V, S> {
             last_ticket: first_ticket - 1,
             next_number: 1,
             size: 0,
-            weight: 0,
         })
     }
 
@@ -177,7 +165,7 @@ impl<K: Eq + Hash, V, S: BuildHasher> Inner<K, V, S> {
     }
 
     /// A new record, whose upsert is handed out under the next ticket. It takes no memory.
-    pub fn insert(&mut self, key: K, kept: K, written: Written<V>) -> Ticket
+    pub fn insert(&mut self, key: K, kept: K, hash: u64, update: Update<V>) -> Ticket
     where
         K: Drop,
         requires rows { 0 < self.old.row_room }
@@ -187,8 +175,8 @@ impl<K: Eq + Hash, V, S: BuildHasher> Inner<K, V, S> {
         requires same { kept ≡ key }
         ensures ticket { result.0 ≡ self.old.next_ticket }
         ensures step { self.new ≡ record self.old {
-          records = finite.insert self.old.records self.old.next_number (record { number = self.old.next_number; key = key; hash = written.hash; value = written.value; written = written.now; read = written.now; expires = written.expires; weight = written.weight; generation = 1; applied = 0 });
-          outstanding = finite.insert self.old.outstanding self.old.next_ticket (Upsert self.old.next_number 1 written.weight written.hash);
+          records = finite.insert self.old.records self.old.next_number (record { number = self.old.next_number; key = key; hash = hash; value = update.value; written = update.now; read = update.now; expires = update.expires; weight = update.weight; generation = 1; applied = 0 });
+          outstanding = finite.insert self.old.outstanding self.old.next_ticket (Upsert self.old.next_number 1 update.weight hash);
           next_ticket = self.old.next_ticket + 1;
           next_number = self.old.next_number + 1;
           places = self.new.places;
@@ -198,13 +186,12 @@ impl<K: Eq + Hash, V, S: BuildHasher> Inner<K, V, S> {
     {
         let number = self.next_number;
         let ticket = self.last_ticket + 1;
-        let Written {
-            hash,
+        let Update {
             value,
             now,
             expires,
             weight,
-        } = written;
+        } = update;
         let handle = self.store.insert_new(
             Record {
                 number,
@@ -237,41 +224,26 @@ impl<K: Eq + Hash, V, S: BuildHasher> Inner<K, V, S> {
 
     /// A new value for the record at this handle, whose upsert is handed out under the next ticket. The answer is the
     /// old value with the ticket. It takes no memory.
-    pub fn update(&mut self, handle: Handle, written: Written<V>) -> (V, Ticket)
+    pub fn update(&mut self, handle: Handle, hash: u64, update: Update<V>) -> (V, Ticket)
         requires operations { 0 < self.old.operation_room }
         requires tickets { self.old.next_ticket + finite.len self.old.records < 2 ^ 64 }
         requires handle { LeadsTo self.old handle }
         ensures ticket { result.1.0 ≡ self.old.next_ticket }
         ensures value { (r : Record K V) → finite.get self.old.records handle.number ≡ Some r → result.0 ≡ r.value }
         ensures step { (r : Record K V) → finite.get self.old.records handle.number ≡ Some r → self.new ≡ record self.old {
-          records = finite.insert self.old.records handle.number (record r { value = written.value; written = written.now; read = written.now; expires = written.expires; weight = written.weight; generation = r.generation + 1 });
-          outstanding = finite.insert self.old.outstanding self.old.next_ticket (Upsert handle.number (r.generation + 1) written.weight written.hash);
+          records = finite.insert self.old.records handle.number (record r { value = update.value; written = update.now; read = update.now; expires = update.expires; weight = update.weight; generation = r.generation + 1 });
+          outstanding = finite.insert self.old.outstanding self.old.next_ticket (Upsert handle.number (r.generation + 1) update.weight hash);
           next_ticket = self.old.next_ticket + 1;
           operation_room = self.new.operation_room;
         } }
     {
-        let Written {
-            hash,
-            value,
-            now,
-            expires,
-            weight,
-        } = written;
         let ticket = self.last_ticket + 1;
         let Some(found) = self.store.find(handle) else {
             unreachable!()
         };
         let generation = found.generation + 1;
-        let old = self.store.replace(
-            handle,
-            Update {
-                value,
-                now,
-                expires,
-                weight,
-                generation,
-            },
-        );
+        let weight = update.weight;
+        let old = self.store.update(handle, update);
         let Handle { number, place } = handle;
         let operation = Operation::Upsert {
             number,
@@ -363,12 +335,7 @@ impl<K: Eq + Hash, V, S: BuildHasher> Inner<K, V, S> {
         } }
     {
         maintenance::apply_reads(&mut self.store, &mut self.reads);
-        maintenance::apply_writes(
-            &mut self.store,
-            &mut self.weight,
-            capacity,
-            &mut self.writes,
-        );
+        maintenance::apply_writes(&mut self.store, capacity, &mut self.writes);
         self.size = self.store.record_count();
     }
 
@@ -389,7 +356,7 @@ impl<K: Eq + Hash, V, S: BuildHasher> Inner<K, V, S> {
         ensures finished { 1 ≤ batch → result.is_left ≡ false }
         ensures within { result.is_left ≡ false → IsWithin capacity self.new.access ⊎ HasUnsettled (held_inside self.new) }
     {
-        let surplus = maintenance::evict(&mut self.store, &mut self.weight, capacity, batch);
+        let surplus = maintenance::evict(&mut self.store, capacity, batch);
         self.size = self.store.record_count();
         surplus
     }
@@ -415,7 +382,7 @@ impl<K: Eq + Hash, V, S: BuildHasher> Inner<K, V, S> {
     pub fn total_weight(&self) -> u128
         ensures { result ≡ total_weight self.now.access }
     {
-        self.weight
+        self.store.total_weight()
     }
 
     /// What always holds of records, members and operations.

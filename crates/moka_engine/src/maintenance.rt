@@ -9,7 +9,6 @@ ghost use Rattle.moka_parts.specs.Settling.{number_of};
 ghost use Rattle.moka_engine.specs.declared.inner.QueuedRead.{QueuedRead};
 ghost use Rattle.moka_engine.specs.declared.inner.QueuedWrite.{QueuedWrite};
 ghost use Rattle.moka_engine.specs.Interior.{IsAt, IsReadAt, reads_of, writes_of};
-ghost use Rattle.moka_store.specs.Weights.{IsWeighed};
 ghost use Rattle.moka_parts.specs.Exact.{IsWithin};
 ghost use Rattle.moka_parts.specs.declared.records.Member.{Member};
 ghost use Rattle.moka_parts.specs.Maintenance.{is_over};
@@ -56,19 +55,16 @@ fn apply_read<K: Eq + Hash, V, S: BuildHasher>(store: &mut Store<K, V, S>, queue
 /// Applies all queued writes, in order.
 pub(crate) fn apply_writes<K: Eq + Hash + Drop, V: Drop, S: BuildHasher>(
     store: &mut Store<K, V, S>,
-    weight: &mut u128,
     capacity: Option<u64>,
     writes: &mut HeapCircularBuffer<QueuedWrite>,
 )
-    requires weighed { IsWeighed store.old.access weight.old }
     requires at { (q : QueuedWrite) → Contains writes.old.items q → IsAt store.old.places (number_of q.write.operation) q.write.place }
     ensures store { held store.new ≡ after_writes capacity (held store.old) (writes_of writes.old.items) }
     ensures places { (n p : ℕ) → finite.get store.new.places n ≡ Some p → finite.get store.old.places n ≡ Some p }
-    ensures weighed { IsWeighed store.new.access weight.new }
     ensures writes { writes.new ≡ buffer [] writes.old.capacity }
 {
     while let Some(queued) = writes.pop_front() {
-        admission::apply_write(store, weight, capacity, queued.write);
+        admission::apply_write(store, capacity, queued.write);
     }
 }
 
@@ -85,26 +81,23 @@ pub struct Surplus {
 /// follows one that had as many turns, each of which removed a record.
 pub(crate) fn evict<K: Eq + Hash + Drop, V: Drop, S: BuildHasher>(
     store: &mut Store<K, V, S>,
-    weight: &mut u128,
     capacity: Option<u64>,
     batch: u32,
 ) -> Surplus
-    requires weighed { IsWeighed store.old.access weight.old }
     ensures evicted { IsEvicted capacity (held store.old) (held store.new) }
     ensures places { (n p : ℕ) → finite.get store.new.places n ≡ Some p → finite.get store.old.places n ≡ Some p }
-    ensures weighed { IsWeighed store.new.access weight.new }
     ensures idle { batch ≡ 0 → result.is_left ≡ is_over capacity store.new.access }
     ensures finished { 1 ≤ batch → result.is_left ≡ false }
     ensures within { result.is_left ≡ false → IsWithin capacity store.new.access ⊎ HasUnsettled (held store.new) }
 {
     if batch == 0 {
-        let is_left = is_over(capacity, *weight);
+        let is_left = is_over(capacity, store.total_weight());
         return Surplus { is_left, passes: 1 };
     }
     let mut passes = 0u64;
     loop {
         passes = passes.saturating_add(1);
-        if !evict_batch(store, weight, capacity, batch) {
+        if !evict_batch(store, capacity, batch) {
             return Surplus {
                 is_left: false,
                 passes,
@@ -116,14 +109,11 @@ pub(crate) fn evict<K: Eq + Hash + Drop, V: Drop, S: BuildHasher>(
 /// One pass: up to `batch` turns while the capacity is passed. Whether each of so many turns removed a record.
 fn evict_batch<K: Eq + Hash + Drop, V: Drop, S: BuildHasher>(
     store: &mut Store<K, V, S>,
-    weight: &mut u128,
     capacity: Option<u64>,
     batch: u32,
 ) -> bool
-    requires weighed { IsWeighed store.old.access weight.old }
     ensures evicted { IsEvicted capacity (held store.old) (held store.new) }
     ensures places { (n p : ℕ) → finite.get store.new.places n ≡ Some p → finite.get store.old.places n ≡ Some p }
-    ensures weighed { IsWeighed store.new.access weight.new }
     ensures fewer { IsTrue result → 1 ≤ batch → length store.new.access < length store.old.access }
     ensures within { result ≡ false → IsWithin capacity store.new.access ⊎ HasUnsettled (held store.new) }
 {
@@ -131,9 +121,9 @@ fn evict_batch<K: Eq + Hash + Drop, V: Drop, S: BuildHasher>(
     let mut is_all_settled = true;
     // How many turns in a row removed nothing.
     let mut passed = 0;
-    while turns > 0 && is_over(capacity, *weight) {
+    while turns > 0 && is_over(capacity, store.total_weight()) {
         turns -= 1;
-        if turn(store, weight) {
+        if turn(store) {
             passed = 0;
             continue;
         }
@@ -160,15 +150,12 @@ fn is_over(capacity: Option<u64>, weight: u128) -> bool
 /// One turn: the front leaves for want of room where it is settled, else it goes to the back. Whether it left.
 fn turn<K: Eq + Hash + Drop, V: Drop, S: BuildHasher>(
     store: &mut Store<K, V, S>,
-    weight: &mut u128,
 ) -> bool
     requires some { 0 < length store.old.access }
-    requires weighed { IsWeighed store.old.access weight.old }
     ensures turned { TakesTurn (held store.old) (held store.new) result }
     ensures places { (n p : ℕ) → finite.get store.new.places n ≡ Some p → finite.get store.old.places n ≡ Some p }
-    ensures weighed { IsWeighed store.new.access weight.new }
 {
-    let Some((handle, counted)) = store.front() else {
+    let Some((handle, _)) = store.front() else {
         unreachable!()
     };
     if !store.is_settled(handle) {
@@ -177,7 +164,6 @@ fn turn<K: Eq + Hash + Drop, V: Drop, S: BuildHasher>(
     }
     let record = store.take_out(handle);
     store.forget(handle);
-    *weight -= counted as u128;
     admission::depart(record, RemovalCause::Size);
     true
 }

@@ -1,5 +1,5 @@
 -- What a store is after each of its calls.
-use Rattle.std.proofs.Common.{◌≡◌, ℕ, ◌+◌, ◌-◌, Bool, true, false, cond, List, [], ◌∷◌, ◌++◌, map, Option, Some, None, IsSome, is_some, count_by, inl, inr, refl, sym, ap, subst, ◌∙◌, nat_eq}
+use Rattle.std.proofs.Common.{◌≡◌, ℕ, ◌+◌, ◌-◌, ◌≤◌, Bool, true, false, cond, List, [], ◌∷◌, ◌++◌, map, Option, Some, None, IsSome, is_some, count_by, inl, inr, refl, sym, ap, subst, ◌∙◌, nat_eq}
 use Rattle.std.proofs.lemmas.Bool.{eqb-true, cases_eq, cases_Bool, eq-eqb, ne_eqb, cond-true, cond-false, false≢true}
 use Rattle.std.proofs.lemmas.List.{map-append}
 use Rattle.std.proofs.lemmas.Map.{lookup-remove_entry}
@@ -12,7 +12,7 @@ use Rattle.std.specs.Ordering.{nat_cmp}
 use Rattle.std.specs.Prelude.{option_to_list}
 use Rattle.moka_structures.proofs.Linked.{linked-same, linked-added, linked-removed}
 use Rattle.moka_structures.proofs.TableCalls.{get-records, get-places, record_row, placed_row, shows-inserted, shows-stored, shows-taken, shows-counted, shows-uncounted, shows-forgotten, with_stored-changes, count-with_stored}
-use Rattle.moka_structures.proofs.TableMaps.{option-cases, some_is}
+use Rattle.moka_structures.proofs.TableMaps.{option-cases, some_is, get-inserted}
 use Rattle.moka_structures.specs.declared.record_table.Membership.{Membership}
 use Rattle.moka_structures.specs.declared.record_table.Row.{Row}
 use Rattle.moka_structures.specs.Linked.{IsLinked}
@@ -21,9 +21,11 @@ use Rattle.moka_store.proofs.Keys.{index-same, index-added, index-removed}
 use Rattle.moka_store.proofs.Nodes.{distinct-none, distinct-push, distinct-remove, in-nodes, node-in}
 use Rattle.moka_store.proofs.Ties.{read-other, read-same, named-changed, named-gone, access-kept, access-off, node_row, node-of, off-nodes, counted-row, without-row, unlisted-from}
 use Rattle.moka_parts.proofs.Lookup.{record_of_key_found, absent_key, present_key}
-use Rattle.moka_store.specs.Store.{IsOneEach}
+use Rattle.moka_store.specs.declared.store.Handle.{Handle}
+use Rattle.moka_store.specs.Store.{IsOneEach, IsHandle, ChangesRecord}
 use Rattle.moka_store.specs.StoreRows.{key_in, key_at, access_in, access_at, timer_at, member_in, member_at}
-use Rattle.moka_store.specs.StoreTies.{IsIndex, IsNamed, IsTied}
+use Rattle.moka_store.specs.StoreTies.{IsIndex, IsNamed, IsTied, IsStore, kept_of}
+use Rattle.moka_store.specs.Weights.{IsWeighed}
 use Rattle.moka_parts.specs.declared.records.Member.{Member}
 use Rattle.moka_parts.specs.declared.records.Record.{Record}
 use Rattle.moka_parts.specs.Records.{member, counted_of, record_of_key, without_member, to_back}
@@ -174,17 +176,24 @@ pub record MemberRow {K V : Type 0} (rows : List (Option (Row (Record K V)))) (n
   pub counted_is : counted_of number (map (member_at rows) nodes) ≡ Some m.counted
 
 -- the row that a node leads to
-pub record NodeMember {K V : Type 0} (rows : List (Option (Row (Record K V)))) (slot place : ℕ) : Type 0 where
+pub record NodeMember {K V : Type 0} (rows : List (Option (Row (Record K V)))) (nodes : List (ℕ × ℕ)) (slot place : ℕ) : Type 0 where
   pub row : Row (Record K V)
   pub at_is : row_at rows place ≡ Some row
   pub place_is : get (places_of rows) row.number ≡ Some place
   pub member_is : member_at rows (slot, place) ≡ member_in row
+  pub counted_is : IsSome (counted_of row.number (map (member_at rows) nodes))
 
 module _ {K V : Type 0} (eq : K → K → Bool) (rows : List (Option (Row (Record K V)))) (index : K → Option ℕ) (nodes : List (ℕ × ℕ)) (t : IsTied eq rows index nodes) where
-  pub node-member : (slot place : ℕ) → lookup (nat_eq slot) nodes ≡ Some place → NodeMember rows slot place
+  pub node-member : (slot place : ℕ) → lookup (nat_eq slot) nodes ≡ Some place → NodeMember rows nodes slot place
   node-member slot place h =
       let w = node_row eq rows index nodes t (slot, place) (node-in nodes slot place h) in
-      record { row = w.row; at_is = w.at_is; place_is = get-places rows t.numbered place w.row w.at_is; member_is = ap (λ o. option_map_or member_in o (record { number = 0; counted = 0 })) w.at_is }
+      record {
+        row = w.row;
+        at_is = w.at_is;
+        place_is = get-places rows t.numbered place w.row w.at_is;
+        member_is = ap (λ o. option_map_or member_in o (record { number = 0; counted = 0 })) w.at_is;
+        counted_is = ap is_some (counted-row eq rows index nodes t place w.row w.at_is ∙ ap (option_map (λ (m : Membership). m.counted)) w.membership_is);
+      }
 
   module _ (place number : ℕ) (h : get (places_of rows) number ≡ Some place) where
     -- what the table counts is what the list counts
@@ -426,31 +435,60 @@ module _ {K V : Type 0} (eq : K → K → Bool) (rows : List (Option (Row (Recor
             ∙ sym (ap (λ o. without_member was.number (map (member_at rows) nodes) ++ option_to_list (option_map (member was.number) o)) (counted-row eq rows index nodes t place was at_is ∙ ap (option_map (λ (m : Membership). m.counted)) member_is));
       }
 
--- the table after a write through a reference
-pub record Rewritten {K V : Type 0} (eq : K → K → Bool) (old new : Table (Record K V)) (index : K → Option ℕ) (nodes : List (ℕ × ℕ)) (number : ℕ) (r : Record K V) : Type 0 where
-  pub tied : IsTied eq new.rows index nodes
-  pub access : map (member_at new.rows) nodes ≡ map (member_at old.rows) nodes
-  pub records : records_of new.rows ≡ insert (records_of old.rows) number r
-  pub places : places_of new.rows ≡ places_of old.rows
-  pub len : count_by is_some new.rows ≡ count_by is_some old.rows
-  pub room : new.room ≡ old.room
+-- ---- how many records there are
 
-pub rewritten : {K V : Type 0} (eq : K → K → Bool) (laws : IsEquivalence eq) (old new : Table (Record K V)) (index : K → Option ℕ) (nodes : List (ℕ × ℕ)) (place number : ℕ) (r : Record K V)
-    → IsTied eq old.rows index nodes → (h : Handled old.rows place number) → r.number ≡ h.stored.number → r.key ≡ h.stored.key → new ≡ record old { rows = with_stored old.rows place r } → Rewritten eq old new index nodes number r
-rewritten {K} {V} eq laws old new index nodes place number r t h n k e =
-    let rows = with_stored old.rows place r in
-    let c = with_stored-changes old.rows place r h.row h.at_is in
-    let s = stored eq laws old.rows rows index nodes place t h.row h.at_is h.stored r h.stored_is n k c in
-    let m = shows-stored old.rows rows place t.numbered h.row h.at_is r c in
-    let is : new.rows ≡ rows = ap (λ (t : Table (Record K V)). t.rows) e in
-    record {
-      tied = subst (λ rows. IsTied eq rows index nodes) (sym is) s.tied;
-      access = ap (λ rows. map (member_at rows) nodes) is ∙ s.access;
-      records = ap records_of is ∙ m.records_is ∙ ap (λ n. insert (records_of old.rows) n r) h.number_is;
-      places = ap places_of is ∙ m.places_is;
-      len = ap (count_by is_some) is ∙ count-with_stored old.rows place r;
-      room = ap (λ (t : Table (Record K V)). t.room) e;
-    }
+module _ {X : Type 0} (m : FinMap nat_cmp X) (n : ℕ) where
+  pub len-fresh : (x : X) → get m n ≡ None → len (insert m n x) ≡ len m + 1
+  len-fresh x h = len-insert nat_cmp_total m n x ∙ cond-false (is_some (get m n)) (len m) (len m + 1) (ap is_some h)
+
+  pub len-present : (x y : X) → get m n ≡ Some y → len (insert m n x) ≡ len m
+  len-present x y h = len-insert nat_cmp_total m n x ∙ cond-true (is_some (get m n)) (len m) (len m + 1) (ap is_some h)
+
+  pub len-removed : (y : X) → get m n ≡ Some y → len (remove m n) ≡ len m - 1
+  len-removed y h = len-remove nat_cmp_total m n ∙ cond-true (is_some (get m n)) (len m - 1) (len m) (ap is_some h)
+
+-- a store after a write into a record
+pub record Changed {K V : Type 0} (eq : K → K → Bool) (old new : Table (Record K V)) (index : K → Option ℕ) (nodes : List (ℕ × ℕ)) (keys spare most weight number : ℕ) (f : Record K V → Record K V) : Type 0 where
+  pub store : IsStore eq new.rows index keys nodes most weight
+  pub step : ChangesRecord number f (kept_of old.rows nodes spare old.room most) (kept_of new.rows nodes spare new.room most)
+  pub stored : IsSome (get (records_of new.rows) number)
+  pub places : places_of new.rows ≡ places_of old.rows
+  pub access : map (member_at new.rows) nodes ≡ map (member_at old.rows) nodes
+
+module _ {K V : Type 0} (eq : K → K → Bool) (laws : IsEquivalence eq) (old new : Table (Record K V)) (index : K → Option ℕ) (nodes : List (ℕ × ℕ)) (keys spare most weight : ℕ) (s : IsStore eq old.rows index keys nodes most weight) (handle : Handle) (h : IsHandle (kept_of old.rows nodes spare old.room most) handle) where
+  -- the record that a handle leads to
+  pub handled_at : Handled old.rows handle.place handle.number
+  handled_at = handled eq old.rows index nodes s.tied handle.place handle.number h.placed h.stored
+
+  pub changed : (at : Handled old.rows handle.place handle.number) (f : Record K V → Record K V) → (f at.stored).number ≡ at.stored.number → (f at.stored).key ≡ at.stored.key → new ≡ record old { rows = with_stored old.rows handle.place (f at.stored) }
+      → Changed eq old new index nodes keys spare most weight handle.number f
+  changed at f n k e =
+      let r = f at.stored in
+      let rows = with_stored old.rows handle.place r in
+      let c = with_stored-changes old.rows handle.place r at.row at.at_is in
+      let ties = stored eq laws old.rows rows index nodes handle.place s.tied at.row at.at_is at.stored r at.stored_is n k c in
+      let m = shows-stored old.rows rows handle.place s.tied.numbered at.row at.at_is r c in
+      let is : new.rows ≡ rows = ap (λ (t : Table (Record K V)). t.rows) e in
+      let records : records_of new.rows ≡ insert (records_of old.rows) handle.number r = ap records_of is ∙ m.records_is ∙ ap (λ n. insert (records_of old.rows) n r) at.number_is in
+      let places : places_of new.rows ≡ places_of old.rows = ap places_of is ∙ m.places_is in
+      let access : map (member_at new.rows) nodes ≡ map (member_at old.rows) nodes = ap (λ rows. map (member_at rows) nodes) is ∙ ties.access in
+      let rowed : count_by is_some new.rows ≡ count_by is_some old.rows = ap (count_by is_some) is ∙ count-with_stored old.rows handle.place r in
+      let room : new.room ≡ old.room = ap (λ (t : Table (Record K V)). t.room) e in
+      record {
+        store = record {
+          tied = subst (λ rows. IsTied eq rows index nodes) (sym is) ties.tied;
+          keyed = s.keyed ∙ sym (ap len records ∙ len-present (records_of old.rows) handle.number r at.stored at.record_is);
+          fits = subst (λ n. n ≤ most) (sym rowed) s.fits;
+          few = s.few;
+          weighed = subst (λ members. IsWeighed members weight) (sym access) s.weighed;
+        };
+        step = λ x there.
+            let same : at.stored ≡ x = (let y = at.record_is in cc) in
+            rw (records, access, places, rowed, room, same) refl;
+        stored = ap is_some (ap (λ m. get m handle.number) records ∙ get-inserted (records_of old.rows) handle.number r);
+        places = places;
+        access = access;
+      }
 
 -- the empty store
 pub tied-empty : {K V : Type 0} (eq : K → K → Bool) (rows : List (Option (Row (Record K V)))) (index : K → Option ℕ) (nodes : List (ℕ × ℕ)) → rows ≡ [] → ((q : K) → index q ≡ None) → nodes ≡ [] → IsTied eq rows index nodes
@@ -470,18 +508,6 @@ tied-empty eq rows index nodes re ie ne =
       distinct = subst (λ l. IsDistinct nat_eq (keys_of l)) (sym ne) distinct-none;
       untimed = λ p. ap (option_and_then (λ (row : Row (Record _ _)). row.timer)) (no_row p);
     }
-
--- ---- how many records there are
-
-module _ {X : Type 0} (m : FinMap nat_cmp X) (n : ℕ) where
-  pub len-fresh : (x : X) → get m n ≡ None → len (insert m n x) ≡ len m + 1
-  len-fresh x h = len-insert nat_cmp_total m n x ∙ cond-false (is_some (get m n)) (len m) (len m + 1) (ap is_some h)
-
-  pub len-present : (x y : X) → get m n ≡ Some y → len (insert m n x) ≡ len m
-  len-present x y h = len-insert nat_cmp_total m n x ∙ cond-true (is_some (get m n)) (len m) (len m + 1) (ap is_some h)
-
-  pub len-removed : (y : X) → get m n ≡ Some y → len (remove m n) ≡ len m - 1
-  len-removed y h = len-remove nat_cmp_total m n ∙ cond-true (is_some (get m n)) (len m - 1) (len m) (ap is_some h)
 
 module _ {K V : Type 0} (eq : K → K → Bool) (laws : IsEquivalence eq) (rows : List (Option (Row (Record K V)))) (index : K → Option ℕ) (nodes : List (ℕ × ℕ)) (t : IsTied eq rows index nodes) where
   -- the index leads from a record's key to its place

@@ -64,3 +64,11 @@ module _ {K V : Type 0} where
   pub record IsOneEach (eq : K → K → Bool) (records : Records K V) : Type 0 where
     pub numbered : (n : ℕ) (r : Record K V) → finite.get records n ≡ Some r → r.number ≡ n
     pub one_each : (n m : ℕ) (p q : Record K V) → finite.get records n ≡ Some p → finite.get records m ≡ Some q → eq p.key q.key ≡ true → n ≡ m
+
+  -- the record of a number becomes what f makes of it, and all else stays
+  abbrev pub ChangesRecord : ℕ → (Record K V → Record K V) → Kept K V → Kept K V → Type 0
+  ChangesRecord number f before after = (r : Record K V) → finite.get before.records number ≡ Some r → after ≡ record before { records = finite.insert before.records number (f r) }
+
+-- a clone is equal to what it is a clone of
+abbrev pub ClonesAreEqual : {K : Type 0} → (K → K → Type 0) → Type 0
+ClonesAreEqual {K} is_clone = (x y : K) → is_clone x y → y ≡ x

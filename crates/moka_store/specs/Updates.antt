@@ -1,7 +1,8 @@
 -- What an update makes of a record.
+use Rattle.std.specs.Prelude.{◌+◌}
 use Rattle.moka_store.specs.declared.store.Update.{Update}
 use Rattle.moka_parts.specs.declared.records.Record.{Record}
 
--- number, key, hash and applied generation stay
+-- number, key, hash and applied generation stay, and one more generation is counted
 abbrev pub updated : {K V : Type 0} → Update V → Record K V → Record K V
-updated update r = record r { value = update.value; written = update.now; read = update.now; expires = update.expires; weight = update.weight; generation = update.generation }
+updated update r = record r { value = update.value; written = update.now; read = update.now; expires = update.expires; weight = update.weight; generation = r.generation + 1 }

@@ -1,13 +1,14 @@
 //! Records, their order and the index of their keys, in one.
 //!
 //! moka: `sync::base_cache::Inner`, whose maps and deques these are.
-ghost use Rattle.std.specs.Prelude.{◌==◌, if◌then◌else◌, ◌≡◌, ◌≢◌, ◌+◌, ◌<◌, ◌≤◌, ℕ, [], ◌∷◌, ◌++◌, length, map, IsPermutation, OnOk, IfOk, IfSome, IsOk, IsSome, None, Some, slice_get, option_map, option_copied, IsTrue, ◌↔◌};
+ghost use Rattle.std.specs.Prelude.{◌==◌, if◌then◌else◌, ◌≡◌, ◌≢◌, ◌+◌, ◌^◌, ◌<◌, ◌≤◌, ℕ, [], ◌∷◌, ◌++◌, length, map, IsPermutation, OnOk, IfOk, IfSome, IsOk, IsSome, None, Some, slice_get, option_map, option_copied, IsTrue, ◌↔◌};
 ghost use Rattle.std.specs.FinMap as finite;
-ghost use Rattle.moka_store.specs.Store.{member_after, IsPlaced, IsHandle, IsOneEach};
+ghost use Rattle.std.specs.List.{IsDistinct};
+ghost use Rattle.moka_store.specs.Store.{member_after, ChangesRecord, ClonesAreEqual, IsPlaced, IsHandle, IsOneEach};
 ghost use Rattle.moka_store.specs.declared.store.Handle.{Handle};
 ghost use Rattle.moka_parts.specs.declared.records.Record.{Record};
 ghost use Rattle.moka_store.specs.Updates.{updated};
-ghost use Rattle.moka_parts.specs.Records.{member, counted_of, record_of_key, with_record, without_member, is_member, is_settled, to_back};
+ghost use Rattle.moka_parts.specs.Records.{member, counted_of, record_of_key, with_record, without_member, is_member, is_settled, numbers_of, to_back, total_weight};
 
 use moka_parts::policy::Instant;
 use moka_parts::records::Record;
@@ -26,7 +27,7 @@ pub struct Handle {
     pub place: usize,
 }
 
-/// What an insert changes in the record of a key that has one.
+/// What an insert writes into the record of its key.
 #[derive(Drop)]
 pub struct Update<V> {
     pub value: V,
@@ -34,38 +35,32 @@ pub struct Update<V> {
     pub now: Instant,
     pub expires: Option<Instant>,
     pub weight: u32,
-    pub generation: u64,
 }
 
-/// The records of a cache, found by key or by handle, with their order of access.
+/// The records of a cache, found by key or by handle, with their order of access and the sum of its weights.
 #[derive(Drop)]
 pub struct Store<K: Eq + Hash, V, S: BuildHasher> {
     index: HashMap<K, usize, S>,
     table: RecordTable<Record<K, V>>,
     access: OrderList,
+    // The sum of the weights that are counted for the members.
+    weight: u128,
 }
 
 impl<K: Eq + Hash, V, S: BuildHasher> Model for Store<K, V, S> {
-    ghost use Rattle.std.specs.Prelude.{◌+◌, ◌-◌, ◌≤◌, min, length, map, is_some, count_by};
+    ghost use Rattle.std.specs.Prelude.{◌+◌, length};
     ghost use Rattle.std.specs.HashMap.{spare, get, hash_map_len};
-    ghost use Rattle.moka_structures.specs.RecordTable.{records_of, places_of};
     ghost use Rattle.moka_store.specs.Store.{Kept, kept_code};
 
     ghost Value = { Kept K V };
 
     ghost coded = { kept_code K.code V.code };
 
-    ghost use Rattle.moka_store.specs.StoreRows.{member_at};
-    ghost use Rattle.moka_store.specs.StoreTies.{IsStore};
+    ghost use Rattle.moka_store.specs.StoreTies.{IsStore, kept_of};
 
-    ghost view = { λ a. record {
-      records = records_of a.table.rows;
-      access = map (member_at a.table.rows) a.access.members;
-      places = places_of a.table.rows;
-      room = min (spare a.index) (min a.table.room (length a.access.members + a.access.room - count_by is_some a.table.rows));
-    } };
+    ghost view = { λ a. kept_of a.table.rows a.access.members (spare a.index) a.table.room (length a.access.members + a.access.room) };
 
-    ghost invariant = { λ a. IsStore K.eq a.table.rows (get K.eq a.index) (hash_map_len a.index) a.access.members (length a.access.members + a.access.room) };
+    ghost invariant = { λ a. IsStore K.eq a.table.rows (get K.eq a.index) (hash_map_len a.index) a.access.members (length a.access.members + a.access.room) a.weight };
 }
 
 impl<K: Eq + Hash, V, S: BuildHasher> Store<K, V, S> {
@@ -82,6 +77,7 @@ impl<K: Eq + Hash, V, S: BuildHasher> Store<K, V, S> {
             index: HashMap::with_hasher(alloc, hasher),
             table: RecordTable::new(alloc),
             access,
+            weight: 0,
         })
     }
 
@@ -168,22 +164,24 @@ impl<K: Eq + Hash, V, S: BuildHasher> Store<K, V, S> {
         Handle { number, place }
     }
 
-    /// A new value for the record at this handle, with what comes with it. The answer is the old value.
-    pub fn replace(&mut self, handle: Handle, update: Update<V>) -> V
-        requires { IsHandle self.old handle }
+    /// A new value for the record at this handle, with what comes with it, as its next generation. The answer is the
+    /// old value.
+    pub fn update(&mut self, handle: Handle, update: Update<V>) -> V
+        requires handle { IsHandle self.old handle }
+        requires generation { (r : Record K V) → finite.get self.old.records handle.number ≡ Some r → r.generation + 1 < 2 ^ 64 }
         ensures value { (r : Record K V) → finite.get self.old.records handle.number ≡ Some r → result ≡ r.value }
-        ensures step { (r : Record K V) → finite.get self.old.records handle.number ≡ Some r → self.new ≡ record self.old { records = finite.insert self.old.records handle.number (updated update r) } }
+        ensures step { ChangesRecord handle.number (updated update) self.old self.new }
         ensures handle { IsHandle self.new handle }
         ensures places { self.new.places ≡ self.old.places }
         ensures access { self.new.access ≡ self.old.access }
     {
-        changes::replace(&mut self.table, handle.place, update)
+        changes::update(&mut self.table, handle.place, update)
     }
 
     /// The record at this handle was read at this moment, and expires then.
     pub fn touch(&mut self, handle: Handle, read: Instant, expires: Option<Instant>)
         requires { IsHandle self.old handle }
-        ensures step { (r : Record K V) → finite.get self.old.records handle.number ≡ Some r → self.new ≡ record self.old { records = finite.insert self.old.records handle.number (record r { read = read; expires = expires }) } }
+        ensures step { ChangesRecord handle.number (λ r. record r { read = read; expires = expires }) self.old self.new }
         ensures handle { IsHandle self.new handle }
         ensures places { self.new.places ≡ self.old.places }
         ensures access { self.new.access ≡ self.old.access }
@@ -194,7 +192,7 @@ impl<K: Eq + Hash, V, S: BuildHasher> Store<K, V, S> {
     /// The operation of this generation was applied to the record at this handle.
     pub fn set_applied(&mut self, handle: Handle, generation: u64)
         requires { IsHandle self.old handle }
-        ensures step { (r : Record K V) → finite.get self.old.records handle.number ≡ Some r → self.new ≡ record self.old { records = finite.insert self.old.records handle.number (record r { applied = generation }) } }
+        ensures step { ChangesRecord handle.number (λ r. record r { applied = generation }) self.old self.new }
         ensures handle { IsHandle self.new handle }
         ensures places { self.new.places ≡ self.old.places }
         ensures access { self.new.access ≡ self.old.access }
@@ -256,6 +254,7 @@ impl<K: Eq + Hash, V, S: BuildHasher> Store<K, V, S> {
         ensures records { self.new.records ≡ self.old.records }
     {
         let access = self.access.push_back(handle.place as u64);
+        self.weight += weight as u128;
         let _none = self.table.set_membership(
             handle.place,
             Membership {
@@ -295,6 +294,7 @@ impl<K: Eq + Hash, V, S: BuildHasher> Store<K, V, S> {
         };
         self.table.set_counted(handle.place, weight);
         self.access.move_to_back(before.access);
+        self.weight = self.weight - before.counted as u128 + weight as u128;
     }
 
     /// The number at this handle leaves the access list.
@@ -310,6 +310,7 @@ impl<K: Eq + Hash, V, S: BuildHasher> Store<K, V, S> {
             unreachable!()
         };
         let _place = self.access.unlink(membership.access);
+        self.weight -= membership.counted as u128;
     }
 
     /// How many records there are.
@@ -323,7 +324,7 @@ impl<K: Eq + Hash, V, S: BuildHasher> Store<K, V, S> {
     pub fn keys(&self, alloc: Global) -> Result<Vec<K>, AllocError>
     where
         K: Clone + Drop,
-        requires clones { (x y : K) → K.is_clone x y → y ≡ x }
+        requires clones { ClonesAreEqual K.is_clone }
         ensures { IfOk result (λ keys. IsPermutation (map (λ r. r.key) (finite.values self.now.records)) keys.items) }
     {
         let mut keys = Vec::with_capacity(alloc, self.record_count())?;
@@ -337,14 +338,33 @@ impl<K: Eq + Hash, V, S: BuildHasher> Store<K, V, S> {
 
     /// How many members the access list has.
     pub fn member_count(&self) -> usize
-        ensures { result ≡ length self.now.access }
+        ensures value { result ≡ length self.now.access }
+        ensures few { result < 2 ^ 32 }
     {
         self.access.len()
+    }
+
+    /// The sum of the weights that are counted for the members.
+    pub fn total_weight(&self) -> u128
+        ensures { result ≡ total_weight self.now.access }
+    {
+        self.weight
+    }
+
+    /// What always holds of a store. It does nothing when it runs.
+    pub fn invariant_holds(&self)
+        ensures one_each { IsOneEach K.eq self.now.records }
+        ensures records { (n : ℕ) → IsSome (finite.get self.now.records n) → IsSome (finite.get self.now.places n) }
+        ensures members { (n : ℕ) → IsSome (counted_of n self.now.access) → IsSome (finite.get self.now.places n) }
+        ensures distinct { IsDistinct (◌==◌) (numbers_of self.now.access) }
+    {
+        let _weight = self.weight;
     }
 
     /// The first of the access list, with its weight.
     pub fn front(&self) -> Option<(Handle, u32)>
         ensures placed { IfSome result (λ f. IsPlaced self.now f.0) }
+        ensures member { IfSome result (λ f. IsSome (counted_of f.0.number self.now.access)) }
         ensures front { option_map (λ f. member f.0.number f.1) result ≡ slice_get self.now.access 0 }
     {
         let (_, place) = self.access.front()?;
@@ -356,6 +376,7 @@ impl<K: Eq + Hash, V, S: BuildHasher> Store<K, V, S> {
         requires placed { IsPlaced self.now handle }
         requires member { IsSome (counted_of handle.number self.now.access) }
         ensures placed { IfSome result (λ f. IsPlaced self.now f.0) }
+        ensures member { IfSome result (λ f. IsSome (counted_of f.0.number self.now.access)) }
         ensures next { option_map (λ f. member f.0.number f.1) result ≡ member_after handle.number self.now.access }
     {
         let Some(membership) = self.table.membership(handle.place) else {
@@ -461,14 +482,13 @@ mod tests {
         assert!(rt; store.find_by_key(&10).is_none());
         let handle = store.insert_new(record(1, 10, 100), 10);
         store.admit(handle, 7);
-        let old = store.replace(
+        let old = store.update(
             handle,
             Update {
                 value: 101,
                 now: Instant(6),
                 expires: None,
                 weight: 2,
-                generation: 2,
             },
         );
         assert_eq!(rt; old, 100);

@@ -1,5 +1,5 @@
 //! An order of numbers as linked nodes in one table.
-ghost use Rattle.std.specs.Prelude.{◌≡◌, ◌≢◌, ◌+◌, ◌<◌, ◌≤◌, ℕ, [], ◌∷◌, ◌++◌, length, ◌↔◌, OnOk, IfOk, IsOk, IfSome, IsSome, IsNone, None, Some, nat_eq, slice_get, vec_len, vec_capacity, if◌then◌else◌};
+ghost use Rattle.std.specs.Prelude.{◌≡◌, ◌≢◌, ◌+◌, ◌^◌, ◌<◌, ◌≤◌, ℕ, [], ◌∷◌, ◌++◌, length, ◌↔◌, OnOk, IfOk, IsOk, IfSome, IsSome, IsNone, None, Some, nat_eq, slice_get, vec_len, vec_capacity, if◌then◌else◌};
 ghost use Rattle.std.specs.Map.{lookup, remove_entry, keys_of};
 ghost use Rattle.std.specs.List.{IsDistinct};
 ghost use Rattle.moka_structures.specs.Links.{at, detached, attached, with_behind, with_number};
@@ -123,7 +123,8 @@ impl OrderList {
     ///
     /// moka: `Deque::len`.
     pub fn len(&self) -> usize
-        ensures { result ≡ length self.now.members }
+        ensures value { result ≡ length self.now.members }
+        ensures few { result < 2 ^ 32 }
     {
         self.len
     }
@@ -163,6 +164,7 @@ impl OrderList {
         ensures fresh { lookup (nat_eq result) self.old.members ≡ None }
         ensures members { self.new.members ≡ self.old.members ++ (result, number) ∷ [] }
         ensures len { length self.new.members ≡ length self.old.members + 1 }
+        ensures few { length self.new.members < 2 ^ 32 }
         ensures lookups { (s : ℕ) → lookup (nat_eq s) self.new.members ≡ (if nat_eq s result then Some number else lookup (nat_eq s) self.old.members) }
         ensures distinct { IsDistinct nat_eq (keys_of self.old.members) }
         ensures room { self.new.room + 1 ≡ self.old.room }

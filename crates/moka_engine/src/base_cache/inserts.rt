@@ -7,12 +7,12 @@ ghost use Rattle.moka_parts.specs.Calls.{Weighs};
 ghost use Rattle.moka_engine.specs.Interior.{LeadsTo};
 ghost use Rattle.moka_engine.specs.Inserts.{PutsAt};
 
-use crate::inner::{Inner, Written};
+use crate::inner::Inner;
 use moka_parts::calls::Ticket;
 use moka_parts::closures::Weigher;
 use moka_parts::error::{InsertError, InsertRefused};
 use moka_parts::policy::Instant;
-use moka_store::Handle;
+use moka_store::{Handle, Update};
 use std::hash::{BuildHasher, Hash};
 
 /// What an entry weighs where no weigher is set.
@@ -76,14 +76,13 @@ fn insert_new<K: Eq + Hash + Clone, V, S: BuildHasher>(
     let Ok(kept) = key.clone() else {
         return Err(InsertRefused { error, key, value });
     };
-    let written = Written {
-        hash,
+    let update = Update {
         value,
         now,
         expires: None,
         weight,
     };
-    Ok((inner.insert(key, kept, written), None))
+    Ok((inner.insert(key, kept, hash, update), None))
 }
 
 /// A new value for the record at this handle, which goes on to expire as it did.
@@ -110,13 +109,12 @@ fn update_known<K: Eq + Hash, V, S: BuildHasher>(
         return Err(InsertRefused { error, key, value });
     }
     inner.know();
-    let written = Written {
-        hash,
+    let update = Update {
         value,
         now,
         expires,
         weight,
     };
-    let (old, ticket) = inner.update(handle, written);
+    let (old, ticket) = inner.update(handle, hash, update);
     Ok((ticket, Some((key, old))))
 }

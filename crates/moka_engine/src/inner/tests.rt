@@ -4,9 +4,8 @@ use std::test::Fail;
 
 type TestInner = Inner<u64, u64, BuildHasherDefault<FoldHasher>>;
 
-fn written(value: u64) -> Written<u64> {
-    Written {
-        hash: value,
+fn update_to(value: u64) -> Update<u64> {
+    Update {
         value,
         now: Instant(0),
         expires: None,
@@ -23,7 +22,7 @@ fn put(inner: &mut TestInner, key: u64) -> Result<(), Fail> {
     if inner.find(&key).is_some() {
         return Err("key".into());
     }
-    let ticket = inner.insert(key, key, written(key));
+    let ticket = inner.insert(key, key, key, update_to(key));
     inner.send(ticket).ok().ok_or("queue")?;
     Ok(())
 }
@@ -35,7 +34,7 @@ fn update(inner: &mut TestInner, key: u64) -> Result<Ticket, Fail> {
     }
     inner.reserve_operation()?;
     let (handle, _) = inner.find(&key).ok_or("key")?;
-    Ok(inner.update(handle, written(key)).1)
+    Ok(inner.update(handle, key, update_to(key)).1)
 }
 
 #[test]

@@ -1,5 +1,5 @@
 //! Changes and reads at one place of the table.
-ghost use Rattle.std.specs.Prelude.{◌≡◌, IsSome, Some};
+ghost use Rattle.std.specs.Prelude.{◌≡◌, ◌+◌, ◌^◌, ◌<◌, IsSome, Some};
 ghost use Rattle.moka_store.specs.StoreRows.{member_in};
 ghost use Rattle.moka_store.specs.Updates.{updated};
 ghost use Rattle.moka_parts.specs.declared.records.Record.{Record};
@@ -15,6 +15,7 @@ use std::mem;
 
 // Writes what an update brings into a record. The answer is the old value.
 fn write_update<K, V>(stored: &mut Record<K, V>, update: Update<V>) -> V
+    requires generation { stored.old.generation + 1 < 2 ^ 64 }
     ensures value { result ≡ stored.old.value }
     ensures stored { stored.new ≡ updated update stored.old }
 {
@@ -23,23 +24,23 @@ fn write_update<K, V>(stored: &mut Record<K, V>, update: Update<V>) -> V
         now,
         expires,
         weight,
-        generation,
     } = update;
     stored.written = now;
     stored.read = now;
     stored.expires = expires;
     stored.weight = weight;
-    stored.generation = generation;
+    stored.generation += 1;
     mem::replace(&mut stored.value, value)
 }
 
 // A new value, with what comes with it, for the record at this place.
-pub(crate) fn replace<K, V>(
+pub(crate) fn update<K, V>(
     table: &mut RecordTable<Record<K, V>>,
     place: usize,
     update: Update<V>,
 ) -> V
-    requires { IsSome (stored_at table.old.rows place) }
+    requires stored { IsSome (stored_at table.old.rows place) }
+    requires generation { (r : Record K V) → stored_at table.old.rows place ≡ Some r → r.generation + 1 < 2 ^ 64 }
     ensures value { (r : Record K V) → stored_at table.old.rows place ≡ Some r → result ≡ r.value }
     ensures table { (r : Record K V) → stored_at table.old.rows place ≡ Some r → table.new ≡ record table.old { rows = with_stored table.old.rows place (updated update r) } }
 {

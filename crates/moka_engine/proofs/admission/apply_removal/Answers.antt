@@ -15,10 +15,10 @@ returns-then-not-has_row-clause-step g c =
     rw (absent_taken_out n k.access none) refl
 
 pub forget-requires-clause-apart : goal.forget-requires-clause-apart
-forget-requires-clause-apart g c = rw c.leave.ensures.step (counted_taken_out c.args.handle.number c.args.store.now.access)
+forget-requires-clause-apart g c = rw c.leave.ensures (counted_taken_out c.args.handle.number c.args.store.now.access)
 
 pub returns-then-is_none-clause-places : goal.returns-then-is_none-clause-places
 returns-then-is_none-clause-places g c = λ n p there.
     let step = ap (λ (k : Kept g.row.K.Denot g.row.V.Denot). finite.get k.places n) c.forget.ensures.step in
-    let old = ap (λ (k : Kept g.row.K.Denot g.row.V.Denot). finite.get k.places n) c.leave.ensures.step in
+    let old = ap (λ (k : Kept g.row.K.Denot g.row.V.Denot). finite.get k.places n) c.leave.ensures in
     sym old ∙ (after_remove c.leave.new.store.places c.args.handle.number n p (sym step ∙ there)).1

@@ -17,6 +17,5 @@ loop-queued-preserved g c =
       located = λ q there p at.
           inv.located q (rest_in c.loop-queued.writes.items c.in-Some.queued q value (subst (λ (b : Buffer QueuedWrite). Contains b.items q) c.in-Some.ensures.items there)) p (c.apply_write.ensures.places _ p at);
       places = λ n p at. inv.places n p (c.apply_write.ensures.places n p at);
-      weighed = c.apply_write.ensures.weighed;
       capacity = ap (λ (b : Buffer QueuedWrite). b.capacity) c.in-Some.ensures.items ∙ inv.capacity;
     }

@@ -13,5 +13,4 @@ loop-capacity-preserved g c =
     record {
       evicted = evicted-on c.args.capacity (held c.args.store.now) (held c.loop-capacity.store) (held c.evict_batch.new.store) inv.evicted made.evicted;
       places = λ n p at. inv.places n p (made.places n p at);
-      weighed = made.weighed;
     }

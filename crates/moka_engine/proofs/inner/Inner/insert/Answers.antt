@@ -18,16 +18,16 @@ invariant_of-self g c =
     let tickets = ap (λ (i : Interior g.row.K.Denot g.row.V.Denot). i.next_ticket + finite.len i.records) c.self.view_is in
     let room = ap (λ (i : Interior g.row.K.Denot g.row.V.Denot). i.operation_room) c.self.view_is in
     let step = c.insert_new-handle.ensures.step in
-    inner-inserted g.K.PartialEq.eq g.met.K.Eq.laws c.self.inside.store c.insert_new-handle.new.self c.self.inside.outstanding c.hand_out.new.self c.self.inside.writes.items c.self.inside.reads.items c.self.inside.writes.capacity c.self.inside.reads.capacity (c.self.inside.last_ticket + 1) c.self.inside.next_number c.self.inside.size c.self.inside.weight
-    (record { number = c.self.inside.next_number; key = c.args.key; hash = c.args.written.hash; value = c.args.written.value; written = c.args.written.now; read = c.args.written.now; expires = c.args.written.expires; weight = c.args.written.weight; generation = 1; applied = 0 })
+    inner-inserted g.K.PartialEq.eq g.met.K.Eq.laws c.self.inside.store c.insert_new-handle.new.self c.self.inside.outstanding c.hand_out.new.self c.self.inside.writes.items c.self.inside.reads.items c.self.inside.writes.capacity c.self.inside.reads.capacity (c.self.inside.last_ticket + 1) c.self.inside.next_number c.self.inside.size
+    (record { number = c.self.inside.next_number; key = c.args.key; hash = c.args.hash; value = c.args.update.value; written = c.args.update.now; read = c.args.update.now; expires = c.args.update.expires; weight = c.args.update.weight; generation = 1; applied = 0 })
     c.insert_new-handle.result.place
-    (record { place = c.insert_new-handle.result.place; operation = Upsert c.self.inside.next_number 1 c.args.written.weight c.args.written.hash })
+    (record { place = c.insert_new-handle.result.place; operation = Upsert c.self.inside.next_number 1 c.args.update.weight c.args.hash })
     c.self.invariant
     (ap (λ (k : Kept g.row.K.Denot g.row.V.Denot). k.records) step)
     (ap (λ (k : Kept g.row.K.Denot g.row.V.Denot). k.access) step)
     (ap (λ (k : Kept g.row.K.Denot g.row.V.Denot). k.places) step)
     c.hand_out.ensures.items
-    refl refl refl c.args.written.hash refl refl
+    refl refl refl c.args.hash refl refl
     (absent_key g.K.PartialEq.eq c.self.inside.store.records c.args.key none)
     (let t = c.requires.tickets in omega arith)
     (let o = c.requires.operations in let r = c.hand_out.ensures.room in omega arith)

@@ -7,4 +7,4 @@ pub invariant_of-self : goal.invariant_of-self
 invariant_of-self g c =
     let placed = subst (λ (i : Interior g.row.K.Denot g.row.V.Denot). IsReadLocated i.places i.next_number c.args.place c.args.read) (sym c.self.view_is) c.requires in
     let e = c.try_push_back-full.ensures in
-    inner-read_if g.K.PartialEq.eq c.self.inside.store c.self.inside.outstanding c.self.inside.outstanding c.self.inside.writes.items c.self.inside.reads.items c.self.inside.writes.capacity c.self.inside.reads.capacity (c.self.inside.last_ticket + 1) c.self.inside.next_number c.self.inside.size c.self.inside.weight (record { place = c.args.place; read = c.args.read }) c.try_push_back-full.result c.try_push_back-full.new.self c.self.invariant placed e.variant.0 e.ok e.err
+    inner-read_if g.K.PartialEq.eq c.self.inside.store c.self.inside.outstanding c.self.inside.outstanding c.self.inside.writes.items c.self.inside.reads.items c.self.inside.writes.capacity c.self.inside.reads.capacity (c.self.inside.last_ticket + 1) c.self.inside.next_number c.self.inside.size (record { place = c.args.place; read = c.args.read }) c.try_push_back-full.result c.try_push_back-full.new.self c.self.invariant placed e.variant.0 e.ok e.err

@@ -40,7 +40,7 @@ pub invariant_of-self : goal.invariant_of-self
 invariant_of-self g c =
     let here = ap (λ (i : Interior g.row.K.Denot g.row.V.Denot). finite.get i.places c.args.handle.number) c.self.view_is ∙ c.requires.handle.placed in
     let taken = c.take_record-record.result in
-    inner-removed g.K.PartialEq.eq g.met.K.Eq.laws c.self.inside.store c.take_record-record.new.self c.self.inside.outstanding c.hand_out.new.self c.self.inside.writes.items c.self.inside.reads.items c.self.inside.writes.capacity c.self.inside.reads.capacity (c.self.inside.last_ticket + 1) c.self.inside.next_number c.self.inside.size c.self.inside.weight
+    inner-removed g.K.PartialEq.eq g.met.K.Eq.laws c.self.inside.store c.take_record-record.new.self c.self.inside.outstanding c.hand_out.new.self c.self.inside.writes.items c.self.inside.reads.items c.self.inside.writes.capacity c.self.inside.reads.capacity (c.self.inside.last_ticket + 1) c.self.inside.next_number c.self.inside.size
     c.args.handle.number taken
     (record { place = c.args.handle.place; operation = Removal c.args.handle.number (taken.generation + 1) })
     c.self.invariant c.take_record-record.ensures.taken

@@ -15,8 +15,8 @@ pub invariant_of-self : goal.invariant_of-self
 invariant_of-self g c =
     let ok = c.in-Ok.ensures.ok in
     let there = sym c.get.ensures ∙ c.in-Some.is in
-    subst (λ (b : Buffer _). IsInner g.K.PartialEq.eq c.self.inside.store c.take-taken.new.self b.items b.capacity c.self.inside.reads.items c.self.inside.reads.capacity (c.self.inside.last_ticket + 1) c.self.inside.next_number c.self.inside.size c.self.inside.weight) (sym ok)
-    (inner-sent g.K.PartialEq.eq c.self.inside.store c.self.inside.outstanding c.take-taken.new.self c.self.inside.writes.items c.self.inside.reads.items c.self.inside.writes.capacity c.self.inside.reads.capacity (c.self.inside.last_ticket + 1) c.self.inside.next_number c.self.inside.size c.self.inside.weight c.args.ticket.0 c.in-Some.write c.self.inside.writes.capacity c.self.invariant there c.take-taken.ensures.items c.take-taken.ensures.room (c.in-Ok.ensures.variant.0 refl) refl)
+    subst (λ (b : Buffer _). IsInner g.K.PartialEq.eq c.self.inside.store c.take-taken.new.self b.items b.capacity c.self.inside.reads.items c.self.inside.reads.capacity (c.self.inside.last_ticket + 1) c.self.inside.next_number c.self.inside.size) (sym ok)
+    (inner-sent g.K.PartialEq.eq c.self.inside.store c.self.inside.outstanding c.take-taken.new.self c.self.inside.writes.items c.self.inside.reads.items c.self.inside.writes.capacity c.self.inside.reads.capacity (c.self.inside.last_ticket + 1) c.self.inside.next_number c.self.inside.size c.args.ticket.0 c.in-Some.write c.self.inside.writes.capacity c.self.invariant there c.take-taken.ensures.items c.take-taken.ensures.room (c.in-Ok.ensures.variant.0 refl) refl)
 
 pub returns-in-Ok : goal.returns-in-Ok
 returns-in-Ok g c =

@@ -13,7 +13,7 @@ invariant_of-self g c =
     let old = found.0 in
     let there = same ∙ found.1 in
     let step = c.touch.ensures.step old there in
-    inner-touched g.K.PartialEq.eq g.met.K.Eq.laws c.self.inside.store c.touch.new.self c.self.inside.outstanding c.self.inside.outstanding c.self.inside.writes.items c.self.inside.reads.items c.self.inside.writes.capacity c.self.inside.reads.capacity (c.self.inside.last_ticket + 1) c.self.inside.next_number c.self.inside.size c.self.inside.weight
+    inner-touched g.K.PartialEq.eq g.met.K.Eq.laws c.self.inside.store c.touch.new.self c.self.inside.outstanding c.self.inside.outstanding c.self.inside.writes.items c.self.inside.reads.items c.self.inside.writes.capacity c.self.inside.reads.capacity (c.self.inside.last_ticket + 1) c.self.inside.next_number c.self.inside.size
     c.args.handle.number old (record old { read = c.args.now; expires = c.args.expires }) c.self.invariant there
     (ap (λ (k : Kept g.row.K.Denot g.row.V.Denot). k.records) step)
     (ap (λ (k : Kept g.row.K.Denot g.row.V.Denot). k.access) step)

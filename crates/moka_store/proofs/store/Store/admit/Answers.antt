@@ -1,9 +1,13 @@
 use Rattle.std.specs.FinMap as finite
-use Rattle.std.proofs.Common.{◌≡◌, ◌+◌, map, length, None, refl, arith, sym, ap, ◌∙◌}
+use Rattle.std.proofs.Common.{◌<◌, ◌^◌, ◌-◌, ◌≡◌, ◌+◌, map, length, None, refl, arith, sym, ap, ◌∙◌, subst}
 use Rattle.moka_store.proofs.Members.{counted-admitted}
 use Rattle.moka_store.proofs.Ties.{nodes-below}
 use Rattle.moka_store.proofs.Steps.{placed, unlisted, admitted}
 use Rattle.moka_store.specs.StoreRows.{member_at}
+use Rattle.moka_store.specs.Weights.{IsWeighed}
+use Rattle.moka_store.proofs.Weights.{weighed-pushed, weighed-fits}
+use Rattle.moka_parts.specs.Records.{counted_of}
+use Rattle.std.proofs.lemmas.List.{length-map}
 use Rattle.moka_store.proofs.store.Store.admit.Goals as goal
 
 pub push_back-access-requires : goal.push_back-access-requires
@@ -28,7 +32,7 @@ invariant_of-self g c =
     let room = c.push_back-access.ensures.room in
     let rows = c.set_membership-none.ensures.len in
     let fits = c.self.invariant.fits in
-    record { tied = s.tied; keyed = c.self.invariant.keyed ∙ sym (ap finite.len c.set_membership-none.ensures.records); fits = omega arith }
+    record { tied = s.tied; keyed = c.self.invariant.keyed ∙ sym (ap finite.len c.set_membership-none.ensures.records); fits = omega arith; few = c.push_back-access.ensures.few; weighed = subst (λ members. IsWeighed members (c.self.inside.weight + c.args.weight)) (sym s.access) (weighed-pushed w.row.number c.args.weight _ _ c.self.invariant.weighed (ap (λ n. counted_of n (map (member_at c.self.inside.table.rows) c.self.inside.access.members)) w.number_is ∙ (rw (← c.self.view_is) at c.requires.apart)) c.ranges.weight.fits) }
 
 pub returns-clause-step : goal.returns-clause-step
 returns-clause-step g c =
@@ -46,3 +50,8 @@ returns-clause-counted g c n =
     let none = unlisted _ _ _ _ c.self.invariant.tied _ _ (rw (← c.self.view_is) at c.requires.placed) w (rw (← c.self.view_is) at c.requires.apart) in
     let s = admitted _ g.met.K.Eq.laws _ _ _ _ _ c.self.invariant.tied w.row w.at_is (record { counted = c.args.weight; access = c.push_back-access.result; written = None }) _ none c.push_back-access.ensures.fresh c.push_back-access.ensures.members c.push_back-access.ensures.lookups (c.set_membership-none.ensures.changes _ w.at_is) in
     rw (s.access, w.number_is, ← c.self.view_is) (counted-admitted c.args.handle.number n c.args.weight (map (member_at c.self.inside.table.rows) c.self.inside.access.members) (rw (← c.self.view_is) at c.requires.apart))
+
+pub overflow_add-self : goal.overflow_add-self
+overflow_add-self g c =
+    let fits = weighed-fits _ _ c.args.weight c.self.invariant.weighed (subst (λ n. n < 2 ^ 64) (sym (length-map c.self.inside.access.members (member_at c.self.inside.table.rows))) (let few = c.self.invariant.few in omega arith)) c.ranges.weight.fits in
+    omega arith

@@ -1,9 +1,10 @@
 use Rattle.std.specs.FinMap as finite
-use Rattle.std.proofs.Common.{refl, ap, ◌∙◌, arith, sym}
+use Rattle.std.proofs.Common.{refl, ap, ◌∙◌, arith, sym, subst}
 use Rattle.std.specs.FinMap.{get, remove}
 use Rattle.moka_structures.specs.RecordTable.{places_of}
 use Rattle.moka_structures.proofs.TableMaps.{get-past_remove}
 use Rattle.moka_store.proofs.Steps.{placed, bare-row, forgotten}
+use Rattle.moka_store.specs.Weights.{IsWeighed}
 use Rattle.moka_store.proofs.store.Store.forget.Goals as goal
 
 pub forget-requires : goal.forget-requires
@@ -18,7 +19,7 @@ invariant_of-self g c =
     let s = forgotten _ g.met.K.Eq.laws _ _ _ _ _ c.self.invariant.tied _ bare refl refl c.forget.ensures.changes in
     let len = c.forget.ensures.len in
     let fits = c.self.invariant.fits in
-    record { tied = s.tied; keyed = c.self.invariant.keyed ∙ sym (ap finite.len c.forget.ensures.records); fits = omega arith }
+    record { tied = s.tied; keyed = c.self.invariant.keyed ∙ sym (ap finite.len c.forget.ensures.records); fits = omega arith; few = c.self.invariant.few; weighed = subst (λ members. IsWeighed members c.self.inside.weight) (sym s.access) c.self.invariant.weighed }
 
 pub returns-clause-step : goal.returns-clause-step
 returns-clause-step g c =

@@ -24,3 +24,10 @@ returns-clause-front g c =
     let same = c.member_at.ensures.member _ n.at_is in
     let number : c.member_at.result.0.number ≡ n.row.number = ap (λ (m : Member). m.number) same in
     ap Some (same ∙ sym n.member_is) ∙ ap (option_map (member_at c.self.inside.table.rows)) c.in_ok-place.ensures.front ∙ sym (get-map (member_at c.self.inside.table.rows) c.self.inside.access.members) ∙ rw (← c.self.view_is) refl
+
+pub returns-clause-member : goal.returns-clause-member
+returns-clause-member g c =
+    let n = node-member _ _ _ _ c.self.invariant.tied _ _ c.in_ok-place.ensures.found in
+    let same = c.member_at.ensures.member _ n.at_is in
+    let number : c.member_at.result.0.number ≡ n.row.number = ap (λ (m : Member). m.number) same in
+    rw (number, ← c.self.view_is) n.counted_is

@@ -1,12 +1,13 @@
 use Rattle.moka_store.proofs.Steps.{len-fresh, unrecorded}
 use Rattle.std.specs.HashMap as hash
 use Rattle.std.specs.FinMap as finite
-use Rattle.std.proofs.Common.{◌≢◌, refl, sym, ap, ◌∙◌, arith, ◌≡◌}
+use Rattle.std.proofs.Common.{◌≢◌, refl, sym, ap, ◌∙◌, arith, ◌≡◌, subst}
 use Rattle.std.specs.FinMap.{get}
 use Rattle.moka_structures.specs.RecordTable.{records_of, places_of}
 use Rattle.moka_structures.proofs.TableMaps.{get-inserted, get-past_insert}
 use Rattle.moka_store.proofs.Ties.{counted-unplaced}
 use Rattle.moka_store.proofs.Steps.{record-fresh, inserted}
+use Rattle.moka_store.specs.Weights.{IsWeighed}
 use Rattle.moka_store.proofs.store.Store.insert_new.Goals as goal
 
 pub invariant_of-self : goal.invariant_of-self
@@ -21,7 +22,7 @@ invariant_of-self g c =
     let longer = ap finite.len c.insert-place.ensures.records ∙ len-fresh _ _ c.args.stored (unrecorded _ g.met.K.Eq.laws _ _ _ c.self.invariant.tied _ fresh) in
     let before = c.self.invariant.keyed in
     let keyed : hash.hash_map_len c.insert.new.self ≡ finite.len (records_of c.insert-place.new.self.rows) = omega (arith, more, longer, before) in
-    record { tied = s.tied; keyed = keyed; fits = omega arith }
+    record { tied = s.tied; keyed = keyed; fits = omega arith; few = c.self.invariant.few; weighed = subst (λ members. IsWeighed members c.self.inside.weight) (sym s.access) c.self.invariant.weighed }
 
 pub returns-clause-step : goal.returns-clause-step
 returns-clause-step g c =

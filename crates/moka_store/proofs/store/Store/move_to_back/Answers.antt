@@ -1,7 +1,9 @@
-use Rattle.std.proofs.Common.{map, refl, sym, ◌∙◌, arith}
+use Rattle.std.proofs.Common.{map, refl, sym, ◌∙◌, arith, subst}
 use Rattle.moka_store.proofs.Members.{counted-to_back}
 use Rattle.moka_store.proofs.Steps.{member-there, member-row, moved}
 use Rattle.moka_store.specs.StoreRows.{member_at}
+use Rattle.moka_store.specs.Weights.{IsWeighed}
+use Rattle.moka_store.proofs.Weights.{weighed-to_back}
 use Rattle.moka_store.proofs.store.Store.move_to_back.Goals as goal
 
 pub unreachable-requires : goal.unreachable-requires
@@ -20,7 +22,7 @@ invariant_of-self g c =
     let len = c.move_to_back.ensures.len in
     let room = c.move_to_back.ensures.room in
     let fits = c.self.invariant.fits in
-    record { tied = s.tied; keyed = c.self.invariant.keyed; fits = omega arith }
+    record { tied = s.tied; keyed = c.self.invariant.keyed; fits = omega arith; few = (let few = c.self.invariant.few in omega arith); weighed = subst (λ members. IsWeighed members c.self.inside.weight) (sym s.access) (weighed-to_back w.row.number _ _ c.self.invariant.weighed) }
 
 pub returns-clause-step : goal.returns-clause-step
 returns-clause-step g c =

@@ -41,3 +41,10 @@ returns-clause-next g c =
     let number : c.member_at.result.0.number ≡ n.row.number = ap (λ (m : Member). m.number) same in
     let after = after-row _ _ _ _ c.self.invariant.tied _ w.row w.at_is c.in-Some.membership w.membership_is in
     ap Some (same ∙ sym n.member_is) ∙ ap (option_map (member_at c.self.inside.table.rows)) c.in_ok-place.ensures.next ∙ sym after ∙ rw (w.number_is, ← c.self.view_is) refl
+
+pub returns-clause-member : goal.returns-clause-member
+returns-clause-member g c =
+    let n = node-member _ _ _ _ c.self.invariant.tied _ _ c.in_ok-place.ensures.found in
+    let same = c.member_at.ensures.member _ n.at_is in
+    let number : c.member_at.result.0.number ≡ n.row.number = ap (λ (m : Member). m.number) same in
+    rw (number, ← c.self.view_is) n.counted_is

@@ -1,8 +1,12 @@
 use Rattle.std.specs.FinMap as finite
-use Rattle.std.proofs.Common.{map, refl, sym, ◌∙◌, arith, ap}
+use Rattle.std.proofs.Common.{◌<◌, ◌^◌, ◌-◌, ◌+◌, map, refl, sym, ◌∙◌, arith, ap, subst}
 use Rattle.moka_store.proofs.Members.{counted-recounted}
 use Rattle.moka_store.proofs.Steps.{member-there, member-row, recounted}
 use Rattle.moka_store.specs.StoreRows.{member_at}
+use Rattle.moka_store.specs.Weights.{IsWeighed}
+use Rattle.moka_store.proofs.Weights.{weighed-recounted, weighed-least, weighed-fits}
+use Rattle.moka_parts.specs.Records.{counted_of}
+use Rattle.std.proofs.lemmas.List.{length-map}
 use Rattle.moka_store.proofs.store.Store.recount.Goals as goal
 
 pub unreachable-requires : goal.unreachable-requires
@@ -22,7 +26,7 @@ invariant_of-self g c =
     let room = c.move_to_back.ensures.room in
     let rows = c.set_counted.ensures.len in
     let fits = c.self.invariant.fits in
-    record { tied = s.tied; keyed = c.self.invariant.keyed ∙ sym (ap finite.len c.set_counted.ensures.records); fits = omega arith }
+    record { tied = s.tied; keyed = c.self.invariant.keyed ∙ sym (ap finite.len c.set_counted.ensures.records); fits = omega arith; few = (let few = c.self.invariant.few in omega arith); weighed = subst (λ members. IsWeighed members (c.self.inside.weight - c.in-Some.before.counted + c.args.weight)) (sym s.access) (weighed-recounted w.row.number _ c.args.weight _ _ c.self.invariant.weighed (ap (λ n. counted_of n (map (member_at c.self.inside.table.rows) c.self.inside.access.members)) w.number_is ∙ w.counted_is) c.ranges.weight.fits) }
 
 pub returns-clause-step : goal.returns-clause-step
 returns-clause-step g c =
@@ -35,3 +39,13 @@ returns-clause-counted g c n =
     let w = member-row _ _ _ _ c.self.invariant.tied _ _ (rw (← c.self.view_is) at c.requires.placed) _ (sym c.membership.ensures ∙ c.in-Some.is) in
     let s = recounted _ g.met.K.Eq.laws _ _ _ _ _ c.self.invariant.tied w.row w.at_is c.in-Some.before c.args.weight _ w.membership_is (c.move_to_back.ensures.members _ w.node_is) c.move_to_back.ensures.lookups (c.set_counted.ensures.changes _ _ w.at_is w.membership_is) in
     rw (s.access, w.number_is, ← c.self.view_is) (counted-recounted c.args.handle.number n c.args.weight (map (member_at c.self.inside.table.rows) c.self.inside.access.members))
+
+pub overflow_sub-self : goal.overflow_sub-self
+overflow_sub-self g c =
+    let w = member-row _ _ _ _ c.self.invariant.tied _ _ (rw (← c.self.view_is) at c.requires.placed) _ (sym c.membership.ensures ∙ c.in-Some.is) in
+    weighed-least _ _ _ _ c.self.invariant.weighed w.counted_is
+
+pub overflow_add-self : goal.overflow_add-self
+overflow_add-self g c =
+    let fits = weighed-fits _ _ c.args.weight c.self.invariant.weighed (subst (λ n. n < 2 ^ 64) (sym (length-map c.self.inside.access.members (member_at c.self.inside.table.rows))) (let few = c.self.invariant.few in omega arith)) c.ranges.weight.fits in
+    omega arith

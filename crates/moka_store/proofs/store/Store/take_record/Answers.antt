@@ -2,11 +2,12 @@ use Rattle.moka_parts.specs.declared.records.Record.{Record}
 use Rattle.moka_store.proofs.Steps.{len-removed, index-of}
 use Rattle.std.specs.HashMap as hash
 use Rattle.std.specs.FinMap as finite
-use Rattle.std.proofs.Common.{◌≡◌, Some, refl, sym, ap, ◌∙◌, arith}
+use Rattle.std.proofs.Common.{◌≡◌, Some, refl, sym, ap, ◌∙◌, arith, subst}
 use Rattle.std.specs.FinMap.{get, remove}
 use Rattle.moka_structures.specs.RecordTable.{records_of}
 use Rattle.moka_structures.proofs.TableMaps.{get-removed}
 use Rattle.moka_store.proofs.Steps.{handled, taken}
+use Rattle.moka_store.specs.Weights.{IsWeighed}
 use Rattle.moka_store.proofs.store.Store.take_record.Goals as goal
 
 pub take-taken-requires : goal.take-taken-requires
@@ -27,7 +28,7 @@ invariant_of-self g c =
     let shorter = ap finite.len c.take-taken.ensures.records ∙ ap (λ n. finite.len (finite.remove (records_of c.self.inside.table.rows) n)) h.number_at_is ∙ len-removed _ _ h.stored h.record_is in
     let before = c.self.invariant.keyed in
     let keyed : hash.hash_map_len c.remove-place.new.self ≡ finite.len (records_of c.take-taken.new.self.rows) = omega (arith, less, shorter, before) in
-    record { tied = s.tied; keyed = keyed; fits = omega arith }
+    record { tied = s.tied; keyed = keyed; fits = omega arith; few = c.self.invariant.few; weighed = subst (λ members. IsWeighed members c.self.inside.weight) (sym s.access) c.self.invariant.weighed }
 
 pub returns-clause-taken : goal.returns-clause-taken
 returns-clause-taken g c =

@@ -71,3 +71,18 @@ returns-then-self-len-clause-distinct c = rw (← c.self.view_is) (distinct-memb
 
 pub returns-clause-distinct : goal.returns-clause-distinct
 returns-clause-distinct c = rw (← c.self.view_is) (distinct-members _ _ _ c.self.invariant)
+
+pub returns-then-self-len-clause-few : goal.returns-then-self-len-clause-few
+returns-then-self-len-clause-few c =
+    let i = c.self.invariant in
+    rw c.reuse-self-inside.ensures.nodes (omega (arith, length-members _ _ _ (reuse-leaves _ _ _ c.args.number i (omega arith)).order, i.counted, i.total, i.bounded))
+
+pub returns-clause-few : goal.returns-clause-few
+returns-clause-few c =
+    let i = c.self.invariant in
+    let slot : c.len-slot.result ≡ length c.self.inside.nodes.items = omega arith in
+    let req = rw (← c.self.view_is) at c.requires in
+    let small : length c.self.inside.nodes.items < 2 ^ 32 = omega arith in
+    let v : Node = record { number = c.args.number; before = 0; behind = 0 } in
+    rw (c.attach.ensures.nodes, c.push_reserved.ensures.items, slot)
+    (omega (arith, small, length-members _ _ _ (fresh-leaves _ _ _ c.args.number i v small refl).order, i.counted, i.total))

@@ -1,0 +1,12 @@
+use Rattle.moka_store.proofs.Places.{record-placed, member-placed}
+use Rattle.moka_store.proofs.Steps.{one-each}
+use Rattle.moka_store.proofs.store.Store.invariant_holds.Goals as goal
+
+pub returns-clause-one_each : goal.returns-clause-one_each
+returns-clause-one_each g c = rw (← c.self.view_is) (one-each _ _ _ _ c.self.invariant.tied g.met.K.Eq.laws)
+
+pub returns-clause-records : goal.returns-clause-records
+returns-clause-records g c = rw (← c.self.view_is) (record-placed _ _ _ _ c.self.invariant.tied)
+
+pub returns-clause-members : goal.returns-clause-members
+returns-clause-members g c = rw (← c.self.view_is) (member-placed _ _ _ _ c.self.invariant.tied)
