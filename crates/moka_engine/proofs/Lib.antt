@@ -1,12 +1,1 @@
 pub mod ValuesLemmas
-pub mod Rows
-pub mod Queues
-pub mod Applied
-pub mod Evictions
-pub mod Turns
-pub mod Settled
-pub mod CacheSteps
-pub mod CacheReturns
-pub mod RecordsLeft
-pub mod InnerLemmas
-pub mod QueuesApplied

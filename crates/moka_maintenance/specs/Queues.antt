@@ -1,5 +1,5 @@
 -- What applying the queued operations makes of a store, and what the listener is told.
-use Rattle.std.specs.Prelude.{◌≡◌, ℕ, List, Option, Contains, Some, None}
+use Rattle.std.specs.Prelude.{◌≡◌, ◌≢◌, ℕ, List, Option, Contains, Some, None}
 use Rattle.std.specs.FinMap.{get}
 use Rattle.moka_parts.specs.declared.notification.RemovalCause.{RemovalCause}
 use Rattle.moka_parts.specs.declared.policy.EvictionPolicy.{EvictionPolicy}
@@ -25,6 +25,10 @@ module _ {K V L : Type 0} (tells : L → K → V → RemovalCause → L → Type
     pub may : AreAllMoves capacity policy before os moves
     pub led : after ≡ after_writes capacity policy before os moves
     pub told : Told tells l (left_by_writes capacity policy before os moves) m
+
+-- a number that has kept its row without a record had no record before, and the operation is no removal of it
+abbrev pub LeavesNoRowAfter : {K V : Type 0} → Operation → Kept K V → Kept K V → Type 0
+LeavesNoRowAfter o old new = (n p : ℕ) → get new.places n ≡ Some p → get new.records n ≡ None → (get old.records n ≡ None) × ((generation : ℕ) → o ≢ Removal n generation)
 
 -- a number that has kept its row without a record had no record before, and no removal of it was among the operations
 abbrev pub LeavesNoRowBy : {K V : Type 0} → List Ticketed → Kept K V → Kept K V → Type 0
