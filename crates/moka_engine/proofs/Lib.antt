@@ -1,1 +1,4 @@
 pub mod ValuesLemmas
+pub mod Fewer
+pub mod InnerLemmas
+pub mod InnerRuns

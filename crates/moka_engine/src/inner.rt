@@ -259,15 +259,14 @@ impl<K: Eq + Hash, V, S: BuildHasher> Inner<K, V, S> {
           writes = self.old.writes ++ record { ticket = ticket.0; operation = o } ∷ [];
           operation_room = self.new.operation_room;
         })) }
-        ensures err { OnErr result (self.new ≡ self.old) }
+        ensures err { OnErr result (self.new ≡ record self.old { operation_room = self.new.operation_room }) }
     {
         let ticket = ticket.0;
         if self.writes.is_full() {
-            return Err(if self.outstanding.contains(ticket) {
-                SendError::QueueFull
-            } else {
-                SendError::UnknownTicket
-            });
+            if self.outstanding.contains(ticket) {
+                return Err(SendError::QueueFull);
+            }
+            return Err(SendError::UnknownTicket);
         }
         let Some(write) = self.outstanding.take(ticket) else {
             return Err(SendError::UnknownTicket);

@@ -1,0 +1,16 @@
+use Rattle.std.proofs.Common.{◌+◌, ap}
+use Rattle.moka_store.specs.Store.{Kept}
+use Rattle.moka_engine.proofs.InnerLemmas.{read_at}
+use Rattle.moka_engine.proofs.InnerRuns.{inner-applied}
+use Rattle.moka_engine.proofs.inner.Inner.apply_queues.Goals as goal
+
+pub apply_reads-requires : goal.apply_reads-requires
+apply_reads-requires g c = λ q there. read_at c.self.inside.store.places c.self.inside.next_number q.place q.read (c.self.invariant.located.seen q there)
+
+pub invariant_of-self : goal.invariant_of-self
+invariant_of-self g c =
+    let rest = c.apply_reads.ensures.rest in
+    rw (c.apply_writes.ensures.writes, c.apply_reads.ensures.reads)
+    (inner-applied g.L.Listener.tells c.self.inside.store c.apply_writes.new.store c.self.inside.outstanding c.self.inside.writes c.self.inside.reads (c.self.inside.last_ticket + 1) c.self.inside.next_number c.self.invariant c.args.notifier.now c.apply_writes.new.notifier
+    c.args.capacity c.args.policy c.apply_reads.new.store (ap (λ (k : Kept g.row.K.Denot g.row.V.Denot). k.records) rest) (ap (λ (k : Kept g.row.K.Denot g.row.V.Denot). k.places) rest)
+    c.apply_writes.ensures.applied c.apply_writes.ensures.places c.apply_writes.ensures.rows)
