@@ -92,12 +92,12 @@ impl<
 
     ghost coded = { Prim.hlevel (codes, finite.code, coded_ℕ, K.code, V.code, S.code, X.code, L.code, P.code, W.code) };
 
+    // The write list is not kept: that is for times to live and predicates, which no cache has today.
     ghost view = { λ c. record {
       name = option_map string_bytes c.name;
       hasher = c.build_hasher;
       state = state_of c.inner c.valid_after c.predicates.items c.entry_count c.weighted_size c.housekeeper c.max_capacity (settings_of c.eviction_policy c.expiration_policy c.weigher c.invalidator_enabled c.housekeeper);
       listener = c.notifier;
-      // The order of writing is kept for times to live and predicates, which no cache has today.
       write_list = [];
       passes = c.passes;
     } };
