@@ -2,3 +2,8 @@ pub mod ValuesLemmas
 pub mod Fewer
 pub mod InnerLemmas
 pub mod InnerRuns
+pub mod CacheSteps
+pub mod SendSteps
+pub mod InsertSteps
+pub mod RemoveSteps
+pub mod GetSteps

@@ -8,6 +8,7 @@ use Rattle.moka_parts.specs.declared.records.Record.{Record}
 use Rattle.moka_parts.specs.declared.records.Registered.{Registered}
 use Rattle.moka_parts.specs.Housekeeper.{Keeper}
 use Rattle.moka_parts.specs.Policy.{Expirations}
+use Rattle.moka_parts.specs.Records.{Records}
 use Rattle.moka_parts.specs.Settling.{IsValid}
 use Rattle.moka_parts.specs.State.{State, Settings}
 use Rattle.moka_parts.specs.Time.{has_passed, is_before, deadline, moment_of}
@@ -57,6 +58,10 @@ abbrev pub IsLruWhereBounded : Option ℕ → EvictionPolicy → Type 0
 IsLruWhereBounded None policy = ⊤
 IsLruWhereBounded (Some capacity) policy = (capacity ≡ 0) ⊎ (policy ≡ Lru)
 
+-- no record has an expiry of its own
+abbrev pub NoneExpires : {K V : Type 0} → Records K V → Type 0
+NoneExpires records = (n : ℕ) (r : Record _ _) → get records n ≡ Some r → r.expires ≡ None
+
 -- the settings are such as a cache can have today, no run starts by itself, and no record has an expiry of its own
 pub record IsServed {K V X P W : Type 0} (s : State K V X P W) : Type 0 where
   pub bounded : IsLruWhereBounded s.capacity s.settings.policy
@@ -66,7 +71,7 @@ pub record IsServed {K V X P W : Type 0} (s : State K V X P W) : Type 0 where
   pub no_invalidator : s.settings.invalidator ≡ false
   pub finished : s.housekeeping.more ≡ false
   pub asked : s.housekeeping.automatic ≡ false
-  pub unexpiring : (n : ℕ) (r : Record K V) → get s.records n ≡ Some r → r.expires ≡ None
+  pub unexpiring : NoneExpires s.records
 
 -- the state is a valid one, and the settings listen exactly where a listener is set
 pub record IsCache {K V X L P W : Type 0} (eq : K → K → Bool) (listener : Option L) (s : State K V X P W) : Type 0 where

@@ -504,7 +504,9 @@ impl<
             self.inner.queue_read(0, ReadOperation::Miss { hash });
             return Ok(None);
         };
-        let entry = gets::entry_of(found, need_key)?;
+        let Ok(entry) = gets::entry_of(found, need_key) else {
+            return Err(OutOfMemory);
+        };
         let (hash, expires) = (found.hash, found.expires);
         let Handle { number, place } = handle;
         let renewed = false;

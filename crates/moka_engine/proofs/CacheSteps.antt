@@ -1,0 +1,79 @@
+-- A cache whose inner part changed: its state, what always holds of it, and what nobody was told.
+use Rattle.std.proofs.Common.{◌≡◌, refl, ℕ, Bool, true, false, List, [], ◌⊎◌, inl, inr, Option, Some, None, is_some, ap, sym, subst, ◌∙◌}
+use Rattle.std.specs.FinMap.{get, insert, remove}
+use Rattle.moka_parts.specs.declared.notification.RemovalCause.{RemovalCause}
+use Rattle.moka_parts.specs.declared.records.Record.{Record}
+use Rattle.moka_parts.specs.Calls.{no_events}
+use Rattle.moka_parts.specs.Records.{Notice, Records}
+use Rattle.moka_parts.specs.Runs.{Cache, Befalls}
+use Rattle.moka_parts.specs.Settling.{IsValid}
+use Rattle.moka_parts.specs.State.{State}
+use Rattle.moka_parts.specs.Surroundings.{Heard}
+use Rattle.moka_store.proofs.Gets.{after_insert, after_remove}
+use Rattle.moka_engine.specs.BaseCache.{IsCache, IsServed, NoneExpires}
+use Rattle.moka_engine.specs.Interior.{Interior}
+
+-- the state with this inner part
+abbrev pub with_inner : {K V X P W : Type 0} → State K V X P W → Interior K V → State K V X P W
+with_inner s i = record s { records = i.kept.records; outstanding = i.outstanding; writes = i.writes; reads = i.reads; access = i.kept.access; next_ticket = i.next_ticket; next_number = i.next_number }
+
+-- the inner part with no room
+abbrev pub without_room : {K V : Type 0} → Interior K V → Interior K V
+without_room i = record i { kept = record i.kept { room = 0 }; operation_room = 0 }
+
+-- room is nothing that the state has
+pub inside-roomier : {K V X P W : Type 0} (s : State K V X P W) (i j : Interior K V) → with_inner s i ≡ s → without_room j ≡ without_room i → with_inner s j ≡ s
+inside-roomier s i j inside same = ap (with_inner s) same ∙ inside
+
+-- ---- the listener
+
+module _ {K V L : Type 0} (tells : L → K → V → RemovalCause → L → Type 0) where
+  -- who is told nothing stays the same
+  pub nothing_heard : (l : Option L) → Heard tells l [] l
+  nothing_heard None = refl
+  nothing_heard (Some l) = refl
+
+  -- a listener stays set
+  pub still_set : (l m : Option L) (ns : List (Notice K V)) → Heard tells l ns m → is_some m ≡ is_some l
+  still_set None None ns h = refl
+  still_set (Some l) (Some m) ns h = refl
+  still_set None (Some m) ns h = absurd h
+  still_set (Some l) None ns h = absurd h
+
+-- a call that tells nothing changes the state alone
+pub befalls-quietly : {K V S X L P W : Type 0} (tells : L → K → V → RemovalCause → L → Type 0) (c : Cache K V S X L P W) (t : State K V X P W) → Befalls tells no_events c (record c { state = t })
+befalls-quietly tells c t = record { kept = refl; heard = nothing_heard tells c.listener; passes = refl }
+
+-- ---- expiries
+
+module _ {K V : Type 0} (records : Records K V) (none : NoneExpires records) where
+  -- a record without an expiry is put in
+  pub unexpiring-inserted : (n : ℕ) (r : Record K V) → r.expires ≡ None → NoneExpires (insert records n r)
+  unexpiring-inserted n r lasts k q there = elim (after_insert records n r k q there) [
+    | inl new ↦ ap (λ (x : Record K V). x.expires) new.1 ∙ lasts
+    | inr old ↦ none k q old.1
+  ]
+
+  -- a record is taken out
+  pub unexpiring-removed : (n : ℕ) → NoneExpires (remove records n)
+  unexpiring-removed n k q there = none k q (after_remove records n k q there).1
+
+-- ---- what always holds
+
+module _ {K V X L P W : Type 0} {eq : K → K → Bool} {l : Option L} {s : State K V X P W} (h : IsCache eq l s) where
+  -- another inner part, whose records do not expire either, and whoever listens
+  pub cache-inner : (m : Option L) (j : Interior K V) → is_some m ≡ is_some l → IsValid eq (with_inner s j) → NoneExpires j.kept.records → IsCache eq m (with_inner s j)
+  cache-inner m j same valid none = record {
+    valid = valid;
+    served = record {
+      bounded = h.served.bounded;
+      no_live = h.served.no_live;
+      no_expiry = h.served.no_expiry;
+      no_predicates = h.served.no_predicates;
+      no_invalidator = h.served.no_invalidator;
+      finished = h.served.finished;
+      asked = h.served.asked;
+      unexpiring = none;
+    };
+    listens = h.listens ∙ sym same;
+  }
