@@ -1,5 +1,0 @@
-//! Maintenance of a cache: queued reads and writes are applied, and what has expired or exceeds the capacity is removed.
-#![tactic(auto)]
-
-pub mod queued;
-pub mod sweep;
