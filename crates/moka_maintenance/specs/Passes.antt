@@ -1,15 +1,18 @@
 -- Passes of the steps that remove, and the clock between them.
-use Rattle.std.specs.Prelude.{◌≡◌, ℕ, ◌+◌, ◌-◌, nat_le, Bool, true, false, ◌||◌, ◌≤◌, ◌⊎◌, List, [], length, Option, Some, None, is_some, if◌then◌else◌}
+use Rattle.std.specs.Prelude.{◌≡◌, ℕ, ◌+◌, ◌-◌, ◌*◌, nat_le, Bool, true, false, ◌||◌, ◌≤◌, ◌⊎◌, List, [], length, Option, Some, None, is_some, if◌then◌else◌}
 use Rattle.std.specs.List.{list_all}
 use Rattle.moka_parts.specs.declared.notification.RemovalCause.{RemovalCause}
 use Rattle.moka_parts.specs.declared.policy.Instant.{Instant}
+use Rattle.moka_parts.specs.declared.records.Member.{Member}
 use Rattle.moka_parts.specs.State.{Contents}
 use Rattle.moka_parts.specs.Surroundings.{Leads}
 use Rattle.moka_parts.specs.Exact.{IsWithin}
 use Rattle.moka_parts.specs.Maintenance.{is_over, is_late}
 use Rattle.moka_parts.specs.Bounds.{removed_by}
 use Rattle.moka_maintenance.specs.declared.sweep.Tests.{Tests}
-use Rattle.moka_maintenance.specs.Steps.{MayStep, HasUnsettled, IsStepped, makes_room}
+use Rattle.moka_maintenance.specs.declared.sweep.Sweep.{Sweep}
+use Rattle.moka_maintenance.specs.declared.sweep.Sweep.TheVariants.{Read, Surplus}
+use Rattle.moka_maintenance.specs.Steps.{MayStep, HasUnsettled, HasNoSettled, IsStepped, makes_room}
 use Rattle.moka_maintenance.specs.Sweeps.{tests_in}
 
 module _ {C : Type 0} (reads : C → Instant → C → Type 0) where
@@ -28,13 +31,23 @@ module _ {C : Type 0} (reads : C → Instant → C → Type 0) where
 abbrev pub sweeps_reads : Tests → Bool
 sweeps_reads q = is_some q.time_to_idle || is_some q.valid_after
 
+-- the step is taken
+abbrev pub is_taken : Tests → Sweep → List Member → Bool
+is_taken q Read access = sweeps_reads q
+is_taken q Surplus access = is_over q.capacity access
+
 module _ {K V L : Type 0} (tells : L → K → V → RemovalCause → L → Type 0) (q : Tests) where
   -- one pass: what it removed, and whether it left more
   pub record IsPass (batch : ℕ) (before after : Contents K V) (l m : Option L) (removed : ℕ) (left : Bool) : Type 0 where
     pub by : IsStepped tells (MayStep (tests_in q)) before after l m
     pub count : removed ≡ length (removed_by by.steps)
     pub more : left ≡ true → 1 ≤ batch → 1 ≤ removed
+    -- it removed a batch, where all its steps make room
+    pub batch_used : left ≡ true → 1 ≤ removed → list_all makes_room by.steps ≡ true → removed ≡ batch
     pub rest : left ≡ false → HasUnsettled after ⊎ IsWithin q.capacity after.access
+    -- unsettled members are passed over up to the last turn
+    pub turned : left ≡ true → batch ≤ length by.steps
+    pub used : left ≡ false → IsWithin q.capacity after.access ⊎ (HasNoSettled after ⊎ (batch ≤ length by.steps))
     -- with a batch of 0 nothing is done, and more is left wherever a sweep is made
     pub idle : batch ≡ 0 → (after ≡ before) × (left ≡ (sweeps_reads q || is_over q.capacity after.access))
 
@@ -53,6 +66,8 @@ module _ {K V L : Type 0} (tells : L → K → V → RemovalCause → L → Type
       -- each pass of a run that was cut removed a record
       pub removing : is_late limit readings ≡ true → passes ≤ length (removed_by by.steps)
       pub rest : left ≡ false → HasUnsettled after ⊎ IsWithin q.capacity after.access
+      -- unsettled members are passed over up to the last turn of each pass
+      pub used : left ≡ false → IsWithin q.capacity after.access ⊎ (HasNoSettled after ⊎ (passes * batch ≤ length by.steps))
       -- with a batch of 0 nothing is done, and more is left wherever a sweep is made
       pub idle : batch ≡ 0 → (after ≡ before) × (left ≡ (sweeps_reads q || is_over q.capacity after.access))
       -- one that was cut after its first pass, all of whose steps make room, removed a batch

@@ -1,5 +1,5 @@
 -- Operations and reads that wait, with the places of their records' rows.
-use Rattle.std.specs.Prelude.{◌≡◌, ℕ, ◌<◌, List, map, Some}
+use Rattle.std.specs.Prelude.{◌≡◌, ℕ, List, map, Some}
 use Rattle.std.specs.FinMap.{FinMap, get}
 use Rattle.std.specs.Ordering.{nat_cmp}
 use Rattle.moka_parts.specs.declared.records.ReadOperation.{ReadOperation}

@@ -5,7 +5,7 @@ use Rattle.std.specs.Ordering.{nat_cmp}
 use Rattle.moka_parts.specs.declared.notification.RemovalCause.{RemovalCause}
 use Rattle.moka_parts.specs.declared.notification.RemovalCause.TheVariants.{Expired, Explicit, Replaced, Size}
 use Rattle.moka_parts.specs.declared.records.Record.{Record}
-use Rattle.moka_parts.specs.Records.{Notice, when_listening, is_member, is_settled}
+use Rattle.moka_parts.specs.Records.{Notice, when_listening, is_member, is_settled, settled_members}
 use Rattle.moka_parts.specs.State.{Contents}
 use Rattle.moka_parts.specs.Surroundings.{Heard}
 use Rattle.moka_parts.specs.Maintenance.{Choice, Removes, MovesToBack, Drops, Tests, HasGround, after_choices, left_by_choices, after_choice}
@@ -41,20 +41,18 @@ module _ {K V : Type 0} where
     pub is_in : is_member number c.access ≡ true
     pub unsettled : is_settled c.records number ≡ false
 
--- the cause is not want of room
+  -- no member is settled
+  abbrev pub HasNoSettled : Contents K V → Type 0
+  HasNoSettled c = settled_members c.records c.access ≡ []
+
+-- the cause is not that the capacity is exceeded
 abbrev pub is_timely : RemovalCause → Bool
 is_timely Expired = true
 is_timely Explicit = true
 is_timely Replaced = true
 is_timely Size = false
 
--- the step removes nothing for want of room
-abbrev pub is_timely_step : Choice → Bool
-is_timely_step (Removes n cause) = is_timely cause
-is_timely_step (MovesToBack n) = true
-is_timely_step (Drops i) = true
-
--- the step removes a record for want of room
+-- the step removes a record since the capacity is exceeded
 abbrev pub makes_room : Choice → Bool
 makes_room (Removes n cause) = not (is_timely cause)
 makes_room (MovesToBack n) = false

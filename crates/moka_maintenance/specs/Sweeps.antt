@@ -1,19 +1,21 @@
--- Sweeps along the orders of a store.
-use Rattle.std.specs.Prelude.{◌≡◌, ℕ, Bool, true, false, ◌&&◌, ◌≤◌, ◌<◌, ◌⊎◌, ⊤, List, length, Option, option_map}
-use Rattle.std.specs.List.{list_all}
+-- Sweeps along the access list.
+use Rattle.std.specs.Prelude.{◌≡◌, ℕ, ◌+◌, ◌*◌, Bool, true, false, ◌&&◌, ◌≤◌, ◌⊎◌, List, length, Option, Some, option_map}
 use Rattle.std.specs.Duration.{as_nanos}
+use Rattle.std.specs.FinMap.{get}
 use Rattle.moka_parts.specs.declared.notification.RemovalCause.{RemovalCause}
+use Rattle.moka_parts.specs.declared.records.Record.{Record}
 use Rattle.moka_parts.specs.State.{Contents}
 use Rattle.moka_parts.specs.Exact.{IsWithin}
+use Rattle.moka_parts.specs.Visibility.{is_read_before}
 use Rattle.moka_parts.specs.Maintenance as parts
-use Rattle.moka_parts.specs.Maintenance.{Choice, Removes, MovesToBack, is_front, is_over, after_choice, left_by_choice}
+use Rattle.moka_parts.specs.Maintenance.{Choice, Removes, MovesToBack, Drops, is_front, is_over, is_past_read, after_choice, left_by_choice}
 use Rattle.moka_parts.specs.Bounds.{removed_by}
 use Rattle.moka_maintenance.specs.declared.sweep.Tests.{Tests}
 use Rattle.moka_maintenance.specs.declared.sweep.Sweep.{Sweep}
 use Rattle.moka_maintenance.specs.declared.sweep.Sweep.TheVariants.{Read, Surplus}
 use Rattle.moka_maintenance.specs.declared.sweep.Turn.{Turn}
 use Rattle.moka_maintenance.specs.declared.sweep.Turn.TheVariants.{Removed, Passed, Ended}
-use Rattle.moka_maintenance.specs.Steps.{MayStep, HasUnsettled, IsStepped, Told, is_timely, is_timely_step}
+use Rattle.moka_maintenance.specs.Steps.{MayStep, HasUnsettled, HasNoSettled, IsStepped, Told, is_timely}
 
 -- the reference cache's tests of these
 abbrev pub tests_in : Tests → parts.Tests
@@ -30,26 +32,37 @@ module _ {K V : Type 0} (q : Tests) where
   IsNext Read c n = is_front n c.access ≡ true
   IsNext Surplus c n = (is_front n c.access && is_over q.capacity c.access) ≡ true
 
-  -- the front of the order is none that the sweep removes
+  -- the front is none that the sweep removes
   abbrev pub IsAtRest : Sweep → Contents K V → Type 0
-  IsAtRest Read c = ⊤
+  IsAtRest Read c = (n : ℕ) (r : Record K V) → is_front n c.access ≡ true → get c.records n ≡ Some r → (is_past_read (tests_in q) r ≡ false) × (is_read_before q.valid_after r ≡ false)
   IsAtRest Surplus c = IsWithin q.capacity c.access
+
+  -- the step may be a turn of the sweep
+  abbrev pub MayTurn : Sweep → Contents K V → Choice → Type 0
+  MayTurn sweep c (Removes n cause) = IsNext sweep c n × MayStep (tests_in q) c (Removes n cause) × (is_by_moment sweep ≡ true → is_timely cause ≡ true)
+  MayTurn sweep c (MovesToBack n) = IsNext sweep c n × MayStep (tests_in q) c (MovesToBack n)
+  MayTurn sweep c (Drops i) = ⊥
+
+  -- so many turns are all of the batch, but for whole rounds over members none of which is settled
+  abbrev pub AreAllTurns : ℕ → ℕ → Contents K V → Type 0
+  AreAllTurns batch turns c = (rounds : ℕ) × (turns + rounds * length c.access ≡ batch) × ((rounds ≡ 0) ⊎ HasNoSettled c)
 
 module _ {K V L : Type 0} (tells : L → K → V → RemovalCause → L → Type 0) (q : Tests) where
   -- one turn of a sweep
   abbrev pub TakesTurn : Sweep → Contents K V → Contents K V → Option L → Option L → Turn → Type 0
-  TakesTurn sweep before after l m Removed = (n : ℕ) × (cause : RemovalCause) × MayStep (tests_in q) before (Removes n cause) × (is_by_moment sweep ≡ true → is_timely cause ≡ true) × (after ≡ after_choice before (Removes n cause)) × Told tells l (left_by_choice before (Removes n cause)) m
-  TakesTurn sweep before after l m Passed = (n : ℕ) × MayStep (tests_in q) before (MovesToBack n) × (after ≡ after_choice before (MovesToBack n)) × (m ≡ l)
+  TakesTurn sweep before after l m Removed = (n : ℕ) × (cause : RemovalCause) × MayTurn q sweep before (Removes n cause) × (after ≡ after_choice before (Removes n cause)) × Told tells l (left_by_choice before (Removes n cause)) m
+  TakesTurn sweep before after l m Passed = (n : ℕ) × MayTurn q sweep before (MovesToBack n) × (after ≡ after_choice before (MovesToBack n)) × (m ≡ l)
   TakesTurn sweep before after l m Ended = IsAtRest q sweep before × (after ≡ before) × (m ≡ l)
 
   -- a sweep of so many turns: what it removed, and whether it left more
   pub record IsSwept (sweep : Sweep) (batch : ℕ) (before after : Contents K V) (l m : Option L) (removed : ℕ) (left : Bool) : Type 0 where
-    pub by : IsStepped tells (MayStep (tests_in q)) before after l m
+    pub by : IsStepped tells (MayTurn q sweep) before after l m
+    pub few : length by.steps ≤ batch
+    -- it makes all its turns, or comes to rest
+    pub turns : AreAllTurns q batch (length by.steps) after ⊎ IsAtRest q sweep after
     pub count : removed ≡ length (removed_by by.steps)
-    pub most : removed ≤ batch
-    -- each of all its turns removed a record
+    -- it leaves more where each of all its turns removed a record
     pub full : left ≡ true → removed ≡ batch
-    -- it came to rest, or met an unsettled member
+    pub more : removed ≡ batch → 1 ≤ batch → left ≡ true
+    -- else it came to rest, or met an unsettled member
     pub rest : left ≡ false → HasUnsettled after ⊎ IsAtRest q sweep after
-    -- one by moments removes nothing for want of room
-    pub timely : is_by_moment sweep ≡ true → list_all is_timely_step by.steps ≡ true

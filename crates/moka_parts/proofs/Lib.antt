@@ -7,15 +7,18 @@ pub mod Consistent
 pub mod Applied
 pub mod RunKeepsSound
 pub mod AtEnd
+pub mod RunReturns
 pub mod Rising
 pub mod CallsKeep
 pub mod StepsKeep
 pub mod Promises
+pub mod SettingsStay
 pub mod Surplus
 pub mod OneMore
 pub mod Conserved
 pub mod ConservedCalls
-pub mod Laws
+pub mod Quiet
+pub mod Dropped
 pub mod StaysHidden
 pub mod Examples
 pub mod WriteExamples
@@ -26,3 +29,4 @@ pub mod Lookup
 pub mod Contained
 pub mod Admission
 pub mod RunsGoOn
+pub mod ListsOfCalls

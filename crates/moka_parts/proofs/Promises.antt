@@ -11,34 +11,36 @@ use Rattle.moka_parts.specs.declared.calls.Reply.{Reply}
 use Rattle.moka_parts.specs.declared.calls.Reply.TheVariants as reply
 use Rattle.moka_parts.specs.Housekeeping.{is_due}
 use Rattle.moka_parts.specs.Records.{Notice, record_of_key}
-use Rattle.moka_parts.specs.State.{State, Meaning, Events, is_disabled}
+use Rattle.moka_parts.specs.State.{State, Settings, Meaning, Events, is_disabled}
 use Rattle.moka_parts.specs.Maintenance.{Terms, Course, MaintenanceRun}
 use Rattle.moka_parts.specs.Calls.{after_hit, hit_at, hit_operation, RunStep, KeeperRun, RunsIfDue, Unchanged, RecordsRead, GetsAt, GetStep}
-use Rattle.moka_parts.specs.Runs.{CallStep, Step, Cache, AreSteps, MakesCalls, ReferenceRun, PromisedRun, Drives}
+use Rattle.moka_parts.specs.Runs.{CallStep, Step, Cache, AreSteps, MakesCalls, PromisedRun}
+use Rattle.moka_parts.specs.Laws.{IsOfReference}
 use Rattle.moka_parts.proofs.RunsGoOn.{promised_is_run}
 
-module _ {K V X L P W C I : Type 0} (m : Meaning K V X L P W C I) (More Less : State K V X P W → Terms → Course → List (Notice K V) → State K V X P W → Type 0)
-    (weaker : (s : State K V X P W) (terms : Terms) (course : Course) (notices : List (Notice K V)) (t : State K V X P W) → More s terms course notices t → Less s terms course notices t) where
-  weaker_run : (s t : State K V X P W) (terms : Terms) (answer : Bool) (e : Events K V) → RunStep More s terms answer e t → RunStep Less s terms answer e t
-  weaker_run s t terms answer e (course, run, same, events) = (course, weaker s terms course e.notices t run, same, events)
+-- where runs by settings of a kind that promise more also promise less
+module _ {K V X L P W C I : Type 0} (m : Meaning K V X L P W C I) (Kind : Settings X W → Type 0) (More Less : State K V X P W → Terms → Course → List (Notice K V) → State K V X P W → Type 0)
+    (weaker : (s : State K V X P W) (terms : Terms) (course : Course) (notices : List (Notice K V)) (t : State K V X P W) → Kind s.settings → More s terms course notices t → Less s terms course notices t) where
+  weaker_run : (s t : State K V X P W) (terms : Terms) (answer : Bool) (e : Events K V) → Kind s.settings → RunStep More s terms answer e t → RunStep Less s terms answer e t
+  weaker_run s t terms answer e kind (course, run, same, events) = (course, weaker s terms course e.notices t kind run, same, events)
 
-  weaker_due : (s t : State K V X P W) (queued now : ℕ) (e : Events K V) → RunsIfDue More s queued now e t → RunsIfDue Less s queued now e t
-  weaker_due s t queued now e step = go (is_due s.housekeeping queued now) step
+  weaker_due : (s t : State K V X P W) (queued now : ℕ) (e : Events K V) → Kind s.settings → RunsIfDue More s queued now e t → RunsIfDue Less s queued now e t
+  weaker_due s t queued now e kind step = go (is_due s.housekeeping queued now) step
     where
       go : (b : Bool) → MatchBool b (KeeperRun More s now e t) (Unchanged s e t) → MatchBool b (KeeperRun Less s now e t) (Unchanged s e t)
-      go true (answer, mid, run, same) = (answer, mid, weaker_run s mid _ answer e run, same)
+      go true (answer, mid, run, same) = (answer, mid, weaker_run s mid _ answer e kind run, same)
       go false step = step
 
-  weaker_recorded : (s t : State K V X P W) (now : ℕ) (r : ReadOperation) (e : Events K V) → RecordsRead More s now r e t → RecordsRead Less s now r e t
-  weaker_recorded s t now r e (mid, run, same) = (mid, weaker_due s mid _ now e run, same)
+  weaker_recorded : (s t : State K V X P W) (now : ℕ) (r : ReadOperation) (e : Events K V) → Kind s.settings → RecordsRead More s now r e t → RecordsRead Less s now r e t
+  weaker_recorded s t now r e kind (mid, run, same) = (mid, weaker_due s mid _ now e kind run, same)
 
-  weaker_get : (s t : State K V X P W) (key : K) (hash : ℕ) (need_key ignored : Bool) (now : ℕ) (a : Result (Option (Entry K V)) OutOfMemory) (e : Events K V) → GetStep m.says m.read More m.eq s key hash need_key ignored now a e t → GetStep m.says m.read Less m.eq s key hash need_key ignored now a e t
-  weaker_get s t key hash need_key ignored now a e step = go (is_disabled s.capacity) step
+  weaker_get : (s t : State K V X P W) (key : K) (hash : ℕ) (need_key ignored : Bool) (now : ℕ) (a : Result (Option (Entry K V)) OutOfMemory) (e : Events K V) → Kind s.settings → GetStep m.says m.read More m.eq s key hash need_key ignored now a e t → GetStep m.says m.read Less m.eq s key hash need_key ignored now a e t
+  weaker_get s t key hash need_key ignored now a e kind step = go (is_disabled s.capacity) step
     where
       at : (o : Option (Record K V)) (a : Result (Option (Entry K V)) OutOfMemory) → GetsAt m.says m.read More s o hash need_key ignored now a e t → GetsAt m.says m.read Less s o hash need_key ignored now a e t
-      at None a (none, recorded) = (none, weaker_recorded s t now (Miss hash) e recorded)
-      at (Some r) (Ok None) (missed, recorded) = (missed, weaker_recorded s t now (Miss hash) e recorded)
-      at (Some r) (Ok (Some entry)) (hit, value, k, recorded) = (hit, value, k, weaker_recorded (after_hit m.read s r now) t (hit_at m.read s r now) (hit_operation m.read s r now) e recorded)
+      at None a (none, recorded) = (none, weaker_recorded s t now (Miss hash) e kind recorded)
+      at (Some r) (Ok None) (missed, recorded) = (missed, weaker_recorded s t now (Miss hash) e kind recorded)
+      at (Some r) (Ok (Some entry)) (hit, value, k, recorded) = (hit, value, k, weaker_recorded (after_hit m.read s r now) t (hit_at m.read s r now) (hit_operation m.read s r now) e kind recorded)
       at (Some r) (Err x) step = step
 
       go : (b : Bool) → MatchBool b ((a ≡ Ok None) × Unchanged s e t) (GetsAt m.says m.read More s (record_of_key m.eq s.records key) hash need_key ignored now a e t) → MatchBool b ((a ≡ Ok None) × Unchanged s e t) (GetsAt m.says m.read Less s (record_of_key m.eq s.records key) hash need_key ignored now a e t)
@@ -46,33 +48,39 @@ module _ {K V X L P W C I : Type 0} (m : Meaning K V X L P W C I) (More Less : S
       go false step = at (record_of_key m.eq s.records key) a step
 
   -- one call
-  pub weaker_call : (s t : State K V X P W) (c : Call K V P) (r : Reply K V P) (e : Events K V) → CallStep m More s c r e t → CallStep m Less s c r e t
-  weaker_call s t (call.Insert key hash value now) (reply.Insert a) e step = step
-  weaker_call s t (call.Insert key hash value now) (reply.Disabled k v) e step = step
-  weaker_call s t (call.Send ticket) (reply.Send a) e step = step
-  weaker_call s t (call.Get key hash need_key now) (reply.Get a) e step = weaker_get s t key hash need_key false now.0 a e step
-  weaker_call s t (call.GetUnrecorded key hash now) (reply.GetUnrecorded a) e step = step
-  weaker_call s t (call.Contains key hash now) (reply.Contains shown) e step = step
-  weaker_call s t (call.Key key hash) (reply.Key a) e step = step
-  weaker_call s t (call.Scan key now) (reply.Scan a) e step = step
-  weaker_call s t (call.Remove key hash now) (reply.Remove removed told) e step = step
-  weaker_call s t (call.InvalidateAll now) reply.InvalidateAll e step = step
-  weaker_call s t (call.InvalidateIf predicate now) (reply.InvalidateIf a) e step = step
-  weaker_call s t (call.Run now limit repeats batch) (reply.Run more) e step = weaker_run s t _ more e step
-  weaker_call s t (call.RunIfDue now) reply.RunIfDue e step = weaker_due s t _ now.0 e step
-  weaker_call s t call.DisableAutoRun reply.DisableAutoRun e step = step
-  weaker_call s t (call.Keys segment) (reply.Keys (Ok (Some keys))) e step = step
-  weaker_call s t (call.Keys segment) (reply.Keys (Ok None)) e step = step
-  weaker_call s t (call.Keys segment) (reply.Keys (Err refused)) e step = step
-  weaker_call s t call.Report (reply.Report count weight predicates) e step = step
-  weaker_call s t call.Pending (reply.Pending handed oldest writes reads) e step = step
-  weaker_call s t (call.SetCapacity capacity) (reply.SetCapacity a) e step = step
-  weaker_call s t c r e step = absurd step
+  pub weaker_call : (s t : State K V X P W) (c : Call K V P) (r : Reply K V P) (e : Events K V) → Kind s.settings → CallStep m More s c r e t → CallStep m Less s c r e t
+  weaker_call s t (call.Insert key hash value now) (reply.Insert a) e kind step = step
+  weaker_call s t (call.Insert key hash value now) (reply.Disabled k v) e kind step = step
+  weaker_call s t (call.Send ticket) (reply.Send a) e kind step = step
+  weaker_call s t (call.Get key hash need_key now) (reply.Get a) e kind step = weaker_get s t key hash need_key false now.0 a e kind step
+  weaker_call s t (call.GetUnrecorded key hash now) (reply.GetUnrecorded a) e kind step = step
+  weaker_call s t (call.Contains key hash now) (reply.Contains shown) e kind step = step
+  weaker_call s t (call.Key key hash) (reply.Key a) e kind step = step
+  weaker_call s t (call.Scan key now) (reply.Scan a) e kind step = step
+  weaker_call s t (call.Remove key hash now) (reply.Remove removed told) e kind step = step
+  weaker_call s t (call.InvalidateAll now) reply.InvalidateAll e kind step = step
+  weaker_call s t (call.InvalidateIf predicate now) (reply.InvalidateIf a) e kind step = step
+  weaker_call s t (call.Run now limit repeats batch) (reply.Run more) e kind step = weaker_run s t _ more e kind step
+  weaker_call s t (call.RunIfDue now) reply.RunIfDue e kind step = weaker_due s t _ now.0 e kind step
+  weaker_call s t call.DisableAutoRun reply.DisableAutoRun e kind step = step
+  weaker_call s t (call.Keys segment) (reply.Keys (Ok (Some keys))) e kind step = step
+  weaker_call s t (call.Keys segment) (reply.Keys (Ok None)) e kind step = step
+  weaker_call s t (call.Keys segment) (reply.Keys (Err refused)) e kind step = step
+  weaker_call s t call.Report (reply.Report count weight predicates) e kind step = step
+  weaker_call s t call.Pending (reply.Pending handed oldest writes reads) e kind step = step
+  weaker_call s t (call.SetCapacity capacity) (reply.SetCapacity a) e kind step = step
+  weaker_call s t c r e kind step = absurd step
 
-  -- a list of calls
-  pub weaker_steps : (s : State K V X P W) (steps : List (Step K V X P W)) → AreSteps m More s steps → AreSteps m Less s steps
-  weaker_steps s [] done = done
-  weaker_steps s (x ∷ xs) (step, rest) = (weaker_call s x.after x.call x.reply x.events step, weaker_steps x.after xs rest)
+  -- a list of calls, since each leaves settings of the kind
+  pub weaker_steps_of_kind : ((s t : State K V X P W) (c : Call K V P) (r : Reply K V P) (e : Events K V) → CallStep m More s c r e t → Kind s.settings → Kind t.settings) → (s : State K V X P W) (steps : List (Step K V X P W)) → Kind s.settings → AreSteps m More s steps → AreSteps m Less s steps
+  weaker_steps_of_kind stays s [] kind done = done
+  weaker_steps_of_kind stays s (x ∷ xs) kind (step, rest) = (weaker_call s x.after x.call x.reply x.events kind step, weaker_steps_of_kind stays x.after xs (stays s x.after x.call x.reply x.events step kind) rest)
+
+-- the same of settings of every kind
+pub weaker_steps : {K V X L P W C I : Type 0} (m : Meaning K V X L P W C I) (More Less : State K V X P W → Terms → Course → List (Notice K V) → State K V X P W → Type 0)
+    (weaker : (s : State K V X P W) (terms : Terms) (course : Course) (notices : List (Notice K V)) (t : State K V X P W) → More s terms course notices t → Less s terms course notices t) →
+    (s : State K V X P W) (steps : List (Step K V X P W)) → AreSteps m More s steps → AreSteps m Less s steps
+weaker_steps m More Less weaker s steps done = weaker_steps_of_kind m (λ settings. Unit {0}) More Less (λ s terms course notices t any. weaker s terms course notices t) (λ s t c r e step any. tt) s steps tt done
 
 -- a run of a list of calls
 pub weaker_is_run : {K V S X L P W C I : Type 0} (m : Meaning K V X L P W C I) (More Less : State K V X P W → Terms → Course → List (Notice K V) → State K V X P W → Type 0)
@@ -89,8 +97,7 @@ weaker_is_run m More Less weaker calls replies steps old new clock clock_after i
   given = h.given;
 }
 
--- what `drive` does is a run of the reference cache
-pub drives_is_reference : {K V S X L P W C I : Type 0} (m : Meaning K V X L P W C I) (calls : List (Call K V P)) (replies : List (Reply K V P)) (old new : Cache K V S X L P W) (clock clock_after : C) (ids ids_after : I) →
-    (d : Drives m calls replies old clock ids new clock_after ids_after) → ReferenceRun m calls replies d.steps old clock ids new clock_after ids_after
-drives_is_reference m calls replies old new clock clock_after ids ids_after d =
-    weaker_is_run m (PromisedRun m.says m.read) (MaintenanceRun m.says) (promised_is_run m.says m.read) calls replies d.steps old new clock clock_after ids ids_after d.is_run
+-- where the runs of maintenance keep their promises, that is a run of the reference cache
+pub is_of_reference : {K V X L P W C I : Type 0} (S : Type 0) (m : Meaning K V X L P W C I) → IsOfReference S m
+is_of_reference S m calls replies steps old new clock clock_after ids ids_after h =
+    weaker_is_run m (PromisedRun m.says m.read) (MaintenanceRun m.says) (promised_is_run m.says m.read) calls replies steps old new clock clock_after ids ids_after h

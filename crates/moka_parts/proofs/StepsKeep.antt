@@ -32,6 +32,7 @@ use Rattle.moka_parts.specs.Records.{Operations, Notice, record_of_key, with_rec
 use Rattle.moka_parts.specs.State.{State, Meaning, Events, is_disabled}
 use Rattle.moka_parts.specs.Maintenance.{Terms, Course, Freedom, RunsBy, DoesNothing, MaintenanceRun, after_run}
 use Rattle.moka_parts.specs.Settling.{IsWaiting, IsWaitingIn, AreTicketed, IsValid}
+use Rattle.moka_parts.specs.Laws.{StaysValid}
 use Rattle.moka_parts.specs.Calls.{keeper_terms, RemoveStep, InvalidateStep, CapacityStep, InsertsAt, InsertStep, SendsAt, SendStep, RunStep, KeeperRun, RunsIfDue, Unchanged, RecordsRead, queueing, hit_record, after_hit, hit_at, hit_operation, PeeksAt, PeekStep, GetsAt, GetStep}
 use Rattle.moka_parts.proofs.Maps.{AreApart, same_or_apart, get_past_remove}
 use Rattle.moka_parts.proofs.Waiting.{WaitAlike, waits_sent}
@@ -243,3 +244,7 @@ module _ {K V X L P W C I : Type 0} (m : Meaning K V X L P W C I) (laws : IsEqui
   pub calls_keep : (s : State K V X P W) (steps : List (Step K V X P W)) → IsValid m.eq s → AreSteps m (MaintenanceRun m.says) s steps → IsValid m.eq (last_state s steps)
   calls_keep s [] h done = h
   calls_keep s (x ∷ xs) h (step, rest) = calls_keep x.after xs (call_keeps s x.after x.call x.reply x.events h step) rest
+
+-- the same as a law
+pub stays_valid : {K V X L P W C I : Type 0} (m : Meaning K V X L P W C I) → StaysValid m
+stays_valid m s steps laws h are = calls_keep m laws s steps h are

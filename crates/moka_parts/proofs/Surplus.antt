@@ -14,8 +14,11 @@ use Rattle.moka_parts.specs.State.{State, Contents}
 use Rattle.moka_parts.specs.Visibility.{has_lapsed, is_expired, is_past_live, is_past_idle, is_written_before, is_read_before}
 use Rattle.moka_parts.specs.Candidates.{prefix}
 use Rattle.moka_parts.specs.Exact.{IsWithin}
-use Rattle.moka_parts.specs.Maintenance.{Choice, Removes, MovesToBack, Drops, after_choice, after_choices, kept_by_choice, IsJustified, AreJustified, tests_of, is_front, is_over}
+use Rattle.moka_parts.specs.Settling.{IsConsistentState}
+use Rattle.moka_parts.specs.Maintenance.{Choice, Removes, MovesToBack, Drops, Freedom, before_steps, at_end, AreFree, after_choice, after_choices, kept_by_choice, IsJustified, AreJustified, tests_of, is_front, is_over}
 use Rattle.moka_parts.specs.Bounds.{removed_by, IsPlainSurplus}
+use Rattle.moka_parts.specs.Laws.{RemovesEnough, RemovesFirst}
+use Rattle.moka_parts.proofs.RunKeepsSound.{queues_kept}
 use Rattle.moka_parts.proofs.AccessList.{absent_taken_out}
 use Rattle.moka_parts.proofs.Counting.{front_once, rest_once}
 use Rattle.moka_parts.proofs.Maps.{AreApart, same_or_apart, itself_tested, same_by_test, get_removed, get_past_remove}
@@ -179,6 +182,18 @@ module _ {K V X P W : Type 0} (says : P → K → V → Bool → Type 0) (s : St
       less : (capacity a rest total : ℕ) → total ≡ a + rest → rest - capacity ≡ (total - capacity) - a
       less capacity a rest total e = grind (arith, e)
 
+  -- each removal is for an exceeded capacity
+  all_for_size : (test : Choice → Bool) → ((n : ℕ) → test (Removes n Size) ≡ true) → (c : Contents K V) (xs : List Choice) → IsPlain s now c → AreJustified says (tests_of s now) c [] xs → list_all test xs ≡ true
+  all_for_size test passed c [] h may = refl
+  all_for_size test passed c (x ∷ xs) h may =
+      let f = takes_front c x xs h may in
+      ap (λ y. test y && list_all test xs) f.step ∙ ap (λ b. b && list_all test xs) (passed f.first.number) ∙ all_for_size test passed (after_choice c x) xs f.plain f.may
+
+  -- it stays so through all the steps
+  still_plain : (c : Contents K V) (xs : List Choice) → IsPlain s now c → AreJustified says (tests_of s now) c [] xs → IsPlain s now (after_choices c xs)
+  still_plain c [] h may = h
+  still_plain c (x ∷ xs) h may = let f = takes_front c x xs h may in still_plain (after_choice c x) xs f.plain f.may
+
   plain_surplus : (capacity : ℕ) (c : Contents K V) → IsPlainSurplus s now capacity c → IsDistinct (◌==◌) (numbers_of c.access) → IsPlain s now c
   plain_surplus capacity c h once = record { once = once; settled = λ n there. settled_member c.records c.access n h.settled there; fresh = h.fresh }
 
@@ -193,3 +208,28 @@ module _ {K V X P W : Type 0} (says : P → K → V → Bool → Type 0) (s : St
     -- steps that remove so many remove just the first ones
     pub removed_are_first : (batch : ℕ) → length (removed_by xs) ≡ batch → removed_by xs ≡ numbers_of (take batch c.access)
     removed_are_first batch many = front_removed c xs (plain_surplus capacity c h once) none_registered ∙ ap (λ k. numbers_of (take k c.access)) many
+
+    plain : IsPlain s now c
+    plain = plain_surplus capacity c h once
+
+    -- a test that each removal for an exceeded capacity passes, all the steps pass
+    for_size_alone : (test : Choice → Bool) → ((n : ℕ) → test (Removes n Size) ≡ true) → list_all test xs ≡ true
+    for_size_alone test passed = all_for_size test passed c xs plain none_registered
+
+    -- all members that are left are settled
+    left_settled : (n : ℕ) → is_member n (after_choices c xs).access ≡ true → is_settled (after_choices c xs).records n ≡ true
+    left_settled = (still_plain c xs plain none_registered).settled
+
+module _ {K V X P W : Type 0} (says : P → K → V → Bool → Type 0) (s : State K V X P W) (now : ℕ) (ch : Freedom) where
+  -- so it is with the steps of a run
+  pub removes_enough : RemovesEnough says s now ch
+  removes_enough capacity h free plain within = surplus_is_front says s now capacity (before_steps s ch) ch.steps plain (queues_kept s ch h).once free.1 within
+
+  pub removes_first : RemovesFirst says s now ch
+  removes_first capacity many h free plain as_many = removed_are_first says s now capacity (before_steps s ch) ch.steps plain (queues_kept s ch h).once free.1 many as_many
+
+  pub removes_for_size_alone : (capacity : ℕ) → IsConsistentState s → AreFree says s now ch → IsPlainSurplus s now capacity (before_steps s ch) → (test : Choice → Bool) → ((n : ℕ) → test (Removes n Size) ≡ true) → list_all test ch.steps ≡ true
+  removes_for_size_alone capacity h free plain test passed = for_size_alone says s now capacity (before_steps s ch) ch.steps plain (queues_kept s ch h).once free.1 test passed
+
+  pub leaves_settled : (capacity : ℕ) → IsConsistentState s → AreFree says s now ch → IsPlainSurplus s now capacity (before_steps s ch) → (n : ℕ) → is_member n (at_end s ch).access ≡ true → is_settled (at_end s ch).records n ≡ true
+  leaves_settled capacity h free plain n there = left_settled says s now capacity (before_steps s ch) ch.steps plain (queues_kept s ch h).once free.1 n there

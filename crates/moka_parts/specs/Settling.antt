@@ -121,7 +121,7 @@ module _ {K V X P W : Type 0} where
   abbrev pub has_settled_member : State K V X P W → Bool
   has_settled_member s = list_any (λ a. is_settled s.records a.number) s.access
 
-  -- what a run of batch 0 leaves more: a time or an invalidation of all to test records by, or too much weight
+  -- what a run of batch 0 leaves more: a time or an invalidation of all to test records by, or an exceeded capacity
   abbrev pub leaves_more_idle : State K V X P W → Bool
   leaves_more_idle s = is_some s.settings.time_to_live || is_some s.settings.time_to_idle || is_some s.invalid_before || is_over s.capacity s.access
 

@@ -1,11 +1,11 @@
 -- What is counted for a number after a change of the access list.
-use Rattle.std.proofs.Common.{◌≡◌, ℕ, cond, not, ◌==◌, List, [], ◌∷◌, ◌++◌, Option, Some, None, inl, inr, refl, sym, ap, ◌∙◌}
+use Rattle.std.proofs.Common.{◌≡◌, ℕ, cond, not, ◌==◌, List, [], ◌∷◌, ◌++◌, Some, None, inl, inr, sym, ap, ◌∙◌}
 use Rattle.std.proofs.lemmas.Bool.{cases_eq, cases_Bool, eq-eqb, ne_eqb, cond-true, cond-false}
 use Rattle.std.proofs.lemmas.List.{append-nil}
 use Rattle.std.specs.Option.{option_map}
 use Rattle.std.specs.Prelude.{option_to_list}
 use Rattle.moka_parts.specs.declared.records.Member.{Member}
-use Rattle.moka_parts.proofs.AccessList.{absent_taken_out}
+use Rattle.moka_parts.proofs.AccessList.{absent_taken_out, counted_taken_out}
 use Rattle.moka_parts.specs.Records.{member, counted_of, without_member, to_back}
 
 module _ (n q : ℕ) where
@@ -59,10 +59,6 @@ module _ (n q : ℕ) where
         ]
   ]
 
--- a number that left is not counted
-pub counted-left : (n : ℕ) (members : List Member) → counted_of n (without_member n members) ≡ None
-counted-left n members = counted-without n n members ∙ cond-true (n == n) None (counted_of n members) (eq-eqb n n refl)
-
 module _ (n q : ℕ) where
   over : {X : Type 0} (a b c : X) → cond (q == n) a (cond (q == n) b c) ≡ cond (q == n) a c
   over a b c = elim (cases_Bool (q == n)) as (λ _. cond (q == n) a (cond (q == n) b c) ≡ cond (q == n) a c) [
@@ -73,23 +69,9 @@ module _ (n q : ℕ) where
   -- a number goes to the back with another weight
   pub counted-recounted : (weight : ℕ) (members : List Member) → counted_of q (without_member n members ++ member n weight ∷ []) ≡ cond (q == n) (Some weight) (counted_of q members)
   counted-recounted weight members =
-      counted-admitted n q weight (without_member n members) (counted-left n members)
+      counted-admitted n q weight (without_member n members) (counted_taken_out n members)
       ∙ ap (cond (q == n) (Some weight)) (counted-without n q members)
       ∙ over (Some weight) None (counted_of q members)
-
-  back : (o : Option ℕ) (members : List Member) → counted_of n members ≡ o → counted_of q (without_member n members ++ option_to_list (option_map (member n) o)) ≡ counted_of q members
-  back None members e = elim (cases_eq q n) as (λ _. counted_of q (without_member n members ++ []) ≡ counted_of q members) [
-    | inl s ↦ ap (counted_of q) (append-nil (without_member n members)) ∙ counted-without n q members ∙ cond-true (q == n) None (counted_of q members) (eq-eqb q n s) ∙ sym e ∙ ap (λ m. counted_of m members) (sym s)
-    | inr ne ↦ ap (counted_of q) (append-nil (without_member n members)) ∙ counted-without n q members ∙ cond-false (q == n) None (counted_of q members) (ne_eqb q n ne)
-  ]
-  back (Some weight) members e = counted-recounted weight members ∙ elim (cases_eq q n) as (λ _. cond (q == n) (Some weight) (counted_of q members) ≡ counted_of q members) [
-    | inl s ↦ cond-true (q == n) (Some weight) (counted_of q members) (eq-eqb q n s) ∙ sym e ∙ ap (λ m. counted_of m members) (sym s)
-    | inr ne ↦ cond-false (q == n) (Some weight) (counted_of q members) (ne_eqb q n ne)
-  ]
-
-  -- a number goes to the back
-  pub counted-to_back : (members : List Member) → counted_of q (to_back n members) ≡ counted_of q members
-  counted-to_back members = back (counted_of n members) members refl
 
 -- what is in no list stays where it is
 pub absent_to_back : (n : ℕ) (xs : List Member) → counted_of n xs ≡ None → to_back n xs ≡ xs

@@ -1,6 +1,6 @@
 -- Nodes of a list, each a slot with the place that it leads to, and what they stand for under a map.
 use Rattle.std.proofs.Common.{◌≡◌, ◌≢◌, ℕ, zero, suc, ◌+◌, ◌<◌, ◌≤◌, Bool, true, false, cond, not, ◌==◌, List, [], ◌∷◌, ◌++◌, map, Option, Some, None, is_some, length, count_by, inl, inr, refl, sym, ap, subst, ◌∙◌, arith, nat_eq, Contains}
-use Rattle.std.proofs.lemmas.Bool.{cases_eq, cases_Bool, eq-eqb, ne_eqb, eqb-true, cond-true, cond-false, false≢true}
+use Rattle.std.proofs.lemmas.Bool.{cases_eq, cases_Bool, eq-eqb, ne_eqb, eqb-true, cond-true, cond-false}
 use Rattle.std.proofs.lemmas.List.{get_or-set_other}
 use Rattle.std.proofs.lemmas.List.Sums.{sum_by-set}
 use Rattle.std.proofs.lemmas.Map.Views.{lookup-from_Contains, Contains-from_lookup}
@@ -66,10 +66,6 @@ later x y xs c = (suc c.0, omega (arith, c.1), c.2)
 
 here : {X : Type 0} (x : X) (xs : List X) → Contains (x ∷ xs) x
 here x xs = (0, omega arith, refl)
-
-pub get-Contains : {X : Type 0} (xs : List X) (x : X) → slice_get xs 0 ≡ Some x → Contains xs x
-get-Contains [] x h = cc
-get-Contains (y ∷ xs) x h = (0, omega arith, (let e = h in cc))
 
 pub get-map : {X Y : Type 0} (f : X → Y) (xs : List X) → slice_get (map f xs) 0 ≡ option_map f (slice_get xs 0)
 get-map f [] = refl
@@ -197,18 +193,3 @@ module _ {X : Type 0} (f : X → Option ℕ) where
       cc) in
       (v.0, get_or-set_other rows place k.1 None None apart ∙ v.1, v.2)) in
       omega (arith, c, rest)
-
--- ---- a list that lacks the number
-
-pub none-is : {X : Type 0} (o : Option X) → is_some o ≡ false → o ≡ None
-none-is None h = refl
-none-is (Some x) h = absurd (false≢true (sym h))
-
-pub without-absent : (n : ℕ) (members : List Member) → counted_of n members ≡ None → without_member n members ≡ members
-without-absent n [] h = refl
-without-absent n (a ∷ members) h = elim (cases_Bool (a.number == n)) as (λ _. without_member n (a ∷ members) ≡ a ∷ members) [
-  | inl t ↦ let bad : Some a.counted ≡ None = sym (cond-true (a.number == n) (Some a.counted) (counted_of n members) t) ∙ h in cc
-  | inr f ↦
-      cond-true (not (a.number == n)) (a ∷ without_member n members) (without_member n members) (ap not f)
-      ∙ ap (λ l. a ∷ l) (without-absent n members (sym (cond-false (a.number == n) (Some a.counted) (counted_of n members) f) ∙ h))
-]

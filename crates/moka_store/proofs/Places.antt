@@ -11,7 +11,7 @@ use Rattle.moka_parts.specs.Records.{counted_of}
 use Rattle.moka_parts.proofs.Maps.{same_by_test}
 use Rattle.moka_store.specs.StoreRows.{member_at}
 use Rattle.moka_store.specs.StoreTies.{IsTied}
-use Rattle.moka_store.proofs.Gets.{some-of}
+use Rattle.moka_store.proofs.Gets.{some_is}
 use Rattle.moka_store.proofs.Nodes.{in-nodes}
 use Rattle.moka_store.proofs.Steps.{node-member}
 
@@ -27,13 +27,13 @@ counted-node {M} g n w (m ∷ nodes) h =
 module _ {K V : Type 0} (eq : K → K → Bool) (rows : List (Option (Row (Record K V)))) (index : K → Option ℕ) (nodes : List (ℕ × ℕ)) (t : IsTied eq rows index nodes) where
   pub record-placed : (n : ℕ) → IsSome (get (records_of rows) n) → IsSome (get (places_of rows) n)
   record-placed n h =
-      let r = some-of (get (records_of rows) n) h in
+      let r = some_is (get (records_of rows) n) h in
       let w = record_row rows t.numbered n r.0 r.1 in
       ap is_some (ap (get (places_of rows)) (sym w.3) ∙ get-places rows t.numbered w.0 w.1 w.2)
 
   pub member-placed : (n : ℕ) → IsSome (counted_of n (map (member_at rows) nodes)) → IsSome (get (places_of rows) n)
   member-placed n h =
-      let c = some-of (counted_of n (map (member_at rows) nodes)) h in
+      let c = some_is (counted_of n (map (member_at rows) nodes)) h in
       let m = counted-node (member_at rows) n c.0 nodes c.1 in
       let w = node-member eq rows index nodes t m.0.0 m.0.1 (in-nodes nodes m.0 t.distinct m.1) in
       let number : w.row.number ≡ n = sym (ap (λ (x : Member). x.number) w.member_is) ∙ m.2 in

@@ -1,18 +1,17 @@
 -- What a store is after each of its calls.
-use Rattle.std.proofs.Common.{◌≡◌, ℕ, ◌+◌, ◌-◌, ◌≤◌, Bool, true, false, cond, List, [], ◌∷◌, ◌++◌, map, Option, Some, None, IsSome, is_some, count_by, inl, inr, refl, sym, ap, subst, ◌∙◌, nat_eq}
+use Rattle.std.proofs.Common.{◌≡◌, ℕ, ◌≤◌, Bool, true, false, cond, List, [], ◌∷◌, ◌++◌, map, Option, Some, None, IsSome, is_some, count_by, inl, inr, refl, sym, ap, subst, ◌∙◌, nat_eq}
 use Rattle.std.proofs.lemmas.Bool.{eqb-true, cases_eq, cases_Bool, eq-eqb, ne_eqb, cond-true, cond-false, false≢true}
 use Rattle.std.proofs.lemmas.List.{map-append}
 use Rattle.std.proofs.lemmas.Map.{lookup-remove_entry}
-use Rattle.std.specs.Cmp.{IsEquivalence, nat_eq_equiv, nat_cmp_total}
-use Rattle.std.specs.FinMap.{FinMap, get, insert, remove, len, len-insert, len-remove}
+use Rattle.std.specs.Cmp.{IsEquivalence, nat_eq_equiv}
+use Rattle.std.specs.FinMap.{get, insert, len}
 use Rattle.std.specs.List.{IsDistinct}
 use Rattle.std.specs.Map.{lookup, remove_entry, keys_of}
 use Rattle.std.specs.Option.{option_map, option_and_then, option_map_or}
-use Rattle.std.specs.Ordering.{nat_cmp}
 use Rattle.std.specs.Prelude.{option_to_list}
 use Rattle.moka_structures.proofs.Linked.{linked-same, linked-added, linked-removed}
 use Rattle.moka_structures.proofs.TableCalls.{get-records, get-places, record_row, placed_row, shows-inserted, shows-stored, shows-taken, shows-counted, shows-uncounted, shows-forgotten, with_stored-changes, count-with_stored}
-use Rattle.moka_structures.proofs.TableMaps.{option-cases, some_is, get-inserted}
+use Rattle.moka_store.proofs.Gets.{option-cases, some_is, get-inserted, len-kept}
 use Rattle.moka_structures.specs.declared.record_table.Membership.{Membership}
 use Rattle.moka_structures.specs.declared.record_table.Row.{Row}
 use Rattle.moka_structures.specs.Linked.{IsLinked}
@@ -435,18 +434,6 @@ module _ {K V : Type 0} (eq : K → K → Bool) (rows : List (Option (Row (Recor
             ∙ sym (ap (λ o. without_member was.number (map (member_at rows) nodes) ++ option_to_list (option_map (member was.number) o)) (counted-row eq rows index nodes t place was at_is ∙ ap (option_map (λ (m : Membership). m.counted)) member_is));
       }
 
--- ---- how many records there are
-
-module _ {X : Type 0} (m : FinMap nat_cmp X) (n : ℕ) where
-  pub len-fresh : (x : X) → get m n ≡ None → len (insert m n x) ≡ len m + 1
-  len-fresh x h = len-insert nat_cmp_total m n x ∙ cond-false (is_some (get m n)) (len m) (len m + 1) (ap is_some h)
-
-  pub len-present : (x y : X) → get m n ≡ Some y → len (insert m n x) ≡ len m
-  len-present x y h = len-insert nat_cmp_total m n x ∙ cond-true (is_some (get m n)) (len m) (len m + 1) (ap is_some h)
-
-  pub len-removed : (y : X) → get m n ≡ Some y → len (remove m n) ≡ len m - 1
-  len-removed y h = len-remove nat_cmp_total m n ∙ cond-true (is_some (get m n)) (len m - 1) (len m) (ap is_some h)
-
 -- a store after a write into a record
 pub record Changed {K V : Type 0} (eq : K → K → Bool) (old new : Table (Record K V)) (index : K → Option ℕ) (nodes : List (ℕ × ℕ)) (keys spare most weight number : ℕ) (f : Record K V → Record K V) : Type 0 where
   pub store : IsStore eq new.rows index keys nodes most weight
@@ -477,7 +464,7 @@ module _ {K V : Type 0} (eq : K → K → Bool) (laws : IsEquivalence eq) (old n
       record {
         store = record {
           tied = subst (λ rows. IsTied eq rows index nodes) (sym is) ties.tied;
-          keyed = s.keyed ∙ sym (ap len records ∙ len-present (records_of old.rows) handle.number r at.stored at.record_is);
+          keyed = s.keyed ∙ sym (ap len records ∙ len-kept (records_of old.rows) handle.number r at.stored at.record_is);
           fits = subst (λ n. n ≤ most) (sym rowed) s.fits;
           few = s.few;
           weighed = subst (λ members. IsWeighed members weight) (sym access) s.weighed;

@@ -187,15 +187,7 @@ module _ {K V : Type 0} (eq : K → K → Bool) (rows : List (Option (Row (Recor
     pub after-row : (m : Membership) → row.membership ≡ Some m → member_after row.number (map (member_at rows) nodes) ≡ option_map (member_at rows) (next_after m.access nodes)
     after-row m is = after-found (member_at rows) row.number m.access nodes (test-same m is)
 
-    -- a row whose number is counted is a member, one whose number is not is none
-    pub member-from : (weight : ℕ) → counted_of row.number (map (member_at rows) nodes) ≡ Some weight → (m : Membership) × (row.membership ≡ Some m) × (m.counted ≡ weight)
-    member-from weight h = elim (option-cases row.membership) as (λ _. (m : Membership) × (row.membership ≡ Some m) × (m.counted ≡ weight)) [
-      | inl none ↦ let bad : None ≡ Some weight = sym (ap (option_map (λ (m : Membership). m.counted)) none) ∙ sym counted-row ∙ h in cc
-      | inr m ↦
-          let w : Some m.0.counted ≡ Some weight = sym (ap (option_map (λ (m : Membership). m.counted)) m.1) ∙ sym counted-row ∙ h in
-          (m.0, m.1, (let e : m.0.counted ≡ weight = cc in e))
-    ]
-
+    -- a row whose number is not counted is no member
     pub unlisted-from : counted_of row.number (map (member_at rows) nodes) ≡ None → row.membership ≡ None
     unlisted-from h = elim (option-cases row.membership) as (λ _. row.membership ≡ None) [
       | inl none ↦ none

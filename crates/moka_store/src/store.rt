@@ -434,6 +434,7 @@ mod tests {
     fn record(number: u64, key: u64, value: u64) -> Record<u64, u64>
         ensures number { result.number ≡ number }
         ensures key { result.key ≡ key }
+        ensures generation { result.generation ≡ 1 }
     {
         Record {
             number,
@@ -468,6 +469,7 @@ mod tests {
         assert_eq!(rt; store.counted(second), Some(9));
         assert_eq!(rt; store.member_count(), 2);
         assert_eq!(rt; store.record_count(), 2);
+        assert_eq!(rt; store.total_weight(), 16);
         store.leave(first);
         assert!(rt; !store.is_member(first));
         assert_eq!(rt; store.next(second), None);

@@ -1,5 +1,5 @@
 use Rattle.std.specs.FinMap as finite
-use Rattle.std.proofs.Common.{◌<◌, ◌^◌, ◌-◌, ◌≡◌, ◌+◌, map, length, None, refl, arith, sym, ap, ◌∙◌, subst}
+use Rattle.std.proofs.Common.{◌<◌, ◌^◌, ◌≡◌, ◌+◌, map, length, None, refl, arith, sym, ap, ◌∙◌, subst}
 use Rattle.moka_store.proofs.Members.{counted-admitted}
 use Rattle.moka_store.proofs.Ties.{nodes-below}
 use Rattle.moka_store.proofs.Steps.{placed, unlisted, admitted}

@@ -1,4 +1,5 @@
-use Rattle.moka_store.proofs.Steps.{len-fresh, unrecorded}
+use Rattle.moka_store.proofs.Gets.{len-fresh}
+use Rattle.moka_store.proofs.Steps.{unrecorded}
 use Rattle.std.specs.HashMap as hash
 use Rattle.std.specs.FinMap as finite
 use Rattle.std.proofs.Common.{◌≢◌, refl, sym, ap, ◌∙◌, arith, ◌≡◌, subst}

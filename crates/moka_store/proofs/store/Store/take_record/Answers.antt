@@ -1,5 +1,6 @@
 use Rattle.moka_parts.specs.declared.records.Record.{Record}
-use Rattle.moka_store.proofs.Steps.{len-removed, index-of}
+use Rattle.moka_store.proofs.Gets.{len-removed}
+use Rattle.moka_store.proofs.Steps.{index-of}
 use Rattle.std.specs.HashMap as hash
 use Rattle.std.specs.FinMap as finite
 use Rattle.std.proofs.Common.{◌≡◌, Some, refl, sym, ap, ◌∙◌, arith, subst}

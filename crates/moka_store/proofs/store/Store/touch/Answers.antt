@@ -1,4 +1,4 @@
-use Rattle.std.proofs.Common.{refl, sym, ap, ◌∙◌}
+use Rattle.std.proofs.Common.{refl}
 use Rattle.moka_store.proofs.Steps.{handled_at, changed}
 use Rattle.moka_store.proofs.store.Store.touch.Goals as goal
 

@@ -1,7 +1,6 @@
-use Rattle.std.proofs.Common.{refl, sym, ap, ◌∙◌}
+use Rattle.std.proofs.Common.{refl, sym, ◌∙◌}
 use Rattle.moka_store.proofs.Steps.{handled_at, changed}
 use Rattle.moka_store.specs.Updates.{updated}
-use Rattle.moka_parts.specs.declared.records.Record.{Record}
 use Rattle.moka_store.proofs.store.Store.update.Goals as goal
 
 pub update-requires-clause-stored : goal.update-requires-clause-stored

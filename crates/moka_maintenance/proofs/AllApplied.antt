@@ -1,0 +1,25 @@
+-- Operations applied one after the other.
+use Rattle.std.proofs.Common.{◌≡◌, refl, ℕ, List, [], ◌∷◌, ◌++◌, Option, ap, sym, subst, ◌∙◌}
+use Rattle.moka_parts.specs.declared.notification.RemovalCause.{RemovalCause}
+use Rattle.moka_parts.specs.declared.policy.EvictionPolicy.{EvictionPolicy}
+use Rattle.moka_parts.specs.declared.records.Operation.{Operation}
+use Rattle.moka_parts.specs.declared.records.Ticketed.{Ticketed}
+use Rattle.moka_parts.specs.State.{Contents}
+use Rattle.moka_parts.specs.Writes.{after_writes, left_by_write, left_by_writes, AreAllMoves}
+use Rattle.moka_maintenance.specs.Steps.{Told}
+use Rattle.moka_maintenance.specs.Queues.{IsApplied, AreApplied}
+use Rattle.moka_maintenance.proofs.Told.{told-none, told-on}
+
+module _ {K V L : Type 0} (tells : L → K → V → RemovalCause → L → Type 0) (capacity : Option ℕ) (policy : EvictionPolicy) where
+  -- no operation
+  pub applied-none : (c : Contents K V) (l : Option L) → AreApplied tells capacity policy c c [] l l
+  applied-none c l = record { moves = []; may = tt; led = refl; told = told-none tells l }
+
+  -- one operation and then others
+  pub applied-then : (a b c : Contents K V) (o : Operation) (ticket : ℕ) (os : List Ticketed) (l m k : Option L) → IsApplied tells capacity policy a b o l m → AreApplied tells capacity policy b c os m k → AreApplied tells capacity policy a c (record { ticket = ticket; operation = o } ∷ os) l k
+  applied-then a b c o ticket os l m k h j = record {
+    moves = h.moved ∷ j.moves;
+    may = (h.may, subst (λ x. AreAllMoves capacity policy x os j.moves) h.led j.may);
+    led = j.led ∙ ap (λ x. after_writes capacity policy x os j.moves) h.led;
+    told = subst (λ x. Told tells l (left_by_write capacity policy a o ++ left_by_writes capacity policy x os j.moves) k) h.led (told-on tells l m k (left_by_write capacity policy a o) (left_by_writes capacity policy b os j.moves) h.told j.told);
+  }

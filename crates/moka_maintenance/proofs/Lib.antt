@@ -1,0 +1,10 @@
+pub mod Popped
+pub mod Placed
+pub mod Told
+pub mod Fates
+pub mod Entered
+pub mod AllApplied
+pub mod Stepped
+pub mod Fronts
+pub mod Sweeping
+pub mod Promises

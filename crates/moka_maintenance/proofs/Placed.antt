@@ -1,0 +1,95 @@
+-- Which rows stay when a record changes, leaves, or its number goes.
+use Rattle.std.proofs.Common.{◌≡◌, ◌≢◌, ℕ, List, [], ◌∷◌, Option, Some, None, Contains, inl, inr, sym, ap, ◌∙◌, subst, refl, arith, IsSome}
+use Rattle.std.proofs.lemmas.Bool.{cases_eq}
+use Rattle.std.specs.FinMap.{FinMap, get, insert, remove}
+use Rattle.std.specs.Ordering.{nat_cmp}
+use Rattle.moka_parts.specs.declared.records.Operation.{Operation}
+use Rattle.moka_parts.specs.declared.records.Operation.TheVariants.{Removal}
+use Rattle.moka_parts.specs.declared.records.Ticketed.{Ticketed}
+use Rattle.moka_parts.specs.declared.records.Record.{Record}
+use Rattle.moka_parts.specs.Settling.{number_of}
+use Rattle.moka_store.specs.Store.{Kept}
+use Rattle.moka_store.proofs.Gets.{get-inserted, get-past_insert, get-removed, get-past_remove, after_remove}
+use Rattle.moka_maintenance.specs.Queued.{IsAt}
+use Rattle.moka_maintenance.specs.Steps.{AddsNoPlace, LeavesNoRow}
+use Rattle.moka_maintenance.specs.Queues.{LeavesNoRowAfter, LeavesNoRowBy}
+use Rattle.moka_maintenance.proofs.Popped.{first_or_rest}
+
+module _ {X : Type 0} where
+  -- what is missing after an insertion was missing before
+  pub none_inserted : (m : FinMap nat_cmp X) (n : ℕ) (x : X) (k : ℕ) → get (insert m n x) k ≡ None → get m k ≡ None
+  none_inserted m n x k h = elim (cases_eq k n) as (λ _. get m k ≡ None) [
+    | inl e ↦ (let some = get-inserted m n x in let t = ap (get (insert m n x)) e in cc)
+    | inr ne ↦ sym (get-past_insert m n x k ne) ∙ h
+  ]
+
+  -- and what is missing after a removal of another number
+  pub none_removed : (m : FinMap nat_cmp X) (n k : ℕ) → k ≢ n → get (remove m n) k ≡ None → get m k ≡ None
+  none_removed m n k ne h = sym (get-past_remove m n k ne) ∙ h
+
+module _ {K V : Type 0} where
+  -- a record that changes keeps its row
+  pub rows-changed : (old new : Kept K V) (n : ℕ) (r : Record K V) → new.records ≡ insert old.records n r → LeavesNoRow old new
+  rows-changed old new n r is k p at gone = none_inserted old.records n r k (sym (ap (λ m. get m k) is) ∙ gone)
+
+  -- the row goes with the record
+  pub rows-gone : (old new : Kept K V) (n : ℕ) → new.records ≡ remove old.records n → new.places ≡ remove old.places n → LeavesNoRow old new
+  rows-gone old new n records places k p at gone =
+      let other = (after_remove old.places n k p (sym (ap (λ m. get m k) places) ∙ at)).0 in
+      none_removed old.records n k other (sym (ap (λ m. get m k) records) ∙ gone)
+
+  pub places-gone : (old new : Kept K V) (n : ℕ) → new.places ≡ remove old.places n → AddsNoPlace old new
+  places-gone old new n places k p at = (after_remove old.places n k p (sym (ap (λ m. get m k) places) ∙ at)).1
+
+  -- one change and then another
+  pub places-on : (a b c : Kept K V) → AddsNoPlace a b → AddsNoPlace b c → AddsNoPlace a c
+  places-on a b c h k n p at = h n p (k n p at)
+
+  pub rows-on : (a b c : Kept K V) → AddsNoPlace b c → LeavesNoRow a b → LeavesNoRow b c → LeavesNoRow a c
+  rows-on a b c kept h k n p at gone = h n p (kept n p at) (k n p at gone)
+
+  module _ (old new : Kept K V) (n generation : ℕ) where
+    -- an operation of a number that has no row
+    pub rows-unplaced : (place : ℕ) → IsAt old.places n place → (get old.places n ≡ Some place → ⊥) → new ≡ old → LeavesNoRowAfter (Removal n generation) old new
+    rows-unplaced place is_at away same k p at gone =
+        let at' : get old.places k ≡ Some p = subst (λ (s : Kept K V). get s.places k ≡ Some p) same at in
+        (subst (λ (s : Kept K V). get s.records k ≡ None) same gone, λ _ e. (let there : get old.places n ≡ Some p = subst (λ m. get old.places m ≡ Some p) (sym (ap number_of e)) at' in away (there ∙ ap (λ q. Some q) (is_at p there))))
+
+    -- the number has a record again
+    pub rows-kept : (r : Record K V) → new.records ≡ old.records → get old.records n ≡ Some r → LeavesNoRowAfter (Removal n generation) old new
+    rows-kept r same there k p at gone =
+        let gone' = sym (ap (λ m. get m k) same) ∙ gone in
+        (gone', λ _ e. (let gone_too = ap (get old.records) (ap number_of e) in cc))
+
+    -- its row is given back
+    pub rows-forgotten : new.records ≡ old.records → new.places ≡ remove old.places n → LeavesNoRowAfter (Removal n generation) old new
+    rows-forgotten same places k p at gone =
+        let other = (after_remove old.places n k p (sym (ap (λ m. get m k) places) ∙ at)).0 in
+        (sym (ap (λ m. get m k) same) ∙ gone, λ _ e. other (sym (ap number_of e)))
+
+  -- an upsert is no removal
+  pub rows-upsert : (old new : Kept K V) (o : Operation) → ((n generation : ℕ) → o ≢ Removal n generation) → LeavesNoRow old new → LeavesNoRowAfter o old new
+  rows-upsert old new o other h k p at gone = (h k p at gone, other k)
+
+  -- no operation
+  pub rows-none : (k : Kept K V) → LeavesNoRowBy [] k k
+  rows-none k n p at gone = (gone, λ _ _ there. (let lt = there.1 in omega arith))
+
+  -- one operation and then others
+  pub rows-then : (a b c : Kept K V) (o : Operation) (ticket : ℕ) (os : List Ticketed) → AddsNoPlace b c → LeavesNoRowAfter o a b → LeavesNoRowBy os b c → LeavesNoRowBy (record { ticket = ticket; operation = o } ∷ os) a c
+  rows-then a b c o ticket os kept first then n p at gone =
+      let later = then n p at gone in
+      let before = first n p (kept n p at) later.0 in
+      (before.0, λ t g there. elim (first_or_rest _ _ os there) [
+        | inl same ↦ before.1 g (ap (λ (x : Ticketed). x.operation) same)
+        | inr behind ↦ later.1 t g behind
+      ])
+
+-- a number whose row is not at its place has none, and so is no member and has no record
+pub no_row : {X : Type 0} (places : FinMap nat_cmp ℕ) (n place : ℕ) (o : Option X) → IsAt places n place → (IsSome o → IsSome (get places n)) → (get places n ≡ Some place → ⊥) → o ≡ None
+no_row places n place None is_at rowed away = refl
+no_row places n place (Some x) is_at rowed away = go (get places n) refl (rowed refl)
+  where
+    go : (p : Option ℕ) → get places n ≡ p → IsSome p → Some x ≡ None
+    go None e some = cc
+    go (Some p) e some = absurd (away (e ∙ ap (λ q. Some q) (is_at p e)))

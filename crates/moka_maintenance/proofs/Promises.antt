@@ -1,0 +1,295 @@
+-- What applying the queues and the passes make of a state is a run of the reference cache that keeps its promises.
+use Rattle.std.proofs.Common.{◌≡◌, refl, ℕ, ◌+◌, ◌-◌, ◌<◌, Bool, true, false, true≢false, not, ◌==◌, ◌&&◌, ◌||◌, List, [], ◌∷◌, length, ◌⊎◌, inl, inr, Option, Some, None, is_some, option_map, ap, sym, subst, ◌∙◌, arith, eqb→eq, if◌then◌else◌}
+use Rattle.std.specs.Bool.{passes}
+use Rattle.std.specs.Prelude.{Contains, take}
+use Rattle.std.specs.List.{list_any}
+use Rattle.std.specs.Duration.{as_nanos}
+use Rattle.std.specs.FinMap.{get}
+use Rattle.moka_parts.specs.declared.notification.RemovalCause.{RemovalCause}
+use Rattle.moka_parts.specs.declared.policy.EvictionPolicy.{EvictionPolicy}
+use Rattle.moka_parts.specs.declared.policy.EvictionPolicy.TheVariants.{Lru}
+use Rattle.moka_parts.specs.declared.policy.Instant.{Instant}
+use Rattle.moka_parts.specs.declared.records.Record.{Record}
+use Rattle.moka_parts.specs.declared.records.Member.{Member}
+use Rattle.moka_parts.specs.Time.{has_passed, moment_of}
+use Rattle.moka_parts.specs.Records.{Records, when_listening, is_settled, is_member, counted_of, numbers_of, total_weight}
+use Rattle.moka_parts.specs.State.{State, Contents, with_contents, is_disabled, keeps_write_list}
+use Rattle.moka_parts.specs.Surroundings.{Heard}
+use Rattle.moka_parts.specs.Writes.{left_by_writes}
+use Rattle.moka_parts.specs.Candidates.{prefix}
+use Rattle.moka_parts.specs.Maintenance as parts
+use Rattle.moka_parts.specs.Maintenance.{Terms, Course, Freedom, after_choices, left_by_choices, after_queued_reads, before_steps, at_end, after_run, left_in_run, with_sketch, is_over, is_cut, is_late, is_timed, tests_of, AreJustified, AreFree}
+use Rattle.moka_parts.specs.Bounds.{removed_by, IsPlainSurplus, IsBounded}
+use Rattle.moka_parts.specs.Exact.{IsExact, IsWithin}
+use Rattle.moka_parts.specs.Settling.{IsAllSent, IsWaitingIn, IsWhole, IsConsistentState, IsValid, LeavesBehind, Settles, leaves_more_idle}
+use Rattle.moka_parts.specs.Runs.{PromisedRun}
+use Rattle.moka_parts.proofs.RunKeeps.{run_keeps}
+use Rattle.moka_parts.proofs.RunKeepsSound.{run_kept}
+use Rattle.moka_parts.proofs.StepsKeep.{run_valid}
+use Rattle.moka_parts.proofs.AtEnd.{nothing_waits, all_settled, count_is_near, run_is_exact}
+use Rattle.moka_parts.proofs.RunReturns.{IsPromised}
+use Rattle.moka_parts.proofs.Surplus.{removes_enough, removes_first, removes_for_size_alone, leaves_settled}
+use Rattle.moka_maintenance.specs.declared.sweep.Tests.{Tests}
+use Rattle.moka_maintenance.specs.Steps.{HasUnsettled, Told, makes_room}
+use Rattle.moka_maintenance.specs.Queues.{AreApplied}
+use Rattle.moka_maintenance.specs.Sweeps.{tests_in}
+use Rattle.moka_maintenance.specs.Passes.{IsRan, sweeps_reads}
+use Rattle.moka_maintenance.proofs.Told.{told_same, told-on}
+use Rattle.moka_maintenance.proofs.Stepped.{steps_justified, steps_keep_predicates}
+
+-- ---- small facts
+
+not_empty : {A : Type 0} (xs : List A) → xs ≡ [] → 0 < length xs → ⊥
+not_empty xs none h = let e = ap length none in absurd (omega arith)
+
+not_contained : {A : Type 0} (xs : List A) (x : A) → xs ≡ [] → Contains xs x → ⊥
+not_contained xs x none h = let h' = subst (λ ys. Contains ys x) none h in let below : h'.0 < 0 = h'.1 in absurd (omega arith)
+
+-- a member that is not settled is found
+some_unsettled : {K V : Type 0} (records : Records K V) (access : List Member) (n : ℕ) → is_member n access ≡ true → is_settled records n ≡ false → list_any (λ a. not (is_settled records a.number)) access ≡ true
+some_unsettled records [] n there waiting = cc
+some_unsettled records (a ∷ access) n there waiting = at (λ later. some_unsettled records access n later waiting) (a.number == n) refl there
+  where
+    behind : (b c : Bool) → c ≡ true → (b || c) ≡ true
+    behind true c e = refl
+    behind false c e = e
+
+    at : (is_member n access ≡ true → list_any (λ a. not (is_settled records a.number)) access ≡ true) → (b : Bool) → (a.number == n) ≡ b → is_some (if b then Some a.counted else counted_of n access) ≡ true → (not (is_settled records a.number) || list_any (λ a. not (is_settled records a.number)) access) ≡ true
+    at later true same there = ap (λ k. not (is_settled records k) || list_any (λ a. not (is_settled records a.number)) access) (eqb→eq a.number n (passes _ same)) ∙ ap (λ b. not b || list_any (λ a. not (is_settled records a.number)) access) waiting
+    at later false same there = behind (not (is_settled records a.number)) (list_any (λ a. not (is_settled records a.number)) access) (later there)
+
+-- where TinyLFU never has to compare, the sketch is not enabled
+stays_off : {K V : Type 0} (capacity : Option ℕ) (policy : EvictionPolicy) → (policy ≡ Lru) ⊎ (capacity ≡ None) → (weighing : Bool) (c : Contents K V) → with_sketch capacity policy weighing false c ≡ c
+stays_off None policy plain weighing c = refl
+stays_off (Some capacity) policy (inl lru) weighing c = ap (λ p. with_sketch (Some capacity) p weighing false c) lru
+stays_off (Some capacity) policy (inr none) weighing c = cc
+
+-- where no order of writing is kept there is no time to live
+no_time_to_live : (a b : Bool) → (a || b) ≡ false → a ≡ false
+no_time_to_live true b e = e
+no_time_to_live false b e = refl
+
+mapped_is_some : {A B : Type 0} (f : A → B) (o : Option A) → is_some (option_map f o) ≡ is_some o
+mapped_is_some f None = refl
+mapped_is_some f (Some x) = refl
+
+-- the tests that leave more with a batch of 0, of a run without a time to live
+joined : (live idle invalid over a b c : Bool) → live ≡ false → idle ≡ a → invalid ≡ b → over ≡ c → ((idle || invalid) || over) ≡ (live || a || b || c)
+joined live true invalid over a b c off e f g = rw (off, ← e) refl
+joined live false true over a b c off e f g = rw (off, ← e, ← f) refl
+joined live false false over a b c off e f g = rw (off, ← e, ← f) g
+
+-- late by the limit of a run that has one only where a listener is set
+late_where_listening : (b : Bool) (limit : Option ℕ) (readings : List Instant) → (b && is_late limit readings) ≡ is_late (if b then limit else None) readings
+late_where_listening true limit readings = refl
+late_where_listening false limit readings = refl
+
+-- the same of whether it has one
+limited_where_listening : (b : Bool) (limit : Option ℕ) → (b && is_some limit) ≡ is_some (if b then limit else None)
+limited_where_listening true limit = refl
+limited_where_listening false limit = refl
+
+-- ---- the run
+
+-- what a run asks to know of a state
+pub record IsSimple {K V X P W : Type 0} (s : State K V X P W) : Type 0 where
+  pub enabled : is_disabled s.capacity ≡ false
+  -- TinyLFU never has to compare
+  pub policy : (s.settings.policy ≡ Lru) ⊎ (s.capacity ≡ None)
+  pub unregistered : s.predicates ≡ []
+  -- no order of writing is kept
+  pub unordered : keeps_write_list s.settings ≡ false
+  pub consistent : IsConsistentState s
+  -- no record has an expiry of its own
+  pub lasting : (n : ℕ) (r : Record K V) → get s.records n ≡ Some r → r.expires ≡ None
+
+module _ {K V X P W L C : Type 0} {tells : L → K → V → RemovalCause → L → Type 0} {reads : C → Instant → C → Type 0} (s : State K V X P W) (simple : IsSimple s) (terms : Terms) (q : Tests) (by_state : tests_in q ≡ tests_of s terms.now)
+    {c d : Contents K V} {l m n : Option L} (applied : AreApplied tells s.capacity s.settings.policy (after_queued_reads s) c s.writes l m)
+    {clock clock_after : C} {passes : ℕ} {left : Bool} (ran : IsRan tells q reads (if s.settings.listening then terms.limit else None) terms.batch c d m n clock clock_after passes left) where
+  -- what the run chose
+  abbrev pub choices : Freedom
+  choices = record { moves = applied.moves; is_short = false; steps = ran.by.steps }
+
+  -- how it went
+  abbrev pub course : Course
+  course = record { answer = left; readings = ran.readings; passes = passes }
+
+  -- the state that it leaves
+  abbrev pub left_state : State K V X P W
+  left_state = with_contents s d s.predicates
+
+  before_same : before_steps s choices ≡ c
+  before_same = ap (with_sketch s.capacity s.settings.policy (is_some s.settings.weigher) false) (sym applied.led) ∙ stays_off s.capacity s.settings.policy simple.policy (is_some s.settings.weigher) c
+
+  end_same : at_end s choices ≡ d
+  end_same = ap (λ c. after_choices c ran.by.steps) before_same ∙ sym ran.by.led
+
+  -- it is the reference cache's
+  pub run_same : after_run s choices ≡ left_state
+  run_same = ap (with_contents s (at_end s choices)) (steps_keep_predicates (tests_in q) (λ (p : P) (k : K) (v : V) (b : Bool). Unit {0}) s.predicates c ran.by.steps ran.by.may) ∙ ap (λ c. with_contents s c s.predicates) end_same
+
+  -- afterwards only what was not sent waits
+  pub end_consistent : IsConsistentState left_state
+  end_consistent = subst IsConsistentState run_same (run_kept s choices simple.consistent)
+
+  -- the state is as valid as before
+  pub end_valid : (eq : K → K → Bool) → IsValid eq s → IsValid eq left_state
+  end_valid eq valid = subst (IsValid eq) run_same (run_valid eq s choices simple.enabled valid)
+
+  -- no record has an expiry of its own
+  pub end_lasting : (k : ℕ) (r : Record K V) → get d.records k ≡ Some r → r.expires ≡ None
+  end_lasting k r there =
+      let old = run_keeps s choices k r (ap (λ (c : Contents K V). get c.records k) end_same ∙ there) in
+      ap (λ (q : Record K V). q.expires) {y = record old.0 { applied = old.2.0 }} old.2.1 ∙ simple.lasting k old.0 old.1
+
+  -- once everything was sent, the report is exact, whatever the batch
+  pub end_exact : IsAllSent s → IsExact left_state
+  end_exact all = subst IsExact run_same (run_is_exact s choices simple.consistent all)
+
+  cut_late : is_cut s.settings terms course ≡ is_late (if s.settings.listening then terms.limit else None) ran.readings
+  cut_late = late_where_listening s.settings.listening terms.limit ran.readings
+
+  timed_limited : is_timed s.settings terms ≡ is_some (if s.settings.listening then terms.limit else None)
+  timed_limited = limited_where_listening s.settings.listening terms.limit
+
+  -- a whole run leaves nothing more
+  finished : IsWhole s terms course → left ≡ false
+  finished whole = ran.whole (sym cut_late ∙ whole.0) whole.1
+
+  same_capacity : q.capacity ≡ s.capacity
+  same_capacity = ap (λ (t : parts.Tests). t.capacity) by_state
+
+  at_rest : IsWhole s terms course → HasUnsettled d ⊎ IsWithin s.capacity d.access
+  at_rest whole = elim (ran.rest (finished whole)) [
+    | inl some ↦ inl some
+    | inr within ↦ inr (subst (λ o. IsWithin o d.access) same_capacity within)
+  ]
+
+  idle_by_state : (sweeps_reads q || is_over q.capacity d.access) ≡ leaves_more_idle left_state
+  idle_by_state =
+      let idle : is_some q.time_to_idle ≡ is_some s.settings.time_to_idle = sym (mapped_is_some as_nanos q.time_to_idle) ∙ ap (λ (t : parts.Tests). is_some t.time_to_idle) by_state in
+      let invalid : is_some q.valid_after ≡ is_some s.invalid_before = ap (λ (t : parts.Tests). is_some t.invalid_before) by_state in
+      joined (is_some s.settings.time_to_live) (is_some q.time_to_idle) (is_some q.valid_after) (is_over q.capacity d.access) (is_some s.settings.time_to_idle) (is_some s.invalid_before) (is_over s.capacity d.access)
+      (no_time_to_live (is_some s.settings.time_to_live) s.settings.invalidator simple.unordered) idle invalid (ap (λ o. is_over o d.access) same_capacity)
+
+  leaves : LeavesBehind s terms course left_state
+  leaves =
+      let near = count_is_near s.outstanding d.records d.access end_consistent in
+      record {
+        within = λ whole. elim (at_rest whole) [
+          | inl some ↦ inr (some_unsettled d.records d.access some.number some.is_in some.unsettled)
+          | inr within ↦ inl within
+        ];
+        cut = λ cut. ran.cut (sym cut_late ∙ cut);
+        more = λ whole is. absurd (true≢false (sym is ∙ finished whole));
+        unfinished = λ whole some settled. absurd (not_empty s.predicates simple.unregistered some);
+        idle = λ enabled uncut none. (ran.idle none).1 ∙ idle_by_state;
+        count_high = near.0;
+        count_low = near.1;
+      }
+
+  -- once everything was sent, no member is unsettled
+  none_unsettled : IsAllSent s → HasUnsettled d → ⊥
+  none_unsettled all some = true≢false (sym (all_settled (IsWaitingIn s.outstanding []) d.records d.access end_consistent (nothing_waits s.outstanding all) some.number some.is_in) ∙ some.unsettled)
+
+  module _ (says : P → K → V → Bool → Type 0) (read : X → K → V → ℕ → Option ℕ → ℕ → Option ℕ) where
+    settles : Settles says read s terms course left_state
+    settles = record {
+      exact = λ whole all. end_exact all;
+      within = λ whole all. elim (at_rest whole) [ inl some ↦ absurd (none_unsettled all some) | inr within ↦ within ];
+      expired = λ whole all never k r there. ap (λ e. has_passed (moment_of e) terms.now) (end_lasting k r there);
+      predicates = λ whole all enabled supported enough. simple.unregistered;
+      covered = λ whole all enabled supported enough p k r is there covers. absurd (not_contained s.predicates p simple.unregistered is);
+    }
+
+    justified : AreJustified says (tests_of s terms.now) (before_steps s choices) s.predicates ran.by.steps
+    justified =
+        subst (λ t. AreJustified says t (before_steps s choices) s.predicates ran.by.steps) by_state
+        (subst (λ b. AreJustified says (tests_in q) b s.predicates ran.by.steps) (sym before_same) (steps_justified (tests_in q) says s.predicates c ran.by.steps ran.by.may))
+
+    is_free : AreFree says s terms.now choices
+    is_free = (applied.may, justified)
+
+    module _ (capacity : ℕ) (plain : IsPlainSurplus s terms.now capacity (before_steps s choices)) where
+      -- a surplus is removed from the front, and nothing else
+      just_surplus : IsWhole s terms course → (front : List Member) × (prefix (before_steps s choices).access (total_weight (before_steps s choices).access - capacity) ≡ Some front) × (removed_by ran.by.steps ≡ numbers_of front)
+      just_surplus whole =
+          elim (at_rest whole) [
+            | inl some ↦
+                let settled = subst (λ (e : Contents K V). is_member some.number e.access ≡ true → is_settled e.records some.number ≡ true) end_same
+                (leaves_settled says s terms.now choices capacity simple.consistent is_free plain some.number) in
+                absurd (true≢false (sym (settled some.is_in) ∙ some.unsettled))
+            | inr within ↦ removes_enough says s terms.now choices capacity simple.consistent is_free plain (subst (λ (e : Contents K V). IsWithin s.capacity e.access) (sym end_same) within)
+          ]
+
+      -- as far as a run comes that is cut after its first pass
+      first_batch : is_cut s.settings terms course ≡ true → passes ≡ 1 → removed_by ran.by.steps ≡ numbers_of (take terms.batch (before_steps s choices).access)
+      first_batch cut one =
+          removes_first says s terms.now choices capacity terms.batch simple.consistent is_free plain
+          (ran.batch_used (sym cut_late ∙ cut) one (removes_for_size_alone says s terms.now choices capacity simple.consistent is_free plain makes_room (λ n. refl)))
+
+    bounded : IsBounded s terms choices course
+    bounded = record {
+      made = ran.made;
+      passes = ran.few;
+      removing = λ cut. ran.removing (sym cut_late ∙ cut);
+      timed = λ timed. ran.timed (sym timed_limited ∙ timed) ∙ ap (λ b. passes + (if b then 1 else 0)) (sym cut_late);
+      untimed = λ untimed. ran.untimed (sym timed_limited ∙ untimed);
+      surplus = just_surplus;
+      cut_surplus = first_batch;
+    }
+
+    -- the run keeps its promises
+    pub promised : PromisedRun says read s terms course (when_listening s.settings.listening (left_in_run s choices)) left_state
+    promised = (rw simple.enabled (choices, (is_free, sym run_same, refl), bounded), (leaves, settles))
+
+  -- the listener is notified of what leaves
+  pub promised_told : s.settings.listening ≡ is_some l → Heard tells l (when_listening s.settings.listening (left_in_run s choices)) n
+  promised_told listening =
+      subst (λ b. Heard tells l (when_listening b (left_in_run s choices)) n) (sym listening)
+      (told-on tells l m n (left_by_writes s.capacity s.settings.policy (after_queued_reads s) s.writes applied.moves) (left_by_choices (before_steps s choices) ran.by.steps) applied.told
+      (subst (λ b. Told tells m (left_by_choices b ran.by.steps) n) (sym before_same) ran.by.told))
+
+-- ---- the run, with the premises as they come
+
+module _ {K V X P W L C : Type 0} {tells : L → K → V → RemovalCause → L → Type 0} {reads : C → Instant → C → Type 0} (s : State K V X P W) (simple : IsSimple s) (terms : Terms) {q : Tests} (by_state : tests_in q ≡ tests_of s terms.now)
+    {b c d : Contents K V} {l m n : Option L} (begun : b ≡ after_queued_reads s) (applied : AreApplied tells s.capacity s.settings.policy b c s.writes l m)
+    {limit : Option ℕ} {batch : ℕ} {clock clock_after : C} {passes : ℕ} {left : Bool} (limited : limit ≡ (if s.settings.listening then terms.limit else None)) (batched : batch ≡ terms.batch) (ran : IsRan tells q reads limit batch c d m n clock clock_after passes left) where
+  applied_to_state : AreApplied tells s.capacity s.settings.policy (after_queued_reads s) c s.writes l m
+  applied_to_state = subst (λ b. AreApplied tells s.capacity s.settings.policy b c s.writes l m) begun applied
+
+  ran_by_terms : IsRan tells q reads (if s.settings.listening then terms.limit else None) terms.batch c d m n clock clock_after passes left
+  ran_by_terms = subst (λ o. IsRan tells q reads o terms.batch c d m n clock clock_after passes left) limited (subst (λ k. IsRan tells q reads limit k c d m n clock clock_after passes left) batched ran)
+
+  -- it keeps all promises
+  pub run_promised : (says : P → K → V → Bool → Type 0) (read : X → K → V → ℕ → Option ℕ → ℕ → Option ℕ) → s.settings.listening ≡ is_some l → IsPromised says read tells reads s terms left passes (with_contents s d s.predicates) l n clock clock_after
+  run_promised says read listening = record {
+    readings = ran_by_terms.readings;
+    notices = when_listening s.settings.listening (left_in_run s (choices s simple terms q by_state applied_to_state ran_by_terms));
+    run = promised s simple terms q by_state applied_to_state ran_by_terms says read;
+    heard = promised_told s simple terms q by_state applied_to_state ran_by_terms listening;
+    led = ran_by_terms.read;
+  }
+
+  -- a listener stays set
+  pub run_keeps_listening : is_some n ≡ is_some l
+  run_keeps_listening = told_same tells m n (left_by_choices c ran.by.steps) ran.by.told ∙ told_same tells l m (left_by_writes s.capacity s.settings.policy b s.writes applied.moves) applied.told
+
+  -- it leaves a state from which the next may start
+  pub run_leaves_simple : IsSimple (with_contents s d s.predicates)
+  run_leaves_simple = record {
+    enabled = simple.enabled;
+    policy = simple.policy;
+    unregistered = simple.unregistered;
+    unordered = simple.unordered;
+    consistent = end_consistent s simple terms q by_state applied_to_state ran_by_terms;
+    lasting = end_lasting s simple terms q by_state applied_to_state ran_by_terms;
+  }
+
+  -- the state is as valid as before
+  pub run_leaves_valid : (eq : K → K → Bool) → IsValid eq s → IsValid eq (with_contents s d s.predicates)
+  run_leaves_valid eq valid = end_valid s simple terms q by_state applied_to_state ran_by_terms eq valid
+
+  -- once everything was sent, the report is exact, whatever the batch
+  pub run_leaves_exact : IsAllSent s → IsExact (with_contents s d s.predicates)
+  run_leaves_exact = end_exact s simple terms q by_state applied_to_state ran_by_terms

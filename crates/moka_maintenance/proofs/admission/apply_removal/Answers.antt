@@ -1,0 +1,35 @@
+use Rattle.std.proofs.Common.{◌≡◌, refl, sym, ap, ◌∙◌, true≢false}
+use Rattle.std.specs.FinMap as finite
+use Rattle.moka_parts.specs.Records.{counted_of}
+use Rattle.moka_parts.proofs.AccessList.{absent_taken_out, counted_taken_out}
+use Rattle.moka_store.specs.Store.{Kept}
+use Rattle.moka_maintenance.proofs.Placed.{no_row, places-gone, rows-unplaced, rows-kept, rows-forgotten}
+use Rattle.moka_maintenance.proofs.admission.apply_removal.Goals as goal
+
+pub returns-then-not-has_row-clause-step : goal.returns-then-not-has_row-clause-step
+returns-then-not-has_row-clause-step g c =
+    let n = c.args.handle.number in
+    let k = c.args.store.now in
+    let none = no_row k.places n c.args.handle.place (counted_of n k.access) c.requires (c.has_row.ensures.members n) (λ here. absurd (true≢false (sym (c.has_row.ensures.placed.1 here) ∙ c.if-not-has_row.true))) in
+    rw (absent_taken_out n k.access none) refl
+
+pub returns-then-not-has_row-clause-rows : goal.returns-then-not-has_row-clause-rows
+returns-then-not-has_row-clause-rows g c = λ generation.
+    rows-unplaced c.args.store.now c.args.store.now c.args.handle.number generation c.args.handle.place c.requires
+    (λ here. absurd (true≢false (sym (c.has_row.ensures.placed.1 here) ∙ c.if-not-has_row.true))) refl
+
+pub forget-requires-clause-apart : goal.forget-requires-clause-apart
+forget-requires-clause-apart g c = rw c.leave.ensures (counted_taken_out c.args.handle.number c.args.store.now.access)
+
+pub returns-then-is_none-clause-places : goal.returns-then-is_none-clause-places
+returns-then-is_none-clause-places g c =
+    let step = ap (λ (k : Kept g.row.K.Denot g.row.V.Denot). k.places) c.forget.ensures.step in
+    let left : finite.remove c.leave.new.store.places c.args.handle.number ≡ finite.remove c.args.store.now.places c.args.handle.number = ap (λ (k : Kept g.row.K.Denot g.row.V.Denot). finite.remove k.places c.args.handle.number) c.leave.ensures in
+    places-gone c.args.store.now c.forget.new.self c.args.handle.number (step ∙ left)
+
+pub returns-then-is_none-clause-rows : goal.returns-then-is_none-clause-rows
+returns-then-is_none-clause-rows g c = λ generation.
+    let step = ap (λ (k : Kept g.row.K.Denot g.row.V.Denot). k.places) c.forget.ensures.step in
+    let left : finite.remove c.leave.new.store.places c.args.handle.number ≡ finite.remove c.args.store.now.places c.args.handle.number = ap (λ (k : Kept g.row.K.Denot g.row.V.Denot). finite.remove k.places c.args.handle.number) c.leave.ensures in
+    let records = c.forget.ensures.records ∙ ap (λ (k : Kept g.row.K.Denot g.row.V.Denot). k.records) c.leave.ensures in
+    rows-forgotten c.args.store.now c.forget.new.self c.args.handle.number generation records (step ∙ left)

@@ -1,0 +1,43 @@
+use Rattle.std.proofs.Common.{◌≡◌, None, List, sym, ap, ◌∙◌, subst, Contains, slice_get, arith}
+use Rattle.circular_buffer.specs.Buffer.{Buffer}
+use Rattle.moka_store.specs.Store.{Kept}
+use Rattle.moka_maintenance.specs.declared.queued.QueuedWrite.{QueuedWrite}
+use Rattle.moka_maintenance.specs.Queued.{writes_of}
+use Rattle.moka_maintenance.specs.Queues.{AreApplied, LeavesNoRowBy}
+use Rattle.moka_maintenance.specs.Steps.{contents_in}
+use Rattle.moka_maintenance.proofs.AllApplied.{applied-then}
+use Rattle.moka_maintenance.proofs.Placed.{places-on, rows-none, rows-then}
+use Rattle.moka_maintenance.proofs.Popped.{popped, none_first, rest_in}
+use Rattle.moka_maintenance.proofs.admission.apply_writes.Goals as goal
+
+pub loop-queued-preserved : goal.loop-queued-preserved
+loop-queued-preserved g c =
+    let inv = c.loop-queued.invariant in
+    let store = c.loop-queued.store in
+    let next = c.apply_write.new.store in
+    let made = c.apply_write.ensures in
+    let value = sym c.in-Some.ensures.value in
+    let split = popped c.loop-queued.writes.items c.in-Some.queued value in
+    let items = ap (λ (b : Buffer QueuedWrite). b.items) c.in-Some.ensures.items in
+    record {
+      applied = λ d m are.
+          inv.applied d m
+          (subst (λ (qs : List QueuedWrite). AreApplied g.L.Listener.tells c.args.capacity c.args.policy (contents_in store) d (writes_of qs) c.loop-queued.notifier m) (sym split)
+          (applied-then g.L.Listener.tells c.args.capacity c.args.policy (contents_in store) (contents_in next) d c.in-Some.queued.write.operation c.in-Some.queued.ticket _ c.loop-queued.notifier c.apply_write.new.notifier m made.applied
+          (subst (λ (qs : List QueuedWrite). AreApplied g.L.Listener.tells c.args.capacity c.args.policy (contents_in next) d (writes_of qs) c.apply_write.new.notifier m) items are)));
+      rows = λ k kept are.
+          inv.rows k (places-on store next k made.places kept)
+          (subst (λ (qs : List QueuedWrite). LeavesNoRowBy (writes_of qs) store k) (sym split)
+          (rows-then store next k c.in-Some.queued.write.operation c.in-Some.queued.ticket _ kept made.rows (subst (λ (qs : List QueuedWrite). LeavesNoRowBy (writes_of qs) next k) items are)));
+      places = places-on c.args.store.now store next inv.places made.places;
+      room = (let before = inv.room in let after = made.room in omega arith);
+      located = λ q there p at.
+          inv.located q (rest_in c.loop-queued.writes.items c.in-Some.queued q value (subst (λ (b : Buffer QueuedWrite). Contains b.items q) c.in-Some.ensures.items there)) p (made.places _ p at);
+      capacity = ap (λ (b : Buffer QueuedWrite). b.capacity) c.in-Some.ensures.items ∙ inv.capacity;
+    }
+
+pub returns-clause-rows : goal.returns-clause-rows
+returns-clause-rows g c =
+    let empty = none_first c.loop-queued.writes.items c.in_default.ensures.value in
+    c.loop-queued.invariant.rows c.loop-queued.store (λ n p at. at)
+    (subst (λ (qs : List QueuedWrite). LeavesNoRowBy (writes_of qs) c.loop-queued.store c.loop-queued.store) (sym empty) (rows-none c.loop-queued.store))

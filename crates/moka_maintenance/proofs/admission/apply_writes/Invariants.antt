@@ -1,0 +1,23 @@
+use Rattle.std.proofs.Common.{◌≡◌, ◌≤◌, Option, length, Contains}
+use Rattle.moka_parts.specs.State.{Contents}
+use Rattle.moka_parts.specs.Settling.{number_of}
+use Rattle.moka_store.specs.Store.{Kept}
+use Rattle.moka_maintenance.specs.declared.queued.QueuedWrite.{QueuedWrite}
+use Rattle.moka_maintenance.specs.Queued.{IsAt, writes_of}
+use Rattle.moka_maintenance.specs.Queues.{AreApplied, LeavesNoRowBy}
+use Rattle.moka_maintenance.specs.Steps.{contents_in, AddsNoPlace}
+use Rattle.moka_maintenance.proofs.admission.apply_writes.Given as goal
+
+abbrev pub invariant-loop-queued : goal.invariant-loop-queued
+invariant-loop-queued g l = record {
+  applied : (c : Contents g.row.K.Denot g.row.V.Denot) (m : Option g.row.L.Denot) → AreApplied g.L.Listener.tells l.capacity l.policy (contents_in l.store) c (writes_of l.writes.items) l.notifier m
+      → AreApplied g.L.Listener.tells l.capacity l.policy (contents_in l.initial.store) c (writes_of l.initial.writes.items) l.initial.notifier m;
+  rows : (k : Kept g.row.K.Denot g.row.V.Denot) → AddsNoPlace l.store k → LeavesNoRowBy (writes_of l.writes.items) l.store k → LeavesNoRowBy (writes_of l.initial.writes.items) l.initial.store k;
+  places : AddsNoPlace l.initial.store l.store;
+  room : l.initial.store.room ≤ l.store.room;
+  located : (q : QueuedWrite) → Contains l.writes.items q → IsAt l.store.places (number_of q.write.operation) q.write.place;
+  capacity : l.writes.capacity ≡ l.initial.writes.capacity;
+}
+
+abbrev pub decreases-loop-queued : goal.decreases-loop-queued
+decreases-loop-queued g l = length l.writes.items

@@ -1,0 +1,50 @@
+use Rattle.std.proofs.Common.{arith, refl, ◌∙◌}
+use Rattle.moka_maintenance.specs.Steps.{contents_in}
+use Rattle.moka_maintenance.proofs.Placed.{places-on, rows-on}
+use Rattle.moka_maintenance.proofs.Sweeping.{sweeping-none, sweeping-removed, sweeping-passed, sweeping-rounds, sweeping-ended, sweeping-over}
+use Rattle.moka_maintenance.proofs.sweep.sweep_along.Goals as goal
+
+pub loop-turns-init : goal.loop-turns-init
+loop-turns-init g c = record {
+  sweeping = sweeping-none g.L.Listener.tells c.args.tests c.args.sweep c.args.batch (contents_in c.args.store.now) c.args.notifier.now c.invariant_holds.ensures.distinct;
+  places = λ n p at. at;
+  rows = λ n p at gone. gone;
+  room = omega arith;
+}
+
+pub returns-in-Ended-clause-swept : goal.returns-in-Ended-clause-swept
+returns-in-Ended-clause-swept g c = sweeping-ended g.L.Listener.tells c.args.tests c.args.sweep c.args.batch _ _ _ _ _ _ _ _ _ _ c.loop-turns.invariant.sweeping c.loop-turns-test.true c.in-Ended.ensures.turn
+
+pub loop-turns-preserved-in-Removed : goal.loop-turns-preserved-in-Removed
+loop-turns-preserved-in-Removed g c =
+    let inv = c.loop-turns.invariant in
+    record {
+      sweeping = sweeping-removed g.L.Listener.tells c.args.tests c.args.sweep c.args.batch _ _ _ _ _ _ _ _ _ _ inv.sweeping _ (let some = c.loop-turns-test.true in omega arith) c.in-Removed.ensures.turn;
+      places = places-on c.args.store.now c.loop-turns.store c.take_turn.new.store inv.places c.in-Removed.ensures.places;
+      rows = rows-on c.args.store.now c.loop-turns.store c.take_turn.new.store c.in-Removed.ensures.places inv.rows c.in-Removed.ensures.rows;
+      room = (let before = inv.room in let after = c.in-Removed.ensures.room in omega arith);
+    }
+
+pub loop-turns-preserved-then-passed-member_count : goal.loop-turns-preserved-then-passed-member_count
+loop-turns-preserved-then-passed-member_count g c =
+    let inv = c.loop-turns.invariant in
+    record {
+      sweeping = sweeping-rounds g.L.Listener.tells c.args.tests c.args.sweep c.args.batch _ _ _ _ _ _ _ _ (c.if-passed-member_count.true ∙ c.member_count.ensures.value) refl
+          (sweeping-passed g.L.Listener.tells c.args.tests c.args.sweep c.args.batch _ _ _ _ _ _ _ _ _ _ inv.sweeping _ (let some = c.loop-turns-test.true in omega arith) c.in-Passed.ensures.turn);
+      places = places-on c.args.store.now c.loop-turns.store c.take_turn.new.store inv.places c.in-Passed.ensures.places;
+      rows = rows-on c.args.store.now c.loop-turns.store c.take_turn.new.store c.in-Passed.ensures.places inv.rows c.in-Passed.ensures.rows;
+      room = (let before = inv.room in let after = c.in-Passed.ensures.room in omega arith);
+    }
+
+pub loop-turns-preserved : goal.loop-turns-preserved
+loop-turns-preserved g c =
+    let inv = c.loop-turns.invariant in
+    record {
+      sweeping = sweeping-passed g.L.Listener.tells c.args.tests c.args.sweep c.args.batch _ _ _ _ _ _ _ _ _ _ inv.sweeping _ (let some = c.loop-turns-test.true in omega arith) c.in-Passed.ensures.turn;
+      places = places-on c.args.store.now c.loop-turns.store c.take_turn.new.store inv.places c.in-Passed.ensures.places;
+      rows = rows-on c.args.store.now c.loop-turns.store c.take_turn.new.store c.in-Passed.ensures.places inv.rows c.in-Passed.ensures.rows;
+      room = (let before = inv.room in let after = c.in-Passed.ensures.room in omega arith);
+    }
+
+pub returns-clause-swept : goal.returns-clause-swept
+returns-clause-swept g c = sweeping-over g.L.Listener.tells c.args.tests c.args.sweep c.args.batch _ _ _ _ _ _ _ _ (let over = c.loop-turns-test.false in omega arith) c.loop-turns.invariant.sweeping

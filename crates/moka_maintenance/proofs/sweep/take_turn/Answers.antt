@@ -1,0 +1,30 @@
+use Rattle.std.proofs.Common.{◌≡◌, ◌&&◌, true, refl, sym, ap, ◌∙◌, subst, rules}
+use Rattle.moka_parts.specs.State.{Contents}
+use Rattle.moka_parts.specs.Records.{is_member, is_settled}
+use Rattle.moka_maintenance.specs.Steps.{contents_in}
+use Rattle.moka_maintenance.proofs.Placed.{places-gone, rows-gone}
+use Rattle.moka_maintenance.proofs.Fronts.{settled_member}
+use Rattle.moka_maintenance.proofs.sweep.take_turn.Goals as goal
+
+pub returns-clause-turn : goal.returns-clause-turn
+returns-clause-turn g c =
+    let n = c.in-Some.handle.number in
+    let r = c.in-Some-find.found.now in
+    let found = sym (c.in-Some-find.ensures.found c.in-Some.ensures.placed) in
+    (
+      n,
+      c.in-Some-cause_of.cause,
+      (
+        c.in-Some.ensures.next,
+        (r, found, settled_member c.args.store.now.records c.args.store.now.access n c.in-Some.ensures.member (sym c.is_settled.ensures ∙ c.if-not-is_settled.false), c.in-Some-cause_of.ensures.ground (contents_in c.args.store.now) n c.in-Some.ensures.next),
+        c.in-Some-cause_of.ensures.timely,
+      ),
+      c.expel.ensures.step,
+      c.expel.ensures.told,
+    )
+
+pub returns-clause-places : goal.returns-clause-places
+returns-clause-places g c = places-gone c.args.store.now c.expel.new.store c.in-Some.handle.number c.expel.ensures.places
+
+pub returns-clause-rows : goal.returns-clause-rows
+returns-clause-rows g c = rows-gone c.args.store.now c.expel.new.store c.in-Some.handle.number (ap (λ (s : Contents g.row.K.Denot g.row.V.Denot). s.records) c.expel.ensures.step) c.expel.ensures.places

@@ -1,0 +1,8 @@
+//! Maintenance of a cache: queued reads and writes are applied, and what has expired or exceeds the capacity is removed.
+#![tactic(auto)]
+
+pub mod admission;
+mod expel;
+pub mod passes;
+pub mod queued;
+pub mod sweep;

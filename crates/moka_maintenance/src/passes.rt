@@ -1,0 +1,170 @@
+//! A run of maintenance: passes of the steps that remove, and the clock between them.
+//!
+//! moka: `sync::base_cache::Inner::do_run_pending_tasks`.
+ghost use Rattle.std.specs.Prelude.{◌≡◌, ◌≤◌, ◌+◌, ◌||◌, true, false, Some, option_map};
+ghost use Rattle.std.specs.Duration.{as_nanos};
+ghost use Rattle.moka_maintenance.specs.Steps.{contents_in, AddsNoPlace, LeavesNoRow};
+ghost use Rattle.moka_maintenance.specs.Sweeps.{IsSwept};
+ghost use Rattle.moka_maintenance.specs.Passes.{Starts, Checks, is_taken, IsPass, IsRan};
+
+use crate::sweep::{Sweep, Swept, Tests, is_over, sweep_along};
+use moka_parts::housekeeper::Clock;
+use moka_parts::notification::{Listener, RemovalNotifier};
+use moka_parts::policy::Instant;
+use moka_store::Store;
+use std::hash::{BuildHasher, Hash};
+use std::time::Duration;
+
+/// What a run came to.
+#[derive(Clone, Copy, Debug, PartialEq, Eq)]
+pub struct Ran {
+    /// How many passes were made.
+    pub passes: u64,
+    /// Whether the last pass left more.
+    pub is_left: bool,
+}
+
+// What a pass came to.
+#[derive(Clone, Copy)]
+struct Pass {
+    removed: u64,
+    is_left: bool,
+}
+
+/// Makes passes until one leaves nothing or removes nothing, or the limit has passed since the start.
+pub fn make_passes<K: Eq + Hash + Drop, V: Drop, S: BuildHasher, L: Listener<K, V>, C: Clock>(
+    store: &mut Store<K, V, S>,
+    notifier: &mut RemovalNotifier<L>,
+    clock: &mut C,
+    tests: Tests,
+    limit: Option<Duration>,
+    batch: u32,
+) -> Ran
+    ensures ran { IsRan L.tells tests C.reads (option_map as_nanos limit) batch (contents_in store.old) (contents_in store.new) notifier.old notifier.new clock.old clock.new result.passes result.is_left }
+    ensures places { AddsNoPlace store.old store.new }
+    ensures rows { LeavesNoRow store.old store.new }
+    ensures room { store.old.room ≤ store.new.room }
+{
+    // There are no more passes than members, and one.
+    let _members = store.member_count();
+    let started = start(limit, clock);
+    let mut passes = 0u64;
+    loop {
+        passes += 1;
+        let pass = make_pass(store, notifier, tests, batch);
+        if !goes_on(pass) {
+            let is_left = pass.is_left;
+            return Ran { passes, is_left };
+        }
+        if is_late(started, limit, clock) {
+            let is_left = true;
+            return Ran { passes, is_left };
+        }
+    }
+}
+
+// One pass.
+fn make_pass<K: Eq + Hash + Drop, V: Drop, S: BuildHasher, L: Listener<K, V>>(
+    store: &mut Store<K, V, S>,
+    notifier: &mut RemovalNotifier<L>,
+    tests: Tests,
+    batch: u32,
+) -> Pass
+    ensures pass { IsPass L.tells tests batch (contents_in store.old) (contents_in store.new) notifier.old notifier.new result.removed result.is_left }
+    ensures places { AddsNoPlace store.old store.new }
+    ensures rows { LeavesNoRow store.old store.new }
+    ensures room { store.old.room ≤ store.new.room }
+{
+    let by_read = take_step(store, notifier, tests, Sweep::Read, batch);
+    let surplus = take_step(store, notifier, tests, Sweep::Surplus, batch);
+    joined(by_read, surplus)
+}
+
+// What two steps came to.
+fn joined(first: Swept, second: Swept) -> Pass
+    ensures removed { result.removed ≡ first.removed + second.removed }
+    ensures left { result.is_left ≡ (first.is_left || second.is_left) }
+{
+    Pass {
+        removed: u64::from(first.removed) + u64::from(second.removed),
+        is_left: first.is_left || second.is_left,
+    }
+}
+
+// A step of a pass, where it is to be taken.
+fn take_step<K: Eq + Hash + Drop, V: Drop, S: BuildHasher, L: Listener<K, V>>(
+    store: &mut Store<K, V, S>,
+    notifier: &mut RemovalNotifier<L>,
+    tests: Tests,
+    sweep: Sweep,
+    batch: u32,
+) -> Swept
+    ensures swept { IsSwept L.tells tests sweep batch (contents_in store.old) (contents_in store.new) notifier.old notifier.new result.removed result.is_left }
+    ensures idle { batch ≡ 0 → result.is_left ≡ is_taken tests sweep store.old.access }
+    ensures places { AddsNoPlace store.old store.new }
+    ensures rows { LeavesNoRow store.old store.new }
+    ensures room { store.old.room ≤ store.new.room }
+{
+    if !is_taken(store, tests, sweep) {
+        return Swept {
+            removed: 0,
+            is_left: false,
+        };
+    }
+    sweep_along(store, notifier, tests, sweep, batch)
+}
+
+// Whether a step is to be taken.
+fn is_taken<K: Eq + Hash, V, S: BuildHasher>(
+    store: &Store<K, V, S>,
+    tests: Tests,
+    sweep: Sweep,
+) -> bool
+    ensures { result ≡ is_taken tests sweep store.now.access }
+{
+    match sweep {
+        Sweep::Read => tests.time_to_idle.is_some() || tests.valid_after.is_some(),
+        Sweep::Surplus => is_over(tests.capacity, store.total_weight()),
+    }
+}
+
+// Whether another pass is due.
+fn goes_on(pass: Pass) -> bool
+    ensures due { result ≡ true → (pass.is_left ≡ true) × (1 ≤ pass.removed) }
+    ensures over { result ≡ false → pass.is_left ≡ true → pass.removed ≡ 0 }
+{
+    pass.is_left && pass.removed > 0
+}
+
+// Reads the clock where a limit is given.
+fn start<C: Clock>(limit: Option<Duration>, clock: &mut C) -> Option<Instant>
+    ensures { Starts C.reads (option_map as_nanos limit) clock.old result clock.new }
+{
+    match limit {
+        Some(_) => Some(clock.now()),
+        None => None,
+    }
+}
+
+// Reads the clock again where it was read at the start. Whether the limit has passed since then.
+fn is_late<C: Clock>(started: Option<Instant>, limit: Option<Duration>, clock: &mut C) -> bool
+    ensures { Checks C.reads started (option_map as_nanos limit) clock.old result clock.new }
+{
+    match started {
+        Some(first) => has_passed(first, limit, clock),
+        None => false,
+    }
+}
+
+// Reads the clock, where a limit is given. Whether so much time has passed.
+fn has_passed<C: Clock>(first: Instant, limit: Option<Duration>, clock: &mut C) -> bool
+    ensures { Checks C.reads (Some first) (option_map as_nanos limit) clock.old result clock.new }
+{
+    match limit {
+        Some(limit) => {
+            let now = clock.now();
+            now.saturating_duration_since(first).as_nanos() >= limit.as_nanos()
+        }
+        None => false,
+    }
+}

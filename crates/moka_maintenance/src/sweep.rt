@@ -1,0 +1,220 @@
+//! Sweeps along the access list: what is at the front and past its test leaves.
+//!
+//! moka: `sync::base_cache::Inner::remove_expired_ao`, `Inner::evict_lru_entries`.
+ghost use Rattle.std.specs.Prelude.{◌≡◌, ◌≤◌, ◌&&◌, ℕ, true, false, [], Some, IfSome, IfNone, IsSome, List};
+ghost use Rattle.std.specs.FinMap as finite;
+ghost use Rattle.moka_parts.specs.declared.notification.RemovalCause.{RemovalCause};
+ghost use Rattle.moka_parts.specs.declared.records.Member.{Member};
+ghost use Rattle.moka_parts.specs.State.{Contents};
+ghost use Rattle.moka_parts.specs.Maintenance.{HasGround, is_front, is_over, is_past_read};
+ghost use Rattle.moka_parts.specs.Exact.{IsWithin};
+ghost use Rattle.moka_parts.specs.Visibility.{is_read_before};
+ghost use Rattle.moka_parts.specs.Records.{counted_of, total_weight};
+ghost use Rattle.moka_store.specs.Store.{IsPlaced};
+ghost use Rattle.moka_maintenance.specs.Steps.{contents_in, AddsNoPlace, LeavesNoRow, is_timely};
+ghost use Rattle.moka_maintenance.specs.Sweeps.{tests_in, is_by_moment, IsNext, IsAtRest, TakesTurn, IsSwept};
+
+use crate::expel::expel;
+use moka_parts::expiry::{is_expired_by_tti, is_invalid_entry};
+use moka_parts::notification::{Listener, RemovalCause, RemovalNotifier};
+use moka_parts::policy::Instant;
+use moka_parts::records::Record;
+use moka_store::{Handle, Store};
+use std::hash::{BuildHasher, Hash};
+use std::time::Duration;
+
+/// What a run tests records by.
+#[derive(Clone, Copy)]
+pub struct Tests {
+    pub now: Instant,
+    pub time_to_live: Option<Duration>,
+    pub time_to_idle: Option<Duration>,
+    /// Records written or read before this moment are invalid.
+    pub valid_after: Option<Instant>,
+    pub capacity: Option<u64>,
+}
+
+/// By what a sweep removes.
+#[derive(Clone, Copy)]
+pub enum Sweep {
+    /// By the last read.
+    Read,
+    /// While the capacity is exceeded.
+    Surplus,
+}
+
+/// What one turn of a sweep did.
+#[derive(Clone, Copy)]
+pub enum Turn {
+    /// The front left.
+    Removed,
+    /// The front, which is not settled, went to the back.
+    Passed,
+    /// There is no front, or it stays.
+    Ended,
+}
+
+/// What a sweep came to.
+#[derive(Clone, Copy)]
+pub(crate) struct Swept {
+    /// How many records it removed.
+    pub removed: u32,
+    /// Whether each of all its turns removed one.
+    pub is_left: bool,
+}
+
+/// Makes up to `batch` turns.
+pub(crate) fn sweep_along<K: Eq + Hash + Drop, V: Drop, S: BuildHasher, L: Listener<K, V>>(
+    store: &mut Store<K, V, S>,
+    notifier: &mut RemovalNotifier<L>,
+    tests: Tests,
+    sweep: Sweep,
+    batch: u32,
+) -> Swept
+    ensures swept { IsSwept L.tells tests sweep batch (contents_in store.old) (contents_in store.new) notifier.old notifier.new result.removed result.is_left }
+    ensures places { AddsNoPlace store.old store.new }
+    ensures rows { LeavesNoRow store.old store.new }
+    ensures room { store.old.room ≤ store.new.room }
+{
+    let mut turns = batch as usize;
+    let mut removed = 0;
+    let mut is_all_settled = true;
+    // How many turns in a row removed nothing.
+    let mut passed = 0;
+    store.invariant_holds();
+    while turns > 0 {
+        turns -= 1;
+        match take_turn(store, notifier, tests, sweep) {
+            Turn::Ended => {
+                let is_left = false;
+                return Swept { removed, is_left };
+            }
+            Turn::Removed => {
+                removed += 1;
+                passed = 0;
+            }
+            Turn::Passed => {
+                is_all_settled = false;
+                passed += 1;
+                if passed == store.member_count() {
+                    // No member is settled, and each further round would leave the order as it is.
+                    turns %= passed;
+                }
+            }
+        }
+    }
+    let is_left = is_all_settled;
+    Swept { removed, is_left }
+}
+
+// One turn: the front leaves where it is settled and past its test, and goes to the back where it is not settled.
+fn take_turn<K: Eq + Hash + Drop, V: Drop, S: BuildHasher, L: Listener<K, V>>(
+    store: &mut Store<K, V, S>,
+    notifier: &mut RemovalNotifier<L>,
+    tests: Tests,
+    sweep: Sweep,
+) -> Turn
+    ensures turn { TakesTurn L.tells tests sweep (contents_in store.old) (contents_in store.new) notifier.old notifier.new result }
+    ensures places { AddsNoPlace store.old store.new }
+    ensures rows { LeavesNoRow store.old store.new }
+    ensures room { store.old.room ≤ store.new.room }
+{
+    let Some(handle) = next_of(store, tests, sweep) else {
+        return Turn::Ended;
+    };
+    if !store.is_settled(handle) {
+        store.move_to_back(handle);
+        return Turn::Passed;
+    }
+    let Some(found) = store.find(handle) else {
+        unreachable!()
+    };
+    let Some(cause) = cause_of(tests, sweep, found) else {
+        return Turn::Ended;
+    };
+    expel(store, notifier, handle, cause);
+    Turn::Removed
+}
+
+// The front of the access list, where the sweep still has to go on.
+fn next_of<K: Eq + Hash, V, S: BuildHasher>(
+    store: &Store<K, V, S>,
+    tests: Tests,
+    sweep: Sweep,
+) -> Option<Handle>
+    ensures placed { IfSome result (λ h. IsPlaced store.now h) }
+    ensures member { IfSome result (λ h. IsSome (counted_of h.number store.now.access)) }
+    ensures next { IfSome result (λ h. IsNext tests sweep (contents_in store.now) h.number) }
+    ensures none { IfNone result (IsAtRest tests sweep (contents_in store.now)) }
+{
+    match sweep {
+        Sweep::Read => first_of(store),
+        Sweep::Surplus => first_over(store, tests.capacity),
+    }
+}
+
+// The front of the access list.
+fn first_of<K: Eq + Hash, V, S: BuildHasher>(store: &Store<K, V, S>) -> Option<Handle>
+    ensures placed { IfSome result (λ h. IsPlaced store.now h) }
+    ensures member { IfSome result (λ h. IsSome (counted_of h.number store.now.access)) }
+    ensures front { IfSome result (λ h. is_front h.number store.now.access ≡ true) }
+    ensures none { IfNone result (store.now.access ≡ []) }
+{
+    match store.front() {
+        Some((handle, _)) => Some(handle),
+        None => None,
+    }
+}
+
+// The front of the access list, while the capacity is exceeded.
+fn first_over<K: Eq + Hash, V, S: BuildHasher>(
+    store: &Store<K, V, S>,
+    capacity: Option<u64>,
+) -> Option<Handle>
+    ensures placed { IfSome result (λ h. IsPlaced store.now h) }
+    ensures member { IfSome result (λ h. IsSome (counted_of h.number store.now.access)) }
+    ensures front { IfSome result (λ h. (is_front h.number store.now.access && is_over capacity store.now.access) ≡ true) }
+    ensures none { IfNone result (IsWithin capacity store.now.access) }
+{
+    if !is_over(capacity, store.total_weight()) {
+        return None;
+    }
+    first_of(store)
+}
+
+/// Whether the capacity, if there is one, is exceeded by so much weight.
+pub(crate) fn is_over(capacity: Option<u64>, weight: u128) -> bool
+    ensures { (members : List Member) → weight ≡ total_weight members → result ≡ is_over capacity members }
+{
+    match capacity {
+        Some(capacity) => weight > u128::from(capacity),
+        None => false,
+    }
+}
+
+// Why a sweep removes a settled record that it has come to, if it does.
+fn cause_of<K, V>(tests: Tests, sweep: Sweep, found: &Record<K, V>) -> Option<RemovalCause>
+    ensures ground { IfSome result (λ cause. (c : Contents K V) (n : ℕ) → IsNext tests sweep c n → HasGround (tests_in tests) c n found.now cause) }
+    ensures timely { IfSome result (λ cause. is_by_moment sweep ≡ true → is_timely cause ≡ true) }
+    ensures none { IfNone result ((c : Contents K V) (n : ℕ) → finite.get c.records n ≡ Some found.now → IsNext tests sweep c n → IsAtRest tests sweep c) }
+{
+    match sweep {
+        Sweep::Read => cause_by_read(tests, found),
+        Sweep::Surplus => Some(RemovalCause::Size),
+    }
+}
+
+// Why a record leaves by the moment of its last read, if it does.
+fn cause_by_read<K, V>(tests: Tests, found: &Record<K, V>) -> Option<RemovalCause>
+    ensures ground { IfSome result (λ cause. (c : Contents K V) (n : ℕ) → HasGround (tests_in tests) c n found.now cause) }
+    ensures timely { IfSome result (λ cause. is_timely cause ≡ true) }
+    ensures none { IfNone result ((is_past_read (tests_in tests) found.now ≡ false) × (is_read_before tests.valid_after found.now ≡ false)) }
+{
+    if is_expired_by_tti(tests.time_to_idle, found.read, tests.now) {
+        return Some(RemovalCause::Expired);
+    }
+    if is_invalid_entry(tests.valid_after, found.read) {
+        return Some(RemovalCause::Explicit);
+    }
+    None
+}
