@@ -1,92 +1,38 @@
 -- How the facts of the inner part follow each kind of change.
-use Rattle.std.proofs.Common.{◌≡◌, ℕ, zero, suc, Bool, false, ◌+◌, ◌-◌, ◌<◌, ◌≤◌, ◌^◌, List, [], ◌∷◌, ◌++◌, map, length, Some, None, option_map, ◌⊎◌, inl, inr, Result, Ok, Err, IsOk, OnOk, IfErr, refl, sym, ap, subst, ◌∙◌, arith}
-use Rattle.circular_buffer.specs.Buffer.{Buffer, buffer}
-use Rattle.std.specs.Prelude.{Contains, slice_index_or}
-use Rattle.std.proofs.lemmas.List.{length-append}
-use Rattle.std.proofs.lemmas.List.Elements.{Contains-append_cases, Contains-append_right}
-use Rattle.std.specs.FinMap.{FinMap, get, insert, remove, len, empty, get-empty, len-empty}
+use Rattle.std.proofs.Common.{◌≡◌, ℕ, zero, suc, ◌+◌, ◌-◌, ◌<◌, ◌≤◌, ◌^◌, List, [], ◌∷◌, ◌++◌, map, length, Option, Some, None, option_map, ◌⊎◌, inl, inr, Result, Ok, Err, IsOk, OnOk, IfErr, refl, sym, ap, subst, ◌∙◌, arith}
+use Rattle.std.specs.Prelude.{Contains}
+use Rattle.std.proofs.lemmas.List.{length-append, map-append}
+use Rattle.std.proofs.lemmas.List.Elements.{Contains-push_cases}
+use Rattle.std.proofs.lemmas.Bool.{cases_eq}
+use Rattle.std.specs.Cmp.{nat_cmp_total}
+use Rattle.std.specs.FinMap.{FinMap, get, insert, remove, len, len-insert, empty, get-empty, len-empty}
 use Rattle.std.specs.Ordering.{nat_cmp}
-use Rattle.std.specs.Cmp.{IsEquivalence}
+use Rattle.circular_buffer.specs.Buffer.{Buffer, buffer}
+use Rattle.moka_parts.specs.declared.records.Operation.{Operation}
+use Rattle.moka_parts.specs.declared.records.Operation.TheVariants.{Removal}
 use Rattle.moka_parts.specs.declared.records.Record.{Record}
 use Rattle.moka_parts.specs.declared.records.ReadOperation.{ReadOperation}
 use Rattle.moka_parts.specs.declared.records.ReadOperation.TheVariants.{Hit, Miss}
-use Rattle.moka_parts.specs.Records.{Records}
-use Rattle.moka_engine.specs.declared.inner.PlacedWrite.{PlacedWrite}
-use Rattle.moka_engine.specs.declared.inner.QueuedWrite.{QueuedWrite}
-use Rattle.moka_engine.specs.declared.inner.QueuedRead.{QueuedRead}
-use Rattle.moka_engine.specs.Interior.{IsLocated, IsReadLocated, IsReadAt}
-use Rattle.moka_parts.specs.Settling.{number_of}
-use Rattle.moka_store.specs.Store.{Kept}
-use Rattle.moka_structures.specs.Pending.{Pending}
-use Rattle.std.specs.List.{IsDistinct}
-use Rattle.std.proofs.lemmas.List.{map-append}
-use Rattle.moka_parts.specs.declared.records.Operation.{Operation}
-use Rattle.moka_parts.specs.declared.records.Operation.TheVariants.{Upsert, Removal}
 use Rattle.moka_parts.specs.declared.records.Ticketed.{Ticketed}
-use Rattle.moka_parts.specs.Settling.{IsWaitingIn, IsConsistent}
-use Rattle.moka_parts.proofs.Consistent.{insert_kept, replace_kept, renew_kept, take_kept, waiting_alike}
-use Rattle.moka_parts.proofs.Values.{len_removed}
+use Rattle.moka_parts.specs.Calls.{queue_length}
+use Rattle.moka_parts.specs.Records.{Records}
+use Rattle.moka_parts.specs.Settling.{number_of, IsWaitingIn}
+use Rattle.moka_parts.proofs.RunKeeps.{Keeps}
+use Rattle.moka_parts.proofs.Values.{len_removed, remove_absent}
 use Rattle.moka_parts.proofs.Waiting.{hands_out, waits_sent}
-use Rattle.moka_engine.specs.Interior.{operations_of, writes_of, handed_of}
+use Rattle.moka_structures.specs.Pending.{Pending}
+use Rattle.moka_store.specs.Store.{Kept}
+use Rattle.moka_store.proofs.Gets.{after_insert, after_remove, get-inserted, get-past_insert, get-past_remove, len-kept, option-cases}
+use Rattle.moka_maintenance.specs.declared.queued.PlacedWrite.{PlacedWrite}
+use Rattle.moka_maintenance.specs.declared.queued.QueuedWrite.{QueuedWrite}
+use Rattle.moka_maintenance.specs.declared.queued.QueuedRead.{QueuedRead}
+use Rattle.moka_maintenance.specs.Queued.{IsReadAt, handed_of, writes_of}
+use Rattle.moka_engine.specs.Inner.{IsInner, AreLocated, HasUse}
+use Rattle.moka_engine.specs.Interior.{IsLocated, IsReadLocated, operations_of}
+use Rattle.moka_engine.proofs.Fewer.{AreKeysOf, len-fewer}
 use Rattle.moka_engine.proofs.ValuesLemmas.{get-map_values, map_values-insert, map_values-remove, map_values-found}
-use Rattle.moka_engine.specs.Inner.{IsInner, AreKeyed, AreLocated, AreTicketed}
-use Rattle.moka_engine.proofs.RecordsLeft.{keyed-left, left-removed}
-use Rattle.moka_store.proofs.Gets.{after_insert, after_remove, get-inserted, len-fresh, len-kept, option-cases}
 
-module _ {K V : Type 0} (eq : K → K → Bool) (laws : IsEquivalence eq) (records : Records K V) (t m : ℕ) where
-  -- a record of a key that is not there
-  pub keyed-inserted : (r : Record K V) → AreKeyed eq records t m → r.number ≡ m → r.generation < t + 1 → ((n : ℕ) (q : Record K V) → get records n ≡ Some q → eq r.key q.key ≡ false) → AreKeyed eq (insert records m r) (t + 1) (m + 1)
-  keyed-inserted r h number generation fresh = let n = m in record {
-    given = λ m q at. elim (after_insert records n r m q at) [
-      | inl same ↦ (let e = same.0 in omega arith)
-      | inr other ↦ (let lt = h.given m q other.1 in omega arith)
-    ];
-    numbered = λ m q at. elim (after_insert records n r m q at) [
-      | inl same ↦ ap (λ (q : Record K V). q.number) same.1 ∙ (number ∙ sym same.0)
-      | inr other ↦ h.numbered m q other.1
-    ];
-    one_each = λ a b p q at bt is. elim (after_insert records n r a p at) [
-      | inl same ↦ elim (after_insert records n r b q bt) [
-        | inl also ↦ same.0 ∙ sym also.0
-        | inr other ↦ (let no = fresh b q other.1 in let e = ap (λ (p : Record K V). eq p.key q.key) same.1 in cc)
-      ]
-      | inr other ↦ elim (after_insert records n r b q bt) [
-        | inl also ↦ (let no = fresh a p other.1 in let e = ap (λ (q : Record K V). eq p.key q.key) also.1 in let s = laws.symm p.key r.key in cc)
-        | inr others ↦ h.one_each a b p q other.1 others.1 is
-      ]
-    ];
-    generations = λ m q at. elim (after_insert records n r m q at) [
-      | inl same ↦ subst (λ (q : Record K V). q.generation < t + 1) (sym same.1) generation
-      | inr other ↦ (let lt = h.generations m q other.1 in omega arith)
-    ];
-  }
-
-  -- a record with the same key and number in the place of one
-  pub keyed-changed : (n : ℕ) (old r : Record K V) (u : ℕ) → AreKeyed eq records t m → get records n ≡ Some old → r.number ≡ old.number → r.key ≡ old.key → t ≤ u → r.generation < u → AreKeyed eq (insert records n r) u m
-  keyed-changed n old r u h there number key later generation = record {
-    given = λ k q at. elim (after_insert records n r k q at) [
-      | inl same ↦ subst (λ k. k < m) (sym same.0) (h.given n old there)
-      | inr other ↦ h.given k q other.1
-    ];
-    numbered = λ m q at. elim (after_insert records n r m q at) [
-      | inl same ↦ ap (λ (q : Record K V). q.number) same.1 ∙ (number ∙ (h.numbered n old there ∙ sym same.0))
-      | inr other ↦ h.numbered m q other.1
-    ];
-    one_each = λ a b p q at bt is. elim (after_insert records n r a p at) [
-      | inl same ↦ elim (after_insert records n r b q bt) [
-        | inl also ↦ same.0 ∙ sym also.0
-        | inr other ↦ same.0 ∙ h.one_each n b old q there other.1 (ap (λ k. eq k q.key) (sym (ap (λ (p : Record K V). p.key) same.1 ∙ key)) ∙ is)
-      ]
-      | inr other ↦ elim (after_insert records n r b q bt) [
-        | inl also ↦ h.one_each a n p old other.1 there (ap (λ k. eq p.key k) (sym (ap (λ (q : Record K V). q.key) also.1 ∙ key)) ∙ is) ∙ sym also.0
-        | inr others ↦ h.one_each a b p q other.1 others.1 is
-      ]
-    ];
-    generations = λ m q at. elim (after_insert records n r m q at) [
-      | inl same ↦ subst (λ (q : Record K V). q.generation < u) (sym same.1) generation
-      | inr other ↦ (let lt = h.generations m q other.1 in omega arith)
-    ];
-  }
+-- ---- where what waits is located
 
 module _ (places : FinMap nat_cmp ℕ) (n place : ℕ) where
   -- a new row does not move what is placed
@@ -104,8 +50,8 @@ module _ (places : FinMap nat_cmp ℕ) (n place : ℕ) where
   read_placed-inserted at (Miss hash) h = tt
 
   -- a new row whose operation is handed out
-  pub placed_all-inserted : (items : FinMap nat_cmp PlacedWrite) (writes : List QueuedWrite) (reads : List QueuedRead) (t : ℕ) (w : PlacedWrite) → AreLocated places n items writes reads → number_of w.operation ≡ n → w.place ≡ place → AreLocated (insert places n place) (n + 1) (insert items t w) writes reads
-  placed_all-inserted items writes reads t w h number here = record {
+  located-inserted : (items : FinMap nat_cmp PlacedWrite) (writes : List QueuedWrite) (reads : List QueuedRead) (t : ℕ) (w : PlacedWrite) → AreLocated places n items writes reads → number_of w.operation ≡ n → w.place ≡ place → AreLocated (insert places n place) (n + 1) (insert items t w) writes reads
+  located-inserted items writes reads t w h number here = record {
     given = λ m p at. elim (after_insert places n place m p at) [
       | inl same ↦ (let e = same.0 in omega arith)
       | inr other ↦ (let lt = h.given m p other.1 in omega arith)
@@ -126,9 +72,9 @@ module _ (places : FinMap nat_cmp ℕ) (n place : ℕ) where
     seen = λ q at. read_placed-inserted q.place q.read (h.seen q at);
   }
 
--- one more operation of a number that has its row at the place
-pub placed_all-handed : (places : FinMap nat_cmp ℕ) (n : ℕ) (items : FinMap nat_cmp PlacedWrite) (writes : List QueuedWrite) (reads : List QueuedRead) (t : ℕ) (w : PlacedWrite) → AreLocated places n items writes reads → get places (number_of w.operation) ≡ Some w.place → AreLocated places n (insert items t w) writes reads
-placed_all-handed places n items writes reads t w h there = record {
+-- one more operation, of a number that has its row at the place
+located-handed : (places : FinMap nat_cmp ℕ) (n : ℕ) (items : FinMap nat_cmp PlacedWrite) (writes : List QueuedWrite) (reads : List QueuedRead) (t : ℕ) (w : PlacedWrite) → AreLocated places n items writes reads → get places (number_of w.operation) ≡ Some w.place → AreLocated places n (insert items t w) writes reads
+located-handed places n items writes reads t w h there = record {
   given = h.given;
   handed = λ u x at. elim (after_insert items t w u x at) [
     | inl same ↦ subst (λ (x : PlacedWrite). IsLocated places n (number_of x.operation) x.place) (sym same.1) (record { given = h.given (number_of w.operation) w.place there; at = λ p is. cc })
@@ -138,70 +84,85 @@ placed_all-handed places n items writes reads t w h there = record {
   seen = h.seen;
 }
 
-pub ticketed-handed : (items : FinMap nat_cmp PlacedWrite) (writes : List QueuedWrite) (t : ℕ) (w : PlacedWrite) → AreTicketed items writes t → AreTicketed (insert items t w) writes (t + 1)
-ticketed-handed items writes t w h = record {
-  handed = λ u x at. elim (after_insert items t w u x at) [
-    | inl same ↦ (let e = same.0 in omega arith)
-    | inr other ↦ (let lt = h.handed u x other.1 in omega arith)
-  ];
-  sent = λ q at. (let lt = h.sent q at in omega arith);
-}
+-- rows go, and none moves
+located-less : (places less : FinMap nat_cmp ℕ) (n number place : ℕ) → ((k p : ℕ) → get less k ≡ Some p → get places k ≡ Some p) → IsLocated places n number place → IsLocated less n number place
+located-less places less n number place fewer h = record { given = h.given; at = λ p there. h.at p (fewer number p there) }
 
-mapped_at : {A B : Type 0} (f : A → B) (xs : List A) (y : B) (k : ℕ) → k < length (map f xs) → slice_index_or (map f xs) k y ≡ y → (x : A) × Contains xs x × (f x ≡ y)
-mapped_at f [] y k lt is = absurd (omega arith)
-mapped_at f (x ∷ xs) y zero lt is = (x, (0, omega arith, refl), is)
-mapped_at f (x ∷ xs) y (suc k) lt is = let r = mapped_at f xs y k (omega arith) is in (r.0, Contains-append_right (x ∷ []) xs r.0 r.1, r.2)
+read_located-less : (places less : FinMap nat_cmp ℕ) (n place : ℕ) (read : ReadOperation) → ((k p : ℕ) → get less k ≡ Some p → get places k ≡ Some p) → IsReadLocated places n place read → IsReadLocated less n place read
+read_located-less places less n place (Hit number hash renewed) fewer h = located-less places less n number place fewer h
+read_located-less places less n place (Miss hash) fewer h = tt
 
--- an element of a mapped list was made of one of the list
-contains-mapped : {A B : Type 0} (f : A → B) (xs : List A) (y : B) → Contains (map f xs) y → (x : A) × Contains xs x × (f x ≡ y)
-contains-mapped f xs y h = mapped_at f xs y h.0 h.1 h.2
+-- where a located read leads
+pub read_at : (places : FinMap nat_cmp ℕ) (n place : ℕ) (read : ReadOperation) → IsReadLocated places n place read → IsReadAt places place read
+read_at places n place (Hit number hash renewed) h = h.at
+read_at places n place (Miss hash) h = tt
 
--- nothing is kept, whatever waits
-nothing_consistent : {K V : Type 0} (Waits : Operation → Type 0) → IsConsistent {K = K} {V = V} Waits empty []
-unfolding IsDistinct
-nothing_consistent Waits = record { once = tt; sound = λ n. rw (get-empty nat_cmp n) tt }
+-- ---- the tickets of what waits
 
--- the next ticket was never handed out
-never_handed : (out : Pending PlacedWrite) (writes : List QueuedWrite) (t : ℕ) → AreTicketed out.items writes t → get (operations_of out.items) t ≡ None
-never_handed out writes t h = elim (option-cases (get (operations_of out.items) t)) [
-  | inl none ↦ none
-  | inr some ↦ (let w = map_values-found (λ (w : PlacedWrite). w.operation) out.items t some.0 some.1 in let lt = h.handed t w.0 w.1 in absurd (omega arith))
+-- an operation handed out under a new ticket waits beside the others
+waits-handed : (items : FinMap nat_cmp PlacedWrite) (writes : List Ticketed) (t : ℕ) (w : PlacedWrite) → ((u : ℕ) (x : PlacedWrite) → get items u ≡ Some x → u < t) → (o : Operation) → IsWaitingIn (operations_of items) writes o ⊎ (o ≡ w.operation) → IsWaitingIn (operations_of (insert items t w)) writes o
+waits-handed items writes t w below o h = rw map_values-insert (at h)
+  where
+    free : get (operations_of items) t ≡ None
+    free = elim (option-cases (get (operations_of items) t)) [
+      | inl none ↦ none
+      | inr some ↦ (let x = map_values-found (λ (w : PlacedWrite). w.operation) items t some.0 some.1 in let lt = below t x.0 x.1 in absurd (omega arith))
+    ]
+
+    at : IsWaitingIn (operations_of items) writes o ⊎ (o ≡ w.operation) → IsWaitingIn (insert (operations_of items) t w.operation) writes o
+    at (inl waits) = (hands_out (operations_of items) writes t w.operation free).forth o waits
+    at (inr same) = subst (IsWaitingIn (insert (operations_of items) t w.operation) writes) (sym same) (hands_out (operations_of items) writes t w.operation free).there
+
+ticketed-handed : (items : FinMap nat_cmp PlacedWrite) (t : ℕ) (w : PlacedWrite) → ((u : ℕ) (x : PlacedWrite) → get items u ≡ Some x → u < t) → (u : ℕ) (x : PlacedWrite) → get (insert items t w) u ≡ Some x → u < t + 1
+ticketed-handed items t w below u x there = elim (after_insert items t w u x there) [
+  | inl same ↦ (let e = same.0 in omega arith)
+  | inr other ↦ (let lt = below u x other.1 in omega arith)
 ]
 
--- no operation of the next number waits
-never_waits : (out : Pending PlacedWrite) (writes : List QueuedWrite) (reads : List QueuedRead) (places : FinMap nat_cmp ℕ) (t n : ℕ) → AreLocated places n out.items writes reads → (x : Operation) → IsWaitingIn (operations_of out.items) (writes_of writes) x → number_of x ≡ n → ⊥
-never_waits out writes reads places t n h x (inl handed) same =
-    let w = map_values-found (λ (w : PlacedWrite). w.operation) out.items handed.0 x handed.1 in
-    let lt = (h.handed handed.0 w.0 w.1).given in
-    let e = ap number_of w.2 in
-    omega arith
-never_waits out writes reads places t n h x (inr queued) same =
-    let q = contains-mapped handed_of writes (record { ticket = queued.0; operation = x }) queued.1 in
-    let lt = (h.sent q.0 q.1).given in
-    let e = ap (λ (y : Ticketed). number_of y.operation) q.2 in
-    omega arith
+-- ---- keys of a map
 
-module _ {K V : Type 0} (eq : K → K → Bool) (laws : IsEquivalence eq) (kept after : Kept K V) (out handed : Pending PlacedWrite) (writes : List QueuedWrite) (reads : List QueuedRead) (ws rs t n size : ℕ) where
+module _ {X : Type 0} (m : FinMap nat_cmp X) (n : ℕ) where
+  -- no more than one more
+  len-inserted : (x : X) → len (insert m n x) ≤ len m + 1
+  len-inserted x = elim (option-cases (get m n)) [
+    | inl none ↦ (let e : len (insert m n x) ≡ len m + 1 = len-insert nat_cmp_total m n x ∙ rw none refl in omega arith)
+    | inr some ↦ (let e = len-kept m n x some.0 some.1 in omega arith)
+  ]
+
+  -- a key that is replaced was there
+  none_before : (x y : X) → get m n ≡ Some y → (k : ℕ) → get (insert m n x) k ≡ None → get m k ≡ None
+  none_before x y there k none = elim (cases_eq k n) as (λ _. get m k ≡ None) [
+    | inl e ↦ (let g = get-inserted m n x in let t = ap (get (insert m n x)) e in cc)
+    | inr ne ↦ sym (get-past_insert m n x k ne) ∙ none
+  ]
+
+  -- only the removed key is gone
+  taken : (k : ℕ) (x : X) → get m k ≡ Some x → get (remove m n) k ≡ None → k ≡ n
+  taken k x there gone = elim (cases_eq k n) as (λ _. k ≡ n) [
+    | inl e ↦ e
+    | inr ne ↦ (let g = get-past_remove m n k ne in cc)
+  ]
+
+-- ---- one change each
+
+module _ {K V : Type 0} (kept after : Kept K V) (out handed : Pending PlacedWrite) (writes : Buffer QueuedWrite) (reads : Buffer QueuedRead) (t n : ℕ) (h : IsInner kept out writes reads t n) where
   -- a new record with its operation
-  pub inner-inserted : (r : Record K V) (place : ℕ) (w : PlacedWrite) → IsInner eq kept out writes ws reads rs t n size → after.records ≡ insert kept.records n r → after.access ≡ kept.access → after.places ≡ insert kept.places n place → handed.items ≡ insert out.items t w → r.number ≡ n → r.generation ≡ 1 → r.applied ≡ 0 → (hash : ℕ) → w.operation ≡ Upsert n 1 r.weight hash → w.place ≡ place → ((m : ℕ) (q : Record K V) → get kept.records m ≡ Some q → eq r.key q.key ≡ false) → t + len kept.records + 1 < 2 ^ 64 → len kept.records + 1 ≤ handed.room → IsInner eq after handed writes ws reads rs (t + 1) (n + 1) (size + 1)
-  inner-inserted r place w h records access places items number generation applied hash operation here fresh tickets room =
-      let none : get kept.records n ≡ None = elim (option-cases (get kept.records n)) [
-        | inl none ↦ none
-        | inr some ↦ (let lt = h.keyed.given n some.0 some.1 in absurd (omega arith))
-      ] in
-      let count = ap len records ∙ len-fresh kept.records n r none in
-      let is_of : number_of w.operation ≡ n = ap number_of operation in
-      let same = ap operations_of items ∙ (map_values-insert (λ (w : PlacedWrite). w.operation) out.items t w ∙ ap (λ o. insert (operations_of out.items) t o) operation) in
-      let kept_so = insert_kept (IsWaitingIn (operations_of out.items) (writes_of writes)) (IsWaitingIn (insert (operations_of out.items) t (Upsert n 1 r.weight hash)) (writes_of writes)) kept.records kept.access h.consistent n r hash none
-      (λ x waits same. never_waits out writes reads kept.places t n h.placed x waits same) generation applied
-      (hands_out (operations_of out.items) (writes_of writes) t (Upsert n 1 r.weight hash) (never_handed out writes t h.ticketed)) in
+  pub inner-inserted : (r : Record K V) (w : PlacedWrite) → after.records ≡ insert kept.records n r → after.places ≡ insert kept.places n w.place → handed.items ≡ insert out.items t w → r.generation ≡ 1 → number_of w.operation ≡ n → t + len kept.records + 1 < 2 ^ 64 → len kept.records + 1 ≤ handed.room → IsInner after handed writes reads (t + 1) (n + 1)
+  inner-inserted r w records places items generation number tickets room =
+      let count = len-inserted kept.records n r in
+      let same = ap len records in
       record {
-        consistent = subst (λ o. IsConsistent (IsWaitingIn o (writes_of writes)) after.records after.access) (sym same) (subst (λ a. IsConsistent (IsWaitingIn (insert (operations_of out.items) t (Upsert n 1 r.weight hash)) (writes_of writes)) after.records a) (sym access) (subst (λ rs. IsConsistent (IsWaitingIn (insert (operations_of out.items) t (Upsert n 1 r.weight hash)) (writes_of writes)) rs kept.access) (sym records) kept_so));
-        keyed = subst (λ rs. AreKeyed eq rs (t + 1) (n + 1)) (sym records) (keyed-inserted eq laws kept.records t n r h.keyed number (let n = h.numbers in omega arith) fresh);
-        placed = subst (λ ps. AreLocated ps (n + 1) handed.items writes reads) (sym places) (subst (λ is. AreLocated (insert kept.places n place) (n + 1) is writes reads) (sym items) (placed_all-inserted kept.places n place out.items writes reads t w h.placed is_of here));
-        ticketed = subst (λ is. AreTicketed is writes (t + 1)) (sym items) (ticketed-handed out.items writes t w h.ticketed);
-        numbers = (let n = h.numbers in (omega arith, omega arith));
-        sized = (let e = h.sized in omega arith);
+        located = rw (places, items) (located-inserted kept.places n w.place out.items writes.items reads.items t w h.located number refl);
+        used = rw items (λ m p there gone. elim (after_insert kept.places n w.place m p (sym (ap (λ ps. get ps m) places) ∙ there)) [
+          | inl new ↦ (let is : get (insert kept.records n r) n ≡ None = sym (ap (get (insert kept.records n r)) new.0) ∙ sym (ap (λ (rs : Records K V). get rs m) records) ∙ gone in let some = get-inserted kept.records n r in cc)
+          | inr old ↦ (let before = h.used m p old.1 (sym (get-past_insert kept.records n r m old.0) ∙ sym (ap (λ (rs : Records K V). get rs m) records) ∙ gone) in (before.0, waits-handed out.items (writes_of writes.items) t w h.ticketed (Removal m before.0) (inl before.1)))
+        ]);
+        ticketed = rw items (ticketed-handed out.items t w h.ticketed);
+        generations = rw records (λ m q there. elim (after_insert kept.records n r m q there) [
+          | inl same ↦ (let e = ap (λ (q : Record K V). q.generation) same.1 in let first = h.numbers in omega arith)
+          | inr other ↦ (let lt = h.generations m q other.1 in omega arith)
+        ]);
+        numbers = (let first = h.numbers in (omega arith, omega arith));
         tickets = omega arith;
         removals = omega arith;
         write_queue = h.write_queue;
@@ -209,198 +170,194 @@ module _ {K V : Type 0} (eq : K → K → Bool) (laws : IsEquivalence eq) (kept 
       }
 
   -- a record changed with its operation
-  pub inner-updated : (m : ℕ) (old r : Record K V) (w : PlacedWrite) → IsInner eq kept out writes ws reads rs t n size → get kept.records m ≡ Some old → after.records ≡ insert kept.records m r → after.access ≡ kept.access → after.places ≡ kept.places → handed.items ≡ insert out.items t w → r.number ≡ old.number → r.key ≡ old.key → r.generation ≡ old.generation + 1 → r.applied ≡ old.applied → (hash : ℕ) → w.operation ≡ Upsert m (old.generation + 1) r.weight hash → get kept.places m ≡ Some w.place → t + len kept.records < 2 ^ 64 → len kept.records ≤ handed.room → IsInner eq after handed writes ws reads rs (t + 1) n size
-  inner-updated m old r w h there records access places items number key generation applied hash operation placed tickets room =
+  pub inner-updated : (m : ℕ) (old r : Record K V) (w : PlacedWrite) → get kept.records m ≡ Some old → after.records ≡ insert kept.records m r → after.places ≡ kept.places → handed.items ≡ insert out.items t w → r.generation ≡ old.generation + 1 → get kept.places (number_of w.operation) ≡ Some w.place → t + len kept.records < 2 ^ 64 → len kept.records ≤ handed.room → IsInner after handed writes reads (t + 1) n
+  inner-updated m old r w there records places items generation placed tickets room =
       let count = ap len records ∙ len-kept kept.records m r old there in
-      let g = h.keyed.generations m old there in
-      let here : get kept.places (number_of w.operation) ≡ Some w.place = ap (λ o. get kept.places (number_of o)) operation ∙ placed in
-      let same = ap operations_of items ∙ (map_values-insert (λ (w : PlacedWrite). w.operation) out.items t w ∙ ap (λ o. insert (operations_of out.items) t o) operation) in
-      let kept_so = replace_kept (IsWaitingIn (operations_of out.items) (writes_of writes)) (IsWaitingIn (insert (operations_of out.items) t (Upsert m (old.generation + 1) r.weight hash)) (writes_of writes)) kept.records kept.access h.consistent m old r hash there generation applied
-      (hands_out (operations_of out.items) (writes_of writes) t (Upsert m (old.generation + 1) r.weight hash) (never_handed out writes t h.ticketed)) in
+      let low = h.generations m old there in
       record {
-        consistent = subst (λ o. IsConsistent (IsWaitingIn o (writes_of writes)) after.records after.access) (sym same) (subst (λ a. IsConsistent (IsWaitingIn (insert (operations_of out.items) t (Upsert m (old.generation + 1) r.weight hash)) (writes_of writes)) after.records a) (sym access) (subst (λ rs. IsConsistent (IsWaitingIn (insert (operations_of out.items) t (Upsert m (old.generation + 1) r.weight hash)) (writes_of writes)) rs kept.access) (sym records) kept_so));
-        keyed = subst (λ rs. AreKeyed eq rs (t + 1) n) (sym records) (keyed-changed eq laws kept.records t n m old r (t + 1) h.keyed there number key (omega arith) (omega arith));
-        placed = subst (λ ps. AreLocated ps n handed.items writes reads) (sym places) (subst (λ is. AreLocated kept.places n is writes reads) (sym items) (placed_all-handed kept.places n out.items writes reads t w h.placed here));
-        ticketed = subst (λ is. AreTicketed is writes (t + 1)) (sym items) (ticketed-handed out.items writes t w h.ticketed);
-        numbers = (let n = h.numbers in (omega arith, omega arith));
-        sized = (let e = h.sized in omega arith);
+        located = rw (places, items) (located-handed kept.places n out.items writes.items reads.items t w h.located placed);
+        used = rw items (λ k p row gone.
+            let before = h.used k p (sym (ap (λ ps. get ps k) places) ∙ row) (gone_before k (sym (ap (λ (rs : Records K V). get rs k) records) ∙ gone)) in
+            (before.0, waits-handed out.items (writes_of writes.items) t w h.ticketed (Removal k before.0) (inl before.1)));
+        ticketed = rw items (ticketed-handed out.items t w h.ticketed);
+        generations = rw records (λ k q at. elim (after_insert kept.records m r k q at) [
+          | inl same ↦ (let e = ap (λ (q : Record K V). q.generation) same.1 in omega arith)
+          | inr other ↦ (let lt = h.generations k q other.1 in omega arith)
+        ]);
+        numbers = (let first = h.numbers in (omega arith, omega arith));
         tickets = omega arith;
         removals = omega arith;
         write_queue = h.write_queue;
         read_queue = h.read_queue;
       }
+    where
+      gone_before : (k : ℕ) → get (insert kept.records m r) k ≡ None → get kept.records k ≡ None
+      gone_before k none = none_before kept.records m r old there k none
 
   -- a record taken out with its operation
-  pub inner-removed : (m : ℕ) (old : Record K V) (w : PlacedWrite) → IsInner eq kept out writes ws reads rs t n size → get kept.records m ≡ Some old → after.records ≡ remove kept.records m → after.access ≡ kept.access → after.places ≡ kept.places → handed.items ≡ insert out.items t w → (generation : ℕ) → w.operation ≡ Removal m generation → get kept.places m ≡ Some w.place → out.room ≤ handed.room + 1 → IsInner eq after handed writes ws reads rs (t + 1) n (size - 1)
-  inner-removed m old w h there records access places items generation operation placed room =
-      let count = ap len records in
+  pub inner-removed : (m : ℕ) (old : Record K V) (w : PlacedWrite) (generation : ℕ) → get kept.records m ≡ Some old → after.records ≡ remove kept.records m → after.places ≡ kept.places → handed.items ≡ insert out.items t w → w.operation ≡ Removal m generation → get kept.places m ≡ Some w.place → out.room ≤ handed.room + 1 → IsInner after handed writes reads (t + 1) n
+  inner-removed m old w generation there records places items operation placed room =
       let one = len_removed kept.records m old there in
+      let same = ap len records in
       let here : get kept.places (number_of w.operation) ≡ Some w.place = ap (λ o. get kept.places (number_of o)) operation ∙ placed in
-      let same = ap operations_of items ∙ (map_values-insert (λ (w : PlacedWrite). w.operation) out.items t w ∙ ap (λ o. insert (operations_of out.items) t o) operation) in
-      let kept_so = take_kept (IsWaitingIn (operations_of out.items) (writes_of writes)) (IsWaitingIn (insert (operations_of out.items) t (Removal m generation)) (writes_of writes)) kept.records kept.access h.consistent m generation
-      (hands_out (operations_of out.items) (writes_of writes) t (Removal m generation) (never_handed out writes t h.ticketed)) in
       record {
-        consistent = subst (λ o. IsConsistent (IsWaitingIn o (writes_of writes)) after.records after.access) (sym same) (subst (λ a. IsConsistent (IsWaitingIn (insert (operations_of out.items) t (Removal m generation)) (writes_of writes)) after.records a) (sym access) (subst (λ rs. IsConsistent (IsWaitingIn (insert (operations_of out.items) t (Removal m generation)) (writes_of writes)) rs kept.access) (sym records) kept_so));
-        keyed = subst (λ rs. AreKeyed eq rs (t + 1) n) (sym records) (keyed-left eq kept.records (remove kept.records m) t (t + 1) n (left-removed kept.records m).kept (omega arith) h.keyed);
-        placed = subst (λ ps. AreLocated ps n handed.items writes reads) (sym places) (subst (λ is. AreLocated kept.places n is writes reads) (sym items) (placed_all-handed kept.places n out.items writes reads t w h.placed here));
-        ticketed = subst (λ is. AreTicketed is writes (t + 1)) (sym items) (ticketed-handed out.items writes t w h.ticketed);
-        numbers = (let n = h.numbers in (omega arith, omega arith));
-        sized = (let e = h.sized in omega arith);
+        located = rw (places, items) (located-handed kept.places n out.items writes.items reads.items t w h.located here);
+        used = rw items (λ k p row gone. in_use k p (sym (ap (λ ps. get ps k) places) ∙ row) (sym (ap (λ (rs : Records K V). get rs k) records) ∙ gone));
+        ticketed = rw items (ticketed-handed out.items t w h.ticketed);
+        generations = rw records (λ k q at. (let lt = h.generations k q (after_remove kept.records m k q at).1 in omega arith));
+        numbers = (let first = h.numbers in (omega arith, omega arith));
         tickets = (let e = h.tickets in omega arith);
         removals = (let e = h.removals in omega arith);
         write_queue = h.write_queue;
         read_queue = h.read_queue;
       }
-
-  -- more room
-  pub inner-roomier : IsInner eq kept out writes ws reads rs t n size → after.records ≡ kept.records → after.access ≡ kept.access → after.places ≡ kept.places → handed.items ≡ out.items → out.room ≤ handed.room → IsInner eq after handed writes ws reads rs t n size
-  inner-roomier h records access places items room = record {
-    consistent = subst (λ is. IsConsistent (IsWaitingIn (operations_of is) (writes_of writes)) after.records after.access) (sym items) (subst (λ a. IsConsistent (IsWaitingIn (operations_of out.items) (writes_of writes)) after.records a) (sym access) (subst (λ rs. IsConsistent (IsWaitingIn (operations_of out.items) (writes_of writes)) rs kept.access) (sym records) h.consistent));
-    keyed = subst (λ rs. AreKeyed eq rs t n) (sym records) h.keyed;
-    placed = subst (λ ps. AreLocated ps n handed.items writes reads) (sym places) (subst (λ is. AreLocated kept.places n is writes reads) (sym items) h.placed);
-    ticketed = subst (λ is. AreTicketed is writes t) (sym items) h.ticketed;
-    numbers = h.numbers;
-    sized = (let e = ap len records in let f = h.sized in omega arith);
-    tickets = subst (λ rs. t + len rs ≤ 2 ^ 64) (sym records) h.tickets;
-    removals = (let e = ap len records in let f = h.removals in omega arith);
-    write_queue = h.write_queue;
-    read_queue = h.read_queue;
-  }
+    where
+      in_use : (k p : ℕ) → get kept.places k ≡ Some p → get (remove kept.records m) k ≡ None → (g : ℕ) × IsWaitingIn (operations_of (insert out.items t w)) (writes_of writes.items) (Removal k g)
+      in_use k p row gone = elim (option-cases (get kept.records k)) [
+        | inl none ↦ (let before = h.used k p row none in (before.0, waits-handed out.items (writes_of writes.items) t w h.ticketed (Removal k before.0) (inl before.1)))
+        | inr some ↦ (let same : k ≡ m = taken kept.records m k some.0 some.1 gone in (generation, waits-handed out.items (writes_of writes.items) t w h.ticketed (Removal k generation) (inr (ap (λ k. Removal k generation) same ∙ sym operation))))
+      ]
 
   -- a record changed, and nothing handed out
-  pub inner-touched : (m : ℕ) (old r : Record K V) → IsInner eq kept out writes ws reads rs t n size → get kept.records m ≡ Some old → after.records ≡ insert kept.records m r → after.access ≡ kept.access → after.places ≡ kept.places → r.number ≡ old.number → r.key ≡ old.key → r.generation ≡ old.generation → r.applied ≡ old.applied → r.weight ≡ old.weight → IsInner eq after out writes ws reads rs t n size
-  inner-touched m old r h there records access places number key generation applied same_weight =
+  pub inner-touched : (m : ℕ) (old r : Record K V) → get kept.records m ≡ Some old → after.records ≡ insert kept.records m r → after.places ≡ kept.places → r.generation ≡ old.generation → IsInner after out writes reads t n
+  inner-touched m old r there records places generation =
       let count = ap len records ∙ len-kept kept.records m r old there in
-      let g = h.keyed.generations m old there in
+      let low = h.generations m old there in
       record {
-        consistent = subst (λ a. IsConsistent (IsWaitingIn (operations_of out.items) (writes_of writes)) after.records a) (sym access) (subst (λ rs. IsConsistent (IsWaitingIn (operations_of out.items) (writes_of writes)) rs kept.access) (sym records) (renew_kept (IsWaitingIn (operations_of out.items) (writes_of writes)) kept.records kept.access h.consistent m old r there generation applied same_weight));
-        keyed = subst (λ rs. AreKeyed eq rs t n) (sym records) (keyed-changed eq laws kept.records t n m old r t h.keyed there number key (omega arith) (omega arith));
-        placed = subst (λ ps. AreLocated ps n out.items writes reads) (sym places) h.placed;
+        located = rw places h.located;
+        used = λ k p row gone. h.used k p (sym (ap (λ ps. get ps k) places) ∙ row) (none_before kept.records m r old there k (sym (ap (λ (rs : Records K V). get rs k) records) ∙ gone));
         ticketed = h.ticketed;
+        generations = rw records (λ k q at. elim (after_insert kept.records m r k q at) [
+          | inl same ↦ (let e = ap (λ (q : Record K V). q.generation) same.1 in omega arith)
+          | inr other ↦ h.generations k q other.1
+        ]);
         numbers = h.numbers;
-        sized = (let e = h.sized in omega arith);
         tickets = (let e = h.tickets in omega arith);
         removals = (let e = h.removals in omega arith);
         write_queue = h.write_queue;
         read_queue = h.read_queue;
       }
 
--- what stands in a list after an item is put behind it
-at_one : {A : Type 0} (x y : A) (k : ℕ) → k < length (x ∷ []) → slice_index_or (x ∷ []) k y ≡ y → y ≡ x
-at_one x y zero lt is = sym is
-at_one x y (suc k) lt is = absurd (omega arith)
+  -- some records stay, each but for what was applied of it, with some of the rows
+  pub inner-left : (ws : List QueuedWrite) (rs : List QueuedRead) → ((q : QueuedWrite) → Contains ws q → Contains writes.items q) → ((q : QueuedRead) → Contains rs q → Contains reads.items q) → length ws ≤ length writes.items → length rs ≤ length reads.items
+      → ((k p : ℕ) → get after.places k ≡ Some p → get kept.places k ≡ Some p) → Keeps kept.records after.records → HasUse after out.items ws → IsInner after out (buffer ws writes.capacity) (buffer rs reads.capacity) t n
+  inner-left ws rs in_writes in_reads few_writes few_reads fewer keeps used =
+      let less = len-fewer kept.records after.records (record { key = λ k q there. (let old = keeps k q there in (old.0, old.1)) }) in
+      record {
+        located = record {
+          given = λ k p there. h.located.given k p (fewer k p there);
+          handed = λ u w there. located-less kept.places after.places n (number_of w.operation) w.place fewer (h.located.handed u w there);
+          sent = λ q there. located-less kept.places after.places n (number_of q.write.operation) q.write.place fewer (h.located.sent q (in_writes q there));
+          seen = λ q there. read_located-less kept.places after.places n q.place q.read fewer (h.located.seen q (in_reads q there));
+        };
+        used = used;
+        ticketed = h.ticketed;
+        generations = λ k q there. (let old = keeps k q there in let e = ap (λ (q : Record K V). q.generation) old.2.1 in let low = h.generations k old.0 old.1 in omega arith);
+        numbers = h.numbers;
+        tickets = (let e = h.tickets in omega arith);
+        removals = (let e = h.removals in omega arith);
+        write_queue = (let e = h.write_queue in (e.0, omega arith));
+        read_queue = (let e = h.read_queue in (e.0, omega arith));
+      }
 
-last_one : {A : Type 0} (x y : A) → Contains (x ∷ []) y → y ≡ x
-last_one x y h = at_one x y h.0 h.1 h.2
+module _ {K V : Type 0} (kept : Kept K V) (out left : Pending PlacedWrite) (writes : Buffer QueuedWrite) (reads : Buffer QueuedRead) (t n : ℕ) (h : IsInner kept out writes reads t n) where
+  -- an operation that is not there is taken
+  pub inner-unsent : (ticket : ℕ) → get out.items ticket ≡ None → left.items ≡ remove out.items ticket → out.room ≤ left.room → IsInner kept left writes reads t n
+  inner-unsent ticket none items room =
+      let same : left.items ≡ out.items = items ∙ remove_absent out.items ticket none in
+      record {
+        located = rw same h.located;
+        used = rw same h.used;
+        ticketed = rw same h.ticketed;
+        generations = h.generations;
+        numbers = h.numbers;
+        tickets = h.tickets;
+        removals = (let e = h.removals in omega arith);
+        write_queue = h.write_queue;
+        read_queue = h.read_queue;
+      }
 
-contains-back : {A : Type 0} (xs : List A) (x y : A) → Contains (xs ++ x ∷ []) y → (Contains xs y) ⊎ (y ≡ x)
-contains-back xs x y h = elim (Contains-append_cases xs (x ∷ []) y h) [ inl old ↦ inl old | inr new ↦ inr (last_one x y new) ]
-
-module _ {K V : Type 0} (eq : K → K → Bool) (kept : Kept K V) (out left : Pending PlacedWrite) (writes : List QueuedWrite) (reads : List QueuedRead) (ws rs t n size : ℕ) where
   -- an operation goes from those handed out to the back of the queue
-  pub inner-sent : (ticket : ℕ) (w : PlacedWrite) (wide : ℕ) → IsInner eq kept out writes ws reads rs t n size → get out.items ticket ≡ Some w → left.items ≡ remove out.items ticket → out.room ≤ left.room → length writes < ws → wide ≡ ws → IsInner eq kept left (writes ++ record { ticket = ticket; write = w } ∷ []) wide reads rs t n size
-  inner-sent ticket w wide h there items room fits same = record {
-    consistent =
-        let after : Ticketed = record { ticket = ticket; operation = w.operation } in
-        let found = get-map_values (λ (w : PlacedWrite). w.operation) out.items ticket ∙ ap (λ o. option_map (λ (w : PlacedWrite). w.operation) o) there in
-        let left_so = ap operations_of items ∙ map_values-remove (λ (w : PlacedWrite). w.operation) out.items ticket in
-        let queue_so : writes_of (writes ++ record { ticket = ticket; write = w } ∷ []) ≡ writes_of writes ++ after ∷ [] = map-append handed_of writes (record { ticket = ticket; write = w } ∷ []) in
-        subst (λ o. IsConsistent (IsWaitingIn o (writes_of (writes ++ record { ticket = ticket; write = w } ∷ []))) kept.records kept.access) (sym left_so)
-        (subst (λ q. IsConsistent (IsWaitingIn (remove (operations_of out.items) ticket) q) kept.records kept.access) (sym queue_so)
-        (waiting_alike (IsWaitingIn (operations_of out.items) (writes_of writes)) (IsWaitingIn (remove (operations_of out.items) ticket) (writes_of writes ++ after ∷ [])) kept.records kept.access h.consistent (waits_sent (operations_of out.items) (writes_of writes) ticket w.operation found)));
-    keyed = h.keyed;
-    placed = record {
-      given = h.placed.given;
-      handed = λ u x at. h.placed.handed u x (after_remove out.items ticket u x (subst (λ is. get is u ≡ Some x) items at)).1;
-      sent = λ q at. elim (contains-back writes (record { ticket = ticket; write = w }) q at) [
-        | inl old ↦ h.placed.sent q old
-        | inr new ↦ subst (λ (q : QueuedWrite). IsLocated kept.places n (number_of q.write.operation) q.write.place) (sym new) (h.placed.handed ticket w there)
+  pub inner-sent : (ticket : ℕ) (w : PlacedWrite) → get out.items ticket ≡ Some w → left.items ≡ remove out.items ticket → out.room ≤ left.room → length writes.items < writes.capacity → IsInner kept left (buffer (writes.items ++ record { ticket = ticket; write = w } ∷ []) writes.capacity) reads t n
+  inner-sent ticket w there items room fits = record {
+    located = record {
+      given = h.located.given;
+      handed = λ u x at. h.located.handed u x (before u x at);
+      sent = λ q at. elim (Contains-push_cases writes.items last q at) [
+        | inl old ↦ h.located.sent q old
+        | inr new ↦ subst (λ (q : QueuedWrite). IsLocated kept.places n (number_of q.write.operation) q.write.place) new (h.located.handed ticket w there)
       ];
-      seen = h.placed.seen;
+      seen = h.located.seen;
     };
-    ticketed = record {
-      handed = λ u x at. h.ticketed.handed u x (after_remove out.items ticket u x (subst (λ is. get is u ≡ Some x) items at)).1;
-      sent = λ q at. elim (contains-back writes (record { ticket = ticket; write = w }) q at) [
-        | inl old ↦ h.ticketed.sent q old
-        | inr new ↦ subst (λ (q : QueuedWrite). q.ticket < t) (sym new) (h.ticketed.handed ticket w there)
-      ];
-    };
+    used = λ k p row gone. (let old = h.used k p row gone in (old.0, waits (Removal k old.0) old.1));
+    ticketed = λ u x at. h.ticketed u x (before u x at);
+    generations = h.generations;
     numbers = h.numbers;
-    sized = h.sized;
     tickets = h.tickets;
     removals = (let e = h.removals in omega arith);
-    write_queue = (let q = h.write_queue in (omega arith, omega (arith, length-append {A = QueuedWrite})));
+    write_queue = (let q = h.write_queue in (q.0, omega (arith, length-append {A = QueuedWrite})));
     read_queue = h.read_queue;
   }
+    where
+      last : QueuedWrite
+      last = record { ticket = ticket; write = w }
 
-  -- a read is queued
-  pub inner-read : (q : QueuedRead) (wide : ℕ) → IsInner eq kept out writes ws reads rs t n size → IsReadLocated kept.places n q.place q.read → length reads < rs → wide ≡ rs → IsInner eq kept out writes ws (reads ++ q ∷ []) wide t n size
-  inner-read r wide h there fits same = record {
-    consistent = h.consistent;
-    keyed = h.keyed;
-    placed = record {
-      given = h.placed.given;
-      handed = h.placed.handed;
-      sent = h.placed.sent;
-      seen = λ q at. elim (contains-back reads r q at) [
-        | inl old ↦ h.placed.seen q old
-        | inr new ↦ subst (λ (q : QueuedRead). IsReadLocated kept.places n q.place q.read) (sym new) there
+      before : (u : ℕ) (x : PlacedWrite) → get left.items u ≡ Some x → get out.items u ≡ Some x
+      before u x at = (after_remove out.items ticket u x (sym (ap (λ is. get is u) items) ∙ at)).1
+
+      found : get (operations_of out.items) ticket ≡ Some w.operation
+      found = get-map_values (λ (w : PlacedWrite). w.operation) out.items ticket ∙ ap (λ o. option_map (λ (w : PlacedWrite). w.operation) o) there
+
+      waits : (o : Operation) → IsWaitingIn (operations_of out.items) (writes_of writes.items) o → IsWaitingIn (operations_of left.items) (writes_of (writes.items ++ last ∷ [])) o
+      waits o h =
+          rw (items, map_values-remove, map-append handed_of writes.items (last ∷ [])) ((waits_sent (operations_of out.items) (writes_of writes.items) ticket w.operation found).forth o h)
+
+  -- a read is queued where there is room
+  pub inner-read : (q : QueuedRead) (result : Result (Unit {0}) QueuedRead) (after : Buffer QueuedRead) → IsReadLocated kept.places n q.place q.read → (IsOk result → length reads.items < reads.capacity) → OnOk result (after ≡ buffer (reads.items ++ q ∷ []) reads.capacity) → IfErr result (λ x. (x ≡ q) × (after ≡ reads)) → IsInner kept out writes after t n
+  inner-read q (Err x) after there fits ok err = rw (err.1) h
+  inner-read q (Ok _) after there fits ok err = rw ok (record {
+    located = record {
+      given = h.located.given;
+      handed = h.located.handed;
+      sent = h.located.sent;
+      seen = λ r at. elim (Contains-push_cases reads.items q r at) [
+        | inl old ↦ h.located.seen r old
+        | inr new ↦ subst (λ (r : QueuedRead). IsReadLocated kept.places n r.place r.read) new there
       ];
     };
+    used = h.used;
     ticketed = h.ticketed;
+    generations = h.generations;
     numbers = h.numbers;
-    sized = h.sized;
     tickets = h.tickets;
     removals = h.removals;
     write_queue = h.write_queue;
-    read_queue = (let q = h.read_queue in (omega arith, omega (arith, length-append {A = QueuedRead})));
-  }
-
-  -- a read is queued where there is room
-  pub inner-read_if : (q : QueuedRead) (result : Result (Unit {0}) QueuedRead) (after : Buffer QueuedRead) → IsInner eq kept out writes ws reads rs t n size → IsReadLocated kept.places n q.place q.read → (IsOk result → length reads < rs) → OnOk result (after ≡ buffer (reads ++ q ∷ []) rs) → IfErr result (λ x. (x ≡ q) × (after ≡ buffer reads rs)) → IsInner eq kept out writes ws after.items after.capacity t n size
-  inner-read_if q (Ok _) after h there fits ok err = subst (λ (b : Buffer QueuedRead). IsInner eq kept out writes ws b.items b.capacity t n size) (sym ok) (inner-read q rs h there (fits refl) refl)
-  inner-read_if q (Err x) after h there fits ok err = subst (λ (b : Buffer QueuedRead). IsInner eq kept out writes ws b.items b.capacity t n size) (sym err.1) h
+    read_queue = (let r = h.read_queue in let f = fits refl in (r.0, omega (arith, length-append {A = QueuedRead})));
+  })
 
 -- with no record and nothing waiting
-pub inner-new : {K V : Type 0} (eq : K → K → Bool) (kept : Kept K V) (out : Pending PlacedWrite) (writes : List QueuedWrite) (reads : List QueuedRead) (ws rs t : ℕ) → kept.records ≡ empty → kept.access ≡ [] → kept.places ≡ empty → out.items ≡ empty → writes ≡ [] → reads ≡ [] → ws ≡ 384 → rs ≡ 384 → 1 ≤ t → t ≤ 2 ^ 64 → IsInner eq kept out writes ws reads rs t 1 0
-inner-new {K} {V} eq kept out writes reads ws rs t records access places items no_writes no_reads write_size read_size first last = record {
-  consistent =
-      let rs = sym records in
-      subst (λ rs. IsConsistent (IsWaitingIn (operations_of out.items) (writes_of writes)) rs kept.access) rs (subst (λ a. IsConsistent {K = K} {V = V} (IsWaitingIn (operations_of out.items) (writes_of writes)) empty a) (sym access) (nothing_consistent (IsWaitingIn (operations_of out.items) (writes_of writes))));
-  keyed = record {
-    numbered = λ n r there. absurd (no_record n r there);
-    given = λ n r there. absurd (no_record n r there);
-    one_each = λ a b p q there also is. absurd (no_record a p there);
-    generations = λ n r there. absurd (no_record n r there);
-  };
-  placed = record {
-    given = λ n p there. absurd (nothing kept.places n p places there);
-    handed = λ u w there. absurd (nothing out.items u w items there);
-    sent = λ q there. absurd (not_in_empty q (subst (λ (xs : List QueuedWrite). Contains xs q) no_writes there));
-    seen = λ q there. absurd (not_in_empty q (subst (λ (xs : List QueuedRead). Contains xs q) no_reads there));
-  };
-  ticketed = record {
-    handed = λ u w there. absurd (nothing out.items u w items there);
-    sent = λ q there. absurd (not_in_empty q (subst (λ (xs : List QueuedWrite). Contains xs q) no_writes there));
-  };
-  numbers = (omega arith, omega arith);
-  sized = sym (ap len records ∙ len-empty nat_cmp (Record K V));
-  tickets = (let e = ap len records ∙ len-empty nat_cmp (Record K V) in omega arith);
-  removals = (let e = ap len records ∙ len-empty nat_cmp (Record K V) in omega arith);
-  write_queue = (write_size, (let e = ap length no_writes in omega arith));
-  read_queue = (read_size, (let e = ap length no_reads in omega arith));
-}
+pub inner-new : {K V : Type 0} (kept : Kept K V) (out : Pending PlacedWrite) (writes : Buffer QueuedWrite) (reads : Buffer QueuedRead) (t : ℕ) → kept.records ≡ empty → kept.places ≡ empty → out.items ≡ empty → writes ≡ buffer [] queue_length → reads ≡ buffer [] queue_length → 1 ≤ t → t ≤ 2 ^ 64 → IsInner kept out writes reads t 1
+inner-new {K} {V} kept out writes reads t records places items no_writes no_reads first last =
+    let e = ap len records ∙ len-empty nat_cmp (Record K V) in
+    rw (no_writes, no_reads) (record {
+      located = record {
+        given = λ k p there. absurd (nothing kept.places k p places there);
+        handed = λ u w there. absurd (nothing out.items u w items there);
+        sent = λ q there. absurd (not_in_empty q there);
+        seen = λ q there. absurd (not_in_empty q there);
+      };
+      used = λ k p there. absurd (nothing kept.places k p places there);
+      ticketed = λ u w there. absurd (nothing out.items u w items there);
+      generations = λ k r there. absurd (nothing kept.records k r records there);
+      numbers = (omega arith, omega arith);
+      tickets = omega arith;
+      removals = omega arith;
+      write_queue = (refl, omega arith);
+      read_queue = (refl, omega arith);
+    })
   where
     nothing : {X : Type 0} (m : FinMap nat_cmp X) (n : ℕ) (x : X) → m ≡ empty → get m n ≡ Some x → ⊥
     nothing {X} m n x e there = let none : get (empty {X = X} {R = nat_cmp}) n ≡ None = get-empty nat_cmp n in let same = ap (λ m. get m n) e in cc
 
-    no_record : (n : ℕ) (r : Record K V) → get kept.records n ≡ Some r → ⊥
-    no_record n r there = nothing kept.records n r records there
-
     not_in_empty : {A : Type 0} (q : A) → Contains [] q → ⊥
     not_in_empty q h = (let lt = h.1 in omega arith)
-
--- where a located read leads
-pub read_at : (places : FinMap nat_cmp ℕ) (n place : ℕ) (read : ReadOperation) → IsReadLocated places n place read → IsReadAt places place read
-read_at places n place (Hit number hash renewed) h = h.at
-read_at places n place (Miss hash) h = tt

@@ -1,45 +1,80 @@
--- What always holds of a cache's settings today.
-use Rattle.std.specs.Prelude.{◌≡◌, ℕ, true, false, List, [], Option, Some, None, ◌⊎◌, ⊤}
-use Rattle.std.specs.FinMap.{empty, get}
+-- What always holds of a cache, and how its parts make the state that contracts see.
+use Rattle.std.specs.Prelude.{◌≡◌, ℕ, Bool, true, false, ◌||◌, List, [], Option, Some, None, is_some, ◌⊎◌, ⊤}
+use Rattle.std.specs.FinMap.{get}
 use Rattle.moka_parts.specs.declared.policy.EvictionPolicy.{EvictionPolicy}
 use Rattle.moka_parts.specs.declared.policy.EvictionPolicy.TheVariants.{Lru}
 use Rattle.moka_parts.specs.declared.policy.Instant.{Instant}
 use Rattle.moka_parts.specs.declared.records.Record.{Record}
 use Rattle.moka_parts.specs.declared.records.Registered.{Registered}
-use Rattle.moka_parts.specs.declared.records.Member.{Member}
+use Rattle.moka_parts.specs.Housekeeper.{Keeper}
 use Rattle.moka_parts.specs.Policy.{Expirations}
-use Rattle.moka_parts.specs.Housekeeping.{Housekeeping}
 use Rattle.moka_parts.specs.Records.{Records}
-use Rattle.moka_parts.specs.State.{is_disabled}
+use Rattle.moka_parts.specs.Settling.{IsValid}
+use Rattle.moka_parts.specs.State.{State, Settings}
+use Rattle.moka_parts.specs.Time.{has_passed, is_before, deadline, moment_of}
+use Rattle.moka_engine.specs.Interior.{Interior}
 
--- nothing expires
-abbrev pub no_expirations : {X : Type 0} → Expirations X
-no_expirations = record { time_to_live = None; time_to_idle = None; expiry = None }
+-- what never changes
+abbrev pub settings_of : {X W : Type 0} → EvictionPolicy → Expirations X → Option W → Bool → Keeper → Settings X W
+settings_of policy expirations weigher invalidator keeper = record {
+  policy = policy;
+  time_to_live = expirations.time_to_live;
+  time_to_idle = expirations.time_to_idle;
+  expiry = expirations.expiry;
+  weigher = weigher;
+  listening = keeper.listening;
+  invalidator = invalidator;
+  run_limit = keeper.run_limit;
+  run_repeats = keeper.run_repeats;
+  run_batch = keeper.run_batch;
+}
+
+-- the state of the reference cache; the sketch is off
+abbrev pub state_of : {K V X P W : Type 0} → Interior K V → Option Instant → List (Registered P) → (count weight : ℕ) → Keeper → Option ℕ → Settings X W → State K V X P W
+state_of i invalid_before predicates count weight keeper capacity settings = record {
+  records = i.kept.records;
+  outstanding = i.outstanding;
+  writes = i.writes;
+  reads = i.reads;
+  access = i.kept.access;
+  invalid_before = invalid_before;
+  predicates = predicates;
+  sketch = None;
+  next_ticket = i.next_ticket;
+  next_number = i.next_number;
+  count = count;
+  weight = weight;
+  housekeeping = keeper.housekeeping;
+  capacity = capacity;
+  settings = settings;
+}
+
+-- one of the tests by moments hides the record
+abbrev pub lapses : {K V X : Type 0} → Expirations X → Option Instant → Record K V → ℕ → Bool
+lapses x bound r now = has_passed (moment_of r.expires) now || has_passed (deadline x.time_to_live r.written.0) now || has_passed (deadline x.time_to_idle r.read.0) now || is_before r.written.0 (moment_of bound) || is_before r.read.0 (moment_of bound)
 
 -- where something is kept and bounded, the least recently used leaves
 abbrev pub IsLruWhereBounded : Option ℕ → EvictionPolicy → Type 0
 IsLruWhereBounded None policy = ⊤
 IsLruWhereBounded (Some capacity) policy = (capacity ≡ 0) ⊎ (policy ≡ Lru)
 
--- nothing expires, nothing is told or invalidated, and no run starts by itself
-pub record IsPlain {X L P : Type 0} (capacity : Option ℕ) (policy : EvictionPolicy) (expirations : Expirations X) (listener : Option L) (invalid_before : Option Instant) (predicates : List (Registered P)) (housekeeping : Housekeeping) : Type 0 where
-  pub bounded : IsLruWhereBounded capacity policy
-  pub lasting : expirations ≡ no_expirations
-  pub unheard : listener ≡ None
-  pub valid : invalid_before ≡ None
-  pub unregistered : predicates ≡ []
-  pub finished : housekeeping.more ≡ false
-  pub asked : housekeeping.automatic ≡ false
+-- no record has an expiry of its own
+abbrev pub NoneExpires : {K V : Type 0} → Records K V → Type 0
+NoneExpires records = (n : ℕ) (r : Record _ _) → get records n ≡ Some r → r.expires ≡ None
 
--- what is kept where the capacity is 0
-pub record IsBare {K V : Type 0} (records : Records K V) (access : List Member) (count weight : ℕ) : Type 0 where
-  pub no_records : records ≡ empty
-  pub no_members : access ≡ []
-  pub no_count : count ≡ 0
-  pub no_weight : weight ≡ 0
+-- the settings are such as a cache can have today, no run starts by itself, and no record has an expiry of its own
+pub record IsServed {K V X P W : Type 0} (s : State K V X P W) : Type 0 where
+  pub bounded : IsLruWhereBounded s.capacity s.settings.policy
+  pub no_live : s.settings.time_to_live ≡ None
+  pub no_expiry : s.settings.expiry ≡ None
+  pub no_predicates : s.predicates ≡ []
+  pub no_invalidator : s.settings.invalidator ≡ false
+  pub finished : s.housekeeping.more ≡ false
+  pub asked : s.housekeeping.automatic ≡ false
+  pub unexpiring : NoneExpires s.records
 
--- the settings are plain, a disabled cache keeps nothing, and no record has an expiry of its own
-pub record IsCache {K V X L P : Type 0} (capacity : Option ℕ) (policy : EvictionPolicy) (expirations : Expirations X) (listener : Option L) (invalid_before : Option Instant) (predicates : List (Registered P)) (housekeeping : Housekeeping) (records : Records K V) (access : List Member) (count weight : ℕ) : Type 0 where
-  pub plain : IsPlain capacity policy expirations listener invalid_before predicates housekeeping
-  pub disabled : is_disabled capacity ≡ true → IsBare records access count weight
-  pub unexpiring : (n : ℕ) (r : Record K V) → get records n ≡ Some r → r.expires ≡ None
+-- the state is a valid one, and the settings listen exactly where a listener is set
+pub record IsCache {K V X L P W : Type 0} (eq : K → K → Bool) (listener : Option L) (s : State K V X P W) : Type 0 where
+  pub valid : IsValid eq s
+  pub served : IsServed s
+  pub listens : s.settings.listening ≡ is_some listener

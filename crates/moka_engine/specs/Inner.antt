@@ -1,24 +1,19 @@
 -- What always holds of the inner part.
-use Rattle.std.specs.Prelude.{◌≡◌, ℕ, Bool, true, ◌+◌, ◌^◌, ◌<◌, ◌≤◌, List, length, Some, Contains}
+use Rattle.std.specs.Prelude.{◌≡◌, ℕ, ◌+◌, ◌^◌, ◌<◌, ◌≤◌, List, length, Some, None, Contains}
 use Rattle.std.specs.FinMap.{FinMap, get, len}
 use Rattle.std.specs.Ordering.{nat_cmp}
+use Rattle.circular_buffer.specs.Buffer.{Buffer}
 use Rattle.moka_parts.specs.declared.records.Record.{Record}
-use Rattle.moka_parts.specs.Records.{Records}
-use Rattle.moka_engine.specs.declared.inner.PlacedWrite.{PlacedWrite}
-use Rattle.moka_engine.specs.declared.inner.QueuedWrite.{QueuedWrite}
-use Rattle.moka_engine.specs.declared.inner.QueuedRead.{QueuedRead}
-use Rattle.moka_store.specs.Store.{Kept}
+use Rattle.moka_parts.specs.declared.records.Operation.TheVariants.{Removal}
+use Rattle.moka_parts.specs.Calls.{queue_length}
+use Rattle.moka_parts.specs.Settling.{number_of, IsWaitingIn}
 use Rattle.moka_structures.specs.Pending.{Pending}
-use Rattle.moka_parts.specs.Settling.{number_of, IsWaitingIn, IsConsistent}
-use Rattle.moka_engine.specs.Interior.{IsLocated, IsReadLocated, operations_of, writes_of}
-
--- each record stands at its own number, and no two have equal keys
-pub record AreKeyed {K V : Type 0} (eq : K → K → Bool) (records : Records K V) (next_ticket next_number : ℕ) : Type 0 where
-  pub numbered : (n : ℕ) (r : Record K V) → get records n ≡ Some r → r.number ≡ n
-  pub given : (n : ℕ) (r : Record K V) → get records n ≡ Some r → n < next_number
-  pub one_each : (n m : ℕ) (p q : Record K V) → get records n ≡ Some p → get records m ≡ Some q → eq p.key q.key ≡ true → n ≡ m
-  -- so that one more generation can be counted
-  pub generations : (n : ℕ) (r : Record K V) → get records n ≡ Some r → r.generation < next_ticket
+use Rattle.moka_store.specs.Store.{Kept}
+use Rattle.moka_maintenance.specs.declared.queued.PlacedWrite.{PlacedWrite}
+use Rattle.moka_maintenance.specs.declared.queued.QueuedWrite.{QueuedWrite}
+use Rattle.moka_maintenance.specs.declared.queued.QueuedRead.{QueuedRead}
+use Rattle.moka_maintenance.specs.Queued.{writes_of}
+use Rattle.moka_engine.specs.Interior.{IsLocated, IsReadLocated, operations_of}
 
 -- each row's number was given out, and what waits leads to its record's row
 pub record AreLocated (places : FinMap nat_cmp ℕ) (next_number : ℕ) (items : FinMap nat_cmp PlacedWrite) (writes : List QueuedWrite) (reads : List QueuedRead) : Type 0 where
@@ -27,20 +22,20 @@ pub record AreLocated (places : FinMap nat_cmp ℕ) (next_number : ℕ) (items :
   pub sent : (q : QueuedWrite) → Contains writes q → IsLocated places next_number (number_of q.write.operation) q.write.place
   pub seen : (q : QueuedRead) → Contains reads q → IsReadLocated places next_number q.place q.read
 
--- each operation that waits has a ticket that was given out
-pub record AreTicketed (items : FinMap nat_cmp PlacedWrite) (writes : List QueuedWrite) (next_ticket : ℕ) : Type 0 where
-  pub handed : (t : ℕ) (w : PlacedWrite) → get items t ≡ Some w → t < next_ticket
-  pub sent : (q : QueuedWrite) → Contains writes q → q.ticket < next_ticket
+-- a number that has a row has its record in the map, or its removal waits
+abbrev pub HasUse : {K V : Type 0} → Kept K V → FinMap nat_cmp PlacedWrite → List QueuedWrite → Type 0
+HasUse kept items writes = (n place : ℕ) → get kept.places n ≡ Some place → get kept.records n ≡ None → (generation : ℕ) × IsWaitingIn (operations_of items) (writes_of writes) (Removal n generation)
 
-pub record IsInner {K V : Type 0} (eq : K → K → Bool) (kept : Kept K V) (out : Pending PlacedWrite) (writes : List QueuedWrite) (write_size : ℕ) (reads : List QueuedRead) (read_size next_ticket next_number size : ℕ) : Type 0 where
-  pub consistent : IsConsistent (IsWaitingIn (operations_of out.items) (writes_of writes)) kept.records kept.access
-  pub keyed : AreKeyed eq kept.records next_ticket next_number
-  pub placed : AreLocated kept.places next_number out.items writes reads
-  pub ticketed : AreTicketed out.items writes next_ticket
+-- what waits is located, each row is in use, and no number, ticket or place runs out
+pub record IsInner {K V : Type 0} (kept : Kept K V) (out : Pending PlacedWrite) (writes : Buffer QueuedWrite) (reads : Buffer QueuedRead) (next_ticket next_number : ℕ) : Type 0 where
+  pub located : AreLocated kept.places next_number out.items writes.items reads.items
+  pub used : HasUse kept out.items writes.items
+  pub ticketed : (t : ℕ) (w : PlacedWrite) → get out.items t ≡ Some w → t < next_ticket
+  -- so that one more generation can be counted
+  pub generations : (n : ℕ) (r : Record K V) → get kept.records n ≡ Some r → r.generation < next_ticket
   pub numbers : (1 ≤ next_number) × (next_number ≤ next_ticket)
-  pub sized : size ≡ len kept.records
   -- a ticket and a place are kept for the removal of each record
   pub tickets : next_ticket + len kept.records ≤ 2 ^ 64
   pub removals : len kept.records ≤ out.room
-  pub write_queue : (write_size ≡ 384) × (length writes ≤ 384)
-  pub read_queue : (read_size ≡ 384) × (length reads ≤ 384)
+  pub write_queue : (writes.capacity ≡ queue_length) × (length writes.items ≤ queue_length)
+  pub read_queue : (reads.capacity ≡ queue_length) × (length reads.items ≤ queue_length)

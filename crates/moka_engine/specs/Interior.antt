@@ -1,65 +1,66 @@
--- What contracts see of the inner part of the cache, and what always holds of it.
-use Rattle.std.specs.Prelude.{◌≡◌, ℕ, ◌<◌, List, map, Some, IsSome}
-use Rattle.std.specs.FinMap.{FinMap, get}
+-- What contracts see of the inner part of the cache.
+use Rattle.std.specs.Prelude.{ℕ, ◌+◌, ◌<◌, List, []}
+use Rattle.std.specs.FinMap.{FinMap, empty, insert}
 use Rattle.std.specs.Ordering.{nat_cmp}
-use Rattle.moka_parts.specs.declared.records.Member.{Member}
+use Rattle.moka_parts.specs.declared.records.Operation.{Operation}
 use Rattle.moka_parts.specs.declared.records.ReadOperation.{ReadOperation}
 use Rattle.moka_parts.specs.declared.records.ReadOperation.TheVariants.{Hit, Miss}
+use Rattle.moka_parts.specs.declared.records.Record.{Record}
 use Rattle.moka_parts.specs.declared.records.Ticketed.{Ticketed}
 use Rattle.moka_parts.specs.Records.{Records, Operations}
-use Rattle.moka_store.specs.declared.store.Handle.{Handle}
-use Rattle.moka_engine.specs.declared.inner.PlacedWrite.{PlacedWrite}
-use Rattle.moka_engine.specs.declared.inner.QueuedWrite.{QueuedWrite}
-use Rattle.moka_engine.specs.declared.inner.QueuedRead.{QueuedRead}
+use Rattle.moka_store.specs.declared.store.Update.{Update}
+use Rattle.moka_store.specs.Store.{Kept}
+use Rattle.moka_maintenance.specs.declared.queued.PlacedWrite.{PlacedWrite}
+use Rattle.moka_maintenance.specs.Queued.{IsAt}
 use Rattle.moka_engine.specs.Values.{map_values}
 
+-- the store, the operations that wait, and the numbers that come next
 pub record Interior (K V : Type 0) : Type 0 where
-  pub records : Records K V
-  pub access : List Member
+  pub kept : Kept K V
   pub outstanding : Operations
   pub writes : List Ticketed
   pub reads : List ReadOperation
   pub next_ticket : ℕ
   pub next_number : ℕ
-  -- the place of each number that has a row
-  pub places : FinMap nat_cmp ℕ
-  -- how many more records fit with no memory
-  pub row_room : ℕ
-  -- how many more operations, beside a removal for each record
+  -- how many more operations need no memory, beside a removal of each record
   pub operation_room : ℕ
 
+-- the operations without the places
 abbrev pub operations_of : FinMap nat_cmp PlacedWrite → Operations
 operations_of items = map_values (λ w. w.operation) items
-
-abbrev pub handed_of : QueuedWrite → Ticketed
-handed_of q = record { ticket = q.ticket; operation = q.write.operation }
-
-abbrev pub writes_of : List QueuedWrite → List Ticketed
-writes_of writes = map handed_of writes
-
-abbrev pub reads_of : List QueuedRead → List ReadOperation
-reads_of reads = map (λ q. q.read) reads
-
--- the handle leads to the row of a record that is in the map
-pub record LeadsTo {K V : Type 0} (s : Interior K V) (handle : Handle) : Type 0 where
-  pub placed : get s.places handle.number ≡ Some handle.place
-  pub stored : IsSome (get s.records handle.number)
-
--- if the number has a row, that is at the place
-abbrev pub IsAt : FinMap nat_cmp ℕ → ℕ → ℕ → Type 0
-IsAt places number place = (p : ℕ) → get places number ≡ Some p → p ≡ place
 
 -- the number was given out, and if it has a row, that is at the place
 pub record IsLocated (places : FinMap nat_cmp ℕ) (next_number number place : ℕ) : Type 0 where
   pub given : number < next_number
   pub at : IsAt places number place
 
--- if the record of a hit has a row, that is at the place
-abbrev pub IsReadAt : FinMap nat_cmp ℕ → ℕ → ReadOperation → Type 0
-IsReadAt places place (Hit number hash renewed) = IsAt places number place
-IsReadAt places place (Miss hash) = Unit {0}
-
 -- the read found nothing, or its record's number was given out and has its row at the place, if it has one
 abbrev pub IsReadLocated : FinMap nat_cmp ℕ → ℕ → ℕ → ReadOperation → Type 0
 IsReadLocated places next_number place (Hit number hash renewed) = IsLocated places next_number number place
 IsReadLocated places next_number place (Miss hash) = Unit {0}
+
+module _ {K V : Type 0} where
+  -- nothing is kept, and nothing waits; the rooms are those of the second
+  abbrev pub nothing_inside : ℕ → Interior K V → Interior K V
+  nothing_inside first_ticket i = record {
+    kept = record { records = empty; access = []; places = empty; room = i.kept.room };
+    outstanding = empty;
+    writes = [];
+    reads = [];
+    next_ticket = first_ticket;
+    next_number = 1;
+    operation_room = i.operation_room;
+  }
+
+  -- the first record of a key
+  abbrev pub first_record : ℕ → K → ℕ → Update V → Record K V
+  first_record number key hash update = record { number = number; key = key; hash = hash; value = update.value; written = update.now; read = update.now; expires = update.expires; weight = update.weight; generation = 1; applied = 0 }
+
+  -- with these records, and with the operation under the next ticket; the places and rooms are those of the last
+  abbrev pub handing_out_inside : Interior K V → Records K V → Operation → Interior K V → Interior K V
+  handing_out_inside i records o j = record i {
+    kept = record i.kept { records = records; places = j.kept.places; room = j.kept.room };
+    outstanding = insert i.outstanding i.next_ticket o;
+    next_ticket = i.next_ticket + 1;
+    operation_room = j.operation_room;
+  }

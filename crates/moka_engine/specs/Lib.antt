@@ -1,9 +1,4 @@
 pub mod Values
 pub mod Interior
 pub mod Inner
-pub mod Sends
-pub mod Applied
-pub mod Evictions
-pub mod Inserts
-pub mod Lookups
 pub mod BaseCache

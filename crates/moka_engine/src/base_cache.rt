@@ -1,40 +1,43 @@
 //! The cache. moka: `sync::base_cache`.
-ghost use Rattle.std.specs.Prelude.{◌≡◌, ℕ, ◌≤◌, false, [], ◌∷◌, length, map, min, is_some, Option, Some, None, Ok, Err, IfOk, IfErr, option_map, option_copied};
-ghost use Rattle.std.specs.List.{fold};
-ghost use Rattle.std.specs.FinMap as finite;
+ghost use Rattle.std.specs.Prelude.{◌≡◌, ℕ, ◌≤◌, true, false, [], ◌∷◌, length, map, min, is_some, List, Option, Some, None, Ok, Err, IfOk, IfErr, option_map, option_copied};
 ghost use Rattle.std.specs.Duration.{as_nanos};
+ghost use Rattle.std.specs.FinMap as finite;
+ghost use Rattle.std.specs.List.{fold};
 ghost use Rattle.std.specs.String.{string_bytes};
-ghost use Rattle.moka_parts.specs.Time.{greatest};
-ghost use Rattle.moka_parts.specs.State.{Events, is_disabled, limits_of, new_state};
-ghost use Rattle.moka_parts.specs.Housekeeping.{new_housekeeping, without_automatic};
-ghost use Rattle.moka_parts.specs.Surroundings.{Leads};
+ghost use Rattle.moka_parts.specs.Calls.{no_events, only_notices, Weighs, InsertsAt, InsertStep, SendStep, RemoveStep, NotifyStep, ContainsStep, KeysStep, GetStep, RunStep};
 ghost use Rattle.moka_parts.specs.Exact.{IsExact};
-ghost use Rattle.moka_parts.specs.Maintenance.{is_over};
-ghost use Rattle.moka_parts.specs.Records.{record_of_key};
-ghost use Rattle.moka_parts.specs.Calls.{no_events, InsertStep, SendStep, RemoveStep, ContainsStep, KeysStep, GetStep, RunStep};
-ghost use Rattle.moka_parts.specs.Runs.{Befalls, SettlingRun};
-ghost use Rattle.moka_engine.specs.BaseCache.{no_expirations, IsLruWhereBounded};
+ghost use Rattle.moka_parts.specs.Housekeeping.{new_housekeeping, without_automatic};
+ghost use Rattle.moka_parts.specs.Records.{Notice, record_of_key};
+ghost use Rattle.moka_parts.specs.Runs.{Befalls, PromisedRun};
+ghost use Rattle.moka_parts.specs.Settling.{IsValid};
+ghost use Rattle.moka_parts.specs.State.{Events, is_disabled, limits_of, new_state};
+ghost use Rattle.moka_parts.specs.Surroundings.{Leads};
+ghost use Rattle.moka_parts.specs.Time.{greatest};
+ghost use Rattle.moka_store.specs.Store.{ClonesAreEqual};
+ghost use Rattle.moka_engine.specs.BaseCache.{IsLruWhereBounded};
 
 use crate::inner::Inner;
+use moka_maintenance::sweep::Tests;
 use moka_parts::calls::{Entry, KvEntry, Ticket};
 use moka_parts::closures::{PredicateFn, Weigher};
-use moka_parts::error::{InsertRefused, OutOfMemory, SendError};
-use moka_parts::expiry::is_expired_by_per_entry_ttl;
+use moka_parts::error::{InsertError, InsertRefused, OutOfMemory, SendError};
 use moka_parts::housekeeper::{Clock, Housekeeper, HousekeeperConfig};
-use moka_parts::notification::{Listener, RemovalCause, RemovalNotifier};
+use moka_parts::notification::{Listener, RemovalNotifier};
 use moka_parts::policy::{EvictionPolicy, ExpirationPolicy, Expiry, Instant, Policy};
-use moka_parts::records::Registered;
+use moka_parts::records::{ReadOperation, Registered};
+use moka_store::{Handle, Update};
 use std::alloc::Global;
 use std::hash::{BuildHasher, Hash};
 use std::marker::Model;
 use std::time::Duration;
 
+mod causes;
 mod gets;
 mod inserts;
 #[cfg(test)]
 mod tests;
 
-/// How many segments the map has.
+// How many segments the map has.
 const SEGMENTS: usize = 1;
 
 /// A cache. moka: `sync::base_cache::BaseCache`.
@@ -59,13 +62,13 @@ pub struct BaseCache<
     expiration_policy: ExpirationPolicy<X>,
     weigher: Option<W>,
     invalidator_enabled: bool,
-    // The moment from which entries are valid, if one is set.
+    // Records written or read before this moment are invalid.
     valid_after: Option<Instant>,
     predicates: Vec<Registered<P>>,
     // The report of the last run.
     entry_count: u64,
     weighted_size: u64,
-    // How often the last run went through its steps.
+    // The passes of the last run.
     passes: u64,
 }
 
@@ -78,53 +81,28 @@ impl<
     P: PredicateFn<K, V>,
     W: Weigher<K, V>,
 > Model for BaseCache<K, V, S, X, L, P, W> {
-    ghost use Rattle.std.specs.Prelude.{None, is_some, option_map};
+    ghost use Rattle.std.specs.Prelude.{[], option_map};
+    ghost use Rattle.std.specs.Coded.{codes, coded_ℕ};
+    ghost use Rattle.std.specs.FinMap as finite;
     ghost use Rattle.std.specs.String.{string_bytes};
     ghost use Rattle.moka_parts.specs.Runs.{Cache};
-    ghost use Rattle.moka_engine.specs.BaseCache.{IsCache};
-    ghost use Rattle.std.specs.FinMap as finite;
-    ghost use Rattle.std.specs.Coded.{codes, coded_ℕ};
+    ghost use Rattle.moka_engine.specs.BaseCache.{IsCache, settings_of, state_of};
 
     ghost Value = { Cache K V S X L P W };
 
     ghost coded = { Prim.hlevel (codes, finite.code, coded_ℕ, K.code, V.code, S.code, X.code, L.code, P.code, W.code) };
 
+    // The write list is not kept: that is for times to live and predicates, which no cache has today.
     ghost view = { λ c. record {
       name = option_map string_bytes c.name;
       hasher = c.build_hasher;
-      state = record {
-        records = c.inner.records;
-        outstanding = c.inner.outstanding;
-        writes = c.inner.writes;
-        reads = c.inner.reads;
-        access = c.inner.access;
-        invalid_before = c.valid_after;
-        predicates = c.predicates.items;
-        sketch = None;
-        next_ticket = c.inner.next_ticket;
-        next_number = c.inner.next_number;
-        count = c.entry_count;
-        weight = c.weighted_size;
-        housekeeping = c.housekeeper.housekeeping;
-        capacity = c.max_capacity;
-        settings = record {
-          policy = c.eviction_policy;
-          time_to_live = c.expiration_policy.time_to_live;
-          time_to_idle = c.expiration_policy.time_to_idle;
-          expiry = c.expiration_policy.expiry;
-          weigher = c.weigher;
-          listening = is_some c.notifier;
-          invalidator = c.invalidator_enabled;
-          run_limit = c.housekeeper.run_limit;
-          run_repeats = c.housekeeper.run_repeats;
-          run_batch = c.housekeeper.run_batch;
-        };
-      };
+      state = state_of c.inner c.valid_after c.predicates.items c.entry_count c.weighted_size c.housekeeper c.max_capacity (settings_of c.eviction_policy c.expiration_policy c.weigher c.invalidator_enabled c.housekeeper);
       listener = c.notifier;
+      write_list = [];
       passes = c.passes;
     } };
 
-    ghost invariant = { λ c. IsCache c.max_capacity c.eviction_policy c.expiration_policy c.notifier c.valid_after c.predicates.items c.housekeeper.housekeeping c.inner.records c.inner.access c.entry_count c.weighted_size };
+    ghost invariant = { λ c. IsCache K.eq c.notifier (state_of c.inner c.valid_after c.predicates.items c.entry_count c.weighted_size c.housekeeper c.max_capacity (settings_of c.eviction_policy c.expiration_policy c.weigher c.invalidator_enabled c.housekeeper)) };
 }
 
 impl<
@@ -136,9 +114,21 @@ impl<
     P: PredicateFn<K, V>,
     W: Weigher<K, V>,
 > BaseCache<K, V, S, X, L, P, W> {
-    /// A cache that keeps nothing yet, made at the moment `now`, with room for so many records at first. Its tickets
-    /// start with `first_ticket`. So far a capacity other than 0 asks for the policy LRU, and the cache has no listener,
-    /// nothing that expires and no predicates, and no run starts by itself.
+    /// An empty cache, made at the moment `now`. No run of maintenance starts by itself.
+    ///
+    /// - `name`: for the caller alone.
+    /// - `max_capacity`: the greatest sum of weights that runs of maintenance leave; `None` is no bound, and with 0 the
+    ///   cache keeps nothing and takes no inserts. So far any other bound asks for the policy LRU.
+    /// - `initial_capacity`: for how many records room is made at once.
+    /// - `build_hasher`: hashes keys, for `hash` and for the map.
+    /// - `weigher`: weighs entries as they are inserted; without one each weighs 1.
+    /// - `eviction_policy`: what leaves where the capacity is exceeded.
+    /// - `eviction_listener`: is told key, value and cause of each removal but those by `remove_entry`.
+    /// - `expiration_policy`: the time to idle, as a duration since the last insert or read. So far there is no time to
+    ///   live and no expiry of single entries.
+    /// - `housekeeper_config`: the time limit, repeats and batch of the runs that the cache starts itself.
+    /// - `invalidator_enabled`: whether predicates can be registered; so far they cannot.
+    /// - `first_ticket`: the ticket of the first operation, at least 1.
     ///
     /// # Errors
     /// `OutOfMemory` where memory for the tables or for a clone of the hasher is refused.
@@ -168,8 +158,8 @@ impl<
         W: Drop,
         requires first { 1 ≤ first_ticket }
         requires bounded { IsLruWhereBounded max_capacity eviction_policy }
-        requires unheard { eviction_listener ≡ None }
-        requires lasting { expiration_policy ≡ no_expirations }
+        requires no_live { expiration_policy.time_to_live ≡ None }
+        requires no_expiry { expiration_policy.expiry ≡ None }
         requires no_predicates { invalidator_enabled ≡ false }
         ensures { IfOk result (λ c. c ≡ record {
           name = option_map string_bytes name;
@@ -189,21 +179,17 @@ impl<
               })
               max_capacity now.0 first_ticket) { housekeeping = without_automatic (new_housekeeping now.0) };
           listener = eviction_listener;
+          write_list = [];
           passes = 0;
         }) }
     {
         let Ok(hasher) = build_hasher.clone() else {
             return Err(OutOfMemory);
         };
-        let Ok(mut inner) = Inner::new(alloc, hasher, first_ticket) else {
+        let initial_capacity = initial_capacity.unwrap_or(0);
+        let Ok(inner) = Inner::new(alloc, hasher, first_ticket, initial_capacity) else {
             return Err(OutOfMemory);
         };
-        if inner
-            .reserve_records(initial_capacity.unwrap_or(0))
-            .is_err()
-        {
-            return Err(OutOfMemory);
-        }
         let notifier = RemovalNotifier::new(eviction_listener);
         let mut housekeeper = Housekeeper::new(notifier.is_enabled(), housekeeper_config, now);
         housekeeper.disable_auto_run();
@@ -225,6 +211,14 @@ impl<
             weighted_size: 0,
             passes: 0,
         })
+    }
+
+    /// What always holds of a cache. It does nothing when it runs.
+    pub fn invariant_holds(&self)
+        ensures valid { IsValid K.eq self.now.state }
+        ensures listening { self.now.state.settings.listening ≡ is_some self.now.listener }
+    {
+        let _passes = self.passes;
     }
 
     /// The cache's name, if it has one.
@@ -269,7 +263,7 @@ impl<
         self.entry_count
     }
 
-    /// The weight that the last run counted, cut at the greatest number, 0 before the first run.
+    /// The weight that the last run counted, saturating, 0 before the first run.
     pub fn weighted_size(&self) -> u64
         ensures { result ≡ self.now.state.weight }
     {
@@ -283,6 +277,13 @@ impl<
         self.predicates.len() as u64
     }
 
+    /// Whether a listener is set.
+    pub fn is_removal_notifier_enabled(&self) -> bool
+        ensures { result ≡ is_some self.now.listener }
+    {
+        self.notifier.is_enabled()
+    }
+
     /// The listener, if one is set.
     pub fn listener(&self) -> Option<&L>
         ensures { option_copied result ≡ self.now.listener }
@@ -291,7 +292,8 @@ impl<
     }
 
     /// Puts a value under a key at the moment `now`, and hands out a ticket for the operation, which is to be sent. The
-    /// record of a key that is there keeps its first key and first hash, and the listener is told of the old value.
+    /// record of a key that is there keeps its first key and first hash, and the listener is told the key handed in with
+    /// the old value, both of which it may keep.
     ///
     /// # Errors
     /// `NumbersUsedUp` where too few tickets are left, and `OutOfMemory` where memory for the operation, for a new
@@ -306,19 +308,62 @@ impl<
     where
         K: Clone,
         V: Drop,
-        requires clones { (x y : K) → K.is_clone x y → y ≡ x }
+        requires clones { ClonesAreEqual K.is_clone }
         requires enabled { is_disabled self.old.state.capacity ≡ false }
         ensures { (e : Events K V) × InsertStep X.created X.updated W.weighs K.eq self.old.state key hash value now result e self.new.state × Befalls L.tells e self.old self.new }
     {
         let weight = inserts::weigh(&self.weigher, &key, &value);
-        match inserts::put(&mut self.inner, key, hash, value, now, weight) {
-            Ok((ticket, Some((key, old)))) => {
-                self.notifier.notify(key, old, RemovalCause::Replaced);
-                Ok((ticket, now))
-            }
-            Ok((ticket, None)) => Ok((ticket, now)),
-            Err(refused) => Err(refused),
+        let Some((handle, found)) = self.inner.find(&key) else {
+            return self.insert_new(key, hash, value, now, weight);
+        };
+        let (policy, valid_after) = (&self.expiration_policy, self.valid_after);
+        let cause = causes::cause_of_replacement(found, policy, valid_after, now);
+        let expires = found.expires;
+        if let Err(error) = self.inner.reserve_operation() {
+            return Err(InsertRefused { error, key, value });
         }
+        let update = Update {
+            value,
+            now,
+            expires,
+            weight,
+        };
+        let (old, ticket) = self.inner.update(handle, hash, update);
+        self.notifier.notify(key, old, cause);
+        Ok((ticket, now))
+    }
+
+    // A new record for a key that has none. All room is made, and the key cloned, before anything changes.
+    fn insert_new(
+        &mut self,
+        key: K,
+        hash: u64,
+        value: V,
+        now: Instant,
+        weight: u32,
+    ) -> Result<(Ticket, Instant), InsertRefused<K, V>>
+    where
+        K: Clone,
+        requires clones { ClonesAreEqual K.is_clone }
+        requires enabled { is_disabled self.old.state.capacity ≡ false }
+        requires fresh { record_of_key K.eq self.old.state.records key ≡ None }
+        requires weighed { Weighs W.weighs self.old.state.settings.weigher key value weight }
+        ensures { (e : Events K V) × InsertsAt X.created X.updated W.weighs self.old.state None key hash value now result e self.new.state × Befalls L.tells e self.old self.new }
+    {
+        if let Err(error) = self.inner.reserve_record() {
+            return Err(InsertRefused { error, key, value });
+        }
+        let Ok(kept) = key.clone() else {
+            let error = InsertError::OutOfMemory;
+            return Err(InsertRefused { error, key, value });
+        };
+        let update = Update {
+            value,
+            now,
+            expires: None,
+            weight,
+        };
+        Ok((self.inner.insert(key, kept, hash, update), now))
     }
 
     /// Moves the operation of the ticket to the back of the queue of writes. No run starts.
@@ -334,7 +379,8 @@ impl<
     }
 
     /// Takes a key's record out, expired or not, and hands out a ticket for the removal, which is to be sent. The answer
-    /// has the record's own key and value with its moments. It takes no memory, and nobody is told.
+    /// has the record's own key and value with its moments. It takes no memory, and the listener is not told:
+    /// `notify_invalidate` does that.
     pub fn remove_entry(&mut self, key: &K, _hash: u64) -> Option<(KvEntry<K, V>, Ticket)>
     where
         K: Drop,
@@ -342,7 +388,6 @@ impl<
         ensures events { Befalls L.tells no_events self.old self.new }
     {
         let (handle, _) = self.inner.find(key)?;
-        self.inner.know();
         let (record, ticket) = self.inner.remove(handle);
         let entry = KvEntry {
             key: record.key,
@@ -353,17 +398,43 @@ impl<
         Some((entry, ticket))
     }
 
-    /// Whether a key is there and shown at the moment `now`. Nothing is recorded.
+    /// Tells the listener of an entry that was removed: clones of its key and value, and that it had expired by its
+    /// moments, or was removed explicitly. Without a listener nothing is cloned.
+    ///
+    /// # Errors
+    /// `OutOfMemory` where memory for a clone is refused. The listener is not told.
+    pub fn notify_invalidate(&mut self, entry: &KvEntry<K, V>, now: Instant) -> Result<(), OutOfMemory>
+    where
+        K: Clone + Drop,
+        V: Clone + Drop,
+        requires keys { ClonesAreEqual K.is_clone }
+        requires values { ClonesAreEqual V.is_clone }
+        ensures { (notices : List (Notice K V)) × NotifyStep self.old.state.settings entry.now now result notices × (self.new.state ≡ self.old.state) × Befalls L.tells (only_notices notices) self.old self.new }
+    {
+        if !self.is_removal_notifier_enabled() {
+            return Ok(());
+        }
+        let Ok(key) = entry.key.clone() else {
+            return Err(OutOfMemory);
+        };
+        let Ok(value) = entry.value.clone() else {
+            return Err(OutOfMemory);
+        };
+        let (written, read) = (entry.last_modified, entry.last_accessed);
+        let cause = causes::cause_of_removal(&self.expiration_policy, written, read, now);
+        self.notifier.notify(key, value, cause);
+        Ok(())
+    }
+
+    /// Whether a key is there and visible at the moment `now`. Nothing is recorded.
     pub fn contains_key_with_hash(&self, key: &K, _hash: u64, now: Instant) -> bool
         ensures { ContainsStep P.says K.eq self.now.state key.now now.0 result }
     {
-        match self.inner.find(key) {
-            Some((_, found)) => !is_expired_by_per_entry_ttl(found.expires, now),
-            None => false,
-        }
+        let (policy, valid_after) = (&self.expiration_policy, self.valid_after);
+        gets::find_shown(&self.inner, policy, valid_after, key, now).is_some()
     }
 
-    /// The key that the cache keeps for an equal one, shown or not. Nothing is recorded.
+    /// The key that the cache keeps for an equal one, visible or not. Nothing is recorded.
     pub fn get_key_with_hash(&self, key: &K, _hash: u64) -> Option<&K>
         ensures { option_copied result ≡ option_map (λ r. r.key) (record_of_key K.eq self.now.state.records key.now) }
     {
@@ -387,7 +458,7 @@ impl<
     pub fn keys(&self, segment: usize) -> Result<Option<Vec<K>>, OutOfMemory>
     where
         K: Clone + Drop,
-        requires clones { (x y : K) → K.is_clone x y → y ≡ x }
+        requires clones { ClonesAreEqual K.is_clone }
         ensures ok { IfOk result (λ keys. KeysStep self.now.state segment (Ok (option_map (λ v. v.items) keys))) }
         ensures err { IfErr result (λ e. KeysStep self.now.state segment (Err e)) }
     {
@@ -401,7 +472,8 @@ impl<
     }
 
     /// Looks up a key at the moment `now`, and queues the read. The answer has a clone of the record's value, and one of
-    /// its key where `need_key` asks for it. Where the capacity is 0 nothing is found and no read is queued.
+    /// its key where `need_key` asks for it. Where the capacity is 0 nothing is found and no read is queued. The clock is
+    /// for a run of maintenance that the look-up starts; so far none does.
     ///
     /// # Errors
     /// `OutOfMemory` where memory for a clone is refused. Nothing has changed.
@@ -416,25 +488,52 @@ impl<
     where
         K: Clone,
         V: Clone,
-        requires keys { (x y : K) → K.is_clone x y → y ≡ x }
-        requires values { (x y : V) → V.is_clone x y → y ≡ x }
+        requires keys { ClonesAreEqual K.is_clone }
+        requires values { ClonesAreEqual V.is_clone }
         ensures { (e : Events K V)
-            × GetStep P.says X.read (SettlingRun P.says X.read) K.eq self.old.state key.now hash need_key false now.0 result e self.new.state
+            × GetStep P.says X.read (PromisedRun P.says X.read) K.eq self.old.state key.now hash need_key false now.0 result e self.new.state
             × Befalls L.tells e self.old self.new
             × Leads C.reads clock.old e.readings clock.new }
     {
         if self.is_map_disabled() {
             return Ok(None);
         }
-        gets::look_up(&mut self.inner, key, hash, need_key, now)
+        let (policy, valid_after) = (&self.expiration_policy, self.valid_after);
+        let shown = gets::find_shown(&self.inner, policy, valid_after, key, now);
+        let Some((handle, found)) = shown else {
+            self.inner.queue_read(0, ReadOperation::Miss { hash });
+            return Ok(None);
+        };
+        let Ok(entry) = gets::entry_of(found, need_key) else {
+            return Err(OutOfMemory);
+        };
+        let (hash, expires) = (found.hash, found.expires);
+        let Handle { number, place } = handle;
+        let renewed = false;
+        self.inner.touch(handle, now, expires);
+        let read = ReadOperation::Hit {
+            number,
+            hash,
+            renewed,
+        };
+        self.inner.queue_read(place, read);
+        Ok(Some(entry))
     }
 
-    /// Applies the queued reads and then the queued writes, removes the surplus over the capacity in passes of at most
-    /// `batch` turns, makes the report, and tells whether more is left. A capacity of 0 leaves nothing to do.
+    /// Runs maintenance: applies the queued reads and then the queued writes, and removes, in passes, what has expired,
+    /// what was invalidated and what exceeds the capacity. At the end the report is made. The answer tells whether more
+    /// is left. A capacity of 0 leaves nothing to do. The housekeeper is not touched.
     ///
-    /// Once every operation was sent, a run leaves count and weight exactly the records', and one with a `batch` of at
-    /// least one the weight within the capacity. With a `batch` of 0 nothing is removed, and more is left just where the
-    /// capacity is passed.
+    /// - `now`: the moment by which all is tested.
+    /// - `clock`: tells how long the run goes on. It is read only where a listener is set and there is a limit.
+    /// - `limit`: after this time no further pass is made, and more is left.
+    /// - `repeats`: how often a run may go back to its queues. With one owner nothing is queued meanwhile, so it has no
+    ///   effect.
+    /// - `batch`: how many records a step of a pass looks at. With 0 nothing is removed, and more is left where there is
+    ///   anything to test records by.
+    ///
+    /// Once every operation was sent, a run leaves count and weight exactly the records', and one that was not cut short,
+    /// with a `batch` of at least 1, the weight within the capacity.
     pub fn run_pending_tasks<C: Clock>(
         &mut self,
         now: Instant,
@@ -447,29 +546,38 @@ impl<
         K: Drop,
         V: Drop,
         ensures step { (e : Events K V)
-            × RunStep (SettlingRun P.says X.read) self.old.state (record { now = now.0; limit = option_map as_nanos limit; batch = batch }) result e self.new.state
+            × RunStep (PromisedRun P.says X.read) self.old.state (record { now = now.0; limit = option_map as_nanos limit; batch = batch }) result e self.new.state
             × Befalls L.tells e self.old self.new
             × Leads C.reads clock.old e.readings clock.new }
         ensures exact { self.old.state.outstanding ≡ finite.empty → IsExact self.new.state }
-        ensures idle { batch ≡ 0 → result ≡ is_over self.new.state.capacity self.new.state.access }
     {
         if self.is_map_disabled() {
             self.passes = 0;
             return false;
         }
-        let capacity = self.max_capacity;
-        self.inner.know();
-        self.inner.apply_queues(capacity);
-        let surplus = self.inner.evict(capacity, batch);
+        let limit = limit.filter(|_| self.notifier.is_enabled());
+        let tests = Tests {
+            now,
+            time_to_live: self.expiration_policy.time_to_live(),
+            time_to_idle: self.expiration_policy.time_to_idle(),
+            valid_after: self.valid_after,
+            capacity: self.max_capacity,
+        };
+        let notifier = &mut self.notifier;
+        self.inner
+            .apply_queues(notifier, self.max_capacity, self.eviction_policy);
+        let ran = self
+            .inner
+            .make_passes(notifier, clock, tests, limit, batch);
         self.entry_count = self.inner.member_count() as u64;
-        self.weighted_size = at_most_greatest(self.inner.total_weight());
-        self.passes = surplus.passes;
-        surplus.is_left
+        self.weighted_size = saturated(self.inner.total_weight());
+        self.passes = ran.passes;
+        ran.is_left
     }
 }
 
-/// The weight, cut at the greatest number.
-fn at_most_greatest(weight: u128) -> u64
+// The weight, or the greatest number where it is greater.
+fn saturated(weight: u128) -> u64
     ensures { result ≡ min weight greatest }
 {
     u64::try_from(weight).unwrap_or(u64::MAX)

@@ -1,9 +1,8 @@
 //! The engine of the cache.
 #![tactic(auto)]
 
-mod admission;
 pub mod base_cache;
 pub mod inner;
-mod maintenance;
+pub mod stub;
 
-pub use moka_store::{Handle, Store, Update};
+pub use base_cache::BaseCache;

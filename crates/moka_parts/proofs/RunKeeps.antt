@@ -91,7 +91,8 @@ module _ {K V : Type 0} where
   keeps_write capacity policy c (Removal n g) moved = keeps_itself c.records
   keeps_write capacity policy c (Upsert n g w h) moved = keeps_found c n g w moved (fate capacity policy c (Upsert n g w h)) (get c.records n) refl
 
-  keeps_writes : (capacity : Option ℕ) (policy : EvictionPolicy) (c : Contents K V) (hs : List Ticketed) (ms : List (List ℕ)) → Keeps c.records (after_writes capacity policy c hs ms).records
+  -- all writes
+  pub keeps_writes : (capacity : Option ℕ) (policy : EvictionPolicy) (c : Contents K V) (hs : List Ticketed) (ms : List (List ℕ)) → Keeps c.records (after_writes capacity policy c hs ms).records
   keeps_writes capacity policy c [] ms = keeps_itself c.records
   keeps_writes capacity policy c (h ∷ hs) [] = keeps_on c.records _ _ (keeps_write capacity policy c h.operation []) (keeps_writes capacity policy (after_write capacity policy c h.operation []) hs [])
   keeps_writes capacity policy c (h ∷ hs) (m ∷ ms) = keeps_on c.records _ _ (keeps_write capacity policy c h.operation m) (keeps_writes capacity policy (after_write capacity policy c h.operation m) hs ms)

@@ -1,53 +1,48 @@
-//! Gets from the inner part. moka: `sync::base_cache::BaseCache::get_with_hash`.
-ghost use Rattle.std.specs.Prelude.{◌≡◌, Some, None, IfOk, if◌then◌else◌};
+//! Look-ups. moka: `sync::base_cache::BaseCache::get_with_hash`.
+ghost use Rattle.std.specs.Prelude.{◌≡◌, true, false, None, Some, IfNone, IfOk, IfSome, if◌then◌else◌};
 ghost use Rattle.std.specs.FinMap as finite;
-ghost use Rattle.moka_parts.specs.declared.records.Record.{Record};
 ghost use Rattle.moka_parts.specs.Records.{record_of_key};
-ghost use Rattle.moka_engine.specs.Interior.{LeadsTo};
-ghost use Rattle.moka_engine.specs.Lookups.{LooksUpAt, with_hit};
+ghost use Rattle.moka_parts.specs.declared.records.Record.{Record};
+ghost use Rattle.moka_store.specs.Store.{ClonesAreEqual, IsHandle};
+ghost use Rattle.moka_engine.specs.BaseCache.{lapses};
 
 use crate::inner::Inner;
 use moka_parts::calls::Entry;
 use moka_parts::error::OutOfMemory;
-use moka_parts::expiry::is_expired_by_per_entry_ttl;
-use moka_parts::policy::Instant;
-use moka_parts::records::{ReadOperation, Record};
+use moka_parts::expiry::has_lapsed;
+use moka_parts::policy::{ExpirationPolicy, Instant};
+use moka_parts::records::Record;
 use moka_store::Handle;
 use std::hash::{BuildHasher, Hash};
 
-/// Clones the value of a key that is there and shown, and queues the read.
-pub(super) fn look_up<K: Eq + Hash + Clone, V: Clone, S: BuildHasher>(
-    inner: &mut Inner<K, V, S>,
+// The record whose key is equal, with its handle, where no test by moments hides it.
+pub(super) fn find_shown<'a, K: Eq + Hash, V, S: BuildHasher, X>(
+    inner: &'a Inner<K, V, S>,
+    policy: &ExpirationPolicy<X>,
+    valid_after: Option<Instant>,
     key: &K,
-    hash: u64,
-    need_key: bool,
     now: Instant,
-) -> Result<Option<Entry<K, V>>, OutOfMemory>
-    requires keys { (x y : K) → K.is_clone x y → y ≡ x }
-    requires values { (x y : V) → V.is_clone x y → y ≡ x }
-    ensures { LooksUpAt inner.old (record_of_key K.eq inner.old.records key.now) hash need_key now result inner.new }
+) -> Option<(Handle, &'a Record<K, V>)>
+    ensures handle { IfSome result (λ f. IsHandle inner.now.kept f.0) }
+    ensures numbered { IfSome result (λ f. finite.get inner.now.kept.records f.0.number ≡ Some f.1.now) }
+    ensures found { IfSome result (λ f. record_of_key K.eq inner.now.kept.records key.now ≡ Some f.1.now) }
+    ensures shown { IfSome result (λ f. lapses policy.now valid_after f.1.now now.0 ≡ false) }
+    ensures hidden { IfNone result ((r : Record K V) → record_of_key K.eq inner.now.kept.records key.now ≡ Some r → lapses policy.now valid_after r now.0 ≡ true) }
 {
-    let Some((handle, found)) = inner.find(key) else {
-        inner.queue_read(0, ReadOperation::Miss { hash });
-        return Ok(None);
-    };
-    if is_expired_by_per_entry_ttl(found.expires, now) {
-        inner.queue_read(0, ReadOperation::Miss { hash });
-        return Ok(None);
+    let (handle, found) = inner.find(key)?;
+    if has_lapsed(found, policy, valid_after, now) {
+        return None;
     }
-    let entry = entry_of(found, need_key)?;
-    let (expires, record_hash) = (found.expires, found.hash);
-    note_hit(inner, handle, record_hash, now, expires);
-    Ok(Some(entry))
+    Some((handle, found))
 }
 
-/// A clone of the record's value, with one of its key where that is asked for.
-fn entry_of<K: Clone, V: Clone>(
+// A clone of the record's value, with one of its key where that is asked for.
+pub(super) fn entry_of<K: Clone, V: Clone>(
     found: &Record<K, V>,
     need_key: bool,
 ) -> Result<Entry<K, V>, OutOfMemory>
-    requires keys { (x y : K) → K.is_clone x y → y ≡ x }
-    requires values { (x y : V) → V.is_clone x y → y ≡ x }
+    requires keys { ClonesAreEqual K.is_clone }
+    requires values { ClonesAreEqual V.is_clone }
     ensures value { IfOk result (λ e. e.value ≡ found.now.value) }
     ensures key { IfOk result (λ e. e.key ≡ (if need_key then Some found.now.key else None)) }
 {
@@ -62,31 +57,4 @@ fn entry_of<K: Clone, V: Clone>(
     };
     let key = Some(key);
     Ok(Entry { key, value })
-}
-
-/// The record at this handle was read.
-fn note_hit<K: Eq + Hash, V, S: BuildHasher>(
-    inner: &mut Inner<K, V, S>,
-    handle: Handle,
-    hash: u64,
-    now: Instant,
-    expires: Option<Instant>,
-)
-    requires handle { LeadsTo inner.old handle }
-    requires hash { (r : Record K V) → finite.get inner.old.records handle.number ≡ Some r → (hash ≡ r.hash) × (expires ≡ r.expires) }
-    ensures { (r : Record K V) → finite.get inner.old.records handle.number ≡ Some r → inner.new ≡ with_hit inner.old r now }
-{
-    inner.know();
-    inner.know_numbers();
-    inner.touch(handle, now, expires);
-    let number = handle.number;
-    let renewed = false;
-    inner.queue_read(
-        handle.place,
-        ReadOperation::Hit {
-            number,
-            hash,
-            renewed,
-        },
-    );
 }

@@ -1,32 +1,55 @@
-use Rattle.std.proofs.Common.{◌<◌, ◌≤◌, ◌+◌, refl, sym, ◌∙◌, arith, subst, length}
-use Rattle.circular_buffer.specs.Buffer.{Buffer}
-use Rattle.moka_engine.specs.Interior.{handed_of}
-use Rattle.moka_store.proofs.Gets.{not_below}
-use Rattle.moka_engine.specs.Inner.{IsInner}
+use Rattle.std.proofs.Common.{◌≡◌, ◌+◌, ℕ, Option, Some, None, is_some, option_map, false, true, refl, sym, ap, ◌∙◌, arith, subst, map, length}
+use Rattle.std.specs.FinMap.{get}
 use Rattle.std.proofs.lemmas.List.{length-map, map-append}
-use Rattle.moka_engine.proofs.InnerLemmas.{inner-sent}
-use Rattle.moka_engine.proofs.ValuesLemmas.{get-map_values, map_values-remove}
+use Rattle.circular_buffer.specs.Buffer.{Buffer}
+use Rattle.moka_parts.proofs.Values.{remove_absent}
+use Rattle.moka_store.proofs.Gets.{none-of, not_below}
+use Rattle.moka_maintenance.specs.declared.queued.PlacedWrite.{PlacedWrite}
+use Rattle.moka_maintenance.specs.Queued.{handed_of}
+use Rattle.moka_engine.specs.Inner.{IsInner}
+use Rattle.moka_engine.proofs.InnerLemmas.{inner-sent, inner-unsent}
+use Rattle.moka_engine.proofs.ValuesLemmas.{get-map_values, map_values-none, map_values-remove}
 use Rattle.moka_engine.proofs.inner.Inner.send.Goals as goal
 
-pub returns-in_default : goal.returns-in_default
-returns-in_default g c = rw (← c.self.view_is, get-map_values, ← c.get.ensures, c.in_default.is) refl
+
+-- what is there is there with its operation alone
+there_too : (o : Option PlacedWrite) → is_some o ≡ true → option_map (λ (w : PlacedWrite). w.operation) o ≡ None → ⊥
+there_too None h e = cc
+there_too (Some w) h e = cc
+
+pub returns-then-contains-clause-unknown : goal.returns-then-contains-clause-unknown
+returns-then-contains-clause-unknown g c =
+    rw (← c.self.view_is, get-map_values) (λ e. cc, λ none. absurd (there_too (get c.self.inside.outstanding.items c.args.ticket.0) (sym c.contains.ensures ∙ c.if-contains.true) none))
+
+pub returns-then-is_full-clause-unknown : goal.returns-then-is_full-clause-unknown
+returns-then-is_full-clause-unknown g c =
+    rw (← c.self.view_is) (λ _. map_values-none (λ (w : PlacedWrite). w.operation) c.self.inside.outstanding.items c.args.ticket.0 (none-of (get c.self.inside.outstanding.items c.args.ticket.0) (sym c.contains.ensures ∙ c.if-contains.false)), λ _. refl)
 
 pub invariant_of-self : goal.invariant_of-self
 invariant_of-self g c =
-    let ok = c.in-Ok.ensures.ok in
-    let there = sym c.get.ensures ∙ c.in-Some.is in
-    subst (λ (b : Buffer _). IsInner g.K.PartialEq.eq c.self.inside.store c.take-taken.new.self b.items b.capacity c.self.inside.reads.items c.self.inside.reads.capacity (c.self.inside.last_ticket + 1) c.self.inside.next_number c.self.inside.size) (sym ok)
-    (inner-sent g.K.PartialEq.eq c.self.inside.store c.self.inside.outstanding c.take-taken.new.self c.self.inside.writes.items c.self.inside.reads.items c.self.inside.writes.capacity c.self.inside.reads.capacity (c.self.inside.last_ticket + 1) c.self.inside.next_number c.self.inside.size c.args.ticket.0 c.in-Some.write c.self.inside.writes.capacity c.self.invariant there c.take-taken.ensures.items c.take-taken.ensures.room (c.in-Ok.ensures.variant.0 refl) refl)
+    inner-unsent c.self.inside.store c.self.inside.outstanding c.take.new.self c.self.inside.writes c.self.inside.reads (c.self.inside.last_ticket + 1) c.self.inside.next_number c.self.invariant c.args.ticket.0
+    (sym c.take.ensures.item ∙ c.in_default.is) c.take.ensures.items c.take.ensures.room
 
-pub returns-in-Ok : goal.returns-in-Ok
-returns-in-Ok g c =
-    let there = sym c.get.ensures ∙ c.in-Some.is in
-    let size = c.self.invariant.write_queue.0 in
-    let fits = c.in-Ok.ensures.variant.0 refl in
-    rw (← c.self.view_is, get-map_values, there, c.in-Ok.ensures.ok, c.take-taken.ensures.items, map_values-remove, map-append) (subst (λ n. n < 384) (sym (length-map c.self.inside.writes.items handed_of)) (omega arith), refl)
+pub returns-in_default-clause-unknown : goal.returns-in_default-clause-unknown
+returns-in_default-clause-unknown g c =
+    rw (← c.self.view_is) (λ _. map_values-none (λ (w : PlacedWrite). w.operation) c.self.inside.outstanding.items c.args.ticket.0 (sym c.take.ensures.item ∙ c.in_default.is), λ _. refl)
 
-pub returns-in-Err : goal.returns-in-Err
-returns-in-Err g c =
-    let there = sym c.get.ensures ∙ c.in-Some.is in
-    let size = c.self.invariant.write_queue.0 in
-    rw (← c.self.view_is, get-map_values, there, c.in-Err.ensures.err.1) (subst (λ n. 384 ≤ n) (sym (length-map c.self.inside.writes.items handed_of)) (let full = not_below (length c.self.inside.writes.items) c.self.inside.writes.capacity c.in-Err.ensures.variant.1 in omega arith), refl)
+pub returns-in_default-clause-err : goal.returns-in_default-clause-err
+returns-in_default-clause-err g c =
+    let same = c.take.ensures.items ∙ remove_absent c.self.inside.outstanding.items c.args.ticket.0 (sym c.take.ensures.item ∙ c.in_default.is) in
+    rw (same, ← c.self.view_is) refl
+
+pub invariant_of-self-2 : goal.invariant_of-self-2
+invariant_of-self-2 g c =
+    let there = sym c.take.ensures.item ∙ c.in-Some.is in
+    rw (c.in-Ok.ensures.ok) (inner-sent c.self.inside.store c.self.inside.outstanding c.take.new.self c.self.inside.writes c.self.inside.reads (c.self.inside.last_ticket + 1) c.self.inside.next_number c.self.invariant c.args.ticket.0 c.in-Some.write there c.take.ensures.items c.take.ensures.room (c.in-Ok.ensures.variant.0 refl))
+
+pub returns-clause-unknown : goal.returns-clause-unknown
+returns-clause-unknown g c =
+    let there = sym c.take.ensures.item ∙ c.in-Some.is in
+    rw (← c.self.view_is, get-map_values, there) (λ e. cc, λ none. cc)
+
+pub returns-clause-ok : goal.returns-clause-ok
+returns-clause-ok g c =
+    let there = sym c.take.ensures.item ∙ c.in-Some.is in
+    rw (← c.self.view_is, get-map_values, there, c.in-Ok.ensures.ok, c.take.ensures.items, map_values-remove, map-append) (c.in-Some.write.operation, refl, refl)

@@ -1,0 +1,134 @@
+-- Inserts as steps of the reference cache, and what always holds after them.
+use Rattle.std.proofs.Common.{◌≡◌, refl, ℕ, ◌+◌, ◌^◌, ◌≤◌, Bool, true, false, List, [], ◌∷◌, ◌↔◌, Option, Some, None, Result, Ok, Err, is_some, ap, sym, subst, ◌∙◌, arith}
+use Rattle.std.specs.Prelude.{nat_le}
+use Rattle.std.specs.Cmp.{IsEquivalence}
+use Rattle.std.specs.FinMap.{get, insert, len}
+use Rattle.moka_parts.specs.declared.calls.Ticket.{Ticket}
+use Rattle.moka_parts.specs.declared.error.InsertError.{InsertError}
+use Rattle.moka_parts.specs.declared.error.InsertError.TheVariants.{NumbersUsedUp, OutOfMemory}
+use Rattle.moka_parts.specs.declared.error.InsertRefused.{InsertRefused}
+use Rattle.moka_parts.specs.declared.notification.RemovalCause.{RemovalCause}
+use Rattle.moka_parts.specs.declared.policy.Instant.{Instant}
+use Rattle.moka_parts.specs.declared.records.Operation.TheVariants.{Upsert}
+use Rattle.moka_parts.specs.declared.records.Record.{Record}
+use Rattle.moka_parts.specs.Calls.{no_events, only_notices, Weighs, InsertsAt, InsertStep, HasInsertError, inserted, replaced}
+use Rattle.moka_parts.specs.Causes.{cause_of_replacement}
+use Rattle.moka_parts.specs.Notification.{HearsOnce}
+use Rattle.moka_parts.specs.Records.{Notice, when_listening, record_of_key, with_record}
+use Rattle.moka_parts.specs.Runs.{Cache, Befalls}
+use Rattle.moka_parts.specs.Settling.{IsValid}
+use Rattle.moka_parts.specs.State.{State, Events, is_disabled}
+use Rattle.moka_parts.specs.Surroundings.{Heard}
+use Rattle.moka_parts.proofs.CallsKeep.{inserted_valid, replaced_valid, record_at_its_number}
+use Rattle.moka_store.specs.declared.store.Update.{Update}
+use Rattle.moka_store.specs.Updates.{updated}
+use Rattle.moka_engine.specs.BaseCache.{IsCache, NoneExpires}
+use Rattle.moka_engine.specs.Interior.{Interior, first_record, handing_out_inside}
+use Rattle.moka_engine.proofs.CacheSteps.{with_inner, without_room, inside-roomier, befalls-quietly, still_set, unexpiring-inserted, cache-inner}
+
+-- ---- refusals
+
+not_at_least : (a b : ℕ) → (a ≤ b → ⊥) → nat_le a b ≡ false
+not_at_least a b h = grind arith
+
+at_least : (a b : ℕ) → a ≤ b → nat_le a b ≡ true
+at_least a b h = grind arith
+
+-- room refused for this reason
+abbrev refusal : InsertError → Result (Unit {0}) InsertError
+refusal e = Err e
+
+-- the error is the one that the tickets that are left ask for
+has_error : {K V X P W : Type 0} (s : State K V X P W) (more : ℕ) (e : InsertError) → (refusal e ≡ refusal NumbersUsedUp) ↔ (2 ^ 64 ≤ s.next_ticket + len s.records + more) → HasInsertError s more e
+has_error s more NumbersUsedUp h = at_least (2 ^ 64) (s.next_ticket + len s.records + more) (h.0 refl)
+has_error s more OutOfMemory h = not_at_least (2 ^ 64) (s.next_ticket + len s.records + more) (λ up. let e = h.1 up in cc)
+
+-- ---- a value of a key that is there
+
+module _ {K V X P W : Type 0} (created : X → K → V → ℕ → Option ℕ) (updating : X → K → V → ℕ → Option ℕ → Option ℕ) where
+  -- the state with the new value, which expires as the old one
+  replaces : (s : State K V X P W) (i j : Interior K V) (inside : with_inner s i ≡ s) (plain : s.settings.expiry ≡ None) (r : Record K V) (n : ℕ) → r.number ≡ n → (key : K) (hash : ℕ) (value : V) (now : Instant) (w : ℕ)
+      → j ≡ handing_out_inside i (insert i.kept.records n (updated (record { value = value; now = now; expires = r.expires; weight = w }) r)) (Upsert n (r.generation + 1) w hash) j
+      → with_inner s j ≡ replaced created updating s r key hash value now w
+  replaces s i j inside plain r n number key hash value now w step =
+      let here : with_inner s (handing_out_inside i (insert i.kept.records n (updated (record { value = value; now = now; expires = r.expires; weight = w }) r)) (Upsert n (r.generation + 1) w hash) j) ≡ replaced created updating (with_inner s i) r key hash value now w = rw (plain, number) refl in
+      ap (with_inner s) step ∙ here ∙ ap (λ t. replaced created updating t r key hash value now w) inside
+
+module _ {K V X L P W : Type 0} {eq : K → K → Bool} {l : Option L} {s : State K V X P W} (h : IsCache eq l s) (before : Interior K V) (inside_before : with_inner s before ≡ s) (i j : Interior K V) (rooms : without_room i ≡ without_room before) where
+  -- room was made
+  inside : with_inner s i ≡ s
+  inside = inside-roomier s before i inside_before rooms
+
+  -- the number of the record that was found
+  number_of_found : (n : ℕ) (r : Record K V) → get before.kept.records n ≡ Some r → r.number ≡ n
+  number_of_found n r there = (h.valid.numbered.numbered.numbered n r (ap (λ (t : State K V X P W). get t.records n) (sym inside_before) ∙ there)).0
+
+  -- what always holds after an insert of a key that is there
+  pub cache-updated : (laws : IsEquivalence eq) (m : Option L) (same : is_some m ≡ is_some l) (key : K) (n : ℕ) (r : Record K V) → get before.kept.records n ≡ Some r → record_of_key eq before.kept.records key ≡ Some r → (hash : ℕ) (value : V) (now : Instant) (w : ℕ)
+      → j ≡ handing_out_inside i (insert i.kept.records n (updated (record { value = value; now = now; expires = r.expires; weight = w }) r)) (Upsert n (r.generation + 1) w hash) j → IsCache eq m (with_inner s j)
+  cache-updated laws m same key n r there found hash value now w step =
+      let created : X → K → V → ℕ → Option ℕ = λ _ _ _ _. None in
+      let updating : X → K → V → ℕ → Option ℕ → Option ℕ = λ _ _ _ _ _. None in
+      let valid = replaced_valid eq created updating s r key hash value now w (ap (λ (t : State K V X P W). record_of_key eq t.records key) (sym inside_before) ∙ found) h.valid in
+      let none : NoneExpires i.kept.records = subst (λ (t : State K V X P W). NoneExpires t.records) (sym inside) h.served.unexpiring in
+      cache-inner h m j same
+      (subst (IsValid eq) (sym (replaces created updating s i j inside h.served.no_expiry r n (number_of_found n r there) key hash value now w step)) valid)
+      (subst (λ (x : Interior K V). NoneExpires x.kept.records) (sym step) (unexpiring-inserted i.kept.records none n (updated (record { value = value; now = now; expires = r.expires; weight = w }) r) (h.served.unexpiring n r (ap (λ (t : State K V X P W). get t.records n) (sym inside_before) ∙ there))))
+
+  -- what always holds after an insert of a new key
+  pub cache-inserted : (laws : IsEquivalence eq) → is_disabled s.capacity ≡ false → (key : K) → record_of_key eq s.records key ≡ None → (hash : ℕ) (value : V) (now : Instant) (w : ℕ)
+      → j ≡ record (handing_out_inside i (with_record i.kept.records (first_record i.next_number key hash (record { value = value; now = now; expires = None; weight = w }))) (Upsert i.next_number 1 w hash) j) { next_number = i.next_number + 1 } → IsCache eq l (with_inner s j)
+  cache-inserted laws enabled key absent hash value now w step =
+      let created : X → K → V → ℕ → Option ℕ = λ _ _ _ _. None in
+      let updating : X → K → V → ℕ → Option ℕ → Option ℕ = λ _ _ _ _ _. None in
+      let new : Record K V = first_record i.next_number key hash (record { value = value; now = now; expires = None; weight = w }) in
+      let here : with_inner s (record (handing_out_inside i (with_record i.kept.records new) (Upsert i.next_number 1 w hash) j) { next_number = i.next_number + 1 }) ≡ inserted created updating (with_inner s i) key hash value now w = rw h.served.no_expiry refl in
+      let none : NoneExpires i.kept.records = subst (λ (t : State K V X P W). NoneExpires t.records) (sym inside) h.served.unexpiring in
+      cache-inner h l j refl
+      (subst (IsValid eq) (sym (ap (with_inner s) step ∙ here ∙ ap (λ t. inserted created updating t key hash value now w) inside)) (inserted_valid eq created updating s key hash value now w laws enabled absent h.valid))
+      (subst (λ (x : Interior K V). NoneExpires x.kept.records) (sym step) (unexpiring-inserted i.kept.records none i.next_number new refl))
+
+-- ---- what the calls return
+
+module _ {K V S X L P W : Type 0} (created : X → K → V → ℕ → Option ℕ) (updating : X → K → V → ℕ → Option ℕ → Option ℕ) (weighs : W → K → V → ℕ → Type 0) (tells : L → K → V → RemovalCause → L → Type 0) (eq : K → K → Bool)
+    {old now : Cache K V S X L P W} (is : old ≡ now) (before : Interior K V) (inside_before : with_inner old.state before ≡ old.state) (i : Interior K V) (rooms : without_room i ≡ without_room before) (key : K) (hash : ℕ) (value : V) (moment : Instant) where
+  -- a call that answers so
+  abbrev Inserts : Result (Ticket × Instant) (InsertRefused K V) → State K V X P W → Option L → Cache K V S X L P W → Type 0
+  Inserts a t m before = (e : Events K V) × InsertStep created updating weighs eq before.state key hash value moment a e t × Befalls tells e before (record old { state = t; listener = m })
+
+  -- room was made
+  inside_still : with_inner old.state i ≡ old.state
+  inside_still = inside-roomier old.state before i inside_before rooms
+
+  found_in_state : (o : Option (Record K V)) → record_of_key eq before.kept.records key ≡ o → record_of_key eq old.state.records key ≡ o
+  found_in_state o found = ap (λ (t : State K V X P W). record_of_key eq t.records key) (sym inside_before) ∙ found
+
+  -- a key that is there, with no room for its operation
+  pub update_refused : (r : Record K V) → record_of_key eq before.kept.records key ≡ Some r → (error : InsertError) → (refusal error ≡ refusal NumbersUsedUp) ↔ (2 ^ 64 ≤ before.next_ticket + len before.kept.records)
+      → Inserts (Err (record { error = error; key = key; value = value })) (with_inner old.state i) old.listener now
+  update_refused r found error used_up =
+      let refused : HasInsertError (with_inner old.state before) 0 error = has_error (with_inner old.state before) 0 error (λ e. let p = used_up.0 e in omega arith, λ p. used_up.1 (omega arith)) in
+      subst (Inserts (Err (record { error = error; key = key; value = value })) (with_inner old.state i) old.listener) is (
+        no_events,
+        rw (found_in_state (Some r) found) ((refl, refl, subst (λ t. HasInsertError t 0 error) inside_before refused), (inside_still, refl)),
+        befalls-quietly tells old (with_inner old.state i),
+      )
+
+  -- a key that is there, with a new value
+  pub update_returns : (l : Option L) (h : IsCache eq l old.state) (told : l ≡ old.listener) (m : Option L) (j : Interior K V) (n : ℕ) (r : Record K V) → get before.kept.records n ≡ Some r → record_of_key eq before.kept.records key ≡ Some r → (w : ℕ) → Weighs weighs old.state.settings.weigher key value w
+      → (2 ^ 64 ≤ before.next_ticket + len before.kept.records → ⊥) → (ticket : Ticket) → ticket.0 ≡ i.next_ticket
+      → j ≡ handing_out_inside i (insert i.kept.records n (updated (record { value = value; now = moment; expires = r.expires; weight = w }) r)) (Upsert n (r.generation + 1) w hash) j
+      → (left : V) → left ≡ r.value → (cause : RemovalCause) → cause ≡ cause_of_replacement old.state.settings old.state.invalid_before r moment.0 → HearsOnce tells old.listener key left cause m
+      → Inserts (Ok (ticket, moment)) (with_inner old.state j) m now
+  update_returns l h told m j n r there found w weighed enough ticket next step left same_value cause same_cause heard =
+      let numbers : nat_le (2 ^ 64) (before.next_ticket + len before.kept.records + 0) ≡ false = not_at_least (2 ^ 64) (before.next_ticket + len before.kept.records + 0) (λ p. enough (omega arith)) in
+      let step_so = replaces created updating old.state i j inside_still h.served.no_expiry r n (number_of_found h before inside_before i j rooms n r there) key hash value moment w step in
+      subst (Inserts (Ok (ticket, moment)) (with_inner old.state j) m) is (
+        only_notices (when_listening old.state.settings.listening ((key, r.value, cause_of_replacement old.state.settings old.state.invalid_before r moment.0) ∷ [])),
+        rw (found_in_state (Some r) found) (w, weighed, subst (λ (t : State K V X P W). nat_le (2 ^ 64) (t.next_ticket + len t.records + 0) ≡ false) inside_before numbers, next ∙ ap (λ (t : State K V X P W). t.next_ticket) inside_still, refl, step_so, refl),
+        record {
+          kept = refl;
+          heard = rw (h.listens ∙ ap is_some told, ← same_value, ← same_cause) heard;
+          passes = refl;
+        },
+      )
