@@ -1,12 +1,13 @@
 //! Makes calls one after the other.
-ghost use Rattle.std.specs.Prelude.{◌≡◌, length, List, IfOk, IfErr, OnErr};
+ghost use Rattle.std.specs.Prelude.{◌≡◌, true, length, List, IfOk, IfErr, OnErr};
 ghost use Rattle.std.specs.List.{AllByRecursion};
-ghost use Rattle.moka_parts.specs.State.{Events, Meaning};
+ghost use Rattle.moka_parts.specs.State.{Events};
 ghost use Rattle.moka_parts.specs.Surroundings.{Leads};
 ghost use Rattle.moka_parts.specs.Calls.{KeyStep};
-ghost use Rattle.moka_parts.specs.Runs.{Befalls, CallStep, SettlingReferenceRun, SettlingRun, Step};
+ghost use Rattle.moka_parts.specs.Laws.{AllConserveValues};
+ghost use Rattle.moka_parts.specs.Runs.{Befalls, CallStep, MakesCalls, PromisedRun, Step};
 ghost use Rattle.moka_parts.specs.declared.calls.Reply.TheVariants.{Report};
-ghost use Rattle.moka_drive.specs.Served.{IsServed};
+ghost use Rattle.moka_drive.specs.Served.{IsServed, RemovesAndNotifies};
 
 use moka_engine::base_cache::BaseCache;
 use moka_parts::calls::{Call, DriveRefused, Reply};
@@ -15,19 +16,22 @@ use moka_parts::error::OutOfMemory;
 use moka_parts::housekeeper::Clock;
 use moka_parts::invalidator::IdSource;
 use moka_parts::notification::Listener;
-use moka_parts::policy::Expiry;
+use moka_parts::policy::{Expiry, Instant};
 use std::alloc::Global;
 use std::hash::{BuildHasher, Hash};
 
 /// Makes the calls one after the other, and answers each with the reply of the same name. So far these are inserts,
-/// sends, gets, look-ups that change nothing, removals that nobody is told of, runs, and lists of keys and reports.
+/// sends, gets, look-ups that change nothing, removals, runs, lists of keys and reports. A removal that carries a moment
+/// and finds its key is followed by `notify_invalidate` at that moment.
 ///
-/// Replies, records and notices are a run of the reference cache, whose runs of maintenance settle what was sent: one with
-/// a batch of at least one that begins with every operation sent ends with count and weight exactly the records', and the
-/// weight within the capacity.
+/// Replies, records and notices are a run of the reference cache, in which each run of maintenance keeps all that is
+/// promised of it: one with a batch of at least one that begins with every operation sent, and is not cut short, ends with
+/// count and weight exactly the records', and the weight within the capacity. If a listener is set, it is notified of each
+/// value that leaves the map in a call exactly once, in the order in which they leave; the value of a removal is handed
+/// back instead.
 ///
 /// # Errors
-/// `OutOfMemory` where there is no room for the replies. The calls come back, and none was made. Where a single call is
+/// `OutOfMemory` if there is no room for the replies. The calls come back, and none was made. If a single call is
 /// refused, that is its reply, and the next follows.
 pub fn drive<
     K: Eq + Hash + Clone,
@@ -50,11 +54,22 @@ pub fn drive<
     requires values { (x y : V) → V.is_clone x y → y ≡ x }
     requires served { AllByRecursion IsServed calls.items }
     ensures run { IfOk result (λ replies. (steps : List (Step K V X P W))
-        × SettlingReferenceRun (record { eq = K.eq; tells = L.tells; says = P.says; weighs = W.weighs; observes = C.reads; gives = I.gives; created = X.created; read = X.read; updated = X.updated })
-        calls.items replies.items steps cache.old clock.old ids.old cache.new clock.new ids.new) }
+        × MakesCalls (record {
+          eq = K.eq;
+          tells = L.tells;
+          says = P.says;
+          weighs = W.weighs;
+          observes = C.reads;
+          gives = I.gives;
+          created = X.created;
+          read = X.read;
+          updated = X.updated;
+        }) (PromisedRun P.says X.read) calls.items replies.items steps cache.old clock.old ids.old cache.new clock.new ids.new
+        × (cache.old.state.settings.listening ≡ true → AllConserveValues cache.old.state steps)) }
     ensures refused { IfErr result (λ e. e.calls ≡ calls) }
     ensures unchanged { OnErr result ((cache.new ≡ cache.old) × (clock.new ≡ clock.old) × (ids.new ≡ ids.old)) }
 {
+    cache.invariant_holds();
     let Ok(mut replies) = Vec::with_capacity(alloc, calls.len()) else {
         let error = OutOfMemory;
         return Err(DriveRefused { error, calls });
@@ -66,7 +81,7 @@ pub fn drive<
     Ok(replies)
 }
 
-/// Makes one call.
+// Makes one call.
 fn make<
     K: Eq + Hash + Clone,
     V: Clone,
@@ -87,7 +102,17 @@ fn make<
     requires values { (x y : V) → V.is_clone x y → y ≡ x }
     requires served { IsServed call }
     ensures { (e : Events K V)
-        × CallStep (record { eq = K.eq; tells = L.tells; says = P.says; weighs = W.weighs; observes = C.reads; gives = I.gives; created = X.created; read = X.read; updated = X.updated }) (SettlingRun P.says X.read) cache.old.state call result e cache.new.state
+        × CallStep (record {
+          eq = K.eq;
+          tells = L.tells;
+          says = P.says;
+          weighs = W.weighs;
+          observes = C.reads;
+          gives = I.gives;
+          created = X.created;
+          read = X.read;
+          updated = X.updated;
+        }) (PromisedRun P.says X.read) cache.old.state call result e cache.new.state
         × Befalls L.tells e cache.old cache.new
         × Leads C.reads clock.old e.readings clock.new
         × Leads I.gives ids.old e.ids ids.new }
@@ -113,10 +138,7 @@ fn make<
             Reply::Contains(cache.contains_key_with_hash(&key, hash, now))
         }
         Call::Key { key, hash } => Reply::Key(key_of(cache, &key, hash)),
-        Call::Remove { key, hash, .. } => Reply::Remove {
-            removed: cache.remove_entry(&key, hash),
-            told: None,
-        },
+        Call::Remove { key, hash, now } => remove(cache, &key, hash, now),
         Call::Keys { segment } => Reply::Keys(cache.keys(segment)),
         Call::Run {
             now,
@@ -129,7 +151,40 @@ fn make<
     }
 }
 
-/// The report of the last run.
+// A removal, and if it carries a moment and found its key, the notice of the entry.
+fn remove<
+    K: Eq + Hash + Clone,
+    V: Clone,
+    S: BuildHasher,
+    X: Expiry<K, V>,
+    L: Listener<K, V>,
+    P: PredicateFn<K, V> + Drop,
+    W: Weigher<K, V>,
+>(
+    cache: &mut BaseCache<K, V, S, X, L, P, W>,
+    key: &K,
+    hash: u64,
+    now: Option<Instant>,
+) -> Reply<K, V, P>
+    requires keys { (x y : K) → K.is_clone x y → y ≡ x }
+    requires values { (x y : V) → V.is_clone x y → y ≡ x }
+    ensures { (e : Events K V) × RemovesAndNotifies K.eq cache.old.state key.now now result e cache.new.state × Befalls L.tells e cache.old cache.new }
+{
+    let Some((entry, ticket)) = cache.remove_entry(key, hash) else {
+        return Reply::Remove {
+            removed: None,
+            told: None,
+        };
+    };
+    let told = match now {
+        Some(now) => Some(cache.notify_invalidate(&entry, now)),
+        None => None,
+    };
+    let removed = Some((entry, ticket));
+    Reply::Remove { removed, told }
+}
+
+// The report of the last run.
 fn report<
     K: Eq + Hash,
     V,
@@ -148,7 +203,7 @@ fn report<
     }
 }
 
-/// A clone of the key that the cache keeps.
+// A clone of the key that the cache keeps.
 fn key_of<
     K: Eq + Hash + Clone,
     V,

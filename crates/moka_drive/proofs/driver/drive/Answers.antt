@@ -1,7 +1,7 @@
 use Rattle.std.proofs.Common.{rules, arith, refl, sym, ap, subst, ◌∙◌, [], ◌∷◌, ◌++◌, append_assoc, append-nil, length}
 use Rattle.std.specs.List.{AllByRecursion}
 use Rattle.std.specs.Vec.Iter.{into_iter_items}
-use Rattle.moka_parts.specs.Runs.{SettlingRun}
+use Rattle.moka_parts.specs.Runs.{PromisedRun}
 use Rattle.moka_parts.proofs.RunsGoOn.{MakesCalls_push}
 use Rattle.moka_drive.specs.Served.{IsServed}
 use Rattle.moka_drive.proofs.Quiet.{no_calls, empty_of_length}
@@ -11,7 +11,7 @@ pub loop-call-init : goal.loop-call-init
 loop-call-init g c = record {
   can = tt;
   finite = tt;
-  ran = ([], rw c.in-Ok.ensures.items (no_calls (record { eq = g.K.PartialEq.eq; tells = g.L.Listener.tells; says = g.P.PredicateFn.says; weighs = g.W.Weigher.weighs; reads = g.C.Clock.reads; gives = g.I.IdSource.gives; created = g.X.Expiry.created; read = g.X.Expiry.read; updated = g.X.Expiry.updated }) (SettlingRun g.P.PredicateFn.says g.X.Expiry.read) c.args.cache.now c.args.clock.now c.args.ids.now));
+  ran = ([], rw c.in-Ok.ensures.items (no_calls (record { eq = g.K.PartialEq.eq; tells = g.L.Listener.tells; says = g.P.PredicateFn.says; weighs = g.W.Weigher.weighs; observes = g.C.Clock.reads; gives = g.I.IdSource.gives; created = g.X.Expiry.created; read = g.X.Expiry.read; updated = g.X.Expiry.updated }) (PromisedRun g.P.PredicateFn.says g.X.Expiry.read) c.args.cache.now c.args.clock.now c.args.ids.now));
   rest = search rules;
   served = search rules;
   room = search rules;
@@ -33,7 +33,7 @@ loop-call-preserved g c =
       finite = tt;
       ran = (
         h.0 ++ record { call = c.in-Some.call; reply = c.make-reply.result; events = k.0; after = c.make-reply.new.cache.state } ∷ [],
-        rw c.push_reserved.ensures.items (MakesCalls_push (record { eq = g.K.PartialEq.eq; tells = g.L.Listener.tells; says = g.P.PredicateFn.says; weighs = g.W.Weigher.weighs; reads = g.C.Clock.reads; gives = g.I.IdSource.gives; created = g.X.Expiry.created; read = g.X.Expiry.read; updated = g.X.Expiry.updated }) (SettlingRun g.P.PredicateFn.says g.X.Expiry.read) c.loop-call.yielded c.loop-call.replies.items h.0 c.args.cache.now c.loop-call.cache c.make-reply.new.cache
+        rw c.push_reserved.ensures.items (MakesCalls_push (record { eq = g.K.PartialEq.eq; tells = g.L.Listener.tells; says = g.P.PredicateFn.says; weighs = g.W.Weigher.weighs; observes = g.C.Clock.reads; gives = g.I.IdSource.gives; created = g.X.Expiry.created; read = g.X.Expiry.read; updated = g.X.Expiry.updated }) (PromisedRun g.P.PredicateFn.says g.X.Expiry.read) c.loop-call.yielded c.loop-call.replies.items h.0 c.args.cache.now c.loop-call.cache c.make-reply.new.cache
             c.args.clock.now c.loop-call.clock c.make-reply.new.clock c.args.ids.now c.loop-call.ids c.make-reply.new.ids
             (record { call = c.in-Some.call; reply = c.make-reply.result; events = k.0; after = c.make-reply.new.cache.state }) h.1 k.1 refl k.2 k.3 k.4),
       );
