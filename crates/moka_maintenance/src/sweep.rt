@@ -36,7 +36,7 @@ pub struct Tests {
 
 /// By what a sweep removes.
 #[derive(Clone, Copy)]
-pub enum Sweep {
+pub(crate) enum Sweep {
     /// By the last read.
     Read,
     /// While the capacity is exceeded.
@@ -45,7 +45,7 @@ pub enum Sweep {
 
 /// What one turn of a sweep did.
 #[derive(Clone, Copy)]
-pub enum Turn {
+pub(crate) enum Turn {
     /// The front left.
     Removed,
     /// The front, which is not settled, went to the back.
