@@ -1,4 +1,4 @@
-//! Sweeps along the access list: the front leaves where it has expired or is invalid, or while the capacity is exceeded.
+//! Sweeps along the access list: the front leaves where it has expired or is invalid, or the capacity is exceeded.
 //!
 //! moka: `sync::base_cache::Inner::remove_expired_ao`, `Inner::evict_lru_entries`.
 ghost use Rattle.std.specs.Prelude.{◌≡◌, ◌≤◌, ◌&&◌, ℕ, true, false, [], Some, IfSome, IfNone, IsSome, List};
