@@ -7,7 +7,7 @@ use Rattle.moka_parts.specs.Records.{total_weight}
 use Rattle.moka_parts.specs.State.{Contents}
 use Rattle.moka_sketch.specs.Frequency.{frequency}
 use Rattle.moka_parts.specs.Candidates.{prefix, victims_for, is_preferred, frequency_of_all}
-use Rattle.moka_parts.specs.Writes.{Preferred, Refused, fate_of_choice}
+use Rattle.moka_parts.specs.Writes.{Preferred, Refused, fate_by_frequency}
 use Rattle.moka_parts.specs.Laws.{AdmitsWell}
 
 enough : (w a n : ℕ) → w - a ≤ n → w ≤ a + n
@@ -37,7 +37,7 @@ left_true true b e = refl
 left_true false b e = e
 
 module _ {K V : Type 0} (c : Contents K V) where
-  chosen : (w hash : ℕ) (o : Option (List Member)) (victims : List Member) → victims_for c w ≡ o → fate_of_choice c hash o ≡ Preferred victims → (frequency_of_all c victims < frequency c.sketch hash) × (w ≤ total_weight victims)
+  chosen : (w hash : ℕ) (o : Option (List Member)) (victims : List Member) → victims_for c w ≡ o → fate_by_frequency c hash o ≡ Preferred victims → (frequency_of_all c victims < frequency c.sketch hash) × (w ≤ total_weight victims)
   chosen w hash None victims f e = cc
   chosen w hash (Some v) victims f e = go (is_preferred c hash v) refl e
     where

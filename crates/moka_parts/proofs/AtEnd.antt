@@ -1,21 +1,23 @@
 -- What a run leaves of counts and weights: exact where all was sent, and off by at most the operations not sent.
-use Rattle.std.proofs.Common.{◌≡◌, refl, ℕ, ◌+◌, ◌<◌, ◌≤◌, Bool, true, false, cond, not, min, ◌==◌, List, [], ◌∷◌, map, length, Option, Some, None, option_map, is_some, ap, sym, ◌∙◌, ◌⊎◌, inl, inr, arith}
+use Rattle.std.proofs.Common.{◌≡◌, refl, ℕ, ◌+◌, ◌<◌, ◌≤◌, Bool, true, false, cond, not, min, ◌==◌, List, [], ◌∷◌, map, length, Option, Some, None, option_map, is_some, ap, sym, subst, ◌∙◌, ◌⊎◌, inl, inr, MatchBool, arith}
 use Rattle.std.proofs.lemmas.List.{length-map}
 use Rattle.std.specs.Prelude.{Contains}
 use Rattle.std.specs.List.{IsDistinct}
+use Rattle.std.specs.Ordering.{nat_cmp}
 use Rattle.std.proofs.lemmas.List.Elements.{Contains-append_left, Contains-append_cases, Contains-push, Contains-push_cases}
 use Rattle.std.proofs.lemmas.List.Sorted.{IsPermutation-map, Contains-permutation}
-use Rattle.std.specs.FinMap.{get, remove, empty, values, entries, len, len-entries}
+use Rattle.std.specs.FinMap.{get, remove, empty, values, entries, len, len-entries, get-empty}
 use Rattle.moka_parts.specs.declared.records.Record.{Record}
 use Rattle.moka_parts.specs.declared.records.Member.{Member}
 use Rattle.moka_parts.specs.declared.records.Operation.{Operation}
 use Rattle.moka_parts.specs.declared.records.Operation.TheVariants.{Upsert, Removal}
 use Rattle.moka_parts.specs.Time.{greatest}
-use Rattle.moka_parts.specs.Records.{Records, Operations, counted_of, is_member, numbers_of, without_member}
-use Rattle.moka_parts.specs.State.{State}
-use Rattle.moka_parts.specs.Maintenance.{Freedom, after_run, at_end}
+use Rattle.moka_parts.specs.Records.{Records, Operations, counted_of, is_member, numbers_of, without_member, total_weight}
+use Rattle.moka_parts.specs.State.{State, is_disabled}
+use Rattle.moka_parts.specs.Maintenance.{Freedom, after_run, at_end, DoesNothing, RunsBy}
 use Rattle.moka_parts.specs.Exact.{AreExactMembers, IsExact}
-use Rattle.moka_parts.specs.Settling.{number_of, IsSound, IsConsistent, IsConsistentState, IsWaitingIn, IsAllSent}
+use Rattle.moka_parts.specs.Settling.{number_of, IsSound, IsConsistent, IsConsistentState, IsWaitingIn, IsBare, IsAllSent}
+use Rattle.moka_parts.specs.Laws.{EndsExact, IsNear, CountsNearly}
 use Rattle.moka_parts.proofs.Maps.{same_or_apart, get_removed, get_past_remove, same_by_test, nothing_at}
 use Rattle.moka_parts.proofs.AccessList.{counted_taken_out, counted_past_taken_out, absent_taken_out, distinct_taken_out}
 use Rattle.moka_parts.proofs.Values.{values_removed, len_removed, remove_absent}
@@ -55,6 +57,28 @@ run_is_exact s ch h all =
       count = exact_count (at_end s ch).records (at_end s ch).access exact;
       weight = ap (λ w. min w greatest) (exact_weight (at_end s ch).records (at_end s ch).access exact);
     }
+
+-- a bare state is exact
+pub bare_is_exact : {K V X P W : Type 0} (s : State K V X P W) → IsBare s.records s.access s.count s.weight → IsExact s
+unfolding IsDistinct
+bare_is_exact {K} {V} s bare =
+    let exact : AreExactMembers s.records s.access = rw (bare.no_records, bare.no_members) none in
+    record {
+      exact = exact;
+      count = bare.no_count ∙ sym (ap length bare.no_members) ∙ exact_count s.records s.access exact;
+      weight = bare.no_weight ∙ sym (ap (λ members. min (total_weight members) greatest) bare.no_members) ∙ ap (λ w. min w greatest) (exact_weight s.records s.access exact);
+    }
+  where
+    none : AreExactMembers {K = K} {V = V} empty []
+    none = record { once = tt; members = λ n. sym (ap (option_map (λ (r : Record K V). r.weight)) (get-empty nat_cmp n)) }
+
+-- a run of the reference cache from a valid state with every operation sent
+pub ends_exact : {K V P : Type 0} (X W : Type 0) (eq : K → K → Bool) (says : P → K → V → Bool → Type 0) → EndsExact X W eq says
+ends_exact X W eq says s terms course notices t h all run =
+    elim (is_disabled s.capacity) as (λ b. is_disabled s.capacity ≡ b → MatchBool b (DoesNothing s course notices t) ((ch : Freedom) × RunsBy says s terms ch course notices t × Unit {0}) → IsExact t) [
+      | true ↦ λ off nothing. subst IsExact (sym nothing.0) (bare_is_exact s (h.numbered.disabled off))
+      | false ↦ λ on by. subst IsExact (sym by.1.1) (run_is_exact s by.0 h.consistent all)
+    ] refl run.0
 
 -- ---- some was not
 
@@ -135,5 +159,13 @@ count_is_near {K} {V} outstanding records access h =
     go n (Some r) (Some w) s = inl refl
 
 -- after any run the reported count is off by no more than the operations not sent
-pub run_count_is_near : {K V X P W : Type 0} (s : State K V X P W) (ch : Freedom) → IsConsistentState s → ((after_run s ch).count ≤ len (after_run s ch).records + len (after_run s ch).outstanding) × (len (after_run s ch).records ≤ (after_run s ch).count + len (after_run s ch).outstanding)
+pub run_count_is_near : {K V X P W : Type 0} (s : State K V X P W) (ch : Freedom) → IsConsistentState s → IsNear (after_run s ch)
 run_count_is_near s ch h = count_is_near s.outstanding (at_end s ch).records (at_end s ch).access (run_kept s ch h)
+
+-- after a run of the reference cache from a valid state
+pub counts_nearly : {K V P : Type 0} (X W : Type 0) (eq : K → K → Bool) (says : P → K → V → Bool → Type 0) → CountsNearly X W eq says
+counts_nearly {K} {V} {P} X W eq says s terms course notices t h run =
+    elim (is_disabled s.capacity) as (λ b. is_disabled s.capacity ≡ b → MatchBool b (DoesNothing s course notices t) ((ch : Freedom) × RunsBy says s terms ch course notices t × Unit {0}) → IsNear t) [
+      | true ↦ λ off nothing. subst IsNear (sym nothing.0) (let exact = bare_is_exact s (h.numbered.disabled off) in let same = exact.count in (omega arith, omega arith))
+      | false ↦ λ on by. subst IsNear (sym by.1.1) (run_count_is_near s by.0 h.consistent)
+    ] refl run.0

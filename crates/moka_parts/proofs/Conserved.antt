@@ -17,7 +17,7 @@ use Rattle.moka_parts.specs.declared.records.Operation.TheVariants.{Upsert, Remo
 use Rattle.moka_parts.specs.Records.{Records, Notice, counted_of, is_member, settled_members, is_settled, total_weight, has_room}
 use Rattle.moka_parts.specs.State.{State, Contents, contents}
 use Rattle.moka_parts.specs.Candidates.{prefix, victims_for, is_preferred}
-use Rattle.moka_parts.specs.Writes.{Fate, Ignored, Overtaken, Counted, Admitted, TooHeavy, Preferred, Refused, with_applied, without_records, leaves_for_size, left_with, left_by_rejection, left_by_fate, left_by_write, left_by_writes, fate_of_choice, fate_by_policy, fate_of_newcomer, fate_of_record, after_fate, after_write, after_writes}
+use Rattle.moka_parts.specs.Writes.{Fate, Ignored, Overtaken, Counted, Admitted, TooHeavy, Preferred, Refused, with_applied, without_records, leaves_for_size, left_with, left_by_rejection, left_by_fate, left_by_write, left_by_writes, fate_by_frequency, fate_by_policy, fate_of_newcomer, fate_of_record, after_fate, after_write, after_writes}
 use Rattle.moka_parts.specs.Maintenance.{Choice, Removes, MovesToBack, Drops, Freedom, after_choice, after_choices, left_by_choice, left_by_choices, after_queued_reads, after_queues, before_steps, at_end, left_in_run}
 use Rattle.moka_parts.specs.Laws.{values_of, TellsWhatLeaves}
 use Rattle.moka_parts.proofs.Maps.{same_or_apart, get_removed, get_past_remove, itself_tested}
@@ -124,7 +124,7 @@ module _ {K V : Type 0} (capacity : Option ℕ) (policy : EvictionPolicy) (c : C
         | false ↦ elim (is_member number c.access) as (λ m. VictimsIn c.access (if m then Overtaken else Ignored)) [ true ↦ tt | false ↦ tt ]
       ]
     where
-      by_choice : (o : Option (List Member)) → victims_for c weight ≡ o → VictimsIn c.access (fate_of_choice c hash o)
+      by_choice : (o : Option (List Member)) → victims_for c weight ≡ o → VictimsIn c.access (fate_by_frequency c hash o)
       by_choice None found = tt
       by_choice (Some victims) found = elim (is_preferred c hash victims) as (λ b. VictimsIn c.access (if b then Preferred victims else Refused)) [
         | true ↦ prefix_within c.access (settled_members c.records c.access) weight victims (filtered_within (λ a. is_settled c.records a.number) c.access c.access (all_within c.access)) found

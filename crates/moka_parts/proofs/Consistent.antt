@@ -64,14 +64,6 @@ module _ {K V : Type 0} (Before After : Operation → Type 0) (records : Records
     sound = λ n. sound_elsewhere Before After n (get records n) (counted_of n access) (λ x own. same.forth x) (λ x own. same.back x) (h.sound n);
   }
 
-  -- a number of which nothing waits, and which has no record, is not in the access list
-  pub unknown_uncounted : (n : ℕ) → get records n ≡ None → ((x : Operation) → Before x → number_of x ≡ n → ⊥) → counted_of n access ≡ None
-  unknown_uncounted n absent fresh = go (counted_of n access) (rw absent at (h.sound n))
-    where
-      go : (o : Option ℕ) → IsSound {K = K} {V = V} Before n None o → o ≡ None
-      go None s = refl
-      go (Some w) s = absurd (fresh (Removal n s.0) s.1 refl)
-
   -- an insert of a new key, under a number that is not in use
   pub insert_kept : (n : ℕ) (r : Record K V) (hash : ℕ) → get records n ≡ None → ((x : Operation) → Before x → number_of x ≡ n → ⊥) → r.generation ≡ 1 → r.applied ≡ 0 →
       HandsOut Before After (Upsert n 1 r.weight hash) → IsConsistent After (insert records n r) access

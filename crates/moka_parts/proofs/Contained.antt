@@ -49,6 +49,6 @@ module _ {K V X P W : Type 0} (says : P → K → V → Bool → Type 0) where
     pub gets_what_is_contained : (eq : K → K → Bool) → GetsWhatIsContained eq says read Runs
     gets_what_is_contained eq s key hash need_key now a e t shown well g c ok =
         elim (is_disabled s.capacity) as (λ b. is_disabled s.capacity ≡ b → MatchBool b ((a ≡ Ok None) × Unchanged s e t) (GetsAt says read Runs s (record_of_key eq s.records key) hash need_key false now a e t) → is_found a ≡ shown) [
-          | true ↦ λ off g. ap is_found (g.0) ∙ sym (nothing_shown eq s key now shown (well.disabled off).0 c)
+          | true ↦ λ off g. ap is_found (g.0) ∙ sym (nothing_shown eq s key now shown (well.disabled off).no_records c)
           | false ↦ λ on g. found_at s (record_of_key eq s.records key) hash need_key now a e t shown g c ok
         ] refl g

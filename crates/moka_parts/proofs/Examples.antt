@@ -41,7 +41,7 @@ own_expiry_before_edge = refl
 pub own_expiry_at_edge : has_lapsed (times (Some 16000000000) (Some 7000000000)) None (one 0 0 (Some (at 1000000000))) 1000000000 ≡ true
 own_expiry_at_edge = refl
 
--- a deadline is cut at the greatest moment, and so is reached
+-- a deadline saturates at the greatest moment, and so is reached
 pub deadline_is_cut : has_lapsed (times (Some 1) None) None (one (2 ^ 64 - 2) (2 ^ 64 - 2) None) (2 ^ 64 - 1) ≡ true
 deadline_is_cut = refl
 
@@ -121,7 +121,7 @@ unsettled = member 1 1 ∷ member 2 1 ∷ member 3 1 ∷ member 4 1 ∷ member 5
 no_record : (n : ℕ) → get (empty {X = Record ℕ ℕ} {R = nat_cmp}) n ≡ None
 no_record n = get-empty nat_cmp n
 
--- five unsettled members in a row are passed, and six are not
+-- five unsettled members in a row are skipped, and six are not
 pub five_in_a_row : has_six_unsettled (empty {X = Record ℕ ℕ}) 0 unsettled ≡ false
 five_in_a_row = rw (no_record 1, no_record 2, no_record 3, no_record 4, no_record 5) refl
 
@@ -156,7 +156,7 @@ due_by_length = refl
 pub not_due_by_hand : is_due (without_automatic (new_housekeeping 0)) 64 300000000 ≡ false
 not_due_by_hand = refl
 
--- the sketch comes on at half the capacity, by TinyLFU alone
+-- the sketch is enabled at half the capacity, by TinyLFU alone
 pub sketch_at_half : is_sketch_due (Some 5) TinyLfu None 2 ≡ true
 sketch_at_half = refl
 

@@ -7,13 +7,16 @@ pub mod Consistent
 pub mod Applied
 pub mod RunKeepsSound
 pub mod AtEnd
+pub mod Rising
 pub mod CallsKeep
 pub mod StepsKeep
 pub mod Promises
+pub mod Surplus
 pub mod OneMore
 pub mod Conserved
 pub mod ConservedCalls
-pub mod Laws
+pub mod Quiet
+pub mod Dropped
 pub mod StaysHidden
 pub mod Examples
 pub mod WriteExamples

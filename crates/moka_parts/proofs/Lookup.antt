@@ -78,7 +78,7 @@ module _ {K V X P W : Type 0} (eq : K → K → Bool) (s : State K V X P W) wher
       apart true e =
           let at = record_of_key_found eq s.records key q found in
           let one : n ≡ q.number = one_by_order n q.number e in
-          let same : n ≡ at.0 = one ∙ (well.numbered at.0 q at.1).0 in
+          let same : n ≡ at.0 = one ∙ (well.numbered.numbered at.0 q at.1).0 in
           let both : r ≡ q = ap (λ o. unwrap_or o r) (sym there ∙ ap (get s.records) same ∙ at.1) in
           absurd (true≢false (sym (at.2) ∙ ap (λ (x : Record K V). eq key x.key) (sym both) ∙ other))
 

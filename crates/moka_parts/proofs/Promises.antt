@@ -14,7 +14,8 @@ use Rattle.moka_parts.specs.Records.{Notice, record_of_key}
 use Rattle.moka_parts.specs.State.{State, Meaning, Events, is_disabled}
 use Rattle.moka_parts.specs.Maintenance.{Terms, Course, MaintenanceRun}
 use Rattle.moka_parts.specs.Calls.{after_hit, hit_at, hit_operation, RunStep, KeeperRun, RunsIfDue, Unchanged, RecordsRead, GetsAt, GetStep}
-use Rattle.moka_parts.specs.Runs.{CallStep, Step, Cache, AreSteps, MakesCalls, ReferenceRun, PromisedRun, Drives}
+use Rattle.moka_parts.specs.Runs.{CallStep, Step, Cache, AreSteps, MakesCalls, PromisedRun}
+use Rattle.moka_parts.specs.Laws.{IsOfReference}
 use Rattle.moka_parts.proofs.RunsGoOn.{promised_is_run}
 
 module _ {K V X L P W C I : Type 0} (m : Meaning K V X L P W C I) (More Less : State K V X P W → Terms → Course → List (Notice K V) → State K V X P W → Type 0)
@@ -89,8 +90,7 @@ weaker_is_run m More Less weaker calls replies steps old new clock clock_after i
   given = h.given;
 }
 
--- what `drive` does is a run of the reference cache
-pub drives_is_reference : {K V S X L P W C I : Type 0} (m : Meaning K V X L P W C I) (calls : List (Call K V P)) (replies : List (Reply K V P)) (old new : Cache K V S X L P W) (clock clock_after : C) (ids ids_after : I) →
-    (d : Drives m calls replies old clock ids new clock_after ids_after) → ReferenceRun m calls replies d.steps old clock ids new clock_after ids_after
-drives_is_reference m calls replies old new clock clock_after ids ids_after d =
-    weaker_is_run m (PromisedRun m) (MaintenanceRun m.says) (promised_is_run m) calls replies d.steps old new clock clock_after ids ids_after d.is_run
+-- where the runs of maintenance keep their promises, that is a run of the reference cache
+pub is_of_reference : {K V X L P W C I : Type 0} (S : Type 0) (m : Meaning K V X L P W C I) → IsOfReference S m
+is_of_reference S m calls replies steps old new clock clock_after ids ids_after h =
+    weaker_is_run m (PromisedRun m.says m.read) (MaintenanceRun m.says) (promised_is_run m.says m.read) calls replies steps old new clock clock_after ids ids_after h

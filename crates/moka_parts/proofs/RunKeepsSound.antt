@@ -16,7 +16,7 @@ use Rattle.moka_parts.specs.Records.{Operations, is_member, counted_of, without_
 use Rattle.moka_parts.specs.State.{State, Contents, contents}
 use Rattle.moka_parts.specs.Reads.{after_read, after_reads}
 use Rattle.moka_parts.specs.Candidates.{victims_for, is_preferred}
-use Rattle.moka_parts.specs.Writes.{Fate, Ignored, Overtaken, Counted, Admitted, TooHeavy, Preferred, Refused, without_records, fate_of_choice, fate_by_policy, fate_of_newcomer, fate_of_record, after_fate, after_write, after_writes}
+use Rattle.moka_parts.specs.Writes.{Fate, Ignored, Overtaken, Counted, Admitted, TooHeavy, Preferred, Refused, without_records, fate_by_frequency, fate_by_policy, fate_of_newcomer, fate_of_record, after_fate, after_write, after_writes}
 use Rattle.moka_parts.specs.Maintenance.{Choice, Removes, MovesToBack, Drops, Freedom, after_choice, after_choices, after_queued_reads, before_steps, after_run}
 use Rattle.moka_parts.specs.Settling.{IsConsistent, IsConsistentState, IsWaitingIn}
 use Rattle.moka_parts.proofs.AccessList.{counted-all_to_back, uncounted_without}
@@ -52,7 +52,7 @@ module _ {K V : Type 0} (capacity : Option ℕ) (policy : EvictionPolicy) (c : C
         ]
       ]
     where
-      by_choice : (o : Option (List Member)) → Known (fate_of_choice c hash o) applied generation counted
+      by_choice : (o : Option (List Member)) → Known (fate_by_frequency c hash o) applied generation counted
       by_choice None = p
       by_choice (Some victims) = elim (is_preferred c hash victims) as (λ b. Known (if b then Preferred victims else Refused) applied generation counted) [ true ↦ p | false ↦ p ]
 
@@ -125,8 +125,10 @@ module _ {K V : Type 0} (Waits : Operation → Type 0) where
   choices_kept c [] h = h
   choices_kept c (x ∷ xs) h = choices_kept (after_choice c x) xs (choice_kept c x h)
 
+-- the queues of a run
+pub queues_kept : {K V X P W : Type 0} (s : State K V X P W) (ch : Freedom) → IsConsistentState s → IsConsistent (IsWaitingIn s.outstanding []) (before_steps s ch).records (before_steps s ch).access
+queues_kept s ch h = writes_kept s.capacity s.settings.policy s.outstanding (after_queued_reads s) s.writes ch.moves (reads_kept (IsWaitingIn s.outstanding s.writes) (contents s) s.reads h)
+
 -- a run, whatever it chooses
 pub run_kept : {K V X P W : Type 0} (s : State K V X P W) (ch : Freedom) → IsConsistentState s → IsConsistentState (after_run s ch)
-run_kept s ch h =
-    choices_kept (IsWaitingIn s.outstanding []) (before_steps s ch) ch.steps
-    (writes_kept s.capacity s.settings.policy s.outstanding (after_queued_reads s) s.writes ch.moves (reads_kept (IsWaitingIn s.outstanding s.writes) (contents s) s.reads h))
+run_kept s ch h = choices_kept (IsWaitingIn s.outstanding []) (before_steps s ch) ch.steps (queues_kept s ch h)

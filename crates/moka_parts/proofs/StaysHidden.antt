@@ -41,7 +41,7 @@ use Rattle.moka_parts.specs.State.{State, Settings, Meaning, Events, is_disabled
 use Rattle.moka_parts.specs.Visibility.{is_expired, is_past_live, is_past_idle, is_written_before, is_read_before, has_lapsed, Covers, SomeCovers, IsVisible, IsHidden, IsShown}
 use Rattle.moka_parts.specs.Maintenance.{predicates_at_end, Terms, Course, Freedom, RunsBy, DoesNothing, MaintenanceRun, AreFree, after_run, at_end}
 use Rattle.moka_parts.proofs.RunKeeps.{run_keeps}
-use Rattle.moka_parts.proofs.Laws.{drops_only_idle}
+use Rattle.moka_parts.proofs.Dropped.{covering_stays}
 
 -- ---- tests that stay true
 
@@ -116,7 +116,7 @@ module _ {K V X P W : Type 0} (eq : K → K → Bool) (says : P → K → V → 
       go r q g look old there (inr c) =
           let one = one_covers says s.predicates r c in
           let now_covers : Covers says one.0 q = subst (λ (x : Record K V). Covers says one.0 x) (sym look) one.2 in
-          inr (some_cover says (predicates_at_end s ch) one.0 q (drops_only_idle says s now ch free one.0 n q one.1 there now_covers) now_covers)
+          inr (some_cover says (predicates_at_end s ch) one.0 q (covering_stays says s now ch free one.0 n q one.1 there now_covers) now_covers)
 
 -- ---- calls
 
@@ -286,7 +286,7 @@ module _ {K V X L P W C I : Type 0} (m : Meaning K V X L P W C I) (laws : IsEqui
       go : (o : Option (Record K V)) → record_of_key m.eq s.records key ≡ o → IsShown m.says s o now false → IsHidden m.says s r now
       go None found look = absurd (true≢false (sym same ∙ absent_key m.eq s.records key found k r there))
       go (Some q) found look =
-          let both : Some q ≡ Some r = sym found ∙ present_key m.eq s.records key laws n.one_each k r there same in
+          let both : Some q ≡ Some r = sym found ∙ present_key m.eq s.records key laws n.numbered.one_each k r there same in
           let one : q ≡ r = cc in
           subst (λ x. IsHidden m.says s x now) one look
 
@@ -298,7 +298,7 @@ module _ {K V X L P W C I : Type 0} (m : Meaning K V X L P W C I) (laws : IsEqui
       go (Some r) false found look = refl
       go (Some r) true found look = let at = record_of_key_found m.eq s.records key r found in absurd (not_both m.says s r now (h at.0 r at.1 at.2) look)
 
--- a key that is not shown stays so until it is inserted again
+-- a key that is hidden stays so until it is inserted again
 pub stays_hidden : {K V X L P W C I : Type 0} (m : Meaning K V X L P W C I) → StaysHidden m
 stays_hidden m s steps key now later shown laws valid are forward never last look after =
     hides_look m laws key (last_state s steps) later shown

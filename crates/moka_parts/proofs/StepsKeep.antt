@@ -1,9 +1,9 @@
 -- Every call step, and so every list of calls, keeps what holds of a state at every moment.
-use Rattle.std.proofs.Common.{◌≡◌, refl, ℕ, ◌<◌, Bool, true, false, List, [], ◌∷◌, ◌++◌, length, Option, Some, None, option_map, Result, Ok, Err, is_some, ap, sym, ◌∙◌, subst, ◌⊎◌, inl, inr, arith, true≢false, MatchBool, ◌||◌}
+use Rattle.std.proofs.Common.{◌≡◌, refl, ℕ, ◌<◌, Bool, true, false, List, [], ◌∷◌, ◌++◌, length, Option, Some, None, option_map, Result, Ok, Err, ap, sym, ◌∙◌, subst, ◌⊎◌, inl, inr, arith, true≢false, MatchBool, ◌||◌}
 use Rattle.std.specs.Prelude.{Contains}
 use Rattle.std.specs.Cmp.{IsEquivalence}
 use Rattle.std.proofs.lemmas.List.Elements.{Contains-push_cases}
-use Rattle.std.specs.FinMap.{get, remove, contains_key}
+use Rattle.std.specs.FinMap.{get, remove}
 use Rattle.moka_parts.specs.declared.policy.Instant.{Instant}
 use Rattle.moka_parts.specs.declared.records.Record.{Record}
 use Rattle.moka_parts.specs.declared.records.Registered.{Registered}
@@ -28,31 +28,50 @@ use Rattle.moka_parts.specs.declared.calls.Reply.{Reply}
 use Rattle.moka_parts.specs.declared.calls.Reply.TheVariants as reply
 use Rattle.moka_parts.specs.Runs.{CallStep, Step, AreSteps, last_state}
 use Rattle.moka_parts.specs.Housekeeping.{Housekeeping, is_due, after_run_due, without_automatic}
-use Rattle.moka_parts.specs.Records.{Notice, record_of_key, with_record}
+use Rattle.moka_parts.specs.Records.{Operations, Notice, record_of_key, with_record}
 use Rattle.moka_parts.specs.State.{State, Meaning, Events, is_disabled}
 use Rattle.moka_parts.specs.Maintenance.{Terms, Course, Freedom, RunsBy, DoesNothing, MaintenanceRun, after_run}
-use Rattle.moka_parts.specs.Settling.{IsWaiting, IsWaitingIn, IsValid}
+use Rattle.moka_parts.specs.Settling.{IsWaiting, IsWaitingIn, AreTicketed, IsValid}
+use Rattle.moka_parts.specs.Laws.{StaysValid}
 use Rattle.moka_parts.specs.Calls.{keeper_terms, RemoveStep, InvalidateStep, CapacityStep, InsertsAt, InsertStep, SendsAt, SendStep, RunStep, KeeperRun, RunsIfDue, Unchanged, RecordsRead, queueing, hit_record, after_hit, hit_at, hit_operation, PeeksAt, PeekStep, GetsAt, GetStep}
 use Rattle.moka_parts.proofs.Maps.{AreApart, same_or_apart, get_past_remove}
 use Rattle.moka_parts.proofs.Waiting.{WaitAlike, waits_sent}
 use Rattle.moka_parts.proofs.Consistent.{renew_kept, waiting_alike}
+use Rattle.moka_parts.proofs.Rising.{rising_sent, rising_applied}
 use Rattle.moka_parts.proofs.RunKeeps.{run_keeps}
 use Rattle.moka_parts.proofs.RunKeepsSound.{run_kept}
 use Rattle.moka_parts.proofs.CallsKeep.{remove_keeps, inserted_valid, replaced_valid, record_at_its_number, found_enabled, with_records_numbered, replaced_from}
+
+-- one is sent
+pub ticketed_sent : (outstanding : Operations) (writes : List Ticketed) (next ticket : ℕ) (o : Operation) → get outstanding ticket ≡ Some o → AreTicketed outstanding writes next → AreTicketed (remove outstanding ticket) (writes ++ record { ticket = ticket; operation = o } ∷ []) next
+ticketed_sent outstanding writes next ticket o there h = record {
+  handed = λ n p at. handed n p at (same_or_apart n ticket);
+  sent = λ q at. sent q (Contains-push_cases writes (record { ticket = ticket; operation = o }) q at);
+}
+  where
+    handed : (n : ℕ) (p : Operation) → get (remove outstanding ticket) n ≡ Some p → (n ≡ ticket) ⊎ AreApart n ticket → n < next
+    handed n p at (inl e) = h.handed n o (ap (get outstanding) e ∙ there)
+    handed n p at (inr apart) = h.handed n p (sym (get_past_remove outstanding ticket n apart) ∙ at)
+
+    sent : (q : Ticketed) → Contains writes q ⊎ (record { ticket = ticket; operation = o } ≡ q) → q.ticket < next
+    sent q (inl at) = h.sent q at
+    sent q (inr e) = subst (λ n. n < next) (ap (λ (x : Ticketed). x.ticket) e) (h.handed ticket o there)
 
 module _ {K V X P W : Type 0} (eq : K → K → Bool) where
   -- what the facts do not speak of may change
   pub valid_with : (s : State K V X P W) (reads : List ReadOperation) (bound : Option Instant) (predicates : List (Registered P)) (housekeeping : Housekeeping) → IsValid eq s → IsValid eq (record s { reads = reads; invalid_before = bound; predicates = predicates; housekeeping = housekeeping })
   valid_with s reads bound predicates housekeeping h = record {
     consistent = h.consistent;
-    numbered = record { numbered = h.numbered.numbered; known = h.numbered.known; one_each = h.numbered.one_each; ticketed = h.numbered.ticketed; queued = h.numbered.queued; disabled = h.numbered.disabled };
+    numbered = record { numbered = h.numbered.numbered; ticketed = h.numbered.ticketed; disabled = h.numbered.disabled };
+    rising = h.rising;
   }
 
   -- another capacity, where neither is 0
   pub valid_with_capacity : (s : State K V X P W) (capacity : Option ℕ) → is_disabled capacity ≡ false → IsValid eq s → IsValid eq (record s { capacity = capacity })
   valid_with_capacity s capacity on h = record {
     consistent = h.consistent;
-    numbered = record { numbered = h.numbered.numbered; known = h.numbered.known; one_each = h.numbered.one_each; ticketed = h.numbered.ticketed; queued = h.numbered.queued; disabled = λ off. absurd (true≢false (sym off ∙ on)) };
+    numbered = record { numbered = h.numbered.numbered; ticketed = h.numbered.ticketed; disabled = λ off. absurd (true≢false (sym off ∙ on)) };
+    rising = h.rising;
   }
 
   -- an insert
@@ -71,25 +90,15 @@ module _ {K V X P W : Type 0} (eq : K → K → Bool) where
   sent_valid s ticket o there h = record {
     consistent = waiting_alike (IsWaiting s) (IsWaitingIn (remove s.outstanding ticket) (s.writes ++ record { ticket = ticket; operation = o } ∷ [])) s.records s.access h.consistent same;
     numbered = record {
-      numbered = h.numbered.numbered;
-      known = λ x waits. h.numbered.known x (same.back x waits);
-      one_each = h.numbered.one_each;
-      ticketed = λ n at. h.numbered.ticketed n (still n at (same_or_apart n ticket));
-      queued = λ q at. queued q (Contains-push_cases s.writes (record { ticket = ticket; operation = o }) q at);
+      numbered = record { numbered = h.numbered.numbered.numbered; known = λ x waits. h.numbered.numbered.known x (same.back x waits); one_each = h.numbered.numbered.one_each };
+      ticketed = ticketed_sent s.outstanding s.writes s.next_ticket ticket o there h.numbered.ticketed;
       disabled = h.numbered.disabled;
     };
+    rising = rising_sent s.outstanding s.writes ticket o there h.rising;
   }
     where
       same : WaitAlike (IsWaiting s) (IsWaitingIn (remove s.outstanding ticket) (s.writes ++ record { ticket = ticket; operation = o } ∷ []))
       same = waits_sent s.outstanding s.writes ticket o there
-
-      still : (n : ℕ) → contains_key (remove s.outstanding ticket) n ≡ true → (n ≡ ticket) ⊎ AreApart n ticket → contains_key s.outstanding n ≡ true
-      still n at (inl e) = ap (contains_key s.outstanding) e ∙ ap is_some there
-      still n at (inr apart) = sym (ap is_some (get_past_remove s.outstanding ticket n apart)) ∙ at
-
-      queued : (q : Ticketed) → Contains s.writes q ⊎ (record { ticket = ticket; operation = o } ≡ q) → q.ticket < s.next_ticket
-      queued q (inl at) = h.numbered.queued q at
-      queued q (inr e) = subst (λ n. n < s.next_ticket) (ap (λ (x : Ticketed). x.ticket) e) (h.numbered.ticketed ticket (ap is_some there))
 
   -- a send, refused or not
   pub send_keeps : (s t : State K V X P W) (ticket : ℕ) (a : Result (Unit {0}) SendError) → IsValid eq s → SendStep s ticket a t → IsValid eq t
@@ -108,14 +117,16 @@ module _ {K V X P W : Type 0} (eq : K → K → Bool) where
   run_valid s ch on h = record {
     consistent = run_kept s ch h.consistent;
     numbered = record {
-      numbered = λ n r there. let q = run_keeps s ch n r there in let old = h.numbered.numbered n q.0 q.1 in (ap (λ (x : Record K V). x.number) q.2.1 ∙ old.0, old.1);
-      known = λ x waits. h.numbered.known x (fewer x waits);
-      one_each = λ a b p q there also same. let x = run_keeps s ch a p there in let y = run_keeps s ch b q also in
-          h.numbered.one_each a b x.0 y.0 x.1 y.1 (sym (ap (λ (z : Record K V). eq z.key y.0.key) x.2.1) ∙ sym (ap (λ (z : Record K V). eq p.key z.key) y.2.1) ∙ same);
-      ticketed = h.numbered.ticketed;
-      queued = λ q at. let below : at.0 < 0 = at.1 in absurd (omega arith);
+      numbered = record {
+        numbered = λ n r there. let q = run_keeps s ch n r there in let old = h.numbered.numbered.numbered n q.0 q.1 in (ap (λ (x : Record K V). x.number) q.2.1 ∙ old.0, old.1);
+        known = λ x waits. h.numbered.numbered.known x (fewer x waits);
+        one_each = λ a b p q there also same. let x = run_keeps s ch a p there in let y = run_keeps s ch b q also in
+            h.numbered.numbered.one_each a b x.0 y.0 x.1 y.1 (sym (ap (λ (z : Record K V). eq z.key y.0.key) x.2.1) ∙ sym (ap (λ (z : Record K V). eq p.key z.key) y.2.1) ∙ same);
+      };
+      ticketed = record { handed = h.numbered.ticketed.handed; sent = λ q at. let below : at.0 < 0 = at.1 in absurd (omega arith) };
       disabled = λ off. absurd (true≢false (sym off ∙ on));
     };
+    rising = rising_applied s.outstanding s.writes h.rising;
   }
     where
       fewer : (x : Operation) → IsWaitingIn s.outstanding [] x → IsWaiting s x
@@ -155,6 +166,7 @@ module _ {K V X P W : Type 0} (eq : K → K → Bool) where
           record {
             consistent = renew_kept (IsWaiting s) s.records s.access h.consistent r.number r (hit_record read s r now) there refl refl refl;
             numbered = with_records_numbered eq s (with_record s.records (hit_record read s r now)) (found_enabled eq s key r h.numbered found) h.numbered (replaced_from eq s r (hit_record read s r now) there refl refl);
+            rising = h.rising;
           }
 
       -- a get that records
@@ -232,3 +244,7 @@ module _ {K V X L P W C I : Type 0} (m : Meaning K V X L P W C I) (laws : IsEqui
   pub calls_keep : (s : State K V X P W) (steps : List (Step K V X P W)) → IsValid m.eq s → AreSteps m (MaintenanceRun m.says) s steps → IsValid m.eq (last_state s steps)
   calls_keep s [] h done = h
   calls_keep s (x ∷ xs) h (step, rest) = calls_keep x.after xs (call_keeps s x.after x.call x.reply x.events h step) rest
+
+-- the same as a law
+pub stays_valid : {K V X L P W C I : Type 0} (m : Meaning K V X L P W C I) → StaysValid m
+stays_valid m s steps laws h are = calls_keep m laws s steps h are

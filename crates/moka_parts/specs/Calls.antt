@@ -31,7 +31,7 @@ use Rattle.moka_parts.specs.Expiry.{is_renewal, renewed, expires_at_first, expir
 use Rattle.moka_parts.specs.Causes.{cause_of_replacement, cause_of_removal}
 use Rattle.moka_parts.specs.Maintenance.{Terms, Course}
 
--- nothing passed between the cache and its surroundings
+-- no notices, no readings of the clock, no identifiers, and no run
 abbrev pub no_events : {K V : Type 0} → Events K V
 no_events = record { notices = []; readings = []; ids = []; passes = None }
 
@@ -47,7 +47,7 @@ only_ids ids = record no_events { ids = ids }
 abbrev pub run_events : {K V : Type 0} → List (Notice K V) → Course → Events K V
 run_events notices course = record { notices = notices; readings = course.readings; ids = []; passes = Some course.passes }
 
--- nothing changed and nothing was told or asked for
+-- nothing changed, and there were no events
 abbrev pub Unchanged : {K V X P W : Type 0} → State K V X P W → Events K V → State K V X P W → Type 0
 Unchanged s e t = (t ≡ s) × (e ≡ no_events)
 
@@ -62,7 +62,7 @@ Weighs weighs (Some weigher) key value w = weighs weigher key value w
 abbrev pub are_numbers_used_up : {K V X P W : Type 0} → State K V X P W → ℕ → Bool
 are_numbers_used_up s more = nat_le (2 ^ 64) (s.next_ticket + finite.len s.records + more)
 
--- why an insert is refused; want of numbers comes first
+-- why an insert is refused; where the numbers are used up, that comes first
 abbrev pub HasInsertError : {K V X P W : Type 0} → State K V X P W → ℕ → InsertError → Type 0
 HasInsertError s more insert_error.NumbersUsedUp = are_numbers_used_up s more ≡ true
 HasInsertError s more insert_error.OutOfMemory = are_numbers_used_up s more ≡ false
@@ -111,7 +111,7 @@ abbrev pub entry_of : {K V : Type 0} → Record K V → KvEntry K V
 entry_of r = record { key = r.key; value = r.value; last_modified = r.written; last_accessed = r.read }
 
 module _ {K V X W : Type 0} where
-  -- a clone of the entry is told, where a listener is set; only then can memory be wanting
+  -- the listener, where one is set, is notified of a clone of the entry; only then can memory be refused
   abbrev pub NotifyStep : Settings X W → KvEntry K V → Instant → Result (Unit {0}) OutOfMemory → List (Notice K V) → Type 0
   NotifyStep settings entry now (Ok _) notices = notices ≡ when_listening settings.listening ((entry.key, entry.value, cause_of_removal settings entry.last_modified.0 entry.last_accessed.0 now.0) ∷ [])
   NotifyStep settings entry now (Err _) notices = (settings.listening ≡ true) × (notices ≡ [])
@@ -183,7 +183,7 @@ module _ {K V X P W : Type 0} where
 
 -- ---- runs
 
--- the read is queued, or thrown away where the queue is full
+-- the read is queued, or discarded where the queue is full
 abbrev pub queueing : {K V X P W : Type 0} → State K V X P W → ReadOperation → State K V X P W
 queueing s r = record s { reads = if nat_lt (length s.reads) queue_length then s.reads ++ r ∷ [] else s.reads }
 
@@ -211,19 +211,19 @@ module _ {K V X P W : Type 0} (Runs : State K V X P W → Terms → Course → L
 -- ---- reads
 
 module _ {K V X P W : Type 0} (says : P → K → V → Bool → Type 0) where
-  -- the record is not shown, or the caller's test passed it over
+  -- the record is hidden, or the caller's test ignored it
   abbrev pub IsMissed : State K V X P W → Bool → Record K V → ℕ → Type 0
   IsMissed s ignored r now = (ignored ≡ true) ⊎ IsHidden says s r now
 
-  -- the record is shown, and no test of the caller's passed it over
+  -- the record is visible, and no test of the caller's ignored it
   abbrev pub IsHit : State K V X P W → Bool → Record K V → ℕ → Type 0
   IsHit s ignored r now = (ignored ≡ false) × IsVisible says s r now
 
-  -- whether the key is there and shown
+  -- whether the key is there and visible
   abbrev pub ContainsStep : (K → K → Bool) → State K V X P W → K → ℕ → Bool → Type 0
   ContainsStep eq s key now shown = IsShown says s (record_of_key eq s.records key) now shown
 
-  -- the value where it is shown; want of memory only where it would be cloned
+  -- the value where it is visible; memory can be refused only where it would be cloned
   abbrev pub ScansAt : State K V X P W → Option (Record K V) → ℕ → Result (Option V) OutOfMemory → Type 0
   ScansAt s None now a = a ≡ Ok None
   ScansAt s (Some r) now (Ok None) = IsHidden says s r now
@@ -281,7 +281,7 @@ module _ {K V X P W : Type 0} (says : P → K → V → Bool → Type 0) (read :
 
 -- ---- what needs no moment
 
--- the record's key, shown or not
+-- the record's key, visible or hidden
 abbrev pub KeyAt : {K V : Type 0} → Option (Record K V) → Result (Option K) OutOfMemory → Type 0
 KeyAt None a = a ≡ Ok None
 KeyAt (Some r) (Ok a) = a ≡ Some r.key

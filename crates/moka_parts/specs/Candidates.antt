@@ -1,4 +1,4 @@
--- The choice of TinyLFU between a candidate and the members that would make room for it.
+-- How TinyLFU compares a candidate with the members that would make room for it.
 use Rattle.std.specs.Prelude.{ℕ, Bool, false, ◌==◌, not, ◌&&◌, ◌||◌, ◌+◌, ◌-◌, nat_lt, nat_le, List, [], ◌∷◌, option_map, Option, Some, None, sum_by, if◌then◌else◌}
 use Rattle.std.specs.List.{before_first, last_or, list_all}
 use Rattle.std.specs.Option.{option_map_or}

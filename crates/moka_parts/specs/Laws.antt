@@ -1,6 +1,6 @@
 -- Laws that users rely on, as facts of the reference cache.
-use Rattle.std.specs.Prelude.{◌≡◌, ℕ, Bool, true, false, ◌<◌, ◌≤◌, List, [], ◌∷◌, ◌++◌, map, Option, Some, None, option_map, Result, Ok, Err, Contains, IsPermutation, ⊤}
-use Rattle.std.specs.FinMap.{get, values}
+use Rattle.std.specs.Prelude.{◌≡◌, ℕ, Bool, true, false, ◌+◌, ◌-◌, ◌<◌, ◌≤◌, List, [], ◌∷◌, ◌++◌, length, take, map, Option, Some, None, option_map, Result, Ok, Err, ◌⊎◌, slice_get, IsPermutation, ⊤}
+use Rattle.std.specs.FinMap.{get, values, len}
 use Rattle.moka_parts.specs.declared.policy.Instant.{Instant}
 use Rattle.moka_parts.specs.declared.records.Record.{Record}
 use Rattle.moka_parts.specs.declared.records.Member.{Member}
@@ -13,18 +13,19 @@ use Rattle.moka_parts.specs.declared.error.OutOfMemory.{OutOfMemory}
 use Rattle.moka_parts.specs.declared.calls.Entry.{Entry}
 use Rattle.moka_parts.specs.declared.calls.KvEntry.{KvEntry}
 use Rattle.moka_parts.specs.declared.calls.Ticket.{Ticket}
-use Rattle.moka_parts.specs.Settling.{IsWellNumbered, IsValid}
+use Rattle.moka_parts.specs.Settling.{IsConsistentState, IsWellNumbered, IsValid, IsAllSent}
 use Rattle.std.specs.Cmp.{IsEquivalence}
 use Rattle.moka_parts.specs.Time.{moment_of, is_before}
-use Rattle.moka_parts.specs.Records.{Records, Notice, record_of_key, total_weight}
-use Rattle.moka_parts.specs.State.{State, Contents, Meaning, Events}
-use Rattle.moka_parts.specs.Visibility.{Covers}
+use Rattle.moka_parts.specs.Records.{Records, Notice, record_of_key, with_record, numbers_of, total_weight}
+use Rattle.moka_parts.specs.State.{State, Settings, Contents, Meaning, Events, new_state}
 use Rattle.moka_sketch.specs.Frequency.{frequency}
-use Rattle.moka_parts.specs.Candidates.{frequency_of_all}
+use Rattle.moka_parts.specs.Candidates.{prefix, frequency_of_all}
+use Rattle.moka_parts.specs.Bounds.{removed_by, IsPlainSurplus}
 use Rattle.moka_parts.specs.Writes.{fate_by_policy, Preferred}
-use Rattle.moka_parts.specs.Maintenance.{Freedom, Terms, Course, AreFree, left_in_run, at_end, predicates_at_end, MaintenanceRun}
+use Rattle.moka_parts.specs.Maintenance.{Choice, Removes, MovesToBack, Drops, Freedom, Terms, Course, after_choice, kept_by_choice, CoversNothing, before_steps, AreFree, left_in_run, at_end, MaintenanceRun}
+use Rattle.moka_parts.specs.Exact.{IsExact, IsWithin}
 use Rattle.moka_parts.specs.Calls.{GetStep, PeekStep, ContainsStep, RemoveStep, entry_of}
-use Rattle.moka_parts.specs.Runs.{Step, AreSteps, last_state}
+use Rattle.moka_parts.specs.Runs.{Cache, Step, AreSteps, MakesCalls, ReferenceRun, PromisedRun, last_state}
 use Rattle.moka_parts.specs.declared.policy.EvictionPolicy.TheVariants.{TinyLfu}
 
 -- ---- gets and looks
@@ -35,13 +36,13 @@ is_found (Ok (Some x)) = true
 is_found (Ok None) = false
 is_found (Err _) = false
 
--- memory was not wanting
+-- memory was not refused
 abbrev pub is_answered : {A E : Type 0} → Result A E → Bool
 is_answered (Ok x) = true
 is_answered (Err _) = false
 
 module _ {K V X P W : Type 0} (eq : K → K → Bool) (says : P → K → V → Bool → Type 0) (read : X → K → V → ℕ → Option ℕ → ℕ → Option ℕ) (Runs : State K V X P W → Terms → Course → List (Notice K V) → State K V X P W → Type 0) where
-  -- a get answers a value exactly where the key is contained, want of memory aside
+  -- a get answers a value exactly where the key is contained, unless memory is refused
   abbrev pub GetsWhatIsContained : Type 0
   GetsWhatIsContained = (s : State K V X P W) (key : K) (hash : ℕ) (need_key : Bool) (now : ℕ) (a : Result (Option (Entry K V)) OutOfMemory) (e : Events K V) (t : State K V X P W) (shown : Bool) →
       IsWellNumbered eq s → GetStep says read Runs eq s key hash need_key false now a e t → ContainsStep says eq s key now shown → is_answered a ≡ true → is_found a ≡ shown
@@ -99,7 +100,7 @@ module _ {K V X P W : Type 0} where
   last_moment t (x ∷ xs) = last_moment (later_of t (moment_in x.call)) xs
 
 module _ {K V X L P W C I : Type 0} (m : Meaning K V X L P W C I) where
-  -- a key that is not shown stays so until it is inserted again
+  -- a key that is hidden stays so until it is inserted again
   abbrev pub StaysHidden : Type 0
   StaysHidden = (s : State K V X P W) (steps : List (Step K V X P W)) (key : K) (now later : ℕ) (shown : Bool) →
       IsEquivalence m.eq → IsValid m.eq s →
@@ -108,11 +109,23 @@ module _ {K V X L P W C I : Type 0} (m : Meaning K V X L P W C I) where
 
 -- ---- predicates, removals, admissions
 
--- a predicate that a run drops covers no record that is left
-abbrev pub DropsOnlyIdle : {K V X P W : Type 0} → (P → K → V → Bool → Type 0) → State K V X P W → ℕ → Freedom → Type 0
-DropsOnlyIdle {K} {V} {X} {P} {W} says s now ch = AreFree says s now ch → (p : Registered P) (n : ℕ) (r : Record K V) → Contains s.predicates p → get (at_end s ch).records n ≡ Some r → Covers says p r → Contains (predicates_at_end s ch) p
+module _ {K V P : Type 0} (says : P → K → V → Bool → Type 0) where
+  -- a predicate that the step drops covers no record of the map at that moment
+  abbrev pub DropsIdle : Contents K V → List (Registered P) → Choice → Type 0
+  DropsIdle c ps (Removes n cause) = ⊤
+  DropsIdle c ps (MovesToBack n) = ⊤
+  DropsIdle c ps (Drops i) = (p : Registered P) → slice_get ps i ≡ Some p → CoversNothing says c p
 
--- a removal gives the stored entry, shown or not, and every other key's record stays
+  -- the same of each step when it is taken
+  abbrev pub AllDropIdle : Contents K V → List (Registered P) → List Choice → Type 0
+  AllDropIdle c ps [] = Unit {0}
+  AllDropIdle c ps (x ∷ xs) = DropsIdle c ps x × AllDropIdle (after_choice c x) (kept_by_choice ps x) xs
+
+-- a run drops a predicate only when it covers no record of the map
+abbrev pub DropsOnlyIdle : {K V X P W : Type 0} → (P → K → V → Bool → Type 0) → State K V X P W → ℕ → Freedom → Type 0
+DropsOnlyIdle says s now ch = AreFree says s now ch → AllDropIdle says (before_steps s ch) s.predicates ch.steps
+
+-- a removal gives the stored entry, visible or hidden, and every other key's record stays
 abbrev pub RemovesJustOne : {K V X P W : Type 0} → (K → K → Bool) → State K V X P W → Type 0
 RemovesJustOne {K} {V} {X} {P} {W} eq s = (key : K) (a : Option (KvEntry K V × Ticket)) (t : State K V X P W) → IsWellNumbered eq s → RemoveStep eq s key a t →
     (option_map (λ x. x.0) a ≡ option_map entry_of (record_of_key eq s.records key)) × ((n : ℕ) (r : Record K V) → get s.records n ≡ Some r → eq key r.key ≡ false → get t.records n ≡ Some r)
@@ -161,15 +174,47 @@ TellsEachOnce {K} {V} {X} {L} {P} {W} m = (s : State K V X P W) (steps : List (S
 
 -- ---- looks that leave no trace
 
--- queues, access list, report and housekeeper stay
-pub record LeavesNoTrace {K V X P W : Type 0} (s t : State K V X P W) : Type 0 where
-  pub reads : t.reads ≡ s.reads
-  pub writes : t.writes ≡ s.writes
-  pub outstanding : t.outstanding ≡ s.outstanding
-  pub access : t.access ≡ s.access
-  pub report : (t.count ≡ s.count) × (t.weight ≡ s.weight)
-  pub housekeeping : t.housekeeping ≡ s.housekeeping
+-- nothing changes but the last read and the expiry of the record that the key has
+abbrev pub LeavesNoTrace : {K V X P W : Type 0} → (K → K → Bool) → State K V X P W → K → State K V X P W → Type 0
+LeavesNoTrace {K} {V} eq s key t = (t ≡ s) ⊎ ((r : Record K V) × (read : Instant) × (expires : Option Instant) × (record_of_key eq s.records key ≡ Some r) × (t ≡ record s { records = with_record s.records (record r { read = read; expires = expires }) }))
 
--- a get that records nothing changes no queue and starts no run
+-- a get that records nothing leaves no trace
 abbrev pub PeeksQuietly : {K V X P : Type 0} → (W : Type 0) → (K → K → Bool) → (P → K → V → Bool → Type 0) → (X → K → V → ℕ → Option ℕ → ℕ → Option ℕ) → Type 0
-PeeksQuietly {K} {V} {X} {P} W eq says read = (s : State K V X P W) (key : K) (ignored : Bool) (now : ℕ) (a : Result (Option V) OutOfMemory) (t : State K V X P W) → PeekStep says read eq s key ignored now a t → LeavesNoTrace s t
+PeeksQuietly {K} {V} {X} {P} W eq says read = (s : State K V X P W) (key : K) (ignored : Bool) (now : ℕ) (a : Result (Option V) OutOfMemory) (t : State K V X P W) → PeekStep says read eq s key ignored now a t → LeavesNoTrace eq s key t
+
+-- ---- what always holds, and what runs come to
+
+-- a new cache is valid
+abbrev pub StartsValid : (K V X P W : Type 0) → (K → K → Bool) → Type 0
+StartsValid K V X P W eq = (settings : Settings X W) (capacity : Option ℕ) (now first_ticket : ℕ) → IsValid eq (new_state {K = K} {V = V} {P = P} settings capacity now first_ticket)
+
+-- each run ends exact once every operation was sent
+abbrev pub EndsExact : {K V P : Type 0} → (X W : Type 0) → (K → K → Bool) → (P → K → V → Bool → Type 0) → Type 0
+EndsExact {K} {V} {P} X W eq says = (s : State K V X P W) (terms : Terms) (course : Course) (notices : List (Notice K V)) (t : State K V X P W) → IsValid eq s → IsAllSent s → MaintenanceRun says s terms course notices t → IsExact t
+
+-- the reported count is off by no more than the operations not sent
+abbrev pub IsNear : {K V X P W : Type 0} → State K V X P W → Type 0
+IsNear s = (s.count ≤ len s.records + len s.outstanding) × (len s.records ≤ s.count + len s.outstanding)
+
+-- after each run it is so
+abbrev pub CountsNearly : {K V P : Type 0} → (X W : Type 0) → (K → K → Bool) → (P → K → V → Bool → Type 0) → Type 0
+CountsNearly {K} {V} {P} X W eq says = (s : State K V X P W) (terms : Terms) (course : Course) (notices : List (Notice K V)) (t : State K V X P W) → IsValid eq s → MaintenanceRun says s terms course notices t → IsNear t
+
+module _ {K V X P W : Type 0} (says : P → K → V → Bool → Type 0) (s : State K V X P W) (now : ℕ) (ch : Freedom) where
+  -- where weight is the only ground for a removal, steps that end within the capacity remove just enough from the front
+  abbrev pub RemovesEnough : Type 0
+  RemovesEnough = (capacity : ℕ) → IsConsistentState s → AreFree says s now ch → IsPlainSurplus s now capacity (before_steps s ch) → IsWithin s.capacity (at_end s ch).access →
+      (front : List Member) × (prefix (before_steps s ch).access (total_weight (before_steps s ch).access - capacity) ≡ Some front) × (removed_by ch.steps ≡ numbers_of front)
+
+  -- and steps that remove so many records remove the first ones
+  abbrev pub RemovesFirst : Type 0
+  RemovesFirst = (capacity many : ℕ) → IsConsistentState s → AreFree says s now ch → IsPlainSurplus s now capacity (before_steps s ch) → length (removed_by ch.steps) ≡ many → removed_by ch.steps ≡ numbers_of (take many (before_steps s ch).access)
+
+-- every list of calls keeps a state valid
+abbrev pub StaysValid : {K V X L P W C I : Type 0} → Meaning K V X L P W C I → Type 0
+StaysValid {K} {V} {X} {L} {P} {W} m = (s : State K V X P W) (steps : List (Step K V X P W)) → IsEquivalence m.eq → IsValid m.eq s → AreSteps m (MaintenanceRun m.says) s steps → IsValid m.eq (last_state s steps)
+
+-- calls whose runs of maintenance keep their promises are a run of the reference cache
+abbrev pub IsOfReference : {K V X L P W C I : Type 0} → (S : Type 0) → Meaning K V X L P W C I → Type 0
+IsOfReference {K} {V} {X} {L} {P} {W} {C} {I} S m = (calls : List (Call K V P)) (replies : List (Reply K V P)) (steps : List (Step K V X P W)) (old new : Cache K V S X L P W) (clock clock_after : C) (ids ids_after : I) →
+    MakesCalls m (PromisedRun m.says m.read) calls replies steps old clock ids new clock_after ids_after → ReferenceRun m calls replies steps old clock ids new clock_after ids_after

@@ -17,9 +17,10 @@ pub mod Writes
 pub mod Maintenance
 pub mod Exact
 pub mod Settling
+pub mod Calls
 pub mod Order
 pub mod Bounds
-pub mod Calls
 pub mod Runs
 pub mod Laws
 pub mod Synchronous
+pub mod Texts

@@ -78,7 +78,7 @@ module _ {P : Type 0} where
 abbrev pub is_over : Option ℕ → List Member → Bool
 is_over capacity members = not (has_room capacity (total_weight members) 0)
 
--- the sketch comes on: TinyLFU, off, a capacity other than 0, and at least half of it taken
+-- the sketch is to be enabled: the policy is TinyLFU, the sketch is off, and at least half of a capacity other than 0 is taken
 abbrev pub is_sketch_due : Option ℕ → EvictionPolicy → Option Table → ℕ → Bool
 is_sketch_due None policy sketch total = false
 is_sketch_due (Some capacity) policy sketch total = is_tiny_lfu policy && is_none sketch && not (capacity == 0) && nat_le (capacity / 2) total
@@ -90,7 +90,7 @@ length_of_new_table false None has_weigher members = 128
 length_of_new_table false (Some capacity) has_weigher members = table_length_for (size_asked has_weigher capacity (length members) (total_weight members))
 
 module _ {K V : Type 0} where
-  -- the sketch comes on where it is due
+  -- the sketch is enabled where it is due
   abbrev pub with_sketch : Option ℕ → EvictionPolicy → Bool → Bool → Contents K V → Contents K V
   with_sketch capacity policy has_weigher is_short c = record c {
     sketch = if is_sketch_due capacity policy c.sketch (total_weight c.access)
@@ -140,11 +140,11 @@ abbrev pub tests_of : {K V X P W : Type 0} → State K V X P W → ℕ → Tests
 tests_of s now = record { now = now; time_to_live = s.settings.time_to_live; time_to_idle = s.settings.time_to_idle; invalid_before = s.invalid_before; capacity = s.capacity }
 
 module _ {K V : Type 0} (q : Tests) where
-  -- its time to live is over
+  -- its time to live has passed
   abbrev pub is_past_write : Record K V → Bool
   is_past_write r = has_passed (deadline q.time_to_live r.written.0) q.now
 
-  -- its time to idle is over
+  -- its time to idle has passed
   abbrev pub is_past_read : Record K V → Bool
   is_past_read r = has_passed (deadline q.time_to_idle r.read.0) q.now
 
@@ -155,6 +155,11 @@ module _ {K V : Type 0} (q : Tests) where
   HasGround c n r Size = (is_front n c.access && is_over q.capacity c.access) ≡ true
   HasGround c n r Replaced = ⊥
 
+module _ {K V P : Type 0} (says : P → K → V → Bool → Type 0) where
+  -- the predicate covers no record of the map
+  abbrev pub CoversNothing : Contents K V → Registered P → Type 0
+  CoversNothing c p = (n : ℕ) (r : Record K V) → finite.get c.records n ≡ Some r → Covers says p r → ⊥
+
 module _ {K V P : Type 0} (says : P → K → V → Bool → Type 0) (q : Tests) where
   -- the cause fits a record that the run may take out: by a ground of its own, or since a predicate covers it
   abbrev pub HasCause : Contents K V → List (Registered P) → ℕ → Record K V → RemovalCause → Type 0
@@ -163,15 +168,11 @@ module _ {K V P : Type 0} (says : P → K → V → Bool → Type 0) (q : Tests)
   HasCause c ps n r Size = HasGround q c n r Size
   HasCause c ps n r Replaced = ⊥
 
-  -- the predicate covers no record of the map
-  abbrev pub CoversNothing : Contents K V → Registered P → Type 0
-  CoversNothing c p = (n : ℕ) (r : Record K V) → finite.get c.records n ≡ Some r → Covers says p r → ⊥
-
   -- a step that a run may take: a settled member leaves for a cause that fits, an unsettled one goes to the back, or a predicate that covers nothing leaves
   abbrev pub IsJustified : Contents K V → List (Registered P) → Choice → Type 0
   IsJustified c ps (Removes n cause) = (r : Record K V) × (finite.get c.records n ≡ Some r) × (is_member n c.access && is_settled c.records n ≡ true) × HasCause c ps n r cause
   IsJustified c ps (MovesToBack n) = (is_member n c.access ≡ true) × (is_settled c.records n ≡ false)
-  IsJustified c ps (Drops i) = (p : Registered P) × (slice_get ps i ≡ Some p) × CoversNothing c p
+  IsJustified c ps (Drops i) = (p : Registered P) × (slice_get ps i ≡ Some p) × CoversNothing says c p
 
   -- each step may be taken when it is
   abbrev pub AreJustified : Contents K V → List (Registered P) → List Choice → Type 0
@@ -179,7 +180,7 @@ module _ {K V P : Type 0} (says : P → K → V → Bool → Type 0) (q : Tests)
   AreJustified c ps (x ∷ xs) = IsJustified c ps x × AreJustified (after_choice c x) (kept_by_choice ps x) xs
 
 module _ {K V X P W : Type 0} (says : P → K → V → Bool → Type 0) (s : State K V X P W) (now : ℕ) where
-  -- these choices are free to a run
+  -- a run may make these choices
   abbrev pub AreFree : Freedom → Type 0
   AreFree ch = AreAllMoves s.capacity s.settings.policy (after_queued_reads s) s.writes ch.moves × AreJustified says (tests_of s now) (before_steps s ch) s.predicates ch.steps
 
@@ -224,10 +225,10 @@ module _ {K V X P W : Type 0} (says : P → K → V → Bool → Type 0) where
   abbrev pub RunsBy : State K V X P W → Terms → Freedom → Course → List (Notice K V) → State K V X P W → Type 0
   RunsBy s terms ch course notices t = AreFree says s terms.now ch × (t ≡ after_run s ch) × (notices ≡ when_listening s.settings.listening (left_in_run s ch))
 
-  -- a run of the reference cache, with a promise about its outcome and one about its choices
+  -- a maintenance run, with a promise about its outcome and one about its choices
   abbrev pub RunsWith : (State K V X P W → Terms → Course → State K V X P W → Type 0) → (State K V X P W → Terms → Freedom → Course → Type 0) → State K V X P W → Terms → Course → List (Notice K V) → State K V X P W → Type 0
   RunsWith Outcome Detail s terms course notices t = MatchBool (is_disabled s.capacity) (DoesNothing s course notices t) ((ch : Freedom) × RunsBy s terms ch course notices t × Detail s terms ch course) × Outcome s terms course t
 
-  -- a run of the reference cache, with no more promised
+  -- a maintenance run, with no more promised
   abbrev pub MaintenanceRun : State K V X P W → Terms → Course → List (Notice K V) → State K V X P W → Type 0
   MaintenanceRun s terms course notices t = RunsWith (λ _ _ _ _. Unit {0}) (λ _ _ _ _. Unit {0}) s terms course notices t

@@ -1,6 +1,7 @@
--- The records by number, the access list, and what is asked of both.
+-- The records by number, the access list, the write list, and what is asked of them.
 use Rattle.std.specs.Prelude.{ℕ, Bool, true, false, ◌==◌, not, nat_le, ◌+◌, List, [], ◌∷◌, ◌++◌, map, filter, find, sum_by, Option, Some, None, option_map, option_to_list, is_some, if◌then◌else◌}
 use Rattle.std.specs.Option.{option_map_or}
+use Rattle.std.specs.List.{list_any}
 use Rattle.std.specs.Ordering.{nat_cmp}
 use Rattle.std.specs.FinMap.{FinMap, get, insert, values}
 use Rattle.moka_parts.specs.declared.notification.RemovalCause.{RemovalCause}
@@ -20,7 +21,7 @@ Operations = FinMap nat_cmp Operation
 abbrev pub Notice : Type 0 → Type 0 → Type 0
 Notice K V = K × V × RemovalCause
 
--- what is told where a listener is set
+-- what a listener is notified of, where one is set
 abbrev pub when_listening : {N : Type 0} → Bool → List N → List N
 when_listening true notices = notices
 when_listening false notices = []
@@ -84,6 +85,30 @@ total_weight members = sum_by (λ a. a.counted) members
 abbrev pub has_room : Option ℕ → ℕ → ℕ → Bool
 has_room None total weight = true
 has_room (Some capacity) total weight = nat_le (total + weight) capacity
+
+-- ---- the write list
+
+-- the number stands in the list
+abbrev pub is_listed : ℕ → List ℕ → Bool
+is_listed n ns = list_any (λ m. m == n) ns
+
+-- the list without the number
+abbrev pub without_number : ℕ → List ℕ → List ℕ
+without_number n ns = filter (λ m. not (m == n)) ns
+
+-- the number, if it stands in the list, goes to the back
+abbrev pub number_to_back : ℕ → List ℕ → List ℕ
+number_to_back n ns = if is_listed n ns then without_number n ns ++ n ∷ [] else ns
+
+-- the list without the members' numbers
+abbrev pub without_numbers : List Member → List ℕ → List ℕ
+without_numbers [] ns = ns
+without_numbers (a ∷ gone) ns = without_numbers gone (without_number a.number ns)
+
+-- the number enters at the back, where the list is kept
+abbrev pub entered_by : Bool → ℕ → List ℕ → List ℕ
+entered_by true n ns = ns ++ n ∷ []
+entered_by false n ns = ns
 
 -- ---- settled members
 

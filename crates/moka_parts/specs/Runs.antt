@@ -139,26 +139,17 @@ abbrev pub ReferenceRun : {K V S X L P W C I : Type 0} → Meaning K V X L P W C
 ReferenceRun m calls replies steps old clock ids new clock_after ids_after = MakesCalls m (MaintenanceRun m.says) calls replies steps old clock ids new clock_after ids_after
 
 module _ {K V X P W : Type 0} (says : P → K → V → Bool → Type 0) (read : X → K → V → ℕ → Option ℕ → ℕ → Option ℕ) where
-  -- a run of maintenance that settles what was sent
-  abbrev pub SettlingRun : State K V X P W → Terms → Course → List (Notice K V) → State K V X P W → Type 0
-  SettlingRun s terms course notices t = RunsWith says (λ s terms course t. LeavesBehind s terms course t × Settles says read s terms course t) (λ _ _ _ _. Unit {0}) s terms course notices t
-
--- a run of the reference cache in which each run of maintenance settles what was sent
-abbrev pub SettlingReferenceRun : {K V S X L P W C I : Type 0} → Meaning K V X L P W C I → List (Call K V P) → List (Reply K V P) → List (Step K V X P W) → Cache K V S X L P W → C → I → Cache K V S X L P W → C → I → Type 0
-SettlingReferenceRun m calls replies steps old clock ids new clock_after ids_after = MakesCalls m (SettlingRun m.says m.read) calls replies steps old clock ids new clock_after ids_after
-
-module _ {K V X L P W C I : Type 0} (m : Meaning K V X L P W C I) where
   -- what every run of maintenance ends with
   abbrev pub EndsWell : State K V X P W → Terms → Course → State K V X P W → Type 0
-  EndsWell s terms course t = LeavesBehind s terms course t × Settles m.says m.read s terms course t
+  EndsWell s terms course t = LeavesBehind s terms course t × Settles says read s terms course t
 
   -- a run of maintenance with all that is promised of it
   abbrev pub PromisedRun : State K V X P W → Terms → Course → List (Notice K V) → State K V X P W → Type 0
-  PromisedRun s terms course notices t = RunsWith m.says EndsWell IsBounded s terms course notices t
+  PromisedRun s terms course notices t = RunsWith says EndsWell IsBounded s terms course notices t
 
   -- the same, where a whole run also removes what is past its time
   abbrev pub OrderlyRun : State K V X P W → Terms → Course → List (Notice K V) → State K V X P W → Type 0
-  OrderlyRun s terms course notices t = RunsWith m.says (λ s terms course t. EndsWell s terms course t × AgesOut s terms course t) IsBounded s terms course notices t
+  OrderlyRun s terms course notices t = RunsWith says (λ s terms course t. EndsWell s terms course t × AgesOut s terms course t) IsBounded s terms course notices t
 
 -- nothing is kept and nothing waits
 pub record IsEmpty {K V X P W : Type 0} (s : State K V X P W) : Type 0 where
@@ -170,6 +161,6 @@ pub record IsEmpty {K V X P W : Type 0} (s : State K V X P W) : Type 0 where
 -- what `drive` promises: a run of the reference cache in which each run of maintenance keeps its promises
 pub record Drives {K V S X L P W C I : Type 0} (m : Meaning K V X L P W C I) (calls : List (Call K V P)) (replies : List (Reply K V P)) (old : Cache K V S X L P W) (clock : C) (ids : I) (new : Cache K V S X L P W) (clock_after : C) (ids_after : I) : Type 0 where
   pub steps : List (Step K V X P W)
-  pub is_run : MakesCalls m (PromisedRun m) calls replies steps old clock ids new clock_after ids_after
+  pub is_run : MakesCalls m (PromisedRun m.says m.read) calls replies steps old clock ids new clock_after ids_after
   -- from an empty cache, in the order of time, each whole run with all sent also removes what is past its time
-  pub orderly : IsEmpty old.state → AreOrderly old.state steps → AreSteps m (OrderlyRun m) old.state steps
+  pub orderly : IsEmpty old.state → AreOrderly old.state steps → AreSteps m (OrderlyRun m.says m.read) old.state steps

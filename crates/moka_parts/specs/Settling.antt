@@ -1,7 +1,7 @@
 -- What always holds of records, members and operations, and what a run settles.
-use Rattle.std.specs.Prelude.{◌≡◌, ℕ, Bool, true, false, ◌==◌, not, ◌+◌, ◌<◌, ◌≤◌, List, [], length, Option, Some, None, ◌⊎◌, Contains, ⊤}
+use Rattle.std.specs.Prelude.{◌≡◌, ℕ, Bool, true, false, ◌==◌, not, ◌+◌, ◌<◌, ◌≤◌, ◌||◌, List, [], length, Option, Some, None, is_some, ◌⊎◌, Contains, ⊤}
 use Rattle.std.specs.List.{IsDistinct, list_any}
-use Rattle.std.specs.FinMap.{get, len, empty, contains_key}
+use Rattle.std.specs.FinMap.{get, len, empty}
 use Rattle.moka_parts.specs.declared.records.Record.{Record}
 use Rattle.moka_parts.specs.declared.records.Member.{Member}
 use Rattle.moka_parts.specs.declared.records.Registered.{Registered}
@@ -11,7 +11,7 @@ use Rattle.moka_parts.specs.declared.records.Operation.TheVariants.{Upsert, Remo
 use Rattle.moka_parts.specs.Records.{Records, Operations, counted_of, numbers_of, is_settled}
 use Rattle.moka_parts.specs.State.{State, is_disabled}
 use Rattle.moka_parts.specs.Visibility.{is_expired, Covers}
-use Rattle.moka_parts.specs.Maintenance.{Course, Terms, is_cut}
+use Rattle.moka_parts.specs.Maintenance.{Course, Terms, is_over, is_cut}
 use Rattle.moka_parts.specs.Exact.{IsExact, IsWithin}
 
 -- ---- operations that wait
@@ -60,24 +60,43 @@ pub record IsConsistent {K V : Type 0} (Waits : Operation → Type 0) (records :
 abbrev pub IsConsistentState : {K V X P W : Type 0} → State K V X P W → Type 0
 IsConsistentState s = IsConsistent (IsWaiting s) s.records s.access
 
--- what numbers, tickets and keys are for
+-- each record stands at its own number, which was given out, as was that of each operation that waits; and a key has one record
+pub record AreNumbered {K V : Type 0} (eq : K → K → Bool) (records : Records K V) (Waits : Operation → Type 0) (next_number : ℕ) : Type 0 where
+  pub numbered : (n : ℕ) (r : Record K V) → get records n ≡ Some r → (r.number ≡ n) × (n < next_number)
+  pub known : (o : Operation) → Waits o → number_of o < next_number
+  pub one_each : (n m : ℕ) (p q : Record K V) → get records n ≡ Some p → get records m ≡ Some q → eq p.key q.key ≡ true → n ≡ m
+
+-- each operation that waits has a ticket that was given out
+pub record AreTicketed (outstanding : Operations) (writes : List Ticketed) (next_ticket : ℕ) : Type 0 where
+  pub handed : (ticket : ℕ) (o : Operation) → get outstanding ticket ≡ Some o → ticket < next_ticket
+  pub sent : (h : Ticketed) → Contains writes h → h.ticket < next_ticket
+
+-- the operation waits under the ticket
+abbrev pub WaitsAt : Operations → List Ticketed → ℕ → Operation → Type 0
+WaitsAt outstanding writes ticket o = (get outstanding ticket ≡ Some o) ⊎ Contains writes (record { ticket = ticket; operation = o })
+
+-- of a record's upserts that wait, the one under the later ticket has the later generation
+pub record AreRising (outstanding : Operations) (writes : List Ticketed) : Type 0 where
+  pub rising : (t u n g h w v x y : ℕ) → WaitsAt outstanding writes t (Upsert n g w x) → WaitsAt outstanding writes u (Upsert n h v y) → t < u → g < h
+
+-- nothing is kept, and nothing reported
+pub record IsBare {K V : Type 0} (records : Records K V) (access : List Member) (count weight : ℕ) : Type 0 where
+  pub no_records : records ≡ empty
+  pub no_members : access ≡ []
+  pub no_count : count ≡ 0
+  pub no_weight : weight ≡ 0
+
+-- what numbers, tickets and keys are for; a disabled cache holds nothing
 pub record IsWellNumbered {K V X P W : Type 0} (eq : K → K → Bool) (s : State K V X P W) : Type 0 where
-  -- each record stands at its own number, which was given out
-  pub numbered : (n : ℕ) (r : Record K V) → get s.records n ≡ Some r → (r.number ≡ n) × (n < s.next_number)
-  -- so was the number of each operation that waits
-  pub known : (o : Operation) → IsWaiting s o → number_of o < s.next_number
-  -- a key has one record
-  pub one_each : (n m : ℕ) (p q : Record K V) → get s.records n ≡ Some p → get s.records m ≡ Some q → eq p.key q.key ≡ true → n ≡ m
-  -- each ticket was given out
-  pub ticketed : (ticket : ℕ) → contains_key s.outstanding ticket ≡ true → ticket < s.next_ticket
-  pub queued : (h : Ticketed) → Contains s.writes h → h.ticket < s.next_ticket
-  -- a disabled cache holds nothing
-  pub disabled : is_disabled s.capacity ≡ true → (s.records ≡ empty) × (s.access ≡ []) × (s.count ≡ 0) × (s.weight ≡ 0)
+  pub numbered : AreNumbered eq s.records (IsWaiting s) s.next_number
+  pub ticketed : AreTicketed s.outstanding s.writes s.next_ticket
+  pub disabled : is_disabled s.capacity ≡ true → IsBare s.records s.access s.count s.weight
 
 -- what holds of a state at every moment
 pub record IsValid {K V X P W : Type 0} (eq : K → K → Bool) (s : State K V X P W) : Type 0 where
   pub consistent : IsConsistentState s
   pub numbered : IsWellNumbered eq s
+  pub rising : AreRising s.outstanding s.writes
 
 -- ---- what a run leaves
 
@@ -102,6 +121,10 @@ module _ {K V X P W : Type 0} where
   abbrev pub has_settled_member : State K V X P W → Bool
   has_settled_member s = list_any (λ a. is_settled s.records a.number) s.access
 
+  -- what a run of batch 0 leaves more: a time or an invalidation of all to test records by, or an exceeded capacity
+  abbrev pub leaves_more_idle : State K V X P W → Bool
+  leaves_more_idle s = is_some s.settings.time_to_live || is_some s.settings.time_to_idle || is_some s.invalid_before || is_over s.capacity s.access
+
 -- what every run leaves, whatever was sent
 pub record LeavesBehind {K V X P W : Type 0} (s : State K V X P W) (terms : Terms) (course : Course) (t : State K V X P W) : Type 0 where
   -- a whole run ends within the capacity, or with an unsettled member
@@ -112,6 +135,8 @@ pub record LeavesBehind {K V X P W : Type 0} (s : State K V X P W) (terms : Term
   pub more : IsWhole s terms course → course.answer ≡ true → 0 < length t.predicates
   -- and does so where one is left beside a settled member
   pub unfinished : IsWhole s terms course → 0 < length t.predicates → has_settled_member t ≡ true → course.answer ≡ true
+  -- with a batch of 0 it leaves more where there is anything to test records by
+  pub idle : is_disabled s.capacity ≡ false → is_cut s.settings terms course ≡ false → terms.batch ≡ 0 → course.answer ≡ leaves_more_idle t
   -- the reported count is off by no more than the operations not sent
   pub count_high : t.count ≤ len t.records + len t.outstanding
   pub count_low : len t.records ≤ t.count + len t.outstanding

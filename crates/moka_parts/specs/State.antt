@@ -73,7 +73,7 @@ pub record Meaning (K V X L P W C I : Type 0) : Type 1 where
   pub read : X → K → V → ℕ → Option ℕ → ℕ → Option ℕ
   pub updated : X → K → V → ℕ → Option ℕ → Option ℕ
 
--- what passed between the cache and its surroundings in a call, and the passes of the run in it, if one was made
+-- the notices, readings of the clock and identifiers of a call, and the passes of the run in it, if one was made
 pub record Events (K V : Type 0) : Type 0 where
   pub notices : List (Notice K V)
   pub readings : List Instant

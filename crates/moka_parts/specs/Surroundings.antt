@@ -19,7 +19,7 @@ Heard tells (Some before) notices (Some after) = Leads (NoticeStep tells) before
 Heard tells None notices (Some after) = ⊥
 Heard tells (Some before) notices None = ⊥
 
--- a caller's own test is asked once of the value that is found, and never else; true means that the record is passed over
+-- a caller's own test is asked once of the value that is found, and never else; true means that the record is ignored
 abbrev pub IsAskedOnce : {V I : Type 0} → (I → V → Bool → I → Type 0) → Option I → Option V → Bool → Option I → Type 0
 IsAskedOnce asks None found ignored after = (ignored ≡ false) × (after ≡ None)
 IsAskedOnce asks (Some before) None ignored after = (ignored ≡ false) × (after ≡ Some before)

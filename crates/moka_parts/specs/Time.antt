@@ -7,7 +7,7 @@ use Rattle.moka_parts.specs.declared.policy.Instant.{Instant}
 abbrev pub greatest : ℕ
 greatest = 2 ^ 64 - 1
 
--- a moment, cut at the greatest
+-- a moment so much later, saturating at the greatest number
 abbrev pub plus : ℕ → ℕ → ℕ
 plus t d = min (t + d) greatest
 

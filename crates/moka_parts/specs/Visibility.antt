@@ -1,4 +1,4 @@
--- Which records a look-up shows at a moment.
+-- Which records are visible at a moment.
 use Rattle.std.specs.Prelude.{◌≡◌, ℕ, Bool, true, false, ◌||◌, ◌≤◌, List, [], ◌∷◌, Option, Some, None, ◌⊎◌, MatchBool}
 use Rattle.moka_parts.specs.declared.policy.Instant.{Instant}
 use Rattle.moka_parts.specs.declared.records.Record.{Record}
@@ -6,16 +6,16 @@ use Rattle.moka_parts.specs.declared.records.Registered.{Registered}
 use Rattle.moka_parts.specs.Time.{has_passed, is_before, deadline, moment_of}
 use Rattle.moka_parts.specs.State.{Settings, State}
 
--- its own expiry has come
+-- it has expired by its own expiry
 abbrev pub is_expired : {K V : Type 0} → Record K V → ℕ → Bool
 is_expired r now = has_passed (moment_of r.expires) now
 
 module _ {K V X W : Type 0} where
-  -- its time to live is over
+  -- its time to live has passed
   abbrev pub is_past_live : Settings X W → Record K V → ℕ → Bool
   is_past_live settings r now = has_passed (deadline settings.time_to_live r.written.0) now
 
-  -- its time to idle is over
+  -- its time to idle has passed
   abbrev pub is_past_idle : Settings X W → Record K V → ℕ → Bool
   is_past_idle settings r now = has_passed (deadline settings.time_to_idle r.read.0) now
 
@@ -47,15 +47,15 @@ module _ {K V P : Type 0} (says : P → K → V → Bool → Type 0) where
   NoneCovers (p ∷ ps) r = (Covers p r → ⊥) × NoneCovers ps r
 
 module _ {K V X P W : Type 0} (says : P → K → V → Bool → Type 0) where
-  -- a look-up shows the record: no test by moments hides it, and no predicate covers it
+  -- the record is visible: no test by moments hides it, and no predicate covers it
   abbrev pub IsVisible : State K V X P W → Record K V → ℕ → Type 0
   IsVisible s r now = (has_lapsed s.settings s.invalid_before r now ≡ false) × NoneCovers says s.predicates r
 
-  -- a look-up does not show the record
+  -- the record is hidden
   abbrev pub IsHidden : State K V X P W → Record K V → ℕ → Type 0
   IsHidden s r now = (has_lapsed s.settings s.invalid_before r now ≡ true) ⊎ SomeCovers says s.predicates r
 
-  -- whether the record, if there is one, is shown
+  -- whether the record, if there is one, is visible
   abbrev pub IsShown : State K V X P W → Option (Record K V) → ℕ → Bool → Type 0
   IsShown s None now shown = shown ≡ false
   IsShown s (Some r) now shown = MatchBool shown (IsVisible s r now) (IsHidden s r now)

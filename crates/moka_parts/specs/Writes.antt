@@ -31,7 +31,7 @@ pub data Fate : Type 0 where
   -- TinyLFU rejects its record
   Refused : Fate
 
--- TinyLFU chose, and may have moved unsettled members on the way
+-- TinyLFU compared frequencies, and may have moved unsettled members on the way
 abbrev pub is_compared : Fate → Bool
 is_compared Ignored = false
 is_compared Overtaken = false
@@ -55,7 +55,7 @@ abbrev pub without_records : {K V : Type 0} → List Member → Records K V → 
 without_records [] records = records
 without_records (a ∷ gone) records = without_records gone (remove records a.number)
 
--- a record that leaves for want of room
+-- the notice of a record that is evicted by size
 abbrev pub leaves_for_size : {K V : Type 0} → Record K V → Notice K V
 leaves_for_size r = (r.key, r.value, Size)
 
@@ -71,15 +71,15 @@ left_by_rejection generation r = if r.generation == generation then leaves_for_s
 -- ---- which fate
 
 module _ {K V : Type 0} where
-  -- by TinyLFU's choice among these victims, if they would make room
-  abbrev pub fate_of_choice : Contents K V → ℕ → Option (List Member) → Fate
-  fate_of_choice c hash None = Refused
-  fate_of_choice c hash (Some victims) = if is_preferred c hash victims then Preferred victims else Refused
+  -- by TinyLFU's comparison with these victims, if they would make room
+  abbrev pub fate_by_frequency : Contents K V → ℕ → Option (List Member) → Fate
+  fate_by_frequency c hash None = Refused
+  fate_by_frequency c hash (Some victims) = if is_preferred c hash victims then Preferred victims else Refused
 
   -- where there is no room, but the candidate alone would fit
   abbrev pub fate_by_policy : EvictionPolicy → Contents K V → ℕ → ℕ → Fate
   fate_by_policy Lru c weight hash = Admitted
-  fate_by_policy TinyLfu c weight hash = fate_of_choice c hash (victims_for c weight)
+  fate_by_policy TinyLfu c weight hash = fate_by_frequency c hash (victims_for c weight)
 
   -- where the record is outside the access list
   abbrev pub fate_of_newcomer : Option ℕ → EvictionPolicy → Contents K V → ℕ → ℕ → Fate
@@ -154,7 +154,7 @@ module _ {K V : Type 0} (capacity : Option ℕ) (policy : EvictionPolicy) where
   left_by_write c (Removal number generation) = []
   left_by_write c (Upsert number generation weight hash) = option_map_or (λ r. left_by_fate c generation r (fate capacity policy c (Upsert number generation weight hash))) (get c.records number) []
 
-  -- members are moved only by TinyLFU's choice, and only unsettled ones
+  -- members are moved only by TinyLFU's comparison, and only unsettled ones
   abbrev pub AreMoves : Contents K V → Operation → List ℕ → Type 0
   AreMoves c o [] = Unit {0}
   AreMoves c o (n ∷ moved) = (is_compared (fate capacity policy c o) ≡ true) × (are_unsettled c.records (n ∷ moved) ≡ true)

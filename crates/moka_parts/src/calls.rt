@@ -4,8 +4,9 @@ ghost use Rattle.std.specs.Prelude.{◌≡◌, option_copied};
 use crate::error::{CapacityError, InsertRefused, OutOfMemory, PredicateRefused, SendError};
 use crate::invalidator::PredicateId;
 use crate::policy::Instant;
+use std::error::Error;
+use std::fmt;
 use std::time::Duration;
-use thiserror::Error;
 
 /// Names an operation that was handed out and waits to be sent.
 #[derive(Clone, Copy, Debug, PartialEq, Eq)]
@@ -189,13 +190,25 @@ pub enum Reply<K, V, P> {
 }
 
 /// The calls come back where there is no room for their replies. None was made.
-#[derive(Debug, Drop, Error)]
-#[error("{error}")]
-#[error_bound(K: std::fmt::Debug, V: std::fmt::Debug, P: std::fmt::Debug)]
+#[derive(Debug, Drop)]
 pub struct DriveRefused<K, V, P> {
     pub error: OutOfMemory,
     pub calls: Vec<Call<K, V, P>>,
 }
+
+impl<K, V, P> fmt::Display for DriveRefused<K, V, P> {
+    ghost use Rattle.std.specs.Prelude.{Some};
+    ghost use Rattle.moka_parts.specs.Texts.{out_of_memory_text};
+
+    ghost output = { λ _. Some out_of_memory_text };
+
+    fn fmt<W: fmt::Write>(&self, f: &mut fmt::Formatter<W>) -> fmt::Result {
+        write!(f, "{}", self.error)
+    }
+}
+
+impl<K: fmt::Debug + Drop, V: fmt::Debug + Drop, P: fmt::Debug + Drop> Error
+    for DriveRefused<K, V, P> {}
 
 #[cfg(test)]
 mod tests {

@@ -127,6 +127,40 @@ impl<K, V, F: PairFn<K, V, bool>> PredicateFn<K, V> for ByClosure<K, V, bool, F>
     ghost one_answer = { λ c k v a b p q. p.1 b q.0 };
 }
 
+/// Weighs each entry 1, as a cache without a weigher does.
+#[derive(Clone, Copy, Debug)]
+pub struct NoWeigher;
+
+impl<K, V> Weigher<K, V> for NoWeigher {
+    ghost use Rattle.std.specs.Prelude.{◌≡◌};
+    ghost use Rattle.std.proofs.Common.{sym, ◌∙◌};
+
+    ghost weighs = { λ _ _ _ weight. weight ≡ 1 };
+
+    fn weigh(&self, _: &K, _: &V) -> u32 {
+        1
+    }
+
+    ghost one_weight = { λ _ _ _ _ _ first second. first ∙ sym second };
+}
+
+/// A predicate that no entry meets.
+#[derive(Clone, Copy, Debug)]
+pub struct NoPredicate;
+
+impl<K, V> PredicateFn<K, V> for NoPredicate {
+    ghost use Rattle.std.specs.Prelude.{◌≡◌, false};
+    ghost use Rattle.std.proofs.Common.{sym, ◌∙◌};
+
+    ghost says = { λ _ _ _ answer. answer ≡ false };
+
+    fn applies(&self, _: &K, _: &V) -> bool {
+        false
+    }
+
+    ghost one_answer = { λ _ _ _ _ _ first second. first ∙ sym second };
+}
+
 #[cfg(test)]
 mod tests {
     use super::*;
@@ -156,5 +190,11 @@ mod tests {
                 is_even
             );
         }
+    }
+
+    #[test]
+    fn answers_the_same_for_all(rt: HostRuntime) {
+        assert_eq!(rt; NoWeigher.weigh(&1u8, &'a'), 1);
+        assert!(rt; !NoPredicate.applies(&1u8, &'a'));
     }
 }

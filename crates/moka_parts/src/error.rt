@@ -1,75 +1,166 @@
 //! What calls refuse, by name. moka: `common::error`.
+use std::error::Error;
 use std::fmt;
-use thiserror::Error;
 
 /// Memory for a growth or for a clone was refused. Nothing has changed.
-#[derive(Clone, Copy, Debug, PartialEq, Eq, Error)]
-#[error("Out of memory")]
+#[derive(Clone, Copy, Debug, PartialEq, Eq)]
 pub struct OutOfMemory;
 
+impl fmt::Display for OutOfMemory {
+    ghost use Rattle.std.specs.Prelude.{Some};
+    ghost use Rattle.moka_parts.specs.Texts.{out_of_memory_text};
+
+    ghost output = { λ _. Some out_of_memory_text };
+
+    fn fmt<W: fmt::Write>(&self, f: &mut fmt::Formatter<W>) -> fmt::Result {
+        f.write_str("Out of memory")
+    }
+}
+
+impl Error for OutOfMemory {}
+
 /// Why an operation was not sent. It is kept under its ticket, if there is one.
-#[derive(Clone, Copy, Debug, PartialEq, Eq, Error)]
+#[derive(Clone, Copy, Debug, PartialEq, Eq)]
 pub enum SendError {
     /// No operation waits under this ticket.
-    #[error("No operation waits under this ticket")]
     UnknownTicket,
     /// The queue of writes is full; a run of the pending tasks empties it.
-    #[error("The queue of writes is full")]
     QueueFull,
 }
 
+impl fmt::Display for SendError {
+    ghost use Rattle.std.specs.Prelude.{Some};
+    ghost use Rattle.moka_parts.specs.Texts.{send_text};
+
+    ghost output = { λ error. Some (send_text error) };
+
+    fn fmt<W: fmt::Write>(&self, f: &mut fmt::Formatter<W>) -> fmt::Result {
+        f.write_str(match self {
+            SendError::UnknownTicket => "No operation waits under this ticket",
+            SendError::QueueFull => "The queue of writes is full",
+        })
+    }
+}
+
+impl Error for SendError {}
+
 /// Why an insert was refused.
-#[derive(Clone, Copy, Debug, PartialEq, Eq, Error)]
+#[derive(Clone, Copy, Debug, PartialEq, Eq)]
 pub enum InsertError {
     /// Memory for a growth or for a clone was refused.
-    #[error("Out of memory")]
     OutOfMemory,
     /// There are not enough tickets left.
-    #[error("All tickets are used up")]
     NumbersUsedUp,
 }
 
+impl fmt::Display for InsertError {
+    ghost use Rattle.std.specs.Prelude.{Some};
+    ghost use Rattle.moka_parts.specs.Texts.{insert_text};
+
+    ghost output = { λ error. Some (insert_text error) };
+
+    fn fmt<W: fmt::Write>(&self, f: &mut fmt::Formatter<W>) -> fmt::Result {
+        f.write_str(match self {
+            InsertError::OutOfMemory => "Out of memory",
+            InsertError::NumbersUsedUp => "All tickets are used up",
+        })
+    }
+}
+
+impl Error for InsertError {}
+
 /// A refused insert hands back the key and the value. Nothing has changed.
-#[derive(Debug, Drop, Error)]
-#[error("{error}")]
-#[error_bound(K: fmt::Debug, V: fmt::Debug)]
+#[derive(Debug, Drop)]
 pub struct InsertRefused<K, V> {
     pub error: InsertError,
     pub key: K,
     pub value: V,
 }
 
+impl<K, V> fmt::Display for InsertRefused<K, V> {
+    ghost use Rattle.std.specs.Prelude.{Some};
+    ghost use Rattle.moka_parts.specs.Texts.{insert_text};
+
+    ghost output = { λ refused. Some (insert_text refused.error) };
+
+    fn fmt<W: fmt::Write>(&self, f: &mut fmt::Formatter<W>) -> fmt::Result {
+        write!(f, "{}", self.error)
+    }
+}
+
+impl<K: fmt::Debug + Drop, V: fmt::Debug + Drop> Error for InsertRefused<K, V> {}
+
 /// Why a predicate was not registered. moka: `common::error::PredicateError`.
-#[derive(Clone, Copy, Debug, PartialEq, Eq, Error)]
+#[derive(Clone, Copy, Debug, PartialEq, Eq)]
 pub enum PredicateError {
     /// This cache does not have the configuration to support invalidating
     /// entries by a predicate.
-    #[error("Support for invalidation closures is disabled in this cache. Please enable it by calling the support_invalidation_closures method of the builder at the cache creation time")]
     InvalidationClosuresDisabled,
     /// One identifier after the other was asked for, and all were taken.
-    #[error("Cannot assign a new PredicateId to a predicate")]
     NoFreeId,
     /// Memory for the registry was refused.
-    #[error("Out of memory")]
     OutOfMemory,
 }
 
+impl fmt::Display for PredicateError {
+    ghost use Rattle.std.specs.Prelude.{Some};
+    ghost use Rattle.moka_parts.specs.Texts.{predicate_text};
+
+    ghost output = { λ error. Some (predicate_text error) };
+
+    fn fmt<W: fmt::Write>(&self, f: &mut fmt::Formatter<W>) -> fmt::Result {
+        f.write_str(match self {
+            PredicateError::InvalidationClosuresDisabled =>
+                "Support for invalidation closures is disabled in this cache. Please enable it by calling the support_invalidation_closures method of the builder at the cache creation time",
+            PredicateError::NoFreeId => "Cannot assign a new PredicateId to a predicate",
+            PredicateError::OutOfMemory => "Out of memory",
+        })
+    }
+}
+
+impl Error for PredicateError {}
+
 /// A refused predicate is handed back. Nothing has changed.
-#[derive(Debug, Drop, Error)]
-#[error("{error}")]
-#[error_bound(P: fmt::Debug)]
+#[derive(Debug, Drop)]
 pub struct PredicateRefused<P> {
     pub error: PredicateError,
     pub predicate: P,
 }
 
+impl<P> fmt::Display for PredicateRefused<P> {
+    ghost use Rattle.std.specs.Prelude.{Some};
+    ghost use Rattle.moka_parts.specs.Texts.{predicate_text};
+
+    ghost output = { λ refused. Some (predicate_text refused.error) };
+
+    fn fmt<W: fmt::Write>(&self, f: &mut fmt::Formatter<W>) -> fmt::Result {
+        write!(f, "{}", self.error)
+    }
+}
+
+impl<P: fmt::Debug + Drop> Error for PredicateRefused<P> {}
+
 /// Why the capacity was not changed.
-#[derive(Clone, Copy, Debug, PartialEq, Eq, Error)]
+#[derive(Clone, Copy, Debug, PartialEq, Eq)]
 pub enum CapacityError {
     /// A cache of capacity 0 is disabled, and stays so; no other becomes so.
-    #[error("A capacity cannot be changed from zero or to zero")]
     ZeroCapacity,
 }
+
+impl fmt::Display for CapacityError {
+    ghost use Rattle.std.specs.Prelude.{Some};
+    ghost use Rattle.moka_parts.specs.Texts.{capacity_text};
+
+    ghost output = { λ error. Some (capacity_text error) };
+
+    fn fmt<W: fmt::Write>(&self, f: &mut fmt::Formatter<W>) -> fmt::Result {
+        f.write_str(match self {
+            CapacityError::ZeroCapacity => "A capacity cannot be changed from zero or to zero",
+        })
+    }
+}
+
+impl Error for CapacityError {}
 
 #[cfg(test)]
 mod tests {

@@ -26,6 +26,20 @@ pub trait Clock {
         ensures { reads self.old result self.new };
 }
 
+/// A clock that always tells the same moment.
+#[derive(Clone, Copy, Debug)]
+pub struct FixedClock(pub Instant);
+
+impl Clock for FixedClock {
+    ghost use Rattle.std.specs.Prelude.{◌≡◌};
+
+    ghost reads = { λ before moment after. (moment ≡ before.0) × (after ≡ before) };
+
+    fn now(&mut self) -> Instant {
+        self.0
+    }
+}
+
 /// What runs maintenance. moka: `common::concurrent::housekeeper::InnerSync`.
 pub trait InnerSync {
     ghost use Rattle.std.specs.Prelude.{ℕ, Bool, List, Option, option_map};

@@ -1,5 +1,4 @@
 //! Predicates' identifiers. moka: `sync::invalidator`.
-ghost use Rattle.std.specs.Prelude.{◌≡◌};
 
 pub use crate::error::PredicateError;
 use uuid::Uuid;

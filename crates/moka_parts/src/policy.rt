@@ -1,5 +1,5 @@
 //! Moments, expiry and eviction policies. moka: `policy`.
-ghost use Rattle.std.specs.Prelude.{◌≡◌, ◌-◌, Option, Some, None, option_map, option_copied};
+ghost use Rattle.std.specs.Prelude.{◌≡◌, ◌-◌, Option, Some, None, option_map};
 ghost use Rattle.std.specs.Duration.{as_nanos};
 
 use std::fmt;
@@ -23,7 +23,7 @@ impl Instant {
     ghost use Rattle.std.specs.Duration.{as_nanos};
     ghost use Rattle.moka_parts.specs.Time.{plus};
 
-    /// The moment that lies so much later, cut at the greatest.
+    /// The moment that lies so much later, saturating at the greatest.
     pub fn saturating_add(self, duration: Duration) -> Instant
         ensures { result.0 ≡ plus self.0 (as_nanos duration) }
     {
@@ -149,6 +149,11 @@ impl Default for EvictionPolicy {
 }
 
 impl fmt::Debug for EvictionPolicy {
+    ghost use Rattle.std.specs.Prelude.{Some};
+    ghost use Rattle.moka_parts.specs.Texts.{policy_text};
+
+    ghost debug_output = { λ policy. Some (policy_text policy) };
+
     fn fmt<W: fmt::Write>(&self, f: &mut fmt::Formatter<W>) -> fmt::Result {
         match self {
             EvictionPolicy::TinyLfu => write!(f, "EvictionPolicy::TinyLfu"),

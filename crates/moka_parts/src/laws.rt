@@ -1,0 +1,122 @@
+//! Laws of the reference cache, which says what an engine does. None of these functions does anything: the contract of
+//! each is a law, and whoever calls it may rely on that.
+ghost use Rattle.std.specs.Prelude.{ℕ, List};
+ghost use Rattle.moka_parts.specs.declared.records.Member.{Member};
+ghost use Rattle.moka_parts.specs.State.{State, Contents};
+ghost use Rattle.moka_parts.specs.Maintenance.{Freedom};
+ghost use Rattle.moka_parts.specs.Runs.{PromisedRun};
+ghost use Rattle.moka_parts.specs.Laws.{GetsWhatIsContained, StaysHidden, DropsOnlyIdle, RemovesJustOne, AdmitsWell, TellsEachOnce, PeeksQuietly, StartsValid, StaysValid, EndsExact, CountsNearly, RemovesEnough, RemovesFirst, IsOfReference};
+
+use crate::closures::{PredicateFn, Weigher};
+use crate::housekeeper::Clock;
+use crate::invalidator::IdSource;
+use crate::notification::Listener;
+use crate::policy::Expiry;
+
+/// A get finds a value exactly where the key is contained, unless memory for a clone is refused.
+pub fn gets_what_is_contained<K: Eq, V, X: Expiry<K, V>, P: PredicateFn<K, V>, W>()
+    ensures { GetsWhatIsContained {W = W} K.eq P.says X.read (PromisedRun P.says X.read) }
+{}
+
+/// A key that is hidden stays so until it is inserted again, where moments never go back.
+pub fn stays_hidden<
+    K: Eq,
+    V,
+    X: Expiry<K, V>,
+    L: Listener<K, V>,
+    P: PredicateFn<K, V>,
+    W: Weigher<K, V>,
+    C: Clock,
+    I: IdSource,
+>()
+    ensures { StaysHidden (record { eq = K.eq; tells = L.tells; says = P.says; weighs = W.weighs; observes = C.reads; gives = I.gives; created = X.created; read = X.read; updated = X.updated }) }
+{}
+
+/// A run drops a predicate only when it covers no record of the map.
+pub fn drops_only_idle<K, V, X, P: PredicateFn<K, V>, W>()
+    ensures { (s : State K V X P W) (now : ℕ) (free : Freedom) → DropsOnlyIdle P.says s now free }
+{}
+
+/// A removal hands out the entry of its key, visible or hidden, and every other key's record stays.
+pub fn removes_just_one<K: Eq, V, X, P, W>()
+    ensures { (s : State K V X P W) → RemovesJustOne K.eq s }
+{}
+
+/// A candidate that is admitted by frequency was seen more often than its victims together, and they weigh enough.
+pub fn admits_well<K, V>()
+    ensures { (c : Contents K V) (weight hash : ℕ) (victims : List Member) → AdmitsWell c weight hash victims }
+{}
+
+/// A get that records nothing changes at most the last read and the expiry of the record that it finds.
+pub fn peeks_quietly<K: Eq, V, X: Expiry<K, V>, P: PredicateFn<K, V>, W>()
+    ensures { PeeksQuietly W K.eq P.says X.read }
+{}
+
+/// Where a listener is set, it is told of each value that leaves the map other than by a caller's removal, once.
+pub fn tells_each_once<
+    K: Eq,
+    V,
+    X: Expiry<K, V>,
+    L: Listener<K, V>,
+    P: PredicateFn<K, V>,
+    W: Weigher<K, V>,
+    C: Clock,
+    I: IdSource,
+>()
+    ensures { TellsEachOnce (record { eq = K.eq; tells = L.tells; says = P.says; weighs = W.weighs; observes = C.reads; gives = I.gives; created = X.created; read = X.read; updated = X.updated }) }
+{}
+
+/// What holds of a state at every moment holds of a new cache.
+pub fn starts_valid<K: Eq, V, X, P, W>()
+    ensures { StartsValid K V X P W K.eq }
+{}
+
+/// What holds of a state at every moment is kept by every list of calls.
+pub fn stays_valid<
+    K: Eq,
+    V,
+    X: Expiry<K, V>,
+    L: Listener<K, V>,
+    P: PredicateFn<K, V>,
+    W: Weigher<K, V>,
+    C: Clock,
+    I: IdSource,
+>()
+    ensures { StaysValid (record { eq = K.eq; tells = L.tells; says = P.says; weighs = W.weighs; observes = C.reads; gives = I.gives; created = X.created; read = X.read; updated = X.updated }) }
+{}
+
+/// A run that begins with every operation sent ends with count and weight exactly the records'.
+pub fn ends_exact<K: Eq, V, X, P: PredicateFn<K, V>, W>()
+    ensures { EndsExact X W K.eq P.says }
+{}
+
+/// After each run the reported count is off by no more than the operations that were not sent.
+pub fn counts_nearly<K: Eq, V, X, P: PredicateFn<K, V>, W>()
+    ensures { CountsNearly X W K.eq P.says }
+{}
+
+/// Where weight is the only ground for a removal, a run that ends within the capacity removes just enough from the least
+/// recently used end.
+pub fn removes_enough<K, V, X, P: PredicateFn<K, V>, W>()
+    ensures { (s : State K V X P W) (now : ℕ) (free : Freedom) → RemovesEnough P.says s now free }
+{}
+
+/// Where weight is the only ground for a removal, a run removes the least recently used first.
+pub fn removes_first<K, V, X, P: PredicateFn<K, V>, W>()
+    ensures { (s : State K V X P W) (now : ℕ) (free : Freedom) → RemovesFirst P.says s now free }
+{}
+
+/// Calls whose runs of maintenance keep their promises are a run of the reference cache, so every law holds of them.
+pub fn is_of_reference<
+    K: Eq,
+    V,
+    S,
+    X: Expiry<K, V>,
+    L: Listener<K, V>,
+    P: PredicateFn<K, V>,
+    W: Weigher<K, V>,
+    C: Clock,
+    I: IdSource,
+>()
+    ensures { IsOfReference S (record { eq = K.eq; tells = L.tells; says = P.says; weighs = W.weighs; observes = C.reads; gives = I.gives; created = X.created; read = X.read; updated = X.updated }) }
+{}
