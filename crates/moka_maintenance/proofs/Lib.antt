@@ -8,3 +8,6 @@ pub mod Stepped
 pub mod Fronts
 pub mod Sweeping
 pub mod Promises
+pub mod PassSteps
+pub mod Clocked
+pub mod Passing

@@ -79,11 +79,13 @@ module _ {K V : Type 0} where
   pub rows-then : (a b c : Kept K V) (o : Operation) (ticket : ℕ) (os : List Ticketed) → AddsNoPlace b c → LeavesNoRowAfter o a b → LeavesNoRowBy os b c → LeavesNoRowBy (record { ticket = ticket; operation = o } ∷ os) a c
   rows-then a b c o ticket os kept first then n p at gone =
       let later = then n p at gone in
-      let before = first n p (kept n p at) later.0 in
-      (before.0, λ t g there. elim (first_or_rest _ _ os there) [
-        | inl same ↦ before.1 g (ap (λ (x : Ticketed). x.operation) same)
-        | inr behind ↦ later.1 t g behind
-      ])
+      let before = first n p (kept n p at) later.0 in (
+        before.0,
+        λ t g there. elim (first_or_rest _ _ os there) [
+          | inl same ↦ before.1 g (ap (λ (x : Ticketed). x.operation) same)
+          | inr behind ↦ later.1 t g behind
+        ],
+      )
 
 -- a number whose row is not at its place has none, and so is no member and has no record
 pub no_row : {X : Type 0} (places : FinMap nat_cmp ℕ) (n place : ℕ) (o : Option X) → IsAt places n place → (IsSome o → IsSome (get places n)) → (get places n ≡ Some place → ⊥) → o ≡ None

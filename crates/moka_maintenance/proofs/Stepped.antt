@@ -12,7 +12,8 @@ use Rattle.moka_parts.specs.Maintenance.{Choice, Removes, MovesToBack, Drops, Te
 use Rattle.moka_parts.specs.Bounds.{removed_by}
 use Rattle.moka_parts.proofs.OneMore.{removed_by_append}
 use Rattle.moka_store.proofs.Gets.{get-past_remove}
-use Rattle.moka_store.proofs.Members.{counted-without, counted-to_back}
+use Rattle.moka_parts.proofs.AccessList.{counted-to_back}
+use Rattle.moka_store.proofs.Members.{counted-without}
 use Rattle.moka_maintenance.specs.Steps.{MayStep, MayAll, HasUnsettled, Told, IsStepped}
 use Rattle.moka_maintenance.proofs.Told.{told-none, told-on}
 

@@ -151,8 +151,8 @@ module _ {K V L : Type 0} (tells : L → K → V → RemovalCause → L → Type
         count = (let count = h.count in let more = removed-on h.by.steps (MovesToBack n ∷ []) in omega arith);
         rounds = h.rounds;
         made = (let made = h.made in let one = one-on (MovesToBack n) in let all_same : h.rounds * length next.access ≡ h.rounds * length now.access = ap (λ a. h.rounds * a) same in joined (length h.by.steps) turns less (h.rounds * length now.access) (length (h.by.steps ++ MovesToBack n ∷ [])) (h.rounds * length next.access) made one e all_same);
-        round = elim h.round [ | inl none ↦ inl none | inr none ↦ inr (subst (λ c. HasNoSettled c) (sym t.2) (none-passed now n f t.1.1.1 none)) ];
-        row = elim h.row [ | inl none ↦ inl (subst (λ c. HasNoSettled c) (sym t.2) (none-passed now n f t.1.1.1 none)) | inr row ↦ subst (λ c. HasNoSettled c ⊎ EndsUnsettled c (passed + 1)) (sym t.2) (row-passed now n f t.1.1.1 passed row) ];
+        round = elim h.round [ inl none ↦ inl none | inr none ↦ inr (subst (λ c. HasNoSettled c) (sym t.2) (none-passed now n f t.1.1.1 none)) ];
+        row = elim h.row [ inl none ↦ inl (subst (λ c. HasNoSettled c) (sym t.2) (none-passed now n f t.1.1.1 none)) | inr row ↦ subst (λ c. HasNoSettled c ⊎ EndsUnsettled c (passed + 1)) (sym t.2) (row-passed now n f t.1.1.1 passed row) ];
         once = subst (λ (c : Contents K V). IsDistinct (◌==◌) (numbers_of c.access)) (sym t.2) (distinct-to_back n now.access h.once);
         most = (let most = h.most in omega arith);
         few = (let few = h.few in omega arith);
@@ -174,7 +174,7 @@ module _ {K V L : Type 0} (tells : L → K → V → RemovalCause → L → Type
         turns = inr t.0;
         count = h.count;
         full = λ is. absurd (true≢false (sym is));
-        more = λ all_used _. (let most = h.most in absurd (omega arith));
+        more = λ used _. (let most = h.most in absurd (omega arith));
         rest = λ _. inr t.0;
       }))
     where
@@ -202,13 +202,18 @@ module _ {K V L : Type 0} (tells : L → K → V → RemovalCause → L → Type
       joined s t r d p u made e = grind (arith, made, e)
 
       none : HasNoSettled now
-      none = elim h.row [ | inl is ↦ is | inr row ↦ row-whole now passed row whole ]
+      none = elim h.row [ inl is ↦ is | inr row ↦ row-whole now passed row whole ]
 
       parts : turns / passed * passed + less ≡ turns
       parts = ap (λ u. turns / passed * passed + u) e ∙ div-add-mod' turns passed
 
       at_most : (a b c : ℕ) → a + b ≡ c → b ≤ c
       at_most a b c e = omega arith
+
+  -- where each removed a record, all members it met are settled
+  pub sweeping-all : (all : Bool) → Sweeping tells q sweep batch first now l m removed turns passed all → removed ≡ batch → all ≡ true
+  sweeping-all true h used = refl
+  sweeping-all false h used = (let lt = (h.unsettled refl).1 in absurd (omega arith))
 
   -- all turns are made
   pub sweeping-over : (all : Bool) → turns ≡ 0 → Sweeping tells q sweep batch first now l m removed turns passed all → IsSwept tells q sweep batch first now l m removed all
@@ -218,7 +223,7 @@ module _ {K V L : Type 0} (tells : L → K → V → RemovalCause → L → Type
     turns = inl (h.rounds, no_turns (length h.by.steps) turns (h.rounds * length now.access) e h.made, h.round);
     count = h.count;
     full = λ is. (let s = h.settled is in omega arith);
-    more = λ used _. decide all (λ is. (let lt = (h.unsettled is).1 in absurd (omega arith)));
+    more = λ used _. sweeping-all all h used;
     rest = λ is. inl (h.unsettled is).0;
   }
     where
@@ -227,7 +232,3 @@ module _ {K V L : Type 0} (tells : L → K → V → RemovalCause → L → Type
 
       no_turns : (s t a : ℕ) → t ≡ 0 → s + t + a ≡ batch → s + a ≡ batch
       no_turns s t a none e = omega arith
-
-      decide : (b : Bool) → (b ≡ false → b ≡ true) → b ≡ true
-      decide true f = refl
-      decide false f = f refl

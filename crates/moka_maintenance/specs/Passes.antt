@@ -1,5 +1,5 @@
 -- Passes of the steps that remove, and the clock between them.
-use Rattle.std.specs.Prelude.{◌≡◌, ℕ, ◌+◌, ◌-◌, ◌*◌, nat_le, Bool, true, false, ◌||◌, ◌≤◌, ◌⊎◌, List, [], length, Option, Some, None, is_some, if◌then◌else◌}
+use Rattle.std.specs.Prelude.{◌≡◌, ℕ, ◌+◌, ◌-◌, ◌*◌, ◌/◌, ◌<◌, nat_le, Bool, true, false, ◌||◌, ◌≤◌, ◌⊎◌, List, [], length, Option, Some, None, is_some, if◌then◌else◌}
 use Rattle.std.specs.List.{list_all}
 use Rattle.moka_parts.specs.declared.notification.RemovalCause.{RemovalCause}
 use Rattle.moka_parts.specs.declared.policy.Instant.{Instant}
@@ -42,7 +42,9 @@ module _ {K V L : Type 0} (tells : L → K → V → RemovalCause → L → Type
     pub by : IsStepped tells (MayStep (tests_in q)) before after l m
     pub count : removed ≡ length (removed_by by.steps)
     pub more : left ≡ true → 1 ≤ batch → 1 ≤ removed
-    -- it removed a batch, where all its steps make room
+    pub many : length by.steps ≤ batch + batch
+    -- where all its steps make room, it removed a batch if it left more, and else less than that
+    pub fewer : left ≡ false → 1 ≤ batch → list_all makes_room by.steps ≡ true → removed < batch
     pub batch_used : left ≡ true → 1 ≤ removed → list_all makes_room by.steps ≡ true → removed ≡ batch
     pub rest : left ≡ false → HasUnsettled after ⊎ IsWithin q.capacity after.access
     -- unsettled members are passed over up to the last turn
@@ -57,6 +59,7 @@ module _ {K V L : Type 0} (tells : L → K → V → RemovalCause → L → Type
       pub by : IsStepped tells (MayStep (tests_in q)) before after l m
       pub made : 1 ≤ passes
       pub few : passes ≤ length (removed_by by.steps) + 1
+      pub many : length by.steps ≤ passes * (batch + batch)
       pub readings : List Instant
       pub read : Leads reads c readings d
       pub timed : is_some limit ≡ true → length readings ≡ passes + (if is_late limit readings then 1 else 0)
@@ -70,5 +73,7 @@ module _ {K V L : Type 0} (tells : L → K → V → RemovalCause → L → Type
       pub used : left ≡ false → IsWithin q.capacity after.access ⊎ (HasNoSettled after ⊎ (passes * batch ≤ length by.steps))
       -- with a batch of 0 nothing is done, and more is left wherever a sweep is made
       pub idle : batch ≡ 0 → (after ≡ before) × (left ≡ (sweeps_reads q || is_over q.capacity after.access))
+      -- where all its steps make room, each pass but the last of a whole run removed a batch
+      pub exact : is_late limit readings ≡ false → 1 ≤ batch → list_all makes_room by.steps ≡ true → passes ≡ length (removed_by by.steps) / batch + 1
       -- one that was cut after its first pass, all of whose steps make room, removed a batch
       pub batch_used : is_late limit readings ≡ true → passes ≡ 1 → list_all makes_room by.steps ≡ true → length (removed_by by.steps) ≡ batch

@@ -61,8 +61,8 @@ module _ {K V L : Type 0} (tells : L → K → V → RemovalCause → L → Type
     -- it makes all its turns, or comes to rest
     pub turns : AreAllTurns q batch (length by.steps) after ⊎ IsAtRest q sweep after
     pub count : removed ≡ length (removed_by by.steps)
-    -- it leaves more where each of all its turns removed a record
+    -- each of all its turns removed a record
     pub full : left ≡ true → removed ≡ batch
     pub more : removed ≡ batch → 1 ≤ batch → left ≡ true
-    -- else it came to rest, or met an unsettled member
+    -- it came to rest, or met an unsettled member
     pub rest : left ≡ false → HasUnsettled after ⊎ IsAtRest q sweep after

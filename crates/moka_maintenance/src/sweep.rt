@@ -72,6 +72,7 @@ pub(crate) fn sweep_along<K: Eq + Hash + Drop, V: Drop, S: BuildHasher, L: Liste
     batch: u32,
 ) -> Swept
     ensures swept { IsSwept L.tells tests sweep batch (contents_in store.old) (contents_in store.new) notifier.old notifier.new result.removed result.is_left }
+    ensures left { result.removed ≡ batch → result.is_left ≡ true }
     ensures places { AddsNoPlace store.old store.new }
     ensures rows { LeavesNoRow store.old store.new }
     ensures room { store.old.room ≤ store.new.room }

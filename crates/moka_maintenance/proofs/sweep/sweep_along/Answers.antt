@@ -1,7 +1,7 @@
 use Rattle.std.proofs.Common.{arith, refl, ◌∙◌}
 use Rattle.moka_maintenance.specs.Steps.{contents_in}
 use Rattle.moka_maintenance.proofs.Placed.{places-on, rows-on}
-use Rattle.moka_maintenance.proofs.Sweeping.{sweeping-none, sweeping-removed, sweeping-passed, sweeping-rounds, sweeping-ended, sweeping-over}
+use Rattle.moka_maintenance.proofs.Sweeping.{sweeping-none, sweeping-removed, sweeping-passed, sweeping-rounds, sweeping-ended, sweeping-over, sweeping-all}
 use Rattle.moka_maintenance.proofs.sweep.sweep_along.Goals as goal
 
 pub loop-turns-init : goal.loop-turns-init
@@ -48,3 +48,9 @@ loop-turns-preserved g c =
 
 pub returns-clause-swept : goal.returns-clause-swept
 returns-clause-swept g c = sweeping-over g.L.Listener.tells c.args.tests c.args.sweep c.args.batch _ _ _ _ _ _ _ _ (let over = c.loop-turns-test.false in omega arith) c.loop-turns.invariant.sweeping
+
+pub returns-in-Ended-clause-left : goal.returns-in-Ended-clause-left
+returns-in-Ended-clause-left g c = λ used. (let most = c.loop-turns.invariant.sweeping.most in let some = c.loop-turns-test.true in absurd (omega arith))
+
+pub returns-clause-left : goal.returns-clause-left
+returns-clause-left g c = sweeping-all g.L.Listener.tells c.args.tests c.args.sweep c.args.batch _ _ _ _ _ _ _ _ c.loop-turns.invariant.sweeping

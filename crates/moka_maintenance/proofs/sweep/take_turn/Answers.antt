@@ -10,8 +10,7 @@ pub returns-clause-turn : goal.returns-clause-turn
 returns-clause-turn g c =
     let n = c.in-Some.handle.number in
     let r = c.in-Some-find.found.now in
-    let found = sym (c.in-Some-find.ensures.found c.in-Some.ensures.placed) in
-    (
+    let found = sym (c.in-Some-find.ensures.found c.in-Some.ensures.placed) in (
       n,
       c.in-Some-cause_of.cause,
       (

@@ -1,0 +1,192 @@
+-- Passes one after the other.
+use Rattle.std.proofs.Common.{◌≡◌, refl, ℕ, ◌+◌, ◌*◌, ◌/◌, ◌<◌, ◌≤◌, ◌⊎◌, Bool, true, false, true≢false, cond, not, ◌==◌, ◌&&◌, List, [], ◌∷◌, ◌++◌, length, Option, Some, None, is_some, inl, inr, ap, sym, subst, ◌∙◌, arith, if◌then◌else◌}
+use Rattle.std.proofs.lemmas.Bool.{cases_eq}
+use Rattle.std.proofs.lemmas.Nat.{div-mul-add}
+use Rattle.std.specs.List.{list_all}
+use Rattle.std.specs.Option.{option_map}
+use Rattle.std.specs.Prelude.{option_to_list}
+use Rattle.moka_parts.specs.declared.notification.RemovalCause.{RemovalCause}
+use Rattle.moka_parts.specs.declared.policy.Instant.{Instant}
+use Rattle.moka_parts.specs.declared.records.Member.{Member}
+use Rattle.moka_parts.specs.Records.{counted_of, is_member, is_settled, member, without_member, to_back}
+use Rattle.moka_parts.specs.State.{Contents}
+use Rattle.moka_parts.specs.Exact.{IsWithin}
+use Rattle.moka_parts.specs.Maintenance.{Choice, Removes, MovesToBack, Drops, Tests as Testing, after_choice, after_choices, is_late}
+use Rattle.moka_parts.specs.Bounds.{removed_by}
+use Rattle.moka_maintenance.specs.declared.sweep.Tests.{Tests}
+use Rattle.moka_maintenance.specs.Steps.{MayStep, MayAll, IsStepped, HasNoSettled, makes_room}
+use Rattle.moka_maintenance.specs.Sweeps.{tests_in}
+use Rattle.moka_maintenance.specs.Passes.{IsPass, IsRan}
+use Rattle.moka_maintenance.proofs.Stepped.{length-on, removed-on, stepped-none, stepped-on}
+use Rattle.moka_maintenance.proofs.PassSteps.{both_make_room}
+use Rattle.moka_maintenance.proofs.Clocked.{Clocked, IsChecked}
+
+-- ---- each removal makes the access list shorter
+
+length-without : (n : ℕ) (xs : List Member) → length (without_member n xs) ≤ length xs
+length-without n [] = omega arith
+length-without n (a ∷ xs) = let rest = length-without n xs in elim (a.number == n) as (λ b. length (cond (not b) (a ∷ without_member n xs) (without_member n xs)) ≤ length (a ∷ xs)) [
+  | true ↦ omega arith
+  | false ↦ omega arith
+]
+
+length-removed : (n : ℕ) (xs : List Member) → is_member n xs ≡ true → length (without_member n xs) + 1 ≤ length xs
+length-removed n [] e = cc
+length-removed n (a ∷ xs) e = go (a.number == n) (λ e. length-removed n xs e) e
+  where
+    go : (b : Bool) → (is_member n xs ≡ true → length (without_member n xs) + 1 ≤ length xs) → is_some (cond b (Some a.counted) (counted_of n xs)) ≡ true → length (cond (not b) (a ∷ without_member n xs) (without_member n xs)) + 1 ≤ length (a ∷ xs)
+    go true later e = let rest = length-without n xs in omega arith
+    go false later e = let rest = later e in omega arith
+
+one_at_most : (n : ℕ) (o : Option ℕ) → length (option_to_list (option_map (member n) o)) ≤ 1
+one_at_most n None = omega arith
+one_at_most n (Some w) = omega arith
+
+length-back : (n : ℕ) (xs : List Member) → is_member n xs ≡ true → length (to_back n xs) ≤ length xs
+length-back n xs e = let less = length-removed n xs e in let plus = length-on (without_member n xs) (option_to_list (option_map (member n) (counted_of n xs))) in let one = one_at_most n (counted_of n xs) in omega arith
+
+left : (a b : Bool) → (a && b) ≡ true → a ≡ true
+left true b e = refl
+left false b e = cc
+
+pub shrinks : {K V : Type 0} (q : Testing) (c : Contents K V) (xs : List Choice) → MayAll (MayStep q) c xs → length (after_choices c xs).access + length (removed_by xs) ≤ length c.access
+shrinks q c [] may = omega arith
+shrinks q c (Removes n cause ∷ xs) may = let rest = shrinks q (after_choice c (Removes n cause)) xs may.1 in let less = length-removed n c.access (left (is_member n c.access) (is_settled c.records n) may.0.2) in omega arith
+shrinks q c (MovesToBack n ∷ xs) may = let rest = shrinks q (after_choice c (MovesToBack n)) xs may.1 in let less = length-back n c.access may.0.0 in omega arith
+shrinks q c (Drops i ∷ xs) may = absurd may.0
+
+-- ---- passes
+
+-- passes each of which left more and removed a record
+pub record IsMoving {K V L : Type 0} (tells : L → K → V → RemovalCause → L → Type 0) (q : Tests) (batch : ℕ) (first now : Contents K V) (l m : Option L) (passes : ℕ) : Type 0 where
+  pub by : IsStepped tells (MayStep (tests_in q)) first now l m
+  pub few : passes ≤ length (removed_by by.steps)
+  pub turned : passes * batch ≤ length by.steps
+  pub many : length by.steps ≤ passes * (batch + batch)
+  pub exact : list_all makes_room by.steps ≡ true → length (removed_by by.steps) ≡ passes * batch
+  pub none : passes ≡ 0 → by.steps ≡ []
+  pub some : 1 ≤ passes → 1 ≤ batch
+
+pub moving-none : {K V L : Type 0} (tells : L → K → V → RemovalCause → L → Type 0) (q : Tests) (batch : ℕ) (c : Contents K V) (l : Option L) → IsMoving tells q batch c c l l 0
+unfolding stepped-none
+moving-none tells q batch c l = record { by = stepped-none tells (MayStep (tests_in q)) c l; few = omega arith; turned = omega arith; many = omega arith; exact = λ _. omega arith; none = λ _. refl; some = λ lt. absurd (omega arith) }
+
+-- there are no more passes than members
+pub moving-few : {K V L : Type 0} (tells : L → K → V → RemovalCause → L → Type 0) (q : Tests) (batch : ℕ) (first now : Contents K V) (l m : Option L) (passes : ℕ) → IsMoving tells q batch first now l m passes → passes ≤ length first.access
+moving-few tells q batch first now l m passes h = let s = shrinks (tests_in q) first h.by.steps h.by.may in let f = h.few in omega arith
+
+times_next : (passes batch : ℕ) → (passes + 1) * batch ≡ passes * batch + batch
+times_next passes batch = grind arith
+
+one_less : (passes batch a b c : ℕ) → a ≤ passes * (batch + batch) → b ≤ batch + batch → c ≡ a + b → c ≤ (passes + 1) * (batch + batch)
+one_less passes batch a b c h k e = let plus : (passes + 1) * (batch + batch) ≡ passes * (batch + batch) + (batch + batch) = times_next passes (batch + batch) in omega arith
+
+one_more : (passes batch a b c : ℕ) → passes * batch ≤ a → batch ≤ b → c ≡ a + b → (passes + 1) * batch ≤ c
+one_more passes batch a b c h k e = let plus = times_next passes batch in omega arith
+
+module _ {K V L : Type 0} (tells : L → K → V → RemovalCause → L → Type 0) (q : Tests) (batch : ℕ) (first now next : Contents K V) (l m n : Option L) (passes removed : ℕ) (more : Bool) (h : IsMoving tells q batch first now l m passes) (p : IsPass tells q batch now next m n removed more) where
+  -- the access list became shorter by what was removed
+  fewer : length next.access + removed ≤ length now.access
+  fewer = let s = subst (λ (x : Contents K V). length x.access + length (removed_by p.by.steps) ≤ length now.access) (sym p.by.led) (shrinks (tests_in q) now p.by.steps p.by.may) in let c = p.count in omega arith
+
+  -- and nothing is removed by a batch of 0
+  some_batch : 1 ≤ removed → 1 ≤ batch
+  some_batch some = elim (cases_eq batch 0) as (λ _. 1 ≤ batch) [
+    | inl none ↦ (let same = ap (λ (x : Contents K V). length x.access) (p.idle none).0 in let less = fewer in absurd (omega arith))
+    | inr other ↦ omega arith
+  ]
+
+  counted : length (removed_by (h.by.steps ++ p.by.steps)) ≡ length (removed_by h.by.steps) + removed
+  counted = let c = p.count in let a = removed-on h.by.steps p.by.steps in omega arith
+
+  many_all : length (h.by.steps ++ p.by.steps) ≤ (passes + 1) * (batch + batch)
+  many_all = one_less passes batch (length h.by.steps) (length p.by.steps) (length (h.by.steps ++ p.by.steps)) h.many p.many (length-on h.by.steps p.by.steps)
+
+  pub moving-on : 1 ≤ removed → more ≡ true → IsMoving tells q batch first next l n (passes + 1)
+  unfolding stepped-on
+  moving-on some is = record {
+    by = stepped-on tells (MayStep (tests_in q)) first now next l m n h.by p.by;
+    few = (let f = h.few in let c = counted in omega arith);
+    turned = one_more passes batch (length h.by.steps) (length p.by.steps) (length (h.by.steps ++ p.by.steps)) h.turned (p.turned is) (length-on h.by.steps p.by.steps);
+    many = many_all;
+    exact = λ all.
+        (let rooms = both_make_room h.by.steps p.by.steps all in
+        counted ∙ ap (λ k. k + removed) (h.exact rooms.0) ∙ ap (λ k. passes * batch + k) (p.batch_used is some rooms.1) ∙ sym (times_next passes batch));
+    none = λ e. absurd (omega arith);
+    some = λ _. some_batch some;
+  }
+
+  -- the access list became shorter
+  pub moving-less : 1 ≤ removed → length next.access + 1 ≤ length now.access
+  moving-less some = let f = fewer in omega arith
+
+  turned_all : IsWithin q.capacity next.access ⊎ (HasNoSettled next ⊎ (batch ≤ length p.by.steps)) → IsWithin q.capacity next.access ⊎ (HasNoSettled next ⊎ ((passes + 1) * batch ≤ length (h.by.steps ++ p.by.steps)))
+  turned_all (inl within) = inl within
+  turned_all (inr (inl none)) = inr (inl none)
+  turned_all (inr (inr all)) = inr (inr (one_more passes batch (length h.by.steps) (length p.by.steps) (length (h.by.steps ++ p.by.steps)) h.turned all (length-on h.by.steps p.by.steps)))
+
+  -- with a batch of 0 this is the first pass
+  first_idle : batch ≡ 0 → now ≡ first
+  first_idle none = elim (cases_eq passes 0) as (λ _. now ≡ first) [
+    | inl start ↦ h.by.led ∙ ap (after_choices first) (h.none start)
+    | inr other ↦ (let some = h.some (omega arith) in absurd (omega arith))
+  ]
+
+  module _ {C : Type 0} (reads : C → Instant → C → Type 0) (limit : Option ℕ) (started : Option Instant) (c d e : C) where
+    -- the last pass, after which the clock is not read
+    pub ran-out : Clocked reads limit started c d passes → (more ≡ true → removed ≡ 0) → IsRan tells q reads limit batch first next l n c d (passes + 1) more
+    unfolding stepped-on
+    ran-out k out = record {
+      by = stepped-on tells (MayStep (tests_in q)) first now next l m n h.by p.by;
+      made = omega arith;
+      many = many_all;
+      few = (let f = h.few in let c = counted in omega arith);
+      readings = k.readings;
+      read = k.read;
+      timed = λ is. subst (λ b. length k.readings ≡ passes + 1 + (if b then 1 else 0)) (sym k.early) (let t = k.timed is in omega arith);
+      untimed = k.untimed;
+      whole = λ _ some. decide more (λ is. (let o = out is in let s = p.more is some in absurd (omega arith)));
+      cut = λ late. absurd (true≢false (sym late ∙ k.early));
+      removing = λ late. absurd (true≢false (sym late ∙ k.early));
+      rest = p.rest;
+      used = λ is. turned_all (p.used is);
+      exact = λ _ some all.
+          (let rooms = both_make_room h.by.steps p.by.steps all in
+          let total = counted ∙ ap (λ k. k + removed) (h.exact rooms.0) in
+          let whole = ap (λ k. k / batch) total ∙ div-mul-add passes batch removed (p.fewer (decide more (λ is. (let o = out is in let s = p.more is some in absurd (omega arith)))) some rooms.1) in
+          sym (ap (λ k. k + 1) whole));
+      idle = λ none. (let i = p.idle none in (i.0 ∙ first_idle none, i.1));
+      batch_used = λ late. absurd (true≢false (sym late ∙ k.early));
+    }
+      where
+        decide : (b : Bool) → (b ≡ true → false ≡ true) → b ≡ false
+        decide true f = sym (f refl)
+        decide false f = refl
+
+    -- the pass after which the limit has passed
+    pub ran-late : IsChecked reads limit started c e (passes + 1) true → more ≡ true → 1 ≤ removed → IsRan tells q reads limit batch first next l n c e (passes + 1) true
+    unfolding stepped-on
+    ran-late k is some = record {
+      by = stepped-on tells (MayStep (tests_in q)) first now next l m n h.by p.by;
+      made = omega arith;
+      many = many_all;
+      few = (let f = h.few in let c = counted in omega arith);
+      readings = k.readings;
+      read = k.read;
+      timed = λ is. subst (λ b. length k.readings ≡ passes + 1 + (if b then 1 else 0)) (sym k.lateness) (k.timed is);
+      untimed = k.untimed;
+      whole = λ early some. absurd (true≢false (sym k.lateness ∙ early));
+      cut = λ _. refl;
+      removing = λ _. (let f = h.few in let c = counted in omega arith);
+      rest = λ is. absurd (true≢false is);
+      used = λ is. absurd (true≢false is);
+      exact = λ early. absurd (true≢false (sym k.lateness ∙ early));
+      idle = λ none. (let batch_made = some_batch some in absurd (omega arith));
+      batch_used = λ _ one all. first_batch (omega arith) all;
+    }
+      where
+        first_batch : passes ≡ 0 → list_all makes_room (h.by.steps ++ p.by.steps) ≡ true → length (removed_by (h.by.steps ++ p.by.steps)) ≡ batch
+        first_batch start all =
+            let none = h.none start in
+            let same = ap (λ xs. xs ++ p.by.steps) none in
+            ap (λ xs. length (removed_by xs)) same ∙ sym p.count ∙ p.batch_used is some (sym (ap (list_all makes_room) same) ∙ all)

@@ -1,0 +1,49 @@
+use Rattle.std.proofs.Common.{arith, rules, ◌+◌, ◌∙◌, option_map}
+use Rattle.std.specs.Duration.{as_nanos}
+use Rattle.moka_maintenance.specs.Steps.{contents_in}
+use Rattle.moka_maintenance.proofs.Clocked.{clocked-start, clocked-check, still_early}
+use Rattle.moka_maintenance.proofs.Passing.{moving-none, moving-few, moving-on, moving-less, ran-out, ran-late}
+use Rattle.moka_maintenance.proofs.Placed.{places-on, rows-on}
+use Rattle.moka_maintenance.proofs.passes.make_passes.Goals as goal
+
+pub loop-tests-init : goal.loop-tests-init
+loop-tests-init g c = record {
+  moving = moving-none g.L.Listener.tells c.args.tests c.args.batch (contents_in c.args.store.now) c.args.notifier.now;
+  clocked = clocked-start g.C.Clock.reads (option_map as_nanos c.args.limit) c.start-started.result c.args.clock.now c.start-started.new.clock c.start-started.ensures;
+  places = λ n p at. at;
+  rows = λ n p at gone. gone;
+  room = omega arith;
+}
+
+pub overflow_add-passes : goal.overflow_add-passes
+overflow_add-passes g c = let few = moving-few g.L.Listener.tells c.args.tests c.args.batch _ _ _ _ _ c.loop-tests.invariant.moving in let count = c.member_count-members.ensures.value in let bound = c.member_count-members.ensures.few in (search rules)
+
+pub returns-then-not-goes_on-clause-ran : goal.returns-then-not-goes_on-clause-ran
+returns-then-not-goes_on-clause-ran g c =
+    let inv = c.loop-tests.invariant in
+    ran-out g.L.Listener.tells c.args.tests c.args.batch _ _ _ _ _ _ _ _ _ inv.moving c.make_pass-pass.ensures.pass g.C.Clock.reads (option_map as_nanos c.args.limit) c.start-started.result c.args.clock.now c.loop-tests.clock c.loop-tests.clock inv.clocked (c.goes_on.ensures.over c.if-not-goes_on.true)
+
+pub returns-then-is_late-clause-ran : goal.returns-then-is_late-clause-ran
+returns-then-is_late-clause-ran g c =
+    let inv = c.loop-tests.invariant in
+    let on = c.goes_on.ensures.due c.if-not-goes_on.false in
+    ran-late g.L.Listener.tells c.args.tests c.args.batch _ _ _ _ _ _ _ _ _ inv.moving c.make_pass-pass.ensures.pass g.C.Clock.reads (option_map as_nanos c.args.limit) c.start-started.result c.args.clock.now c.loop-tests.clock c.is_late.new.clock
+    (clocked-check g.C.Clock.reads (option_map as_nanos c.args.limit) c.start-started.result c.args.clock.now c.loop-tests.clock c.is_late.new.clock c.loop-tests.passes _ inv.clocked c.if-is_late.ensures)
+    on.0 on.1
+
+pub loop-tests-smaller : goal.loop-tests-smaller
+loop-tests-smaller g c = let less = moving-less g.L.Listener.tells c.args.tests c.args.batch _ _ _ _ _ _ _ _ _ c.loop-tests.invariant.moving c.make_pass-pass.ensures.pass (c.goes_on.ensures.due c.if-not-goes_on.false).1 in omega arith
+
+pub loop-tests-preserved : goal.loop-tests-preserved
+loop-tests-preserved g c =
+    let inv = c.loop-tests.invariant in
+    let made = c.make_pass-pass.ensures in
+    let on = c.goes_on.ensures.due c.if-not-goes_on.false in
+    record {
+      moving = moving-on g.L.Listener.tells c.args.tests c.args.batch _ _ _ _ _ _ _ _ _ inv.moving made.pass on.1 on.0;
+      clocked = still_early g.C.Clock.reads (option_map as_nanos c.args.limit) c.start-started.result c.args.clock.now c.is_late.new.clock (c.loop-tests.passes + 1)
+          (clocked-check g.C.Clock.reads (option_map as_nanos c.args.limit) c.start-started.result c.args.clock.now c.loop-tests.clock c.is_late.new.clock c.loop-tests.passes _ inv.clocked c.if-is_late.ensures);
+      places = places-on c.args.store.now c.loop-tests.store c.make_pass-pass.new.store inv.places made.places;
+      rows = rows-on c.args.store.now c.loop-tests.store c.make_pass-pass.new.store made.places inv.rows made.rows;
+      room = (let before = inv.room in let after = made.room in omega arith);
+    }
