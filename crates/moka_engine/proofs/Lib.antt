@@ -3,7 +3,9 @@ pub mod Fewer
 pub mod InnerLemmas
 pub mod InnerRuns
 pub mod CacheSteps
+pub mod NewSteps
 pub mod SendSteps
 pub mod InsertSteps
 pub mod RemoveSteps
 pub mod GetSteps
+pub mod RunSteps

@@ -1,5 +1,5 @@
 //! The cache. moka: `sync::base_cache`.
-ghost use Rattle.std.specs.Prelude.{◌≡◌, ℕ, ◌≤◌, true, false, [], ◌∷◌, length, map, min, is_some, List, Option, Some, None, Ok, Err, IfOk, IfErr, option_map, option_copied};
+ghost use Rattle.std.specs.Prelude.{◌≡◌, ℕ, ◌≤◌, true, false, [], ◌∷◌, length, map, min, is_some, List, Option, Some, None, Ok, Err, IfOk, IfErr, if◌then◌else◌, option_map, option_copied};
 ghost use Rattle.std.specs.Duration.{as_nanos};
 ghost use Rattle.std.specs.FinMap as finite;
 ghost use Rattle.std.specs.List.{fold};
@@ -555,7 +555,7 @@ impl<
             self.passes = 0;
             return false;
         }
-        let limit = limit.filter(|_| self.notifier.is_enabled());
+        let limit = limit_of_run(self.notifier.is_enabled(), limit);
         let tests = Tests {
             now,
             time_to_live: self.expiration_policy.time_to_live(),
@@ -574,6 +574,13 @@ impl<
         self.passes = ran.passes;
         ran.is_left
     }
+}
+
+// The time limit of a run: without a listener it has none.
+fn limit_of_run(is_listening: bool, limit: Option<Duration>) -> Option<Duration>
+    ensures { option_map as_nanos result ≡ (if is_listening then option_map as_nanos limit else None) }
+{
+    if is_listening { limit } else { None }
 }
 
 // The weight, or the greatest number where it is greater.

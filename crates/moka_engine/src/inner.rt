@@ -18,7 +18,8 @@ ghost use Rattle.moka_maintenance.specs.Steps.{contents_in};
 ghost use Rattle.moka_engine.specs.Interior.{IsReadLocated, first_record, handing_out_inside, nothing_inside};
 
 use circular_buffer::HeapCircularBuffer;
-use crate::stub::{Ran, apply_reads, apply_writes, make_passes};
+use moka_maintenance::admission::{apply_reads, apply_writes};
+use moka_maintenance::passes::{Ran, make_passes};
 use moka_maintenance::queued::{PlacedWrite, QueuedRead, QueuedWrite};
 use moka_maintenance::sweep::Tests;
 use moka_parts::calls::Ticket;

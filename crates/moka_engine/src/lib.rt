@@ -3,6 +3,5 @@
 
 pub mod base_cache;
 pub mod inner;
-pub mod stub;
 
 pub use base_cache::BaseCache;
