@@ -3,7 +3,7 @@ use Rattle.std.specs.FinMap as finite
 use Rattle.moka_parts.specs.declared.records.Operation.TheVariants.{Removal}
 use Rattle.moka_store.specs.Store.{Kept}
 use Rattle.moka_engine.specs.Interior.{Interior}
-use Rattle.moka_store.proofs.Gets.{len-some, some-of}
+use Rattle.moka_store.proofs.Gets.{len-some, some_is}
 use Rattle.moka_engine.proofs.InnerLemmas.{inner-removed}
 use Rattle.moka_engine.proofs.ValuesLemmas.{map_values-insert}
 use Rattle.moka_engine.proofs.inner.Inner.remove.Goals as goal
@@ -11,7 +11,7 @@ use Rattle.moka_engine.proofs.inner.Inner.remove.Goals as goal
 pub overflow_add-ticket : goal.overflow_add-ticket
 overflow_add-ticket g c =
     let same = ap (λ (i : Interior g.row.K.Denot g.row.V.Denot). finite.get i.kept.records c.args.handle.number) c.self.view_is in
-    let found = some-of (finite.get c.args.self.now.kept.records c.args.handle.number) c.requires.handle.stored in
+    let found = some_is (finite.get c.args.self.now.kept.records c.args.handle.number) c.requires.handle.stored in
     let one = len-some c.self.inside.store.records c.args.handle.number found.0 (same ∙ found.1) in
     let tickets = c.self.invariant.tickets in
     omega arith

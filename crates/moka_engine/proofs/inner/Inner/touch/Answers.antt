@@ -2,14 +2,14 @@ use Rattle.std.proofs.Common.{◌+◌, refl, ap, ◌∙◌}
 use Rattle.std.specs.FinMap as finite
 use Rattle.moka_store.specs.Store.{Kept}
 use Rattle.moka_engine.specs.Interior.{Interior}
-use Rattle.moka_store.proofs.Gets.{some-of, len-kept}
+use Rattle.moka_store.proofs.Gets.{some_is, len-kept}
 use Rattle.moka_engine.proofs.InnerLemmas.{inner-touched}
 use Rattle.moka_engine.proofs.inner.Inner.touch.Goals as goal
 
 pub invariant_of-self : goal.invariant_of-self
 invariant_of-self g c =
     let same = ap (λ (i : Interior g.row.K.Denot g.row.V.Denot). finite.get i.kept.records c.args.handle.number) c.self.view_is in
-    let found = some-of (finite.get c.args.self.now.kept.records c.args.handle.number) c.requires.stored in
+    let found = some_is (finite.get c.args.self.now.kept.records c.args.handle.number) c.requires.stored in
     let old = found.0 in
     let there = same ∙ found.1 in
     let step = c.touch.ensures.step old there in
@@ -22,6 +22,6 @@ invariant_of-self g c =
 pub returns-clause-rest : goal.returns-clause-rest
 returns-clause-rest g c =
     let same = ap (λ (i : Interior g.row.K.Denot g.row.V.Denot). finite.get i.kept.records c.args.handle.number) c.self.view_is in
-    let found = some-of (finite.get c.args.self.now.kept.records c.args.handle.number) c.requires.stored in
+    let found = some_is (finite.get c.args.self.now.kept.records c.args.handle.number) c.requires.stored in
     let count = ap finite.len (ap (λ (k : Kept g.row.K.Denot g.row.V.Denot). k.records) (c.touch.ensures.step found.0 (same ∙ found.1))) ∙ len-kept c.self.inside.store.records c.args.handle.number (record found.0 { read = c.args.read; expires = c.args.expires }) found.0 (same ∙ found.1) in
     rw (count, ← c.self.view_is) refl
