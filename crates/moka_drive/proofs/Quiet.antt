@@ -1,16 +1,19 @@
 -- Before the first call, and where nothing happens.
-use Rattle.std.proofs.Common.{◌≡◌, refl, ℕ, List, [], ◌∷◌, length, Option, Some, None, Result, Ok, Err, IfOk, IfErr, option_map}
+use Rattle.std.proofs.Common.{◌≡◌, refl, ap, subst, ◌∙◌, ℕ, Bool, List, [], ◌∷◌, length, Option, Some, None, Result, Ok, Err, IfOk, IfErr, option_map}
 use Rattle.std.specs.declared.alloc.Global.{Global}
 use Rattle.std.specs.declared.vec.Vec.{Vec}
 use Rattle.moka_parts.specs.declared.calls.Call.TheVariants as call
 use Rattle.moka_parts.specs.declared.calls.Reply.TheVariants as reply
 use Rattle.moka_parts.specs.declared.error.OutOfMemory.{OutOfMemory}
 use Rattle.moka_parts.specs.declared.notification.RemovalCause.{RemovalCause}
-use Rattle.moka_parts.specs.Records.{Notice}
+use Rattle.moka_parts.specs.Records.{Notice, record_of_key}
+use Rattle.moka_parts.specs.declared.calls.KvEntry.{KvEntry}
+use Rattle.moka_parts.specs.declared.calls.Ticket.{Ticket}
+use Rattle.moka_parts.specs.declared.records.Record.{Record}
 use Rattle.moka_parts.specs.State.{State, Meaning}
 use Rattle.moka_parts.specs.Maintenance.{Terms, Course}
 use Rattle.moka_parts.specs.Surroundings.{Heard}
-use Rattle.moka_parts.specs.Calls.{no_events, KeysStep}
+use Rattle.moka_parts.specs.Calls.{no_events, only_notices, KeysStep, RemoveStep, RemovesAt}
 use Rattle.moka_parts.specs.Runs.{Cache, Befalls, CallStep, MakesCalls}
 
 -- a list of no length is empty
@@ -36,3 +39,31 @@ pub keys_step : {K V X L P W C I : Type 0} (m : Meaning K V X L P W C I) (Runs :
 keys_step m Runs s segment (Ok (Some keys)) listed refused = (listed, (refl, refl))
 keys_step m Runs s segment (Ok None) listed refused = (listed, (refl, refl))
 keys_step m Runs s segment (Err e) listed refused = (refused, (refl, refl))
+
+-- a removal changes no setting
+pub removal_keeps_settings : {K V X P W : Type 0} (eq : K → K → Bool) (s t : State K V X P W) (key : K) (a : Option (KvEntry K V × Ticket)) → RemoveStep eq s key a t → t.settings ≡ s.settings
+removal_keeps_settings {K} {V} {X} {P} {W} eq s t key a step = at (record_of_key eq s.records key) step
+  where
+    at : (o : Option (Record K V)) → RemovesAt s o a t → t.settings ≡ s.settings
+    at None (none, same) = ap (λ (x : State K V X P W). x.settings) same
+    at (Some r) (entry, same) = ap (λ (x : State K V X P W). x.settings) same
+
+-- who was told nothing is still the same
+heard_nothing : {K V L : Type 0} (tells : L → K → V → RemovalCause → L → Type 0) (l m : Option L) → Heard tells l [] m → m ≡ l
+heard_nothing tells None None h = refl
+heard_nothing tells (Some l) (Some m) h = ap Some h
+heard_nothing tells None (Some m) h = absurd h
+heard_nothing tells (Some l) None h = absurd h
+
+module _ {K V S X L P W : Type 0} (tells : L → K → V → RemovalCause → L → Type 0) where
+  -- where nothing happened before the notices, they are all that befalls the cache
+  pub befalls_then : (ns : List (Notice K V)) (old mid new : Cache K V S X L P W) → Befalls tells no_events old mid → Befalls tells (only_notices ns) mid new → Befalls tells (only_notices ns) old new
+  befalls_then ns old mid new before after =
+      let same = heard_nothing tells old.listener mid.listener before.heard in
+      let name : mid.name ≡ old.name = ap (λ (c : Cache K V S X L P W). c.name) before.kept in
+      let hasher : mid.hasher ≡ old.hasher = ap (λ (c : Cache K V S X L P W). c.hasher) before.kept in
+      record {
+        kept = after.kept ∙ ap (λ n. record mid { name = n; state = new.state; listener = new.listener; write_list = new.write_list; passes = new.passes }) name ∙ ap (λ h. record old { hasher = h; state = new.state; listener = new.listener; write_list = new.write_list; passes = new.passes }) hasher;
+        heard = subst (λ l. Heard tells l ns new.listener) same after.heard;
+        passes = after.passes ∙ before.passes;
+      }

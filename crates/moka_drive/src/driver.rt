@@ -1,16 +1,18 @@
 //! Makes calls one after the other.
-ghost use Rattle.std.specs.Prelude.{◌≡◌, true, length, List, IfOk, IfErr, OnErr};
+ghost use Rattle.std.specs.Prelude.{◌≡◌, true, length, List, Some, IfOk, IfErr, OnErr};
 ghost use Rattle.std.specs.List.{AllByRecursion};
 ghost use Rattle.moka_parts.specs.State.{Events};
 ghost use Rattle.moka_parts.specs.Surroundings.{Leads};
-ghost use Rattle.moka_parts.specs.Calls.{KeyStep};
+ghost use Rattle.moka_parts.specs.Calls.{only_notices, KeyStep, NotifiesAfter};
+ghost use Rattle.moka_parts.specs.Records.{Notice};
+ghost use Rattle.moka_parts.specs.declared.calls.Ticket.{Ticket};
 ghost use Rattle.moka_parts.specs.Laws.{AllConserveValues};
 ghost use Rattle.moka_parts.specs.Runs.{Befalls, CallStep, MakesCalls, PromisedRun, Step};
 ghost use Rattle.moka_parts.specs.declared.calls.Reply.TheVariants.{Report};
 ghost use Rattle.moka_drive.specs.Served.{IsServed, RemovesAndNotifies};
 
 use moka_engine::base_cache::BaseCache;
-use moka_parts::calls::{Call, DriveRefused, Reply};
+use moka_parts::calls::{Call, DriveRefused, KvEntry, Reply};
 use moka_parts::closures::{PredicateFn, Weigher};
 use moka_parts::error::OutOfMemory;
 use moka_parts::housekeeper::Clock;
@@ -176,12 +178,33 @@ fn remove<
             told: None,
         };
     };
-    let told = match now {
-        Some(now) => Some(cache.notify_invalidate(&entry, now)),
-        None => None,
-    };
+    let told = notify(cache, &entry, now);
     let removed = Some((entry, ticket));
     Reply::Remove { removed, told }
+}
+
+// The notice of an entry that was removed, if the removal carries a moment.
+fn notify<
+    K: Eq + Hash + Clone,
+    V: Clone,
+    S: BuildHasher,
+    X: Expiry<K, V>,
+    L: Listener<K, V>,
+    P: PredicateFn<K, V>,
+    W: Weigher<K, V>,
+>(
+    cache: &mut BaseCache<K, V, S, X, L, P, W>,
+    entry: &KvEntry<K, V>,
+    now: Option<Instant>,
+) -> Option<Result<(), OutOfMemory>>
+    requires keys { (x y : K) → K.is_clone x y → y ≡ x }
+    requires values { (x y : V) → V.is_clone x y → y ≡ x }
+    ensures { (notices : List (Notice K V)) × ((ticket : Ticket) → NotifiesAfter cache.old.state.settings (Some (entry.now, ticket)) now result notices) × (cache.new.state ≡ cache.old.state) × Befalls L.tells (only_notices notices) cache.old cache.new }
+{
+    match now {
+        Some(now) => Some(cache.notify_invalidate(entry, now)),
+        None => None,
+    }
 }
 
 // The report of the last run.

@@ -1,7 +1,9 @@
 use Rattle.std.proofs.Common.{rules, arith, refl, sym, ap, subst, ◌∙◌, [], ◌∷◌, ◌++◌, append_assoc, append-nil, length}
 use Rattle.std.specs.List.{AllByRecursion}
 use Rattle.std.specs.Vec.Iter.{into_iter_items}
+use Rattle.moka_parts.specs.State.{Meaning}
 use Rattle.moka_parts.specs.Runs.{PromisedRun}
+use Rattle.moka_parts.proofs.ListsOfCalls.{calls_tell_each_once}
 use Rattle.moka_parts.proofs.RunsGoOn.{MakesCalls_push}
 use Rattle.moka_drive.specs.Served.{IsServed}
 use Rattle.moka_drive.proofs.Quiet.{no_calls, empty_of_length}
@@ -13,7 +15,7 @@ loop-call-init g c = record {
   finite = tt;
   ran = ([], rw c.in-Ok.ensures.items (no_calls (record { eq = g.K.PartialEq.eq; tells = g.L.Listener.tells; says = g.P.PredicateFn.says; weighs = g.W.Weigher.weighs; observes = g.C.Clock.reads; gives = g.I.IdSource.gives; created = g.X.Expiry.created; read = g.X.Expiry.read; updated = g.X.Expiry.updated }) (PromisedRun g.P.PredicateFn.says g.X.Expiry.read) c.args.cache.now c.args.clock.now c.args.ids.now));
   rest = search rules;
-  served = search rules;
+  served = grind (rules, c.requires.served);
   room = search rules;
 }
 
@@ -47,4 +49,5 @@ returns-clause-run g c =
     let h = c.loop-call.invariant.ran in
     let none = empty_of_length (into_iter_items c.loop-call.call-iterator) (sym c.loop-call.call-iterator.rest.ok.0 ∙ c.in-None.ensures.steps.0) in
     let all = c.loop-call.invariant.rest ∙ (ap (λ xs. c.loop-call.yielded ++ xs) none ∙ append-nil c.loop-call.yielded) in
-    (h.0, rw all h.1)
+    let m : Meaning g.row.K.Denot g.row.V.Denot g.row.X.Denot g.row.L.Denot g.row.P.Denot g.row.W.Denot g.row.C.Denot g.row.I.Denot = record { eq = g.K.PartialEq.eq; tells = g.L.Listener.tells; says = g.P.PredicateFn.says; weighs = g.W.Weigher.weighs; observes = g.C.Clock.reads; gives = g.I.IdSource.gives; created = g.X.Expiry.created; read = g.X.Expiry.read; updated = g.X.Expiry.updated } in
+    (h.0, rw all h.1, λ listening. calls_tell_each_once m h.1 g.met.K.Eq.laws c.invariant_holds.ensures.valid listening)

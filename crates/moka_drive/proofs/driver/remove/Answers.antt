@@ -1,0 +1,18 @@
+use Rattle.std.proofs.Common.{refl, sym, subst, Some}
+use Rattle.moka_parts.specs.Calls.{only_notices, RemoveStep, NotifiesAfter}
+use Rattle.moka_drive.proofs.Quiet.{befalls_then, removal_keeps_settings}
+use Rattle.moka_drive.proofs.driver.remove.Goals as goal
+
+pub returns : goal.returns
+returns g c =
+    let told = c.notify-told.ensures in
+    let step = c.in-Some.ensures.step in
+    let settings = removal_keeps_settings g.K.PartialEq.eq c.args.cache.now.state c.remove_entry.new.self.state c.args.key.now (Some (c.in-Some.entry, c.in-Some.ticket)) step in (
+      only_notices told.0,
+      (
+        subst (λ t. RemoveStep g.K.PartialEq.eq c.args.cache.now.state c.args.key.now (Some (c.in-Some.entry, c.in-Some.ticket)) t) (sym told.2) step,
+        subst (λ s. NotifiesAfter s (Some (c.in-Some.entry, c.in-Some.ticket)) c.args.now c.notify-told.result told.0) settings (told.1 c.in-Some.ticket),
+        refl,
+      ),
+      befalls_then g.L.Listener.tells told.0 c.args.cache.now c.remove_entry.new.self c.notify-told.new.cache c.in-Some.ensures.events told.3,
+    )
