@@ -13,6 +13,10 @@ pub mod WriteList
 pub mod Entries
 pub mod InOrder
 pub mod OrderKept
+pub mod Tickets
+pub mod OrderedStates
+pub mod OrderedCalls
+pub mod AgedOut
 pub mod CallsKeep
 pub mod StepsKeep
 pub mod Promises
