@@ -45,7 +45,8 @@ module _ {X : Type 0} where
         | inr apart ↦ (let low = least j x (sym (get_past_remove m k j apart) ∙ at) in let differ = apart.forth in grind (arith, low, differ))
       ]
 
-  all_above : (k : ℕ) (es : List (ℕ × X)) → T (below_all nat_cmp k es) → AllByRecursion (λ e. k < e.0) es
+  -- the keys behind a key in order
+  pub all_above : (k : ℕ) (es : List (ℕ × X)) → T (below_all nat_cmp k es) → AllByRecursion (λ e. k < e.0) es
   all_above k [] h = tt
   all_above k (e ∷ es) h = (below k e.0 (nat_cmp k e.0) refl (left_part _ _ h), all_above k es (right_part _ _ h))
     where

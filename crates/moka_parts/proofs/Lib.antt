@@ -14,10 +14,13 @@ pub mod WriteList
 pub mod Entries
 pub mod InOrder
 pub mod OrderKept
+pub mod Tickets
+pub mod OrderedStates
+pub mod OrderedCalls
+pub mod AgedOut
 pub mod CallsKeep
 pub mod StepsKeep
 pub mod Promises
-pub mod SettingsStay
 pub mod Surplus
 pub mod OneMore
 pub mod Conserved
