@@ -58,7 +58,7 @@ serves_key (key ∷ more ∷ rest) = tt
 
 serves_remove : (arguments : List (List ℕ)) → Serves (remove_of arguments)
 serves_remove [] = tt
-serves_remove (key ∷ []) = serves_then (number_of 32 key) _ (λ k. refl)
+serves_remove (key ∷ []) = serves_then (number_of 32 key) _ (λ k. tt)
 serves_remove (key ∷ more ∷ rest) = tt
 
 serves_run : (arguments : List (List ℕ)) → Serves (run_of arguments)
