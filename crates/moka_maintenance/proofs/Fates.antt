@@ -1,15 +1,15 @@
 -- What becomes of an upsert where TinyLFU has nothing to choose.
-use Rattle.std.proofs.Common.{◌≡◌, refl, ℕ, ◌+◌, ◌<◌, ◌≤◌, Bool, true, false, List, [], ◌∷◌, ◌++◌, Option, Some, None, ◌⊎◌, inl, inr, nat_lt, nat_le, ap, sym, ◌∙◌, subst, arith, if◌then◌else◌}
+use Rattle.std.proofs.Common.{◌≡◌, refl, ℕ, ◌+◌, ◌<◌, ◌≤◌, Bool, true, false, [], Option, Some, None, ◌⊎◌, inl, inr, nat_lt, nat_le, ap, sym, ◌∙◌, subst, arith, if◌then◌else◌}
 use Rattle.std.specs.Option.{option_map_or}
 use Rattle.std.proofs.lemmas.Bool.{eq-eqb}
 use Rattle.std.specs.FinMap.{get, remove}
 use Rattle.moka_parts.specs.declared.notification.RemovalCause.{RemovalCause}
 use Rattle.moka_parts.specs.declared.notification.RemovalCause.TheVariants.{Size}
 use Rattle.moka_parts.specs.declared.policy.EvictionPolicy.{EvictionPolicy}
-use Rattle.moka_parts.specs.declared.policy.EvictionPolicy.TheVariants.{TinyLfu, Lru}
+use Rattle.moka_parts.specs.declared.policy.EvictionPolicy.TheVariants.{Lru}
 use Rattle.moka_parts.specs.declared.records.Record.{Record}
 use Rattle.moka_parts.specs.declared.records.Operation.TheVariants.{Upsert}
-use Rattle.moka_parts.specs.Records.{Notice, counted_of, has_room, is_member, to_back, total_weight, without_member}
+use Rattle.moka_parts.specs.Records.{counted_of, has_room, is_member, to_back, total_weight, without_member}
 use Rattle.moka_parts.specs.State.{Contents}
 use Rattle.moka_parts.specs.Writes.{Fate, Ignored, Overtaken, Counted, Admitted, TooHeavy, fate, fate_of_record, fate_of_newcomer, after_fate, left_by_fate, left_by_rejection, entered, rejected, with_applied}
 use Rattle.moka_parts.specs.Maintenance.{Removes, after_choice}

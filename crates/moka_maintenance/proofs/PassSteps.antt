@@ -1,27 +1,21 @@
 -- The steps of a pass joined, and passes one after the other.
-use Rattle.std.proofs.Common.{◌≡◌, refl, ℕ, ◌+◌, ◌*◌, ◌<◌, ◌≤◌, ◌⊎◌, Bool, true, false, true≢false, cond, not, ◌==◌, ◌&&◌, ◌||◌, List, [], ◌∷◌, ◌++◌, length, Option, Some, None, is_some, inl, inr, ap, sym, subst, ◌∙◌, arith}
+use Rattle.std.proofs.Common.{◌≡◌, refl, ℕ, ◌+◌, ◌*◌, ◌<◌, ◌≤◌, ◌⊎◌, Bool, true, false, true≢false, not, ◌&&◌, ◌||◌, List, [], ◌∷◌, ◌++◌, length, Option, Some, None, is_some, inl, inr, ap, sym, subst, ◌∙◌, arith}
 use Rattle.std.proofs.lemmas.Bool.{cases_eq}
 use Rattle.std.proofs.lemmas.List.Folds.{list_all-append}
 use Rattle.std.specs.List.{list_all}
 use Rattle.std.specs.Duration.{as_nanos}
 use Rattle.std.specs.Option.{option_map}
-use Rattle.std.specs.Prelude.{option_to_list}
 use Rattle.moka_parts.specs.declared.notification.RemovalCause.{RemovalCause}
-use Rattle.moka_parts.specs.declared.notification.RemovalCause.TheVariants.{Expired, Explicit, Replaced, Size}
-use Rattle.moka_parts.specs.declared.records.Member.{Member}
-use Rattle.moka_parts.specs.Records.{counted_of, is_member, is_settled, member, without_member, to_back}
 use Rattle.moka_parts.specs.State.{Contents}
 use Rattle.moka_parts.specs.Time.{deadline, has_passed, is_before, moment_of}
 use Rattle.moka_parts.specs.declared.policy.Instant.{Instant}
-use Rattle.moka_parts.specs.Exact.{IsWithin}
-use Rattle.moka_parts.specs.Maintenance.{Choice, Removes, MovesToBack, Drops, after_choice, after_choices, is_over}
-use Rattle.moka_parts.specs.Maintenance as parts
+use Rattle.moka_parts.specs.Maintenance.{Choice, Removes, MovesToBack, Drops, after_choices, is_over}
 use Rattle.moka_parts.specs.Bounds.{removed_by}
 use Rattle.moka_maintenance.specs.declared.sweep.Tests.{Tests}
 use Rattle.moka_maintenance.specs.declared.sweep.Sweep.{Sweep}
 use Rattle.moka_maintenance.specs.declared.sweep.Sweep.TheVariants.{Read, Surplus}
-use Rattle.moka_maintenance.specs.Steps.{MayStep, MayAll, IsStepped, HasUnsettled, HasNoSettled, is_timely, makes_room}
-use Rattle.moka_maintenance.specs.Sweeps.{tests_in, IsAtRest, MayTurn, IsSwept}
+use Rattle.moka_maintenance.specs.Steps.{MayStep, MayAll, IsStepped, is_timely, makes_room}
+use Rattle.moka_maintenance.specs.Sweeps.{tests_in, IsAtRest, IsDone, AreAllTurns, MayTurn, IsSwept}
 use Rattle.moka_maintenance.specs.Passes.{is_taken, sweeps_reads, IsPass}
 use Rattle.moka_maintenance.proofs.Fronts.{within-not_over}
 use Rattle.moka_maintenance.proofs.Stepped.{length-on, removed-on, removed-few, stepped-none, stepped-on, stepped-also}
@@ -44,6 +38,18 @@ module _ {K V L : Type 0} (tells : L → K → V → RemovalCause → L → Type
   -- one that is taken with a batch of 0
   pub left-idle : (sweep : Sweep) (batch : ℕ) (a b : Contents K V) (l m : Option L) (removed : ℕ) (left : Bool) → IsSwept tells q sweep batch a b l m removed left → batch ≡ 0 → removed ≡ batch
   left-idle sweep batch a b l m removed left h none = let few = h.few in let less = removed-few h.by.steps in let count = h.count in omega arith
+
+  -- what a sweep comes to
+  pub swept-done : (sweep : Sweep) (batch : ℕ) (a b : Contents K V) (l m : Option L) (removed : ℕ) (left : Bool) (h : IsSwept tells q sweep batch a b l m removed left) → IsDone q sweep batch (length h.by.steps) b
+  swept-done sweep batch a b l m removed left h = go h.turns
+    where
+      all : (s a : ℕ) → s + a ≡ batch → a ≡ 0 → batch ≤ s
+      all s a e none = omega arith
+
+      go : AreAllTurns q batch (length h.by.steps) b ⊎ IsAtRest q sweep b → IsDone q sweep batch (length h.by.steps) b
+      go (inr rest) = inl rest
+      go (inl (rounds, made, inr none)) = inr (inl none)
+      go (inl (rounds, made, inl none)) = inr (inr (all (length h.by.steps) (rounds * length b.access) made (ap (λ r. r * length b.access) none ∙ omega arith)))
 
 -- a step that is not taken has nothing to do
 no_duration : {D : Type 0} (f : D → ℕ) (o : Option D) (t now : ℕ) → is_some o ≡ false → has_passed (deadline (option_map f o) t) now ≡ false
@@ -145,13 +151,11 @@ module _ {K V L : Type 0} (tells : L → K → V → RemovalCause → L → Type
       go true f is = (let e = f refl in let less = removed-few first.by.steps in let count = first.count in let all = many in omega arith)
       go false f is = (let e = second.full is in let less = removed-few second.by.steps in let count = second.count in let all = many in omega arith)
 
-  used_last : IsWithin q.capacity c.access ⊎ (HasNoSettled c ⊎ (batch ≤ length (first.by.steps ++ second.by.steps)))
-  used_last = elim second.turns [
-    | inl all ↦ elim all.2 [
-      | inl none ↦ inr (inr (let e = all.1 in let gone : all.0 * length c.access ≡ 0 = ap (λ r. r * length c.access) none ∙ omega arith in let many = length-on first.by.steps second.by.steps in omega arith))
-      | inr none ↦ inr (inl none)
-    ]
-    | inr rest ↦ inl rest
+  used_last : IsDone q Surplus batch (length (first.by.steps ++ second.by.steps)) c
+  used_last = elim (swept-done tells q Surplus batch b c m k s y second) [
+    | inl rest ↦ inl rest
+    | inr (inl none) ↦ inr (inl none)
+    | inr (inr all) ↦ inr (inr (let many = length-on first.by.steps second.by.steps in omega arith))
   ]
 
   idle : (x ≡ is_taken q Read a.access) → (y ≡ is_taken q Surplus b.access) → batch ≡ 0 → (c ≡ a) × ((x || y) ≡ (sweeps_reads q || is_over q.capacity c.access))
@@ -173,6 +177,7 @@ module _ {K V L : Type 0} (tells : L → K → V → RemovalCause → L → Type
     batch_used = only_second;
     rest = λ is. second.rest (last_left is);
     turned = used_up;
-    used = λ _. used_last;
+    used = used_last;
+    reads_swept = (first.by.steps, second.by.steps, refl, subst (λ d. IsDone q Read batch (length first.by.steps) d) first.by.led (swept-done tells q Read batch a b l m r x first));
     idle = λ none. idle (due none) (over none) none;
   }

@@ -1,5 +1,5 @@
 -- Passes one after the other.
-use Rattle.std.proofs.Common.{◌≡◌, refl, ℕ, ◌+◌, ◌*◌, ◌/◌, ◌<◌, ◌≤◌, ◌⊎◌, Bool, true, false, true≢false, cond, not, ◌==◌, ◌&&◌, List, [], ◌∷◌, ◌++◌, length, Option, Some, None, is_some, inl, inr, ap, sym, subst, ◌∙◌, arith, if◌then◌else◌}
+use Rattle.std.proofs.Common.{◌≡◌, refl, ℕ, ◌+◌, ◌*◌, ◌/◌, ◌≤◌, Bool, true, false, true≢false, cond, not, ◌==◌, ◌&&◌, List, [], ◌∷◌, ◌++◌, length, Option, Some, None, is_some, inl, inr, ap, sym, subst, ◌∙◌, arith, append_assoc, if◌then◌else◌}
 use Rattle.std.proofs.lemmas.Bool.{cases_eq}
 use Rattle.std.proofs.lemmas.Nat.{div-mul-add}
 use Rattle.std.specs.List.{list_all}
@@ -10,14 +10,15 @@ use Rattle.moka_parts.specs.declared.policy.Instant.{Instant}
 use Rattle.moka_parts.specs.declared.records.Member.{Member}
 use Rattle.moka_parts.specs.Records.{counted_of, is_member, is_settled, member, without_member, to_back}
 use Rattle.moka_parts.specs.State.{Contents}
-use Rattle.moka_parts.specs.Exact.{IsWithin}
-use Rattle.moka_parts.specs.Maintenance.{Choice, Removes, MovesToBack, Drops, Tests as Testing, after_choice, after_choices, is_late}
+use Rattle.moka_parts.specs.Maintenance.{Choice, Removes, MovesToBack, Drops, Tests as Testing, after_choice, after_choices}
 use Rattle.moka_parts.specs.Bounds.{removed_by}
 use Rattle.moka_maintenance.specs.declared.sweep.Tests.{Tests}
-use Rattle.moka_maintenance.specs.Steps.{MayStep, MayAll, IsStepped, HasNoSettled, makes_room}
-use Rattle.moka_maintenance.specs.Sweeps.{tests_in}
+use Rattle.moka_maintenance.specs.Steps.{MayStep, MayAll, IsStepped, makes_room}
+use Rattle.moka_maintenance.specs.declared.sweep.Sweep.{Sweep}
+use Rattle.moka_maintenance.specs.declared.sweep.Sweep.TheVariants.{Read, Surplus}
+use Rattle.moka_maintenance.specs.Sweeps.{tests_in, IsDone}
 use Rattle.moka_maintenance.specs.Passes.{IsPass, IsRan}
-use Rattle.moka_maintenance.proofs.Stepped.{length-on, removed-on, stepped-none, stepped-on}
+use Rattle.moka_maintenance.proofs.Stepped.{choices-append, length-on, removed-on, stepped-none, stepped-on}
 use Rattle.moka_maintenance.proofs.PassSteps.{both_make_room}
 use Rattle.moka_maintenance.proofs.Clocked.{Clocked, IsChecked}
 
@@ -120,10 +121,23 @@ module _ {K V L : Type 0} (tells : L → K → V → RemovalCause → L → Type
   pub moving-less : 1 ≤ removed → length next.access + 1 ≤ length now.access
   moving-less some = let f = fewer in omega arith
 
-  turned_all : IsWithin q.capacity next.access ⊎ (HasNoSettled next ⊎ (batch ≤ length p.by.steps)) → IsWithin q.capacity next.access ⊎ (HasNoSettled next ⊎ ((passes + 1) * batch ≤ length (h.by.steps ++ p.by.steps)))
-  turned_all (inl within) = inl within
-  turned_all (inr (inl none)) = inr (inl none)
-  turned_all (inr (inr all)) = inr (inr (one_more passes batch (length h.by.steps) (length p.by.steps) (length (h.by.steps ++ p.by.steps)) h.turned all (length-on h.by.steps p.by.steps)))
+  turned_all : (sweep : Sweep) (c : Contents K V) (turns more : ℕ) → more ≡ length h.by.steps + turns → IsDone q sweep batch turns c → IsDone q sweep ((passes + 1) * batch) more c
+  turned_all sweep c turns more e (inl rest) = inl rest
+  turned_all sweep c turns more e (inr (inl none)) = inr (inl none)
+  turned_all sweep c turns more e (inr (inr all)) = inr (inr (one_more passes batch (length h.by.steps) turns more h.turned all e))
+
+  used_all : IsDone q Surplus ((passes + 1) * batch) (length (h.by.steps ++ p.by.steps)) next
+  used_all = turned_all Surplus next (length p.by.steps) (length (h.by.steps ++ p.by.steps)) (length-on h.by.steps p.by.steps) p.used
+
+  read_all : (xs ys : List Choice) × (h.by.steps ++ p.by.steps ≡ xs ++ ys) × IsDone q Read ((passes + 1) * batch) (length xs) (after_choices first xs)
+  read_all =
+      let at = p.reads_swept in
+      let met : after_choices now at.0 ≡ after_choices first (h.by.steps ++ at.0) = ap (λ c. after_choices c at.0) h.by.led ∙ sym (choices-append first h.by.steps at.0) in (
+        h.by.steps ++ at.0,
+        at.1,
+        ap (λ zs. h.by.steps ++ zs) at.2 ∙ sym (append_assoc h.by.steps at.0 at.1),
+        subst (λ c. IsDone q Read ((passes + 1) * batch) (length (h.by.steps ++ at.0)) c) met (turned_all Read (after_choices now at.0) (length at.0) (length (h.by.steps ++ at.0)) (length-on h.by.steps at.0) at.3),
+      )
 
   -- with a batch of 0 this is the first pass
   first_idle : batch ≡ 0 → now ≡ first
@@ -149,7 +163,8 @@ module _ {K V L : Type 0} (tells : L → K → V → RemovalCause → L → Type
       cut = λ late. absurd (true≢false (sym late ∙ k.early));
       removing = λ late. absurd (true≢false (sym late ∙ k.early));
       rest = p.rest;
-      used = λ is. turned_all (p.used is);
+      used = used_all;
+      reads_swept = read_all;
       exact = λ _ some all.
           (let rooms = both_make_room h.by.steps p.by.steps all in
           let total = counted ∙ ap (λ k. k + removed) (h.exact rooms.0) in
@@ -179,7 +194,8 @@ module _ {K V L : Type 0} (tells : L → K → V → RemovalCause → L → Type
       cut = λ _. refl;
       removing = λ _. (let f = h.few in let c = counted in omega arith);
       rest = λ is. absurd (true≢false is);
-      used = λ is. absurd (true≢false is);
+      used = used_all;
+      reads_swept = read_all;
       exact = λ early. absurd (true≢false (sym k.lateness ∙ early));
       idle = λ none. (let batch_made = some_batch some in absurd (omega arith));
       batch_used = λ _ one all. first_batch (omega arith) all;

@@ -1,5 +1,5 @@
 -- Which rows stay when a record changes, leaves, or its number goes.
-use Rattle.std.proofs.Common.{◌≡◌, ◌≢◌, ℕ, List, [], ◌∷◌, Option, Some, None, Contains, inl, inr, sym, ap, ◌∙◌, subst, refl, arith, IsSome}
+use Rattle.std.proofs.Common.{◌≡◌, ◌≢◌, ℕ, List, [], ◌∷◌, Option, Some, None, inl, inr, sym, ap, ◌∙◌, subst, refl, arith, IsSome}
 use Rattle.std.proofs.lemmas.Bool.{cases_eq}
 use Rattle.std.specs.FinMap.{FinMap, get, insert, remove}
 use Rattle.std.specs.Ordering.{nat_cmp}
@@ -9,7 +9,7 @@ use Rattle.moka_parts.specs.declared.records.Ticketed.{Ticketed}
 use Rattle.moka_parts.specs.declared.records.Record.{Record}
 use Rattle.moka_parts.specs.Settling.{number_of}
 use Rattle.moka_store.specs.Store.{Kept}
-use Rattle.moka_store.proofs.Gets.{get-inserted, get-past_insert, get-removed, get-past_remove, after_remove}
+use Rattle.moka_store.proofs.Gets.{get-inserted, get-past_insert, get-past_remove, after_remove}
 use Rattle.moka_maintenance.specs.Queued.{IsAt}
 use Rattle.moka_maintenance.specs.Steps.{AddsNoPlace, LeavesNoRow}
 use Rattle.moka_maintenance.specs.Queues.{LeavesNoRowAfter, LeavesNoRowBy}

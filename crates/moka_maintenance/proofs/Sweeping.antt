@@ -1,8 +1,7 @@
 -- Where a sweep stands between two turns.
-use Rattle.std.proofs.Common.{◌≡◌, refl, ℕ, ◌+◌, ◌*◌, ◌/◌, ◌%◌, ◌<◌, ◌≤◌, ◌⊎◌, Bool, true, false, true≢false, ◌==◌, ◌&&◌, List, [], ◌∷◌, ◌++◌, length, Option, Some, None, inl, inr, ap, sym, subst, ◌∙◌, arith, append_assoc, append-nil}
+use Rattle.std.proofs.Common.{◌≡◌, refl, ℕ, ◌+◌, ◌*◌, ◌/◌, ◌%◌, ◌<◌, ◌≤◌, ◌⊎◌, Bool, true, false, true≢false, ◌==◌, ◌&&◌, List, [], ◌∷◌, ◌++◌, length, Option, inl, inr, ap, sym, subst, ◌∙◌, arith, append_assoc, append-nil}
 use Rattle.std.proofs.lemmas.Nat.{div-add-mod'}
 use Rattle.std.specs.List.{IsDistinct}
-use Rattle.std.specs.FinMap.{get}
 use Rattle.moka_parts.specs.declared.notification.RemovalCause.{RemovalCause}
 use Rattle.moka_parts.specs.declared.records.Member.{Member}
 use Rattle.moka_parts.specs.Records.{is_member, is_settled, numbers_of, settled_members}
@@ -15,7 +14,7 @@ use Rattle.moka_maintenance.specs.declared.sweep.Sweep.{Sweep}
 use Rattle.moka_maintenance.specs.declared.sweep.Sweep.TheVariants.{Read, Surplus}
 use Rattle.moka_maintenance.specs.declared.sweep.Turn.TheVariants.{Removed, Passed, Ended}
 use Rattle.moka_maintenance.specs.Steps.{Told, HasUnsettled, HasNoSettled, IsStepped}
-use Rattle.moka_maintenance.specs.Sweeps.{tests_in, IsNext, IsAtRest, MayTurn, TakesTurn, IsSwept}
+use Rattle.moka_maintenance.specs.Sweeps.{tests_in, IsNext, MayTurn, TakesTurn, IsSwept}
 use Rattle.moka_maintenance.proofs.Told.{told-none}
 use Rattle.moka_maintenance.proofs.Stepped.{length-on, removed-on, stepped-none, stepped-one, stepped-on, unsettled-step, unsettled-passed}
 use Rattle.moka_maintenance.proofs.Fronts.{Front, front_of, length-moved, settled-pushed, settled-behind, none_settled}

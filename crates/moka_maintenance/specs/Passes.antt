@@ -1,5 +1,5 @@
 -- Passes of the steps that remove, and the clock between them.
-use Rattle.std.specs.Prelude.{◌≡◌, ℕ, ◌+◌, ◌-◌, ◌*◌, ◌/◌, ◌<◌, nat_le, Bool, true, false, ◌||◌, ◌≤◌, ◌⊎◌, List, [], length, Option, Some, None, is_some, if◌then◌else◌}
+use Rattle.std.specs.Prelude.{◌≡◌, ℕ, ◌+◌, ◌-◌, ◌*◌, ◌/◌, ◌<◌, nat_le, Bool, true, false, ◌||◌, ◌≤◌, ◌⊎◌, List, [], ◌++◌, length, Option, Some, None, is_some, if◌then◌else◌}
 use Rattle.std.specs.List.{list_all}
 use Rattle.moka_parts.specs.declared.notification.RemovalCause.{RemovalCause}
 use Rattle.moka_parts.specs.declared.policy.Instant.{Instant}
@@ -7,13 +7,13 @@ use Rattle.moka_parts.specs.declared.records.Member.{Member}
 use Rattle.moka_parts.specs.State.{Contents}
 use Rattle.moka_parts.specs.Surroundings.{Leads}
 use Rattle.moka_parts.specs.Exact.{IsWithin}
-use Rattle.moka_parts.specs.Maintenance.{is_over, is_late}
+use Rattle.moka_parts.specs.Maintenance.{Choice, is_over, is_late, after_choices}
 use Rattle.moka_parts.specs.Bounds.{removed_by}
 use Rattle.moka_maintenance.specs.declared.sweep.Tests.{Tests}
 use Rattle.moka_maintenance.specs.declared.sweep.Sweep.{Sweep}
 use Rattle.moka_maintenance.specs.declared.sweep.Sweep.TheVariants.{Read, Surplus}
-use Rattle.moka_maintenance.specs.Steps.{MayStep, HasUnsettled, HasNoSettled, IsStepped, makes_room}
-use Rattle.moka_maintenance.specs.Sweeps.{tests_in}
+use Rattle.moka_maintenance.specs.Steps.{MayStep, HasUnsettled, IsStepped, makes_room}
+use Rattle.moka_maintenance.specs.Sweeps.{tests_in, IsDone}
 
 module _ {C : Type 0} (reads : C → Instant → C → Type 0) where
   -- the clock is read once where a limit is given
@@ -49,7 +49,9 @@ module _ {K V L : Type 0} (tells : L → K → V → RemovalCause → L → Type
     pub rest : left ≡ false → HasUnsettled after ⊎ IsWithin q.capacity after.access
     -- unsettled members are passed over up to the last turn
     pub turned : left ≡ true → batch ≤ length by.steps
-    pub used : left ≡ false → IsWithin q.capacity after.access ⊎ (HasNoSettled after ⊎ (batch ≤ length by.steps))
+    pub used : IsDone q Surplus batch (length by.steps) after
+    -- after the first of its steps, the sweep by the last read is done
+    pub reads_swept : (first second : List Choice) × (by.steps ≡ first ++ second) × IsDone q Read batch (length first) (after_choices before first)
     -- with a batch of 0 nothing is done, and more is left wherever a sweep is made
     pub idle : batch ≡ 0 → (after ≡ before) × (left ≡ (sweeps_reads q || is_over q.capacity after.access))
 
@@ -70,7 +72,9 @@ module _ {K V L : Type 0} (tells : L → K → V → RemovalCause → L → Type
       pub removing : is_late limit readings ≡ true → passes ≤ length (removed_by by.steps)
       pub rest : left ≡ false → HasUnsettled after ⊎ IsWithin q.capacity after.access
       -- unsettled members are passed over up to the last turn of each pass
-      pub used : left ≡ false → IsWithin q.capacity after.access ⊎ (HasNoSettled after ⊎ (passes * batch ≤ length by.steps))
+      pub used : IsDone q Surplus (passes * batch) (length by.steps) after
+      -- after some of its steps, the last sweep by the last read is done
+      pub reads_swept : (first second : List Choice) × (by.steps ≡ first ++ second) × IsDone q Read (passes * batch) (length first) (after_choices before first)
       -- with a batch of 0 nothing is done, and more is left wherever a sweep is made
       pub idle : batch ≡ 0 → (after ≡ before) × (left ≡ (sweeps_reads q || is_over q.capacity after.access))
       -- where all its steps make room, each pass but the last of a whole run removed a batch

@@ -1,5 +1,5 @@
 -- Sweeps along the access list.
-use Rattle.std.specs.Prelude.{◌≡◌, ℕ, ◌+◌, ◌*◌, Bool, true, false, ◌&&◌, ◌≤◌, ◌⊎◌, List, length, Option, Some, option_map}
+use Rattle.std.specs.Prelude.{◌≡◌, ℕ, ◌+◌, ◌*◌, Bool, true, false, ◌&&◌, ◌≤◌, ◌⊎◌, length, Option, Some, option_map}
 use Rattle.std.specs.Duration.{as_nanos}
 use Rattle.std.specs.FinMap.{get}
 use Rattle.moka_parts.specs.declared.notification.RemovalCause.{RemovalCause}
@@ -46,6 +46,10 @@ module _ {K V : Type 0} (q : Tests) where
   -- so many turns are all of the batch, but for whole rounds over members none of which is settled
   abbrev pub AreAllTurns : ℕ → ℕ → Contents K V → Type 0
   AreAllTurns batch turns c = (rounds : ℕ) × (turns + rounds * length c.access ≡ batch) × ((rounds ≡ 0) ⊎ HasNoSettled c)
+
+  -- the sweep came to rest, or no member is settled, or all turns of the batch were made
+  abbrev pub IsDone : Sweep → ℕ → ℕ → Contents K V → Type 0
+  IsDone sweep batch turns c = IsAtRest sweep c ⊎ (HasNoSettled c ⊎ (batch ≤ turns))
 
 module _ {K V L : Type 0} (tells : L → K → V → RemovalCause → L → Type 0) (q : Tests) where
   -- one turn of a sweep

@@ -1,4 +1,4 @@
-//! Maintenance of a cache: queued reads and writes are applied, and what has expired or exceeds the capacity is removed.
+//! Maintenance: queued reads and writes are applied, and what has expired or exceeds the capacity is removed.
 #![tactic(auto)]
 
 pub mod admission;

@@ -1,4 +1,4 @@
-//! Sweeps along the access list: what is at the front and past its test leaves.
+//! Sweeps along the access list: the front leaves where it has expired or is invalid, or the capacity is exceeded.
 //!
 //! moka: `sync::base_cache::Inner::remove_expired_ao`, `Inner::evict_lru_entries`.
 ghost use Rattle.std.specs.Prelude.{◌≡◌, ◌≤◌, ◌&&◌, ℕ, true, false, [], Some, IfSome, IfNone, IsSome, List};
@@ -36,7 +36,7 @@ pub struct Tests {
 
 /// By what a sweep removes.
 #[derive(Clone, Copy)]
-pub enum Sweep {
+pub(crate) enum Sweep {
     /// By the last read.
     Read,
     /// While the capacity is exceeded.
@@ -45,7 +45,7 @@ pub enum Sweep {
 
 /// What one turn of a sweep did.
 #[derive(Clone, Copy)]
-pub enum Turn {
+pub(crate) enum Turn {
     /// The front left.
     Removed,
     /// The front, which is not settled, went to the back.
@@ -63,7 +63,7 @@ pub(crate) struct Swept {
     pub is_left: bool,
 }
 
-/// Makes up to `batch` turns.
+/// Makes `batch` turns, or as many as there are to make.
 pub(crate) fn sweep_along<K: Eq + Hash + Drop, V: Drop, S: BuildHasher, L: Listener<K, V>>(
     store: &mut Store<K, V, S>,
     notifier: &mut RemovalNotifier<L>,
@@ -108,7 +108,7 @@ pub(crate) fn sweep_along<K: Eq + Hash + Drop, V: Drop, S: BuildHasher, L: Liste
     Swept { removed, is_left }
 }
 
-// One turn: the front leaves where it is settled and past its test, and goes to the back where it is not settled.
+// One turn: a settled front leaves if the sweep has a cause to remove it, and one that is not settled goes to the back.
 fn take_turn<K: Eq + Hash + Drop, V: Drop, S: BuildHasher, L: Listener<K, V>>(
     store: &mut Store<K, V, S>,
     notifier: &mut RemovalNotifier<L>,

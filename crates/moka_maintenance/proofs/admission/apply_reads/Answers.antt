@@ -1,4 +1,4 @@
-use Rattle.std.proofs.Common.{◌≡◌, sym, ap, ◌∙◌, subst, Contains}
+use Rattle.std.proofs.Common.{sym, ap, ◌∙◌, subst, Contains}
 use Rattle.circular_buffer.specs.Buffer.{Buffer}
 use Rattle.moka_parts.specs.Reads.{after_reads}
 use Rattle.moka_store.specs.Store.{Kept}

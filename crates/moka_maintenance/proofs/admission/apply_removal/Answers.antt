@@ -3,7 +3,7 @@ use Rattle.std.specs.FinMap as finite
 use Rattle.moka_parts.specs.Records.{counted_of}
 use Rattle.moka_parts.proofs.AccessList.{absent_taken_out, counted_taken_out}
 use Rattle.moka_store.specs.Store.{Kept}
-use Rattle.moka_maintenance.proofs.Placed.{no_row, places-gone, rows-unplaced, rows-kept, rows-forgotten}
+use Rattle.moka_maintenance.proofs.Placed.{no_row, places-gone, rows-unplaced, rows-forgotten}
 use Rattle.moka_maintenance.proofs.admission.apply_removal.Goals as goal
 
 pub returns-then-not-has_row-clause-step : goal.returns-then-not-has_row-clause-step

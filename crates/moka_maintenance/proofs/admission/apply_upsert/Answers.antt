@@ -1,7 +1,5 @@
-use Rattle.std.proofs.Common.{◌≡◌, None, refl, sym, ap, ◌∙◌, true≢false, false}
+use Rattle.std.proofs.Common.{refl, sym, ap, ◌∙◌, true≢false}
 use Rattle.std.specs.FinMap as finite
-use Rattle.moka_parts.specs.State.{Contents}
-use Rattle.moka_parts.specs.Records.{is_member}
 use Rattle.moka_store.specs.Store.{Kept}
 use Rattle.moka_maintenance.specs.Steps.{contents_in}
 use Rattle.moka_maintenance.proofs.Fates.{applied-absent, applied-overtaken, applied-counted, applied-admitted, applied-rejected}

@@ -1,4 +1,4 @@
-use Rattle.std.proofs.Common.{◌≡◌, sym, ap, ◌∙◌, subst}
+use Rattle.std.proofs.Common.{sym, subst}
 use Rattle.moka_parts.specs.declared.records.Operation.{Operation}
 use Rattle.moka_maintenance.specs.Queues.{LeavesNoRowAfter}
 use Rattle.moka_maintenance.proofs.admission.apply_write.Goals as goal

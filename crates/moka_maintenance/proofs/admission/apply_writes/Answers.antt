@@ -1,6 +1,5 @@
-use Rattle.std.proofs.Common.{◌≡◌, None, List, sym, ap, ◌∙◌, subst, Contains, slice_get, arith}
+use Rattle.std.proofs.Common.{List, sym, ap, ◌∙◌, subst, Contains, arith}
 use Rattle.circular_buffer.specs.Buffer.{Buffer}
-use Rattle.moka_store.specs.Store.{Kept}
 use Rattle.moka_maintenance.specs.declared.queued.QueuedWrite.{QueuedWrite}
 use Rattle.moka_maintenance.specs.Queued.{writes_of}
 use Rattle.moka_maintenance.specs.Queues.{AreApplied, LeavesNoRowBy}

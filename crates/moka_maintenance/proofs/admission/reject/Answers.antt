@@ -1,9 +1,6 @@
-use Rattle.std.proofs.Common.{◌≡◌, refl, sym, ap, ◌∙◌, arith}
-use Rattle.std.specs.FinMap as finite
+use Rattle.std.proofs.Common.{◌≡◌, sym, ap, ◌∙◌, arith}
 use Rattle.moka_parts.specs.State.{Contents}
-use Rattle.moka_parts.specs.declared.records.Record.{Record}
 use Rattle.moka_store.specs.Store.{Kept}
-use Rattle.moka_store.proofs.Gets.{some_same}
 use Rattle.moka_maintenance.proofs.Fates.{rejected-gone}
 use Rattle.moka_maintenance.proofs.Placed.{places-gone, rows-gone, rows-changed}
 use Rattle.moka_maintenance.specs.Steps.{contents_in}

@@ -1,4 +1,4 @@
-use Rattle.std.proofs.Common.{Bool, ℕ, ◌+◌, sym, subst, ◌||◌, arith}
+use Rattle.std.proofs.Common.{Bool, ℕ, ◌+◌, sym, subst}
 use Rattle.moka_maintenance.specs.Steps.{contents_in}
 use Rattle.moka_maintenance.specs.Passes.{IsPass}
 use Rattle.moka_maintenance.proofs.PassSteps.{pass-two}

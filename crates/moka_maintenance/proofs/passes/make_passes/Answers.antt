@@ -1,4 +1,4 @@
-use Rattle.std.proofs.Common.{arith, rules, ◌+◌, ◌∙◌, option_map}
+use Rattle.std.proofs.Common.{arith, rules, ◌+◌, option_map}
 use Rattle.std.specs.Duration.{as_nanos}
 use Rattle.moka_maintenance.specs.Steps.{contents_in}
 use Rattle.moka_maintenance.proofs.Clocked.{clocked-start, clocked-check, still_early}

@@ -1,6 +1,5 @@
-use Rattle.std.proofs.Common.{◌≡◌, ◌&&◌, true, refl, sym, ap, ◌∙◌, subst, rules}
+use Rattle.std.proofs.Common.{sym, ap, ◌∙◌}
 use Rattle.moka_parts.specs.State.{Contents}
-use Rattle.moka_parts.specs.Records.{is_member, is_settled}
 use Rattle.moka_maintenance.specs.Steps.{contents_in}
 use Rattle.moka_maintenance.proofs.Placed.{places-gone, rows-gone}
 use Rattle.moka_maintenance.proofs.Fronts.{settled_member}
