@@ -9,6 +9,15 @@ pub mod RunKeepsSound
 pub mod AtEnd
 pub mod RunReturns
 pub mod Rising
+pub mod Rises
+pub mod WriteList
+pub mod Entries
+pub mod InOrder
+pub mod OrderKept
+pub mod Tickets
+pub mod OrderedStates
+pub mod OrderedCalls
+pub mod AgedOut
 pub mod CallsKeep
 pub mod StepsKeep
 pub mod Promises

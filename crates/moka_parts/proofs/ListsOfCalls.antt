@@ -12,7 +12,7 @@ use Rattle.moka_parts.specs.Runs.{Cache, Step, AreSteps, MakesCalls, PromisedRun
 use Rattle.moka_parts.specs.Laws.{AllConserveValues}
 use Rattle.moka_parts.proofs.RunsGoOn.{promised_is_run}
 use Rattle.moka_parts.proofs.SettingsStay.{run_keeps_settings, call_keeps_settings}
-use Rattle.moka_parts.proofs.Promises.{weaker_steps_of_kind, is_of_reference}
+use Rattle.moka_parts.proofs.Promises.{is_of_reference}
 use Rattle.moka_parts.proofs.ConservedCalls.{tells_each_once}
 
 -- ---- where no order of writing is kept
@@ -33,24 +33,8 @@ module _ {K V X P W : Type 0} (s : State K V X P W) (terms : Terms) (course : Co
   orderly_unordered says read notices run = (run.0, (run.1, ages_out_unordered))
 
 module _ {K V X L P W C I : Type 0} (m : Meaning K V X L P W C I) where
-  -- so is each run of a list of calls
-  pub steps_orderly_unordered : (s : State K V X P W) (steps : List (Step K V X P W)) → keeps_write_list s.settings ≡ false → AreSteps m (PromisedRun m.says m.read) s steps → AreSteps m (OrderlyRun m.says m.read) s steps
-  steps_orderly_unordered s steps unordered done =
-      weaker_steps_of_kind m (λ settings. keeps_write_list settings ≡ false) (PromisedRun m.says m.read) (OrderlyRun m.says m.read)
-      (λ s terms course notices t unordered run. orderly_unordered s terms course t unordered m.says m.read notices run)
-      (λ s t c r e step unordered. ap keeps_write_list (call_keeps_settings m (PromisedRun m.says m.read) (λ s terms course notices t run. run_keeps_settings m.says s terms course notices t (promised_is_run m.says m.read s terms course notices t run)) s t c r e step) ∙ unordered)
-      s steps unordered done
-
   module _ {S : Type 0} {calls : List (Call K V P)} {replies : List (Reply K V P)} {steps : List (Step K V X P W)} {old new : Cache K V S X L P W} {clock clock_after : C} {ids ids_after : I}
       (made : MakesCalls m (PromisedRun m.says m.read) calls replies steps old clock ids new clock_after ids_after) where
-    -- the calls are all that `drive` promises
-    pub drives_unordered : keeps_write_list old.state.settings ≡ false → Drives m calls replies old clock ids new clock_after ids_after
-    drives_unordered unordered = record {
-      steps = steps;
-      is_run = made;
-      orderly = λ empty in_order. steps_orderly_unordered old.state steps unordered made.are_steps;
-    }
-
     -- where a listener is set, it is notified once of each value that leaves the map other than by a caller's removal
     pub calls_tell_each_once : IsEquivalence m.eq → IsValid m.eq old.state → old.state.settings.listening ≡ true → AllConserveValues old.state steps
     calls_tell_each_once laws valid listening = tells_each_once m old.state steps laws valid listening (is_of_reference S m calls replies steps old new clock clock_after ids ids_after made).are_steps

@@ -72,9 +72,9 @@ pub record AgesOut {K V X P W : Type 0} (s : State K V X P W) (terms : Terms) (c
   pub invalid : IsWhole s terms course → IsAllSent s → keeps_write_list s.settings ≡ true → (n : ℕ) (r : Record K V) → get t.records n ≡ Some r → is_written_before t.invalid_before r ≡ false
 
 module _ {K V X P W : Type 0} where
-  -- a call in the order of time keeps a state in order
+  -- where the write list is kept, a call in the order of time keeps a state in order
   abbrev pub KeepsOrder : State K V X P W → List ℕ → Call K V P → State K V X P W → List ℕ → Type 0
-  KeepsOrder s before c t after = IsOrderly s c → IsInOrder s before → IsInOrder t after
+  KeepsOrder s before c t after = keeps_write_list s.settings ≡ true → IsOrderly s c → IsInOrder s before → IsInOrder t after
 
   -- from a state in order a run removes what is past its time
   abbrev pub AgesOutInOrder : State K V X P W → List ℕ → Terms → Course → State K V X P W → Type 0

@@ -5,7 +5,7 @@ ghost use Rattle.moka_parts.specs.declared.records.Member.{Member};
 ghost use Rattle.moka_parts.specs.State.{State, Contents};
 ghost use Rattle.moka_parts.specs.Maintenance.{Freedom};
 ghost use Rattle.moka_parts.specs.Runs.{PromisedRun};
-ghost use Rattle.moka_parts.specs.Laws.{GetsWhatIsContained, StaysHidden, DropsOnlyIdle, RemovesJustOne, AdmitsWell, TellsEachOnce, PeeksQuietly, StartsValid, StaysValid, EndsExact, CountsNearly, RemovesEnough, RemovesFirst, IsOfReference};
+ghost use Rattle.moka_parts.specs.Laws.{GetsWhatIsContained, StaysHidden, DropsOnlyIdle, RemovesJustOne, AdmitsWell, TellsEachOnce, PeeksQuietly, StartsValid, StaysValid, StaysInOrder, EndsExact, CountsNearly, RemovesEnough, RemovesFirst, IsOfReference};
 
 use crate::closures::{PredicateFn, Weigher};
 use crate::housekeeper::Clock;
@@ -85,6 +85,20 @@ pub fn stays_valid<
     ensures { StaysValid (record { eq = K.eq; tells = L.tells; says = P.says; weighs = W.weighs; observes = C.reads; gives = I.gives; created = X.created; read = X.read; updated = X.updated }) }
 {}
 
+/// Where the write list is kept, calls in the order of time keep a state in the order of writing.
+pub fn stays_in_order<
+    K: Eq,
+    V,
+    X: Expiry<K, V>,
+    L: Listener<K, V>,
+    P: PredicateFn<K, V>,
+    W: Weigher<K, V>,
+    C: Clock,
+    I: IdSource,
+>()
+    ensures { StaysInOrder (record { eq = K.eq; tells = L.tells; says = P.says; weighs = W.weighs; observes = C.reads; gives = I.gives; created = X.created; read = X.read; updated = X.updated }) }
+{}
+
 /// A run that begins with every operation sent ends with count and weight exactly the records'.
 pub fn ends_exact<K: Eq, V, X, P: PredicateFn<K, V>, W>()
     ensures { EndsExact X W K.eq P.says }
@@ -120,3 +134,74 @@ pub fn is_of_reference<
 >()
     ensures { IsOfReference S (record { eq = K.eq; tells = L.tells; says = P.says; weighs = W.weighs; observes = C.reads; gives = I.gives; created = X.created; read = X.read; updated = X.updated }) }
 {}
+
+#[cfg(test)]
+mod tests {
+    use super::*;
+    use crate::closures::{NoPredicate, NoWeigher};
+    use crate::housekeeper::FixedClock;
+    use crate::invalidator::PredicateId;
+    use crate::notification::NoListener;
+    use crate::policy::NoExpiry;
+    use uuid::Uuid;
+
+    /// Gives the same identifier each time.
+    struct OneId;
+
+    impl IdSource for OneId {
+        ghost use Rattle.std.specs.Prelude.{◌≡◌};
+
+        ghost gives = { λ before _ after. after ≡ before };
+
+        fn next_id(&mut self) -> PredicateId {
+            Uuid::nil()
+        }
+    }
+
+    #[test]
+    fn hold_of_plain_types(_rt: HostRuntime) {
+        gets_what_is_contained::<u8, char, NoExpiry, NoPredicate, NoWeigher>();
+        removes_just_one::<u8, char, NoExpiry, NoPredicate, NoWeigher>();
+        peeks_quietly::<u8, char, NoExpiry, NoPredicate, NoWeigher>();
+        admits_well::<u8, char>();
+        drops_only_idle::<u8, char, NoExpiry, NoPredicate, NoWeigher>();
+        removes_enough::<u8, char, NoExpiry, NoPredicate, NoWeigher>();
+        removes_first::<u8, char, NoExpiry, NoPredicate, NoWeigher>();
+        starts_valid::<u8, char, NoExpiry, NoPredicate, NoWeigher>();
+        ends_exact::<u8, char, NoExpiry, NoPredicate, NoWeigher>();
+        counts_nearly::<u8, char, NoExpiry, NoPredicate, NoWeigher>();
+        stays_hidden::<u8, char, NoExpiry, NoListener, NoPredicate, NoWeigher, FixedClock, OneId>();
+        stays_valid::<u8, char, NoExpiry, NoListener, NoPredicate, NoWeigher, FixedClock, OneId>();
+        stays_in_order::<
+            u8,
+            char,
+            NoExpiry,
+            NoListener,
+            NoPredicate,
+            NoWeigher,
+            FixedClock,
+            OneId,
+        >();
+        tells_each_once::<
+            u8,
+            char,
+            NoExpiry,
+            NoListener,
+            NoPredicate,
+            NoWeigher,
+            FixedClock,
+            OneId,
+        >();
+        is_of_reference::<
+            u8,
+            char,
+            (),
+            NoExpiry,
+            NoListener,
+            NoPredicate,
+            NoWeigher,
+            FixedClock,
+            OneId,
+        >();
+    }
+}
