@@ -67,7 +67,7 @@ module _ {K V X L P W : Type 0} {eq : K → K → Bool} {l : Option L} {s : Stat
     hit entry value own =
         let due : RunsIfDue Runs (after_hit read s r now.0) (length s.reads) (hit_at read s r now.0) no_events (after_hit read s r now.0) = rw (h.served.finished, h.served.asked) (refl, refl) in
         let queued : queueing (record s { records = with_record s.records (record r { read = now }) }) (Hit r.number r.hash false) ≡ queueing (after_hit read s r now.0) (hit_operation read s r now.0) =
-            sym (ap (λ t. queueing t (hit_operation read s r now.0)) hit_plainly ∙ ap (queueing (record s { records = with_record s.records (record r { read = now }) })) operation_plainly) in
+        sym (ap (λ t. queueing t (hit_operation read s r now.0)) hit_plainly ∙ ap (queueing (record s { records = with_record s.records (record r { read = now }) })) operation_plainly) in
         rw (enabled, found) ((refl, (shown, uncovered)), value, own, (after_hit read s r now.0, due, queued))
 
 -- ---- steps of the inner part

@@ -36,9 +36,9 @@ module _ {K V L : Type 0} (tells : L → K → V → RemovalCause → L → Type
       inner-left kept after out out writes reads t n h [] [] (λ q there. absurd (nothing_in q there)) (λ q there. absurd (nothing_in q there)) (omega arith) (omega arith) less
       (subst (λ (rs : Records K V). Keeps rs after.records) records keeps)
       (λ k p row gone.
-          let before = rows k p row gone in
-          let waits = h.used k p (less k p row) (sym (ap (λ (rs : Records K V). get rs k) records) ∙ before.0) in
-          (waits.0, still k waits.0 before.1 waits.1))
+      let before = rows k p row gone in
+      let waits = h.used k p (less k p row) (sym (ap (λ (rs : Records K V). get rs k) records) ∙ before.0) in
+      (waits.0, still k waits.0 before.1 waits.1))
     where
       still : (k g : ℕ) → ((ticket generation : ℕ) → Contains (writes_of writes.items) (record { ticket = ticket; operation = Removal k generation }) → ⊥) → IsWaitingIn (operations_of out.items) (writes_of writes.items) (Removal k g) → IsWaitingIn (operations_of out.items) [] (Removal k g)
       still k g none (inl handed) = inl handed

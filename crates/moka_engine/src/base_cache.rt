@@ -403,7 +403,11 @@ impl<
     ///
     /// # Errors
     /// `OutOfMemory` where memory for a clone is refused. The listener is not told.
-    pub fn notify_invalidate(&mut self, entry: &KvEntry<K, V>, now: Instant) -> Result<(), OutOfMemory>
+    pub fn notify_invalidate(
+        &mut self,
+        entry: &KvEntry<K, V>,
+        now: Instant,
+    ) -> Result<(), OutOfMemory>
     where
         K: Clone + Drop,
         V: Clone + Drop,
@@ -424,6 +428,15 @@ impl<
         let cause = causes::cause_of_removal(&self.expiration_policy, written, read, now);
         self.notifier.notify(key, value, cause);
         Ok(())
+    }
+
+    /// Invalidates all records that were written or read before the moment `now`, also where that is earlier than
+    /// before. They are hidden from now on, and runs of maintenance remove them.
+    pub fn invalidate_all(&mut self, now: Instant)
+        ensures step { self.new.state ≡ record self.old.state { invalid_before = Some now } }
+        ensures events { Befalls L.tells no_events self.old self.new }
+    {
+        self.valid_after = Some(now);
     }
 
     /// Whether a key is there and visible at the moment `now`. Nothing is recorded.
@@ -566,9 +579,7 @@ impl<
         let notifier = &mut self.notifier;
         self.inner
             .apply_queues(notifier, self.max_capacity, self.eviction_policy);
-        let ran = self
-            .inner
-            .make_passes(notifier, clock, tests, limit, batch);
+        let ran = self.inner.make_passes(notifier, clock, tests, limit, batch);
         self.entry_count = self.inner.member_count() as u64;
         self.weighted_size = saturated(self.inner.total_weight());
         self.passes = ran.passes;

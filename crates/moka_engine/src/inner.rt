@@ -35,9 +35,6 @@ use std::hash::{BuildHasher, Hash};
 use std::marker::Model;
 use std::time::Duration;
 
-#[cfg(test)]
-mod tests;
-
 // How many operations and how many reads can be queued. moka: `WRITE_LOG_SIZE`, `READ_LOG_SIZE`.
 const QUEUE_SIZE: usize = 384;
 

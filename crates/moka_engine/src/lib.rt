@@ -1,7 +1,15 @@
-//! The engine of the cache.
+//! The engine of the cache: `BaseCache`, with the names that its calls need.
 #![tactic(auto)]
 
 pub mod base_cache;
-pub mod inner;
+mod inner;
 
 pub use base_cache::BaseCache;
+pub use moka_parts::calls::{Entry, KvEntry, Ticket};
+pub use moka_parts::closures::{ByClosure, NoPredicate, NoWeigher, PredicateFn, Weigher};
+pub use moka_parts::error::{InsertError, InsertRefused, OutOfMemory, SendError};
+pub use moka_parts::housekeeper::{Clock, FixedClock, HousekeeperConfig};
+pub use moka_parts::notification::{Listener, NoListener, RemovalCause};
+pub use moka_parts::policy::{
+    EvictionPolicy, ExpirationPolicy, ExpireAfter, Expiry, Instant, NoExpiry, Policy,
+};

@@ -1,103 +1,92 @@
-ghost use Rattle.moka_parts.specs.declared.policy.EvictionPolicy.TheVariants.{Lru};
+ghost use Rattle.std.specs.Prelude.{None};
 ghost use Rattle.moka_parts.specs.Closures.{CanAlwaysAsk, HasOneAnswer};
+ghost use Rattle.moka_parts.specs.declared.policy.EvictionPolicy.TheVariants.{Lru};
 ghost use Rattle.moka_engine.specs.BaseCache.{IsLruWhereBounded};
 
 use super::*;
-use moka_parts::closures::{ByClosure, PairFn};
-use moka_parts::notification::NoListener;
+use moka_parts::closures::{ByClosure, NoPredicate, PairFn};
+use moka_parts::housekeeper::FixedClock;
+use moka_parts::notification::{NoListener, RemovalCause};
 use moka_parts::policy::NoExpiry;
+use std::cell::Cell;
 use std::hash::{BuildHasherDefault, FoldHasher};
+use std::rc::Rc;
 use std::test::Fail;
 
-/// Keys below a bound.
+/// What an entry weighs is its key.
 #[derive(Drop)]
-struct Below {
-    bound: u64,
-}
+struct ByKey;
 
-impl PredicateFn<u64, u64> for Below {
-    ghost use Rattle.std.specs.Prelude.{◌≡◌, nat_lt};
-    ghost use Rattle.std.proofs.Common.{sym, ◌∙◌};
-
-    ghost says = { λ p k _ b. b ≡ nat_lt k p.bound };
-
-    fn applies(&self, key: &u64, _: &u64) -> bool {
-        *key < self.bound
-    }
-
-    ghost one_answer = { λ p k v a b x y. x ∙ sym y };
-}
-
-/// A value weighs what it says.
-#[derive(Drop)]
-struct ByValue;
-
-impl Weigher<u64, u64> for ByValue {
+impl<V> Weigher<u64, V> for ByKey {
     ghost use Rattle.std.specs.Prelude.{◌≡◌, min};
     ghost use Rattle.std.proofs.Common.{sym, ◌∙◌};
 
-    ghost weighs = { λ _ _ v a. a ≡ min v 4294967295 };
+    ghost weighs = { λ _ k _ a. a ≡ min k 4294967295 };
 
-    fn weigh(&self, _: &u64, value: &u64) -> u32 {
-        u32::try_from(*value).unwrap_or(u32::MAX)
+    fn weigh(&self, key: &u64, _: &V) -> u32 {
+        u32::try_from(*key).unwrap_or(u32::MAX)
     }
 
     ghost one_weight = { λ w k v a b x y. x ∙ sym y };
 }
 
-/// Stands still.
+/// Keeps each notice.
 #[derive(Drop)]
-struct Still;
+struct Recorder {
+    told: Vec<(u64, u64, RemovalCause)>,
+}
 
-impl Clock for Still {
-    ghost use Rattle.std.specs.Prelude.{◌≡◌};
+impl Listener<u64, u64> for Recorder {
+    ghost tells = { λ _ _ _ _ _. Unit {0} };
 
-    ghost reads = { λ before moment after. moment.0 ≡ 0 };
-
-    fn now(&mut self) -> Instant {
-        Instant(0)
+    fn notify(&mut self, key: u64, value: u64, cause: RemovalCause) {
+        let _kept = self.told.push((key, value, cause));
     }
 }
 
-type Numbers = BaseCache<
+/// Counts the notices, also for others than the cache.
+#[derive(Drop)]
+struct Counter {
+    told: Rc<Cell<u32>>,
+}
+
+impl<V: Drop> Listener<u64, V> for Counter {
+    ghost tells = { λ _ _ _ _ _. Unit {0} };
+
+    fn notify(&mut self, _: u64, _: V, _: RemovalCause) {
+        self.told.set(self.told.get().wrapping_add(1));
+    }
+}
+
+type TestCache<V, L, W> = BaseCache<
     u64,
-    u64,
+    V,
     BuildHasherDefault<FoldHasher>,
     NoExpiry,
-    NoListener,
-    Below,
-    ByValue,
+    L,
+    NoPredicate,
+    W,
 >;
 
-/// A cache whose weigher is a closure.
-type Weighed<F> = BaseCache<
-    u64,
-    u64,
-    BuildHasherDefault<FoldHasher>,
-    NoExpiry,
-    NoListener,
-    Below,
-    ByClosure<u64, u64, u32, F>,
->;
-
-/// An empty cache that evicts by recency.
-fn numbers(
+/// An empty cache that evicts by recency, whose entries last 100 nanoseconds after they were read.
+fn cache_of<V: Drop, L: Listener<u64, V> + Drop, W: Weigher<u64, V> + Drop>(
     alloc: Global,
     max_capacity: Option<u64>,
-    weigher: Option<ByValue>,
-) -> Result<Numbers, Fail>
-    requires { IsLruWhereBounded max_capacity Lru }
-{
-    let cache = Numbers::new(
+    weigher: Option<W>,
+    listener: Option<L>,
+) -> Result<TestCache<V, L, W>, Fail> {
+    let mut expirations = ExpirationPolicy::default();
+    expirations.set_time_to_idle(Duration::from_nanos(100));
+    let cache = TestCache::new(
         alloc,
         None,
         max_capacity,
-        None,
+        Some(1),
         BuildHasherDefault::new(),
         weigher,
         EvictionPolicy::lru(),
-        None,
-        ExpirationPolicy::default(),
+        listener,
+        expirations,
         HousekeeperConfig::default(),
         false,
         Instant(0),
@@ -106,149 +95,129 @@ fn numbers(
     cache.map_err(|_| Fail::from("memory"))
 }
 
-/// Inserts an entry, and answers its ticket.
-fn put(cache: &mut Numbers, key: u64, value: u64) -> Result<Ticket, Fail> {
+/// Inserts an entry, and sends its operation.
+fn settle<V: Drop, L: Listener<u64, V>, W: Weigher<u64, V>>(
+    cache: &mut TestCache<V, L, W>,
+    key: u64,
+    value: V,
+) -> Result<(), Fail> {
     if cache.is_map_disabled() {
         return Err("disabled".into());
     }
-    match cache.do_insert_with_hash(key, key, value, Instant(0)) {
-        Ok((ticket, _)) => Ok(ticket),
-        Err(_) => Err("refused".into()),
-    }
-}
-
-/// Inserts an entry, and sends it.
-fn settle(cache: &mut Numbers, key: u64, value: u64) -> Result<(), Fail> {
-    let ticket = put(cache, key, value)?;
+    let Ok((ticket, _)) = cache.do_insert_with_hash(key, key, value, Instant(0)) else {
+        return Err("refused".into());
+    };
     cache.send(ticket).map_err(|_| Fail::from("full"))
 }
 
-/// Makes a run of the batch, and tells whether more is left, and what it reports.
-fn run(cache: &mut Numbers, batch: u32) -> (bool, u64, u64) {
-    let is_left = cache.run_pending_tasks(Instant(0), &mut Still, None, 1, batch);
-    (is_left, cache.entry_count(), cache.weighted_size())
-}
-
-/// Whether a key is shown, by each of the look-ups that change nothing.
-fn is_shown(cache: &Numbers, key: u64) -> bool {
-    let is_kept = cache.get_key_with_hash(&key, key) == Some(&key);
-    is_kept && cache.contains_key_with_hash(&key, key, Instant(0))
-}
-
-/// The keys in rising order.
-fn sorted_keys(cache: &Numbers) -> Result<Vec<u64>, Fail> {
-    let mut keys = match cache.keys(0) {
-        Ok(Some(keys)) => keys,
-        Ok(None) => return Err("no segment".into()),
-        Err(_) => return Err("memory".into()),
-    };
-    keys.sort_unstable();
-    Ok(keys)
+/// Makes a run at this moment with a batch of 1, and tells whether more is left.
+fn run<V: Drop, L: Listener<u64, V>, W: Weigher<u64, V>>(
+    cache: &mut TestCache<V, L, W>,
+    now: Instant,
+) -> bool {
+    cache.run_pending_tasks(now, &mut FixedClock(now), None, 1, 1)
 }
 
 #[test]
-fn settles_an_insert(rt: HostRuntime) -> Result<(), Fail> {
-    let now = Instant(0);
-    let mut clock = Still;
-    let mut cache = Numbers::new(
+fn tells_why_each_value_left(rt: HostRuntime) -> Result<(), Fail> {
+    let told = Vec::new(rt.alloc());
+    let mut cache: TestCache<u64, Recorder, ByKey> = cache_of(
         rt.alloc(),
-        None,
-        None,
         Some(4),
-        BuildHasherDefault::new(),
-        None,
-        EvictionPolicy::tiny_lfu(),
-        None,
-        ExpirationPolicy::default(),
-        HousekeeperConfig::default(),
-        false,
-        now,
-        7,
-    )
-    .ok()
-    .ok_or("memory")?;
-    let hash = cache.hash(&1);
-    assert_eq!(rt; hash, cache.hash(&1));
-    for (value, number) in [(10, 7), (11, 8)] {
-        assert!(rt; !cache.is_map_disabled());
-        let (ticket, moment) = cache
-            .do_insert_with_hash(1, hash, value, now)
-            .ok()
-            .ok_or("memory")?;
-        assert_eq!(rt; (ticket, moment), (Ticket(number), now));
-        assert_eq!(rt; cache.send(ticket), Ok(()));
-        assert_eq!(rt; cache.send(ticket), Err(SendError::UnknownTicket));
-    }
-    assert_eq!(rt; cache.entry_count(), 0);
-    assert!(rt; !cache.run_pending_tasks(now, &mut clock, None, 1, 10));
-    assert_eq!(rt; cache.entry_count(), 1);
-    assert_eq!(rt; cache.weighted_size(), 1);
-
-    let found = cache
-        .get_with_hash(&1, hash, true, now, &mut clock)
-        .ok()
-        .ok_or("memory")?
-        .ok_or("key")?;
-    assert_eq!(rt; found.key(), Some(&1));
-    assert_eq!(rt; found.into_value(), 11);
-    let absent = cache
-        .get_with_hash(&2, hash, true, now, &mut clock)
-        .ok()
-        .ok_or("memory")?;
-    assert!(rt; absent.is_none());
-    assert!(rt; cache.name().is_none() && cache.listener().is_none());
-    assert_eq!(rt; cache.policy().max_capacity(), None);
-    assert_eq!(rt; cache.invalidation_predicate_count(), 0);
-    assert!(rt; !cache.is_map_disabled());
-    Ok(())
-}
-
-#[test]
-fn removes_a_record(rt: HostRuntime) -> Result<(), Fail> {
-    let mut cache = numbers(rt.alloc(), None, None)?;
-    settle(&mut cache, 1, 10)?;
-    assert!(rt; is_shown(&cache, 1));
-    let (entry, ticket) = cache.remove_entry(&1, 1).ok_or("key")?;
-    assert_eq!(rt; (entry.key, entry.value, ticket), (1, 10, Ticket(2)));
-    assert!(rt; !is_shown(&cache, 1) && cache.remove_entry(&1, 1).is_none());
-    // The insert's operation comes too late, and adds no member.
-    assert_eq!(rt; run(&mut cache, 1), (false, 0, 0));
-    Ok(())
-}
-
-#[test]
-fn lists_its_keys(rt: HostRuntime) -> Result<(), Fail> {
-    let mut cache = numbers(rt.alloc(), None, None)?;
-    for key in [3, 1, 2] {
-        settle(&mut cache, key, 0)?;
-    }
-    assert_eq!(rt; sorted_keys(&cache)?.as_slice(), [1, 2, 3].as_slice());
-    assert_eq!(rt; cache.num_cht_segments(), 1);
-    assert!(rt; cache.keys(1).is_ok_and(|keys| keys.is_none()));
-    Ok(())
-}
-
-#[test]
-fn keeps_within_its_capacity(rt: HostRuntime) -> Result<(), Fail> {
-    let mut cache = numbers(rt.alloc(), Some(4), Some(ByValue))?;
-    for (key, value) in [(1, 2), (2, 1), (3, 1), (4, 1), (5, 5)] {
+        Some(ByKey),
+        Some(Recorder { told }),
+    )?;
+    for (key, value) in [(1, 10), (1, 11), (2, 20), (3, 30), (5, 50)] {
         settle(&mut cache, key, value)?;
     }
-    // A batch of 0 removes nothing, and tells that more is left just where that is so.
-    assert_eq!(rt; run(&mut cache, 0), (true, 4, 5));
-    assert_eq!(rt; run(&mut cache, 1), (false, 3, 3));
-    assert_eq!(rt; run(&mut cache, 0), (false, 3, 3));
-    assert_eq!(rt; sorted_keys(&cache)?.as_slice(), [2, 3, 4].as_slice());
+    assert!(rt; !run(&mut cache, Instant(0)));
+    let (entry, ticket) = cache.remove_entry(&3, 3).ok_or("key")?;
+    assert_eq!(rt; cache.send(ticket), Ok(()));
+    assert!(rt; cache.is_removal_notifier_enabled());
+    assert_eq!(rt; cache.notify_invalidate(&entry, Instant(0)), Ok(()));
+
+    settle(&mut cache, 4, 40)?;
+    assert!(rt; cache.contains_key_with_hash(&4, 4, Instant(99)));
+    assert!(rt; !cache.contains_key_with_hash(&4, 4, Instant(100)));
+    assert!(rt; !run(&mut cache, Instant(100)));
+
+    settle(&mut cache, 4, 41)?;
+    cache.invalidate_all(Instant(1));
+    assert!(rt; !cache.contains_key_with_hash(&4, 4, Instant(0)));
+    assert!(rt; !run(&mut cache, Instant(0)));
+
+    let recorder = cache.listener().ok_or("listener")?;
+    let told = [
+        (1, 10, RemovalCause::Replaced),
+        (5, 50, RemovalCause::Size),
+        (1, 11, RemovalCause::Size),
+        (2, 20, RemovalCause::Size),
+        (3, 30, RemovalCause::Explicit),
+        (4, 40, RemovalCause::Expired),
+        (4, 41, RemovalCause::Explicit),
+    ];
+    assert_eq!(rt; recorder.told.as_slice(), told.as_slice());
     Ok(())
 }
 
 #[test]
-fn keeps_nothing_with_a_capacity_of_zero(rt: HostRuntime) -> Result<(), Fail> {
-    let mut cache = numbers(rt.alloc(), Some(0), None)?;
-    assert!(rt; cache.is_map_disabled());
-    let found = cache.get_with_hash(&1, 1, false, Instant(0), &mut Still);
-    assert!(rt; found.is_ok_and(|entry| entry.is_none()));
-    assert_eq!(rt; run(&mut cache, 0), (false, 0, 0));
+fn lets_go_of_all_it_holds(rt: HostRuntime) -> Result<(), Fail> {
+    let value = Rc::new(rt.alloc(), 7u8)?;
+    let told = Rc::new(rt.alloc(), Cell::new(0))?;
+    let listener = Counter {
+        told: told.clone()?,
+    };
+    let mut cache: TestCache<Rc<u8>, Counter, ByKey> = cache_of(
+        rt.alloc(),
+        Some(3),
+        None,
+        Some(listener),
+    )?;
+    for key in [1, 2, 2, 3, 4] {
+        settle(&mut cache, key, value.clone()?)?;
+    }
+    assert!(rt; !run(&mut cache, Instant(0)));
+    // One was replaced, and one evicted.
+    assert_eq!(rt; (Rc::strong_count(&value), told.get()), (4, 2));
+    drop(cache);
+    assert_eq!(rt; (Rc::strong_count(&value), told.get()), (1, 2));
+    Ok(())
+}
+
+#[test]
+fn gives_rows_back(rt: HostRuntime) -> Result<(), Fail> {
+    let mut cache: TestCache<u64, NoListener, ByKey> = cache_of(rt.alloc(), Some(1), None, None)?;
+    for key in 0..1000 {
+        settle(&mut cache, key, key)?;
+        assert!(rt; !run(&mut cache, Instant(0)));
+        let (handle, _) = cache.inner.find(&key).ok_or("key")?;
+        assert!(rt; handle.place < 2);
+    }
+    Ok(())
+}
+
+#[test]
+fn tells_of_itself(rt: HostRuntime) -> Result<(), Fail> {
+    let mut cache: TestCache<u64, NoListener, ByKey> = cache_of(rt.alloc(), None, None, None)?;
+    settle(&mut cache, 1, 10)?;
+    cache.invariant_holds();
+    assert!(rt; cache.name().is_none() && cache.listener().is_none());
+    assert!(rt; !cache.is_removal_notifier_enabled());
+    assert_eq!(rt; cache.policy().max_capacity(), None);
+    assert_eq!(rt;
+        cache.policy().time_to_idle(),
+        Some(Duration::from_nanos(100))
+    );
+    assert_eq!(rt; cache.invalidation_predicate_count(), 0);
+    assert_eq!(rt; cache.num_cht_segments(), 1);
+    assert_eq!(rt; cache.hash(&1), cache.hash(&1));
+    assert_eq!(rt; cache.get_key_with_hash(&1, 1), Some(&1));
+    let keys = cache.keys(0).map_err(|_| Fail::from("memory"))?;
+    assert_eq!(rt; keys.ok_or("segment")?.as_slice(), [1].as_slice());
+    let mut clock = FixedClock(Instant(0));
+    let found = cache.get_with_hash(&1, 1, true, Instant(0), &mut clock);
+    let entry = found.map_err(|_| Fail::from("memory"))?.ok_or("entry")?;
+    assert_eq!(rt; (entry.key(), *entry.value()), (Some(&1), 10));
     Ok(())
 }
 
@@ -257,26 +226,12 @@ fn weight_by<F: PairFn<u64, u64, u32> + Drop>(alloc: Global, closure: F) -> Resu
     requires callable { CanAlwaysAsk (F.can_ask closure) }
     requires functional { HasOneAnswer (F.answers closure) }
 {
-    let mut cache: Weighed<F> = BaseCache::new(
-        alloc,
-        None,
-        None,
-        None,
-        BuildHasherDefault::new(),
-        Some(ByClosure::new(closure)),
-        EvictionPolicy::lru(),
-        None,
-        ExpirationPolicy::default(),
-        HousekeeperConfig::default(),
-        false,
-        Instant(0),
-        1,
-    )
-    .map_err(|_| Fail::from("memory"))?;
-    let inserted = cache.do_insert_with_hash(1, 1, 2, Instant(0));
-    let (ticket, _) = inserted.ok().ok_or("memory")?;
-    cache.send(ticket).map_err(|_| Fail::from("full"))?;
-    cache.run_pending_tasks(Instant(0), &mut Still, None, 1, 1);
+    let weigher = Some(ByClosure::new(closure));
+    let mut cache: TestCache<u64, NoListener, ByClosure<u64, u64, u32, F>> = cache_of(
+        alloc, None, weigher, None,
+    )?;
+    settle(&mut cache, 1, 2)?;
+    run(&mut cache, Instant(0));
     Ok(cache.weighted_size())
 }
 

@@ -11,7 +11,6 @@ use Rattle.moka_engine.proofs.InnerLemmas.{inner-sent, inner-unsent}
 use Rattle.moka_engine.proofs.ValuesLemmas.{get-map_values, map_values-none, map_values-remove}
 use Rattle.moka_engine.proofs.inner.Inner.send.Goals as goal
 
-
 -- what is there is there with its operation alone
 there_too : (o : Option PlacedWrite) → is_some o ≡ true → option_map (λ (w : PlacedWrite). w.operation) o ≡ None → ⊥
 there_too None h e = cc
