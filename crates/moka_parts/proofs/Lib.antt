@@ -8,6 +8,9 @@ pub mod Applied
 pub mod RunKeepsSound
 pub mod AtEnd
 pub mod Rising
+pub mod Rises
+pub mod WriteList
+pub mod Entries
 pub mod CallsKeep
 pub mod StepsKeep
 pub mod Promises
@@ -27,3 +30,4 @@ pub mod Lookup
 pub mod Contained
 pub mod Admission
 pub mod RunsGoOn
+pub mod OrderedList

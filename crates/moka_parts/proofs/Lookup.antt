@@ -15,11 +15,11 @@ use Rattle.moka_parts.specs.Settling.{IsWellNumbered}
 use Rattle.moka_parts.specs.Calls.{RemovesAt, entry_of}
 use Rattle.moka_parts.specs.Laws.{RemovesJustOne}
 
-left_part : (a b : Bool) → T (a && b) → T a
+pub left_part : (a b : Bool) → T (a && b) → T a
 left_part true b p = tt
 left_part false b p = p
 
-right_part : (a b : Bool) → T (a && b) → T b
+pub right_part : (a b : Bool) → T (a && b) → T b
 right_part true b p = p
 right_part false b p = absurd p
 
@@ -33,7 +33,7 @@ none_below k [] h = refl
 none_below k (e ∷ es) h = ap (λ b. cond b (Some e.1) (finite.find nat_cmp k es)) (not_equal (nat_cmp k e.0) (left_part _ _ h)) ∙ none_below k es (right_part _ _ h)
 
 -- an entry behind the first has another key
-found_behind : {X : Type 0} (n k : ℕ) (v x : X) (es : List (ℕ × X)) → T (below_all nat_cmp k es) → finite.find nat_cmp n es ≡ Some x → (b : Bool) → eq_by_cmp nat_cmp n k ≡ b → cond b (Some v) (finite.find nat_cmp n es) ≡ Some x
+pub found_behind : {X : Type 0} (n k : ℕ) (v x : X) (es : List (ℕ × X)) → T (below_all nat_cmp k es) → finite.find nat_cmp n es ≡ Some x → (b : Bool) → eq_by_cmp nat_cmp n k ≡ b → cond b (Some v) (finite.find nat_cmp n es) ≡ Some x
 found_behind n k v x es h e true same =
     let one : n ≡ k = one_by_order n k same in
     let none : finite.find nat_cmp n es ≡ None = ap (λ m. finite.find nat_cmp m es) one ∙ none_below k es h in

@@ -1,10 +1,11 @@
 -- States in which operations wait in the order of their writing, and what that gives.
 use Rattle.std.specs.Prelude.{◌≡◌, ℕ, Bool, true, false, ◌==◌, ◌<◌, ◌≤◌, List, [], ◌∷◌, ◌++◌, length, map, filter, filter_map, Option, Some, None, option_map, option_and_then, Contains, if◌then◌else◌, ⊤}
-use Rattle.std.specs.List.{IsDistinct}
-use Rattle.std.specs.List.Sorted.{IsNonDecreasing, IsStrictlyIncreasing}
+use Rattle.std.specs.List.{IsDistinct, AllPairs}
+use Rattle.std.specs.List.Sorted.{IsNonDecreasing}
 use Rattle.std.specs.FinMap.{get, entries, contains_key}
 use Rattle.moka_parts.specs.declared.policy.EvictionPolicy.{EvictionPolicy}
 use Rattle.moka_parts.specs.declared.records.Record.{Record}
+use Rattle.moka_parts.specs.declared.records.Member.{Member}
 use Rattle.moka_parts.specs.declared.records.Ticketed.{Ticketed}
 use Rattle.moka_parts.specs.declared.records.Operation.{Operation}
 use Rattle.moka_parts.specs.declared.records.Operation.TheVariants.{Upsert, Removal}
@@ -16,7 +17,7 @@ use Rattle.moka_parts.specs.Visibility.{is_past_live, is_written_before}
 use Rattle.moka_parts.specs.Writes.{Fate, Ignored, Overtaken, Counted, Admitted, TooHeavy, Preferred, Refused, fate, after_write}
 use Rattle.moka_parts.specs.Maintenance.{Choice, Removes, MovesToBack, Drops, Freedom, Terms, Course, after_queued_reads}
 use Rattle.moka_parts.specs.Calls.{queue_length}
-use Rattle.moka_parts.specs.Settling.{IsWhole, IsAllSent}
+use Rattle.moka_parts.specs.Settling.{IsWaiting, IsWhole, IsAllSent}
 
 -- the operations handed out, by ticket, behind those queued
 abbrev pub waiting_by_ticket : {K V X P W : Type 0} → State K V X P W → List Ticketed
@@ -41,20 +42,23 @@ module _ {K V : Type 0} (records : Records K V) where
   IsNewer (Removal number generation) = ⊤
   IsNewer (Upsert number generation weight hash) = (r : Record K V) → get records number ≡ Some r → r.applied < generation
 
-module _ {K V X P W : Type 0} where
-  -- the write list has just the members' numbers, each once
-  abbrev pub IsWriteList : State K V X P W → List ℕ → Type 0
-  IsWriteList s write_list = IsDistinct (◌==◌) write_list × ((n : ℕ) → is_listed n write_list ≡ is_member n s.access)
+-- the list has just the members' numbers, each once
+abbrev pub IsListOf : List Member → List ℕ → Type 0
+IsListOf access ns = IsDistinct (◌==◌) ns × ((n : ℕ) → is_listed n ns ≡ is_member n access)
+
+-- the list is a write list of the state
+abbrev pub IsWriteList : {K V X P W : Type 0} → State K V X P W → List ℕ → Type 0
+IsWriteList s write_list = IsListOf s.access write_list
 
 -- with this write list, members stand and operations wait in the order of their writing
 pub record IsInOrder {K V X P W : Type 0} (s : State K V X P W) (write_list : List ℕ) : Type 0 where
   pub listed : IsWriteList s write_list
-  -- the queued tickets rise
-  pub rising : IsStrictlyIncreasing (map (λ h. h.ticket) s.writes)
+  -- of the queued operations the later one has the later ticket
+  pub rising : AllPairs (λ p q. p.ticket < q.ticket) s.writes
   -- below those not sent
   pub below : (h : Ticketed) (ticket : ℕ) → Contains s.writes h → contains_key s.outstanding ticket ≡ true → h.ticket < ticket
-  -- none of them was applied or overtaken
-  pub newer : (h : Ticketed) → Contains (waiting_by_ticket s) h → IsNewer s.records h.operation
+  -- none of those that wait was applied or overtaken
+  pub newer : (o : Operation) → IsWaiting s o → IsNewer s.records o
   -- the settled members were written in the list's order, and then the waiting records in that of their tickets
   pub written : IsNonDecreasing (filter_map (written_at s.records) (filter (is_settled s.records) write_list) ++ filter_map (λ h. written_by s.records h.operation) (waiting_by_ticket s))
 
@@ -72,9 +76,9 @@ pub record AgesOut {K V X P W : Type 0} (s : State K V X P W) (terms : Terms) (c
   pub invalid : IsWhole s terms course → IsAllSent s → keeps_write_list s.settings ≡ true → (n : ℕ) (r : Record K V) → get t.records n ≡ Some r → is_written_before t.invalid_before r ≡ false
 
 module _ {K V X P W : Type 0} where
-  -- a call in the order of time keeps a state in order
+  -- a call in the order of time keeps a state in order, where the write list is kept
   abbrev pub KeepsOrder : State K V X P W → List ℕ → Call K V P → State K V X P W → List ℕ → Type 0
-  KeepsOrder s before c t after = IsOrderly s c → IsInOrder s before → IsInOrder t after
+  KeepsOrder s before c t after = keeps_write_list s.settings ≡ true → IsOrderly s c → IsInOrder s before → IsInOrder t after
 
   -- from a state in order a run removes what is past its time
   abbrev pub AgesOutInOrder : State K V X P W → List ℕ → Terms → Course → State K V X P W → Type 0
