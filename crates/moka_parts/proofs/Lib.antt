@@ -31,3 +31,4 @@ pub mod Contained
 pub mod Admission
 pub mod RunsGoOn
 pub mod OrderedList
+pub mod OrderedAges

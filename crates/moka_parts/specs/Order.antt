@@ -1,7 +1,7 @@
 -- States in which operations wait in the order of their writing, and what that gives.
-use Rattle.std.specs.Prelude.{◌≡◌, ℕ, Bool, true, false, ◌==◌, ◌<◌, ◌≤◌, List, [], ◌∷◌, ◌++◌, length, map, filter, filter_map, Option, Some, None, option_map, option_and_then, Contains, if◌then◌else◌, ⊤}
-use Rattle.std.specs.List.{IsDistinct, AllPairs}
-use Rattle.std.specs.List.Sorted.{IsNonDecreasing}
+use Rattle.std.specs.Prelude.{◌≡◌, ℕ, Bool, true, false, ◌==◌, ◌<◌, ◌≤◌, List, [], ◌∷◌, ◌++◌, length, map, filter, filter_map, Option, Some, None, option_map, option_and_then, Contains, slice_get, if◌then◌else◌, ⊤}
+use Rattle.std.specs.List.{IsDistinct}
+use Rattle.std.specs.List.Sorted.{IsNonDecreasing, IsStrictlyIncreasing}
 use Rattle.std.specs.FinMap.{get, entries, contains_key}
 use Rattle.moka_parts.specs.declared.policy.EvictionPolicy.{EvictionPolicy}
 use Rattle.moka_parts.specs.declared.records.Record.{Record}
@@ -17,7 +17,7 @@ use Rattle.moka_parts.specs.Visibility.{is_past_live, is_written_before}
 use Rattle.moka_parts.specs.Writes.{Fate, Ignored, Overtaken, Counted, Admitted, TooHeavy, Preferred, Refused, fate, after_write}
 use Rattle.moka_parts.specs.Maintenance.{Choice, Removes, MovesToBack, Drops, Freedom, Terms, Course, after_queued_reads}
 use Rattle.moka_parts.specs.Calls.{queue_length}
-use Rattle.moka_parts.specs.Settling.{IsWaiting, IsWhole, IsAllSent}
+use Rattle.moka_parts.specs.Settling.{IsWhole, IsAllSent}
 
 -- the operations handed out, by ticket, behind those queued
 abbrev pub waiting_by_ticket : {K V X P W : Type 0} → State K V X P W → List Ticketed
@@ -53,12 +53,12 @@ IsWriteList s write_list = IsListOf s.access write_list
 -- with this write list, members stand and operations wait in the order of their writing
 pub record IsInOrder {K V X P W : Type 0} (s : State K V X P W) (write_list : List ℕ) : Type 0 where
   pub listed : IsWriteList s write_list
-  -- of the queued operations the later one has the later ticket
-  pub rising : AllPairs (λ p q. p.ticket < q.ticket) s.writes
+  -- the queued tickets rise
+  pub rising : IsStrictlyIncreasing (map (λ h. h.ticket) s.writes)
   -- below those not sent
   pub below : (h : Ticketed) (ticket : ℕ) → Contains s.writes h → contains_key s.outstanding ticket ≡ true → h.ticket < ticket
-  -- none of those that wait was applied or overtaken
-  pub newer : (o : Operation) → IsWaiting s o → IsNewer s.records o
+  -- none of them was applied or overtaken
+  pub newer : (h : Ticketed) → Contains (waiting_by_ticket s) h → IsNewer s.records h.operation
   -- the settled members were written in the list's order, and then the waiting records in that of their tickets
   pub written : IsNonDecreasing (filter_map (written_at s.records) (filter (is_settled s.records) write_list) ++ filter_map (λ h. written_by s.records h.operation) (waiting_by_ticket s))
 
@@ -76,6 +76,10 @@ pub record AgesOut {K V X P W : Type 0} (s : State K V X P W) (terms : Terms) (c
   pub invalid : IsWhole s terms course → IsAllSent s → keeps_write_list s.settings ≡ true → (n : ℕ) (r : Record K V) → get t.records n ≡ Some r → is_written_before t.invalid_before r ≡ false
 
 module _ {K V X P W : Type 0} where
+  -- at the moment the record at the front of the list is not past its time to live, nor written before the invalidation of all
+  abbrev pub IsAtRestByWrite : State K V X P W → List ℕ → ℕ → Type 0
+  IsAtRestByWrite s write_list now = (n : ℕ) (r : Record K V) → slice_get write_list 0 ≡ Some n → get s.records n ≡ Some r → (is_past_live s.settings r now ≡ false) × (is_written_before s.invalid_before r ≡ false)
+
   -- a call in the order of time keeps a state in order, where the write list is kept
   abbrev pub KeepsOrder : State K V X P W → List ℕ → Call K V P → State K V X P W → List ℕ → Type 0
   KeepsOrder s before c t after = keeps_write_list s.settings ≡ true → IsOrderly s c → IsInOrder s before → IsInOrder t after
