@@ -1,12 +1,12 @@
 -- The entries of a map, in order: which there are, one more behind all others, and the first taken out.
-use Rattle.std.proofs.Common.{◌≡◌, refl, ℕ, ◌<◌, ◌≤◌, cond, T, List, [], ◌∷◌, ◌++◌, Some, None, ap, sym, ◌∙◌, inl, inr, arith, Ordering, Less, Equal, Greater, is_lt}
+use Rattle.std.proofs.Common.{◌≡◌, refl, ℕ, ◌<◌, ◌≤◌, cond, T, List, [], ◌∷◌, ◌++◌, Some, ap, sym, ◌∙◌, inl, inr, arith, Ordering, Less, Equal, Greater, is_lt}
 use Rattle.std.specs.List.{AllByRecursion}
 use Rattle.std.specs.Ordering.{nat_cmp, eq_by_cmp}
 use Rattle.std.specs.Cmp.{nat_cmp_total, nat_cmp_is, ranked}
 use Rattle.std.specs.FinMap.{FinMap, get, insert, remove, entries, entries_sorted, entries-insert, get-entries, put, is_sorted}
 use Rattle.std.specs.FinMap.Entries.{by_order, below_all}
 use Rattle.std.specs.FinMap as finite
-use Rattle.moka_parts.proofs.Maps.{AreApart, same_or_apart, itself_ordered, get_removed, get_past_remove}
+use Rattle.moka_parts.proofs.Maps.{same_or_apart, itself_ordered, get_removed, get_past_remove}
 use Rattle.moka_parts.proofs.Values.{put_again}
 use Rattle.moka_parts.proofs.Lookup.{left_part, right_part, found_behind}
 
@@ -45,7 +45,8 @@ module _ {X : Type 0} where
         | inr apart ↦ (let low = least j x (sym (get_past_remove m k j apart) ∙ at) in let differ = apart.forth in grind (arith, low, differ))
       ]
 
-  all_above : (k : ℕ) (es : List (ℕ × X)) → T (below_all nat_cmp k es) → AllByRecursion (λ e. k < e.0) es
+  -- the keys behind a key in order
+  pub all_above : (k : ℕ) (es : List (ℕ × X)) → T (below_all nat_cmp k es) → AllByRecursion (λ e. k < e.0) es
   all_above k [] h = tt
   all_above k (e ∷ es) h = (below k e.0 (nat_cmp k e.0) refl (left_part _ _ h), all_above k es (right_part _ _ h))
     where

@@ -11,6 +11,10 @@ pub mod Rising
 pub mod Rises
 pub mod WriteList
 pub mod Entries
+pub mod InOrder
+pub mod OrderKept
+pub mod Tickets
+pub mod OrderedStates
 pub mod CallsKeep
 pub mod StepsKeep
 pub mod Promises
@@ -32,3 +36,7 @@ pub mod Admission
 pub mod RunsGoOn
 pub mod OrderedList
 pub mod OrderedAges
+pub mod OrderedCalls
+pub mod OrderedRuns
+pub mod OrderedSteps
+pub mod OrderedDrive

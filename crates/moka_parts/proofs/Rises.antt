@@ -1,7 +1,7 @@
 -- Lists of moments that never fall, some of them missing: what may be taken out or moved.
-use Rattle.std.proofs.Common.{◌≡◌, refl, ℕ, zero, suc, ◌+◌, ◌<◌, ◌≤◌, Bool, true, false, cond, List, [], ◌∷◌, ◌++◌, map, filter, length, slice_index_or, Option, Some, None, ap, sym, ◌∙◌, subst, ◌⊎◌, inl, inr, arith}
+use Rattle.std.proofs.Common.{◌≡◌, refl, ℕ, zero, suc, ◌<◌, ◌≤◌, Bool, true, false, cond, List, [], ◌∷◌, ◌++◌, map, filter, length, slice_index_or, Option, Some, None, ap, sym, subst, ◌⊎◌, inl, inr, arith}
 use Rattle.std.specs.Prelude.{filter_map, ⊤}
-use Rattle.std.specs.List.{cons_option}
+use Rattle.std.specs.List.{AllByRecursion, cons_option}
 use Rattle.std.specs.List.Sorted.{IsNonDecreasing}
 
 -- the numbers never fall, and none is below the bound
@@ -67,6 +67,16 @@ module _ {A : Type 0} where
   thins_each f g [] xs ys less t = t
   thins_each f g (a ∷ items) xs ys less t = thins_first (f a) (g a) (map f items ++ xs) (map g items ++ ys) (less a) (thins_each f g items xs ys less t)
 
+  -- the same with nothing behind
+  pub thins_all : (f g : A → Option ℕ) (items : List A) → ((a : A) → (g a ≡ f a) ⊎ (g a ≡ None)) → Thins (map f items) (map g items)
+  thins_all f g [] less = λ low h. h
+  thins_all f g (a ∷ items) less = thins_first (f a) (g a) (map f items) (map g items) (less a) (thins_all f g items less)
+
+  -- each that is there stays, or is missing
+  pub thins_every : (f g : A → Option ℕ) (items : List A) → AllByRecursion (λ a. (g a ≡ f a) ⊎ (g a ≡ None)) items → Thins (map f items) (map g items)
+  thins_every f g [] less = λ low h. h
+  thins_every f g (a ∷ items) less = thins_first (f a) (g a) (map f items) (map g items) less.0 (thins_every f g items less.1)
+
   -- some of a list are taken out, and of the others each stays or is missing
   pub thins_filtered : (f g : A → Option ℕ) (keep : A → Bool) (items : List A) (xs ys : List (Option ℕ)) → ((a : A) → keep a ≡ true → (g a ≡ f a) ⊎ (g a ≡ None)) → Thins xs ys → Thins (map f items ++ xs) (map g (filter keep items) ++ ys)
   thins_filtered f g keep [] xs ys less t = t
@@ -80,3 +90,20 @@ module _ {A : Type 0} where
   pub present_of : (f : A → Option ℕ) (items : List A) → present (map f items) ≡ filter_map f items
   present_of f [] = refl
   present_of f (a ∷ items) = ap (cons_option (f a)) (present_of f items)
+
+-- no later than the moment, if it is there
+abbrev pub IsUpTo : ℕ → Option ℕ → Type 0
+IsUpTo m None = ⊤
+IsUpTo m (Some x) = x ≤ m
+
+-- a moment no earlier than all others goes to the back
+pub rises_pushed : (low m : ℕ) (xs : List (Option ℕ)) → Rises low xs → low ≤ m → AllByRecursion (IsUpTo m) xs → Rises low (xs ++ Some m ∷ [])
+rises_pushed low m [] h le up = (le, tt)
+rises_pushed low m (None ∷ xs) h le up = rises_pushed low m xs h le up.1
+rises_pushed low m (Some x ∷ xs) h le up = (h.0, rises_pushed x m xs h.1 up.0 up.1)
+
+-- one that is missing changes nothing
+pub rises_with_none : (low : ℕ) (xs : List (Option ℕ)) → Rises low xs → Rises low (xs ++ None ∷ [])
+rises_with_none low [] h = h
+rises_with_none low (None ∷ xs) h = rises_with_none low xs h
+rises_with_none low (Some x ∷ xs) h = (h.0, rises_with_none x xs h.1)

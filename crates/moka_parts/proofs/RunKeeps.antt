@@ -41,7 +41,7 @@ is_Equal Equal e = refl
 is_Equal Greater e = cc
 
 module _ {K V : Type 0} where
-  keeps_itself : (old : Records K V) → Keeps old old
+  pub keeps_itself : (old : Records K V) → Keeps old old
   keeps_itself old n q e = (q, e, (q.applied, refl))
 
   keeps_on : (a b c : Records K V) → Keeps a b → Keeps b c → Keeps a c
@@ -50,7 +50,7 @@ module _ {K V : Type 0} where
       let m = h n l.0 l.1 in
       (m.0, m.1, (l.2.0, l.2.1 ∙ ap (λ (x : Record K V). record x { applied = l.2.0 }) m.2.1))
 
-  keeps_remove : (old : Records K V) (k : ℕ) → Keeps old (remove old k)
+  pub keeps_remove : (old : Records K V) (k : ℕ) → Keeps old (remove old k)
   keeps_remove old k n q e = (q, left_in _ q _ (sym (get-remove nat_cmp_total old k n) ∙ e), (q.applied, refl))
 
   keeps_put : (old mid : Records K V) (n : ℕ) (r : Record K V) (g : ℕ) → get old n ≡ Some r → Keeps old mid → Keeps old (with_applied mid n r g)
@@ -74,7 +74,7 @@ module _ {K V : Type 0} where
         | false ↦ keeps_put c.records c.records n r g there (keeps_itself c.records)
       ]
 
-  keeps_fate : (c : Contents K V) (n g w : ℕ) (moved : List ℕ) (r : Record K V) (f : Fate) → get c.records n ≡ Some r → Keeps c.records (after_fate c n g w moved r f).records
+  pub keeps_fate : (c : Contents K V) (n g w : ℕ) (moved : List ℕ) (r : Record K V) (f : Fate) → get c.records n ≡ Some r → Keeps c.records (after_fate c n g w moved r f).records
   keeps_fate c n g w moved r Ignored there = keeps_itself c.records
   keeps_fate c n g w moved r Overtaken there = keeps_itself c.records
   keeps_fate c n g w moved r Counted there = keeps_put c.records c.records n r g there (keeps_itself c.records)
@@ -87,7 +87,7 @@ module _ {K V : Type 0} where
   keeps_found c n g w moved f None there = keeps_itself c.records
   keeps_found c n g w moved f (Some r) there = keeps_fate c n g w moved r f there
 
-  keeps_write : (capacity : Option ℕ) (policy : EvictionPolicy) (c : Contents K V) (o : Operation) (moved : List ℕ) → Keeps c.records (after_write capacity policy c o moved).records
+  pub keeps_write : (capacity : Option ℕ) (policy : EvictionPolicy) (c : Contents K V) (o : Operation) (moved : List ℕ) → Keeps c.records (after_write capacity policy c o moved).records
   keeps_write capacity policy c (Removal n g) moved = keeps_itself c.records
   keeps_write capacity policy c (Upsert n g w h) moved = keeps_found c n g w moved (fate capacity policy c (Upsert n g w h)) (get c.records n) refl
 

@@ -1,0 +1,97 @@
+-- States in order: after a run, a send, an insert, a hit and a removal.
+use Rattle.std.proofs.Common.{◌≡◌, refl, ℕ, ◌+◌, ◌<◌, ◌≤◌, Bool, true, false, cond, ◌==◌, List, [], ◌∷◌, ◌++◌, map, filter, Option, Some, None, option_map, is_some, ap, sym, ◌∙◌, subst, ◌⊎◌, inl, inr, arith, append_assoc, true≢false, if◌then◌else◌}
+use Rattle.std.specs.Prelude.{Contains, ⊤, filter_map, option_and_then}
+use Rattle.std.specs.Option.{option_map_or}
+use Rattle.std.specs.List.{AllByRecursion, cons_option}
+use Rattle.std.specs.List.Sorted.{IsStrictlyIncreasing, IsNonDecreasing}
+use Rattle.std.proofs.lemmas.List.{map-append}
+use Rattle.std.proofs.lemmas.List.Elements.{filter_map-append, Contains-push_cases}
+use Rattle.std.specs.FinMap.{get, insert, remove, entries, contains_key}
+use Rattle.moka_parts.specs.declared.records.Record.{Record}
+use Rattle.moka_parts.specs.declared.records.Member.{Member}
+use Rattle.moka_parts.specs.declared.records.Ticketed.{Ticketed}
+use Rattle.moka_parts.specs.declared.records.Operation.{Operation}
+use Rattle.moka_parts.specs.declared.records.Operation.TheVariants.{Upsert, Removal}
+use Rattle.moka_parts.specs.Records.{Records, Operations, is_applied, is_settled}
+use Rattle.moka_parts.specs.State.{State, keeps_write_list}
+use Rattle.moka_parts.specs.Maintenance.{Freedom, AreFree, after_run}
+use Rattle.moka_parts.specs.Calls.{handing_out}
+use Rattle.moka_parts.specs.Settling.{AreTicketed, AreRising}
+use Rattle.moka_parts.specs.Order.{waiting_by_ticket, written_at, written_if, written_by, IsNewer, IsInOrder, write_list_at_end}
+use Rattle.moka_parts.proofs.Maps.{AreApart, same_or_apart, itself_tested, get_inserted, get_past_insert, get_removed, get_past_remove}
+use Rattle.moka_parts.proofs.RunKeeps.{keeps_remove}
+use Rattle.moka_parts.proofs.Entries.{entries_pushed, entries_popped}
+use Rattle.moka_parts.proofs.Rises.{Climbs, climbs_from, non_decreasing_from, present, present_of, Rises, Thins, thins_each, thins_all, thins_every, IsUpTo, rises_pushed, rises_with_none}
+use Rattle.moka_parts.proofs.InOrder.{settled_moment, settled_at, waiting_at, waiting_less, IsLater, AreLater, IsOrdered}
+use Rattle.moka_parts.proofs.OrderKept.{of_each, run_ordered}
+use Rattle.moka_parts.proofs.Tickets.{all_of, all_map, all_append, all_both, TicketsRise, tickets_joined, tickets_rise, strictly_increasing, handed_out, each_waits, waiting_rise, are_later}
+
+-- ---- the order, as users and as proofs see it
+
+module _ {K V : Type 0} (records : Records K V) where
+  settled_filter : (ns : List ℕ) → filter_map (written_at records) (filter (is_settled records) ns) ≡ filter_map (settled_at records) ns
+  settled_filter [] = refl
+  settled_filter (n ∷ ns) = go (settled_filter ns) (get records n) refl
+    where
+      go : filter_map (written_at records) (filter (is_settled records) ns) ≡ filter_map (settled_at records) ns → (v : Option (Record K V)) → get records n ≡ v →
+          filter_map (written_at records) (cond (option_map_or is_applied v false) (n ∷ filter (is_settled records) ns) (filter (is_settled records) ns)) ≡ cons_option (settled_moment v) (filter_map (settled_at records) ns)
+      go rest None e = rest
+      go rest (Some r) e = elim (is_applied r) as (λ b. filter_map (written_at records) (cond b (n ∷ filter (is_settled records) ns) (filter (is_settled records) ns)) ≡ cons_option (if b then Some r.written.0 else None) (filter_map (settled_at records) ns)) [
+        | true ↦ ap (λ (v : Option (Record K V)). cons_option (option_map (λ q. q.written.0) v) (filter_map (written_at records) (filter (is_settled records) ns))) e ∙ ap (λ xs. r.written.0 ∷ xs) rest
+        | false ↦ rest
+      ]
+
+  same_moments : (ns : List ℕ) (ws : List Ticketed) → present (map (settled_at records) ns ++ map (waiting_at records) ws) ≡ filter_map (written_at records) (filter (is_settled records) ns) ++ filter_map (λ h. written_by records h.operation) ws
+  same_moments ns ws =
+      filter_map-append (λ o. o) (map (settled_at records) ns) (map (waiting_at records) ws)
+      ∙ ap (λ xs. xs ++ present (map (waiting_at records) ws)) (present_of (settled_at records) ns ∙ sym (settled_filter ns))
+      ∙ ap (λ xs. filter_map (written_at records) (filter (is_settled records) ns) ++ xs) (present_of (waiting_at records) ws)
+
+module _ {K V X P W : Type 0} (s : State K V X P W) (ns : List ℕ) where
+  pub ordered_from : IsInOrder s ns → AreRising s.outstanding s.writes → IsOrdered s.records s.access ns (waiting_by_ticket s)
+  ordered_from o rising = record {
+    once = o.listed.0;
+    members = o.listed.1;
+    newer = o.newer;
+    rises = subst (Climbs 0) (sym (same_moments s.records ns (waiting_by_ticket s))) (climbs_from _ o.written);
+    later = are_later s.outstanding s.writes rising (waiting_by_ticket s) (waiting_rise s.outstanding s.writes o.rising (λ h ticket p there at. o.below h ticket there (ap is_some at))) (each_waits s.outstanding s.writes);
+  }
+
+  pub in_order_from : IsOrdered s.records s.access ns (waiting_by_ticket s) → IsStrictlyIncreasing (map (λ h. h.ticket) s.writes) → ((h : Ticketed) (ticket : ℕ) → Contains s.writes h → contains_key s.outstanding ticket ≡ true → h.ticket < ticket) → IsInOrder s ns
+  in_order_from o rising below = record {
+    listed = (o.once, o.members);
+    rising = rising;
+    below = below;
+    newer = o.newer;
+    written = non_decreasing_from 0 _ (subst (Climbs 0) (same_moments s.records ns (waiting_by_ticket s)) o.rises);
+  }
+
+-- ---- runs and sends
+
+-- a run
+pub run_in_order : {K V X P W : Type 0} (says : P → K → V → Bool → Type 0) (s : State K V X P W) (now : ℕ) (ns : List ℕ) (ch : Freedom) → keeps_write_list s.settings ≡ true → AreFree says s now ch → AreRising s.outstanding s.writes → IsInOrder s ns → IsInOrder (after_run s ch) (write_list_at_end s ns ch)
+run_in_order says s now ns ch kept free rising o =
+    in_order_from (after_run s ch) (write_list_at_end s ns ch) (run_ordered says s now ns ch (handed_out s.outstanding) kept free (ordered_from s ns o rising)) (λ k lt. absurd (omega arith)) (λ h ticket there at. let below : there.0 < 0 = there.1 in absurd (omega arith))
+
+-- the oldest operation is sent
+pub sent_in_order : {K V X P W : Type 0} (s : State K V X P W) (ns : List ℕ) (ticket : ℕ) (p : Operation) → get s.outstanding ticket ≡ Some p → ((n : ℕ) → contains_key s.outstanding n ≡ true → ticket ≤ n) → IsInOrder s ns →
+    IsInOrder (record s { outstanding = remove s.outstanding ticket; writes = s.writes ++ record { ticket = ticket; operation = p } ∷ [] }) ns
+sent_in_order {K} {V} {X} {P} {W} s ns ticket p there least o = record {
+  listed = o.listed;
+  rising = strictly_increasing (s.writes ++ record { ticket = ticket; operation = p } ∷ []) (tickets_joined s.writes (record { ticket = ticket; operation = p } ∷ []) (tickets_rise s.writes o.rising) (tt, tt) (all_of (λ (h : Ticketed). AllByRecursion (λ (q : Ticketed). h.ticket < q.ticket) (record { ticket = ticket; operation = p } ∷ [])) s.writes (λ h at. (o.below h ticket at (ap is_some there), tt))));
+  below = λ h n at out. below h n (Contains-push_cases s.writes (record { ticket = ticket; operation = p }) h at) out (same_or_apart n ticket);
+  newer = λ h at. o.newer h (subst (λ ws. Contains ws h) (sym same) at);
+  written = subst (λ ws. IsNonDecreasing (filter_map (written_at s.records) (filter (is_settled s.records) ns) ++ filter_map (λ h. written_by s.records h.operation) ws)) same o.written;
+}
+  where
+    same : waiting_by_ticket s ≡ (s.writes ++ record { ticket = ticket; operation = p } ∷ []) ++ handed_out (remove s.outstanding ticket)
+    same = ap (λ es. s.writes ++ map (λ (e : ℕ × Operation). record { ticket = e.0; operation = e.1 }) es) (entries_popped s.outstanding ticket p there (λ n q at. least n (ap is_some at)))
+        ∙ sym (append_assoc s.writes (record { ticket = ticket; operation = p } ∷ []) (handed_out (remove s.outstanding ticket)))
+
+    below : (h : Ticketed) (n : ℕ) → Contains s.writes h ⊎ (record { ticket = ticket; operation = p } ≡ h) → contains_key (remove s.outstanding ticket) n ≡ true → (n ≡ ticket) ⊎ AreApart n ticket → h.ticket < n
+    below h n at out (inl e) = (let none = get_removed s.outstanding ticket in let f = ap (contains_key (remove s.outstanding ticket)) e in let g = ap is_some none in absurd (true≢false (sym out ∙ f ∙ g)))
+    below h n (inl at) out (inr apart) = o.below h n at (sym (ap is_some (get_past_remove s.outstanding ticket n apart)) ∙ out)
+    below h n (inr e) out (inr apart) =
+        let low = least n (sym (ap is_some (get_past_remove s.outstanding ticket n apart)) ∙ out) in
+        let differ = apart.forth in
+        subst (λ (q : Ticketed). q.ticket < n) e (grind (arith, low, differ))
