@@ -17,6 +17,7 @@ pub mod Tickets
 pub mod OrderedStates
 pub mod CallsKeep
 pub mod StepsKeep
+pub mod OrderedCalls
 pub mod Promises
 pub mod Surplus
 pub mod OneMore
@@ -36,7 +37,7 @@ pub mod Admission
 pub mod RunsGoOn
 pub mod OrderedList
 pub mod OrderedAges
-pub mod OrderedCalls
+pub mod OrderedChanges
 pub mod OrderedRuns
 pub mod OrderedSteps
 pub mod OrderedDrive

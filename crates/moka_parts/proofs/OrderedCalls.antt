@@ -1,41 +1,166 @@
--- A call in the order of time keeps a state in order, one lemma a kind of change.
-use Rattle.std.proofs.Common.{◌≡◌, refl, ℕ, ◌+◌, ◌<◌, ◌≤◌, Bool, true, false, List, [], ◌∷◌, ◌++◌, Option, Some, None, ap, sym, ◌∙◌}
-use Rattle.std.specs.FinMap.{get, remove}
+-- Where the write list is kept, calls in the order of time keep a state in order.
+use Rattle.std.proofs.Common.{◌≡◌, refl, ℕ, ◌+◌, ◌<◌, ◌≤◌, Bool, true, false, ◌==◌, List, [], ◌∷◌, ◌++◌, map, length, Option, Some, None, option_map, Result, Ok, Err, is_some, ap, sym, ◌∙◌, subst, ◌⊎◌, inl, inr, MatchBool, arith, true≢false, if◌then◌else◌}
+use Rattle.std.specs.Prelude.{Contains, ⊤, option_and_then}
+use Rattle.std.specs.Cmp.{IsEquivalence}
+use Rattle.std.specs.Duration.{as_nanos}
+use Rattle.std.specs.FinMap.{get, insert, remove, contains_key}
+use Rattle.uuid.specs.declared.Uuid.{Uuid}
 use Rattle.moka_parts.specs.declared.policy.Instant.{Instant}
 use Rattle.moka_parts.specs.declared.records.Record.{Record}
 use Rattle.moka_parts.specs.declared.records.Registered.{Registered}
 use Rattle.moka_parts.specs.declared.records.ReadOperation.{ReadOperation}
+use Rattle.moka_parts.specs.declared.records.ReadOperation.TheVariants.{Miss}
+use Rattle.moka_parts.specs.declared.records.Ticketed.{Ticketed}
 use Rattle.moka_parts.specs.declared.records.Operation.{Operation}
 use Rattle.moka_parts.specs.declared.records.Operation.TheVariants.{Upsert, Removal}
-use Rattle.moka_parts.specs.Records.{record_of_key}
-use Rattle.moka_parts.specs.State.{State, is_disabled, keeps_write_list}
-use Rattle.moka_parts.specs.Housekeeping.{Housekeeping}
-use Rattle.moka_parts.specs.Maintenance.{Freedom, AreFree, after_run}
-use Rattle.moka_parts.specs.Settling.{IsValid}
-use Rattle.moka_parts.specs.Calls.{inserted, replaced, handing_out, after_hit}
-use Rattle.moka_parts.specs.Order.{IsInOrder, write_list_at_end}
+use Rattle.moka_parts.specs.declared.calls.Ticket.{Ticket}
+use Rattle.moka_parts.specs.declared.calls.Entry.{Entry}
+use Rattle.moka_parts.specs.declared.calls.KvEntry.{KvEntry}
+use Rattle.moka_parts.specs.declared.error.OutOfMemory.{OutOfMemory}
+use Rattle.moka_parts.specs.declared.error.InsertRefused.{InsertRefused}
+use Rattle.moka_parts.specs.declared.error.SendError.{SendError}
+use Rattle.moka_parts.specs.declared.error.SendError.TheVariants.{UnknownTicket, QueueFull}
+use Rattle.moka_parts.specs.declared.error.PredicateRefused.{PredicateRefused}
+use Rattle.moka_parts.specs.declared.error.CapacityError.{CapacityError}
+use Rattle.moka_parts.specs.declared.calls.Call.{Call}
+use Rattle.moka_parts.specs.declared.calls.Call.TheVariants as call
+use Rattle.moka_parts.specs.declared.calls.Reply.{Reply}
+use Rattle.moka_parts.specs.declared.calls.Reply.TheVariants as reply
+use Rattle.moka_parts.specs.Housekeeping.{Housekeeping, is_due, after_run_due, without_automatic}
+use Rattle.moka_parts.specs.Records.{Records, Notice, record_of_key, with_record, counted_of, is_applied}
+use Rattle.moka_parts.specs.State.{State, Meaning, Events, is_disabled, keeps_write_list}
+use Rattle.moka_parts.specs.Maintenance.{Terms, Course, Freedom, RunsBy, DoesNothing, MaintenanceRun, after_run}
+use Rattle.moka_parts.specs.Settling.{IsWaiting, IsTracked, AreTicketed, IsValid, WaitsAt, number_of}
+use Rattle.moka_parts.specs.Order.{waiting_by_ticket, written_if, written_by, IsNewer, IsInOrder, IsOrderly, write_list_at_end}
+use Rattle.moka_parts.specs.Calls.{handing_out, new_record, inserted, updated_record, replaced, keeper_terms, RemovesAt, RemoveStep, InvalidateStep, CapacityStep, InsertsAt, InsertStep, SendsAt, SendStep, RunStep, KeeperRun, RunsIfDue, Unchanged, RecordsRead, queueing, hit_record, after_hit, hit_at, hit_operation, PeeksAt, PeekStep, GetsAt, GetStep}
+use Rattle.moka_parts.specs.Runs.{CallStep, Step, AreSteps, AreOrderly, last_state}
+use Rattle.moka_parts.proofs.Maps.{AreApart, same_or_apart, itself_tested, get_inserted, get_past_insert, get_removed, get_past_remove}
+use Rattle.moka_parts.proofs.RunKeeps.{keeps_remove}
+use Rattle.moka_parts.proofs.Rising.{waits_at}
+use Rattle.moka_parts.proofs.Rises.{Rises, thins_each, thins_all}
+use Rattle.moka_parts.proofs.InOrder.{settled_moment, settled_at, waiting_at, waiting_less, IsLater, IsOrdered}
+use Rattle.moka_parts.proofs.OrderKept.{of_each}
+use Rattle.moka_parts.proofs.Tickets.{each_waits}
+use Rattle.moka_parts.proofs.OrderedStates.{ordered_from, in_order_from, run_in_order, sent_in_order, handed_in_order}
+use Rattle.moka_parts.proofs.CallsKeep.{record_at_its_number, nothing_waits_of_next}
+use Rattle.moka_parts.proofs.StepsKeep.{call_keeps}
 
-module _ {K V X P W : Type 0} (ns : List ℕ) where
+-- ---- one change of a state
+
+module _ {K V X P W : Type 0} (s : State K V X P W) (ns : List ℕ) (o : IsInOrder s ns) where
   -- what the order does not speak of may change
-  pub in_order_with : (s : State K V X P W) (reads : List ReadOperation) (bound : Option Instant) (predicates : List (Registered P)) (housekeeping : Housekeeping) (capacity : Option ℕ) → IsInOrder s ns →
-      IsInOrder (record s { reads = reads; invalid_before = bound; predicates = predicates; housekeeping = housekeeping; capacity = capacity }) ns
-  in_order_with s reads bound predicates housekeeping capacity o = record { listed = o.listed; rising = o.rising; below = o.below; newer = o.newer; written = o.written }
+  pub order_with : (reads : List ReadOperation) (bound : Option Instant) (predicates : List (Registered P)) (housekeeping : Housekeeping) (capacity : Option ℕ) → IsInOrder (record s { reads = reads; invalid_before = bound; predicates = predicates; housekeeping = housekeeping; capacity = capacity }) ns
+  order_with reads bound predicates housekeeping capacity = record { listed = o.listed; rising = o.rising; below = o.below; newer = o.newer; written = o.written }
 
-  module _ (eq : K → K → Bool) where
-    -- a new key is inserted, no earlier than any write
-    pub inserted_in_order : (created : X → K → V → ℕ → Option ℕ) (updated : X → K → V → ℕ → Option ℕ → Option ℕ) (s : State K V X P W) (key : K) (hash : ℕ) (value : V) (now : Instant) (w : ℕ) → IsValid eq s →
-        ((n : ℕ) (r : Record K V) → get s.records n ≡ Some r → r.written.0 ≤ now.0) → IsInOrder s ns → IsInOrder (inserted created updated s key hash value now w) ns
-    inserted_in_order created updated s key hash value now w valid late order = ?
+  module _ (eq : K → K → Bool) (h : IsValid eq s) where
+    waits : (q : Ticketed) → Contains (waiting_by_ticket s) q → WaitsAt s.outstanding s.writes q.ticket q.operation
+    waits q there = of_each (λ (q : Ticketed). WaitsAt s.outstanding s.writes q.ticket q.operation) (waiting_by_ticket s) (each_waits s.outstanding s.writes) q there
 
-    -- a known key is
-    pub replaced_in_order : (created : X → K → V → ℕ → Option ℕ) (updated : X → K → V → ℕ → Option ℕ → Option ℕ) (s : State K V X P W) (r : Record K V) (key : K) (hash : ℕ) (value : V) (now : Instant) (w : ℕ) → record_of_key eq s.records key ≡ Some r → IsValid eq s →
-        ((n : ℕ) (r : Record K V) → get s.records n ≡ Some r → r.written.0 ≤ now.0) → IsInOrder s ns → IsInOrder (replaced created updated s r key hash value now w) ns
-    replaced_in_order created updated s r key hash value now w found valid late order = ?
+    -- a record is put in, newer than all that waits of it and written no earlier than any
+    module _ (n g w x : ℕ) (q : Record K V) (fresh : q.applied < g) (present : q.generation ≡ g)
+        (older : (t k v y : ℕ) → WaitsAt s.outstanding s.writes t (Upsert n k v y) → (q.applied < k) × (k < g))
+        (last : (k : ℕ) (r : Record K V) → get s.records k ≡ Some r → r.written.0 ≤ q.written.0) where
+      put_settled : (k : ℕ) → (settled_at (insert s.records n q) k ≡ settled_at s.records k) ⊎ (settled_at (insert s.records n q) k ≡ None)
+      put_settled k = elim (same_or_apart k n) [
+        | inl same ↦ inr (ap (settled_at (insert s.records n q)) same ∙ ap settled_moment (get_inserted s.records n q) ∙ ap (λ b. if b then Some q.written.0 else None) (unapplied q.applied q.generation (subst (λ i. q.applied < i) (sym present) fresh)))
+        | inr apart ↦ inl (ap settled_moment (get_past_insert s.records n q k apart))
+      ]
+        where
+          unapplied : (a b : ℕ) → a < b → (a == b) ≡ false
+          unapplied a b lt = grind (arith, lt)
+
+      put_waiting : (p : Operation) (t : ℕ) → WaitsAt s.outstanding s.writes t p → (written_by (insert s.records n q) p ≡ written_by s.records p) ⊎ (written_by (insert s.records n q) p ≡ None)
+      put_waiting (Removal m k) t wait = inl refl
+      put_waiting (Upsert m k v y) t wait = elim (same_or_apart m n) [
+        | inl same ↦ (let old = older t k v y (subst (λ i. WaitsAt s.outstanding s.writes t (Upsert i k v y)) same wait) in
+            inr (ap (option_and_then (written_if (insert s.records n q) k)) (ap (get (insert s.records n q)) same ∙ get_inserted s.records n q) ∙ ap (λ b. if b then Some q.written.0 else None) (differs k g q.generation old.1 present)))
+        | inr apart ↦ inl (ap (option_and_then (written_if s.records k)) (get_past_insert s.records n q m apart))
+      ]
+        where
+          differs : (k g generation : ℕ) → k < g → generation ≡ g → (k == generation) ≡ false
+          differs k g generation lt same = grind (arith, lt, same)
+
+      put_newer : (p : Operation) (t : ℕ) → WaitsAt s.outstanding s.writes t p → IsNewer s.records p → IsNewer (insert s.records n q) p
+      put_newer (Removal m k) t wait old = tt
+      put_newer (Upsert m k v y) t wait old = λ r there. elim (same_or_apart m n) [
+        | inl same ↦ (let both : Some q ≡ Some r = sym (get_inserted s.records n q) ∙ sym (ap (get (insert s.records n q)) same) ∙ there in let one : q ≡ r = cc in
+            subst (λ (z : Record K V). z.applied < k) one (older t k v y (subst (λ i. WaitsAt s.outstanding s.writes t (Upsert i k v y)) same wait)).0)
+        | inr apart ↦ old r (sym (get_past_insert s.records n q m apart) ∙ there)
+      ]
+
+      put_later : (p : Operation) (t : ℕ) → WaitsAt s.outstanding s.writes t p → IsLater p (Upsert n g w x)
+      put_later (Removal m k) t wait = tt
+      put_later (Upsert m k v y) t wait = λ same. (older t k v y (subst (λ i. WaitsAt s.outstanding s.writes t (Upsert i k v y)) same wait)).1
+
+      put_last : (k : ℕ) (r : Record K V) → get (insert s.records n q) k ≡ Some r → r.written.0 ≤ q.written.0
+      put_last k r there = elim (same_or_apart k n) [
+        | inl same ↦ (let both : Some q ≡ Some r = sym (get_inserted s.records n q) ∙ sym (ap (get (insert s.records n q)) same) ∙ there in let one : q ≡ r = cc in subst (λ (z : Record K V). z.written.0 ≤ q.written.0) one (omega arith))
+        | inr apart ↦ last k r (sym (get_past_insert s.records n q k apart) ∙ there)
+      ]
+
+      pub put_in_order : IsInOrder (handing_out (record s { records = insert s.records n q }) (Upsert n g w x)) ns
+      put_in_order = handed_in_order s ns (insert s.records n q) (Upsert n g w x) h.numbered.ticketed h.rising o put_settled
+          (λ a there. put_waiting a.operation a.ticket (waits a there)) (λ a there. put_newer a.operation a.ticket (waits a there) (o.newer a there))
+          (λ r there. let both : Some q ≡ Some r = sym (get_inserted s.records n q) ∙ there in let one : q ≡ r = cc in subst (λ (z : Record K V). z.applied < g) one fresh)
+          (λ a there. put_later a.operation a.ticket (waits a there))
+          (inr (q.written.0, ap (option_and_then (written_if (insert s.records n q) g)) (get_inserted s.records n q) ∙ ap (λ b. if b then Some q.written.0 else None) (ap (λ i. g == i) present ∙ itself_tested g), put_last))
 
     -- a record leaves, and its removal is handed out
-    pub removal_in_order : (s : State K V X P W) (n generation : ℕ) → IsValid eq s → IsInOrder s ns → IsInOrder (handing_out (record s { records = remove s.records n }) (Removal n generation)) ns
-    removal_in_order s n generation valid order = ?
+    pub taken_in_order : (n g : ℕ) → IsInOrder (handing_out (record s { records = remove s.records n }) (Removal n g)) ns
+    taken_in_order n g = handed_in_order s ns (remove s.records n) (Removal n g) h.numbered.ticketed h.rising o settled
+        (λ a there. waiting_less s.records (remove s.records n) (keeps_remove s.records n) a) (λ a there. newer a.operation (o.newer a there)) tt (λ a there. any a.operation) (inl refl)
+      where
+        settled : (k : ℕ) → (settled_at (remove s.records n) k ≡ settled_at s.records k) ⊎ (settled_at (remove s.records n) k ≡ None)
+        settled k = elim (same_or_apart k n) [
+          | inl same ↦ inr (ap settled_moment (ap (get (remove s.records n)) same ∙ get_removed s.records n))
+          | inr apart ↦ inl (ap settled_moment (get_past_remove s.records n k apart))
+        ]
 
-    -- a hit changes no moment of writing
-    pub hit_in_order : (read : X → K → V → ℕ → Option ℕ → ℕ → Option ℕ) (s : State K V X P W) (key : K) (r : Record K V) (now : ℕ) → record_of_key eq s.records key ≡ Some r → IsValid eq s → IsInOrder s ns → IsInOrder (after_hit read s r now) ns
-    hit_in_order read s key r now found valid order = ?
+        newer : (p : Operation) → IsNewer s.records p → IsNewer (remove s.records n) p
+        newer (Removal m k) old = tt
+        newer (Upsert m k v y) old = λ r there. elim (same_or_apart m n) [
+          | inl same ↦ (let none = get_removed s.records n in let e = ap (get (remove s.records n)) same in cc)
+          | inr apart ↦ old r (sym (get_past_remove s.records n m apart) ∙ there)
+        ]
+
+        any : (p : Operation) → IsLater p (Removal n g)
+        any (Removal m k) = tt
+        any (Upsert m k v y) = tt
+
+    -- a record is read
+    pub renewed_in_order : (n : ℕ) (r q : Record K V) → get s.records n ≡ Some r → q.generation ≡ r.generation → q.applied ≡ r.applied → q.written.0 ≡ r.written.0 → IsInOrder (record s { records = insert s.records n q }) ns
+    renewed_in_order n r q there generation applied written =
+        let old : IsOrdered s.records s.access ns (waiting_by_ticket s) = ordered_from s ns o h.rising in
+        in_order_from (record s { records = insert s.records n q }) ns (record {
+          once = old.once;
+          members = old.members;
+          newer = λ a wait. newer a.operation (old.newer a wait);
+          rises = thins_each (settled_at s.records) (settled_at (insert s.records n q)) ns (map (waiting_at s.records) (waiting_by_ticket s)) (map (waiting_at (insert s.records n q)) (waiting_by_ticket s)) (λ k. inl (settled k))
+              (thins_all (waiting_at s.records) (waiting_at (insert s.records n q)) (waiting_by_ticket s) (λ a. inl (waiting a.operation))) 0 old.rises;
+          later = old.later;
+        }) o.rising o.below
+      where
+        settled : (k : ℕ) → settled_at (insert s.records n q) k ≡ settled_at s.records k
+        settled k = elim (same_or_apart k n) [
+          | inl same ↦ ap (settled_at (insert s.records n q)) same ∙ ap settled_moment (get_inserted s.records n q)
+              ∙ ap (λ b. if b then Some q.written.0 else None) (ap (λ i. i == q.generation) applied ∙ ap (λ i. r.applied == i) generation) ∙ ap (λ i. if r.applied == r.generation then Some i else None) written
+              ∙ sym (ap settled_moment there) ∙ sym (ap (settled_at s.records) same)
+          | inr apart ↦ ap settled_moment (get_past_insert s.records n q k apart)
+        ]
+
+        waiting : (p : Operation) → written_by (insert s.records n q) p ≡ written_by s.records p
+        waiting (Removal m k) = refl
+        waiting (Upsert m k v y) = elim (same_or_apart m n) [
+          | inl same ↦ ap (λ i. option_and_then (written_if s.records k) (get (insert s.records n q) i)) same ∙ ap (option_and_then (written_if s.records k)) (get_inserted s.records n q)
+              ∙ ap (λ i. if k == i then Some q.written.0 else None) generation ∙ ap (λ i. if k == r.generation then Some i else None) written
+              ∙ sym (ap (option_and_then (written_if s.records k)) there) ∙ sym (ap (λ i. option_and_then (written_if s.records k) (get s.records i)) same)
+          | inr apart ↦ ap (option_and_then (written_if s.records k)) (get_past_insert s.records n q m apart)
+        ]
+
+        newer : (p : Operation) → IsNewer s.records p → IsNewer (insert s.records n q) p
+        newer (Removal m k) old = tt
+        newer (Upsert m k v y) old = λ z at. elim (same_or_apart m n) [
+          | inl same ↦ (let both : Some q ≡ Some z = sym (get_inserted s.records n q) ∙ sym (ap (get (insert s.records n q)) same) ∙ at in let one : q ≡ z = cc in
+              subst (λ (z : Record K V). z.applied < k) one (subst (λ i. i < k) (sym applied) (old r (ap (get s.records) same ∙ there))))
+          | inr apart ↦ old z (sym (get_past_insert s.records n q m apart) ∙ at)
+        ]

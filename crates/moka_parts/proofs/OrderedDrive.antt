@@ -18,7 +18,7 @@ use Rattle.moka_parts.specs.Listed.{ListedRun, ListedStep, AreListedSteps}
 use Rattle.moka_parts.proofs.RunsGoOn.{promised_is_run}
 use Rattle.moka_parts.proofs.StepsKeep.{call_keeps}
 use Rattle.moka_parts.proofs.Promises.{weaker_call}
-use Rattle.moka_parts.proofs.OrderedCalls.{in_order_with}
+use Rattle.moka_parts.proofs.OrderedChanges.{in_order_with}
 use Rattle.moka_parts.proofs.OrderedRuns.{IsOrderedWhereKept, listed_is_promised}
 use Rattle.moka_parts.proofs.OrderedSteps.{asked, due, get_in_order, send_in_order, predicate_in_order, capacity_in_order, remove_in_order, peek_in_order, insert_in_order, stays, without_run}
 

@@ -95,3 +95,82 @@ sent_in_order {K} {V} {X} {P} {W} s ns ticket p there least o = record {
         let low = least n (sym (ap is_some (get_past_remove s.outstanding ticket n apart)) ∙ out) in
         let differ = apart.forth in
         subst (λ (q : Ticketed). q.ticket < n) e (grind (arith, low, differ))
+
+-- ---- one more operation handed out
+
+later_pushed : (ws : List Ticketed) (x : Ticketed) → AreLater ws → AllByRecursion (λ (h : Ticketed). IsLater h.operation x.operation) ws → AreLater (ws ++ x ∷ [])
+later_pushed [] x later last = (tt, tt)
+later_pushed (h ∷ ws) x later last = (all_append (λ (q : Ticketed). IsLater h.operation q.operation) ws (x ∷ []) later.0 (last.0, tt), later_pushed ws x later.1 last.1)
+
+module _ {K V : Type 0} (records : Records K V) (m : ℕ) (up : (k : ℕ) (r : Record K V) → get records k ≡ Some r → r.written.0 ≤ m) where
+  settled_upto : (k : ℕ) → IsUpTo m (settled_at records k)
+  settled_upto k = go (get records k) refl
+    where
+      go : (v : Option (Record K V)) → get records k ≡ v → IsUpTo m (settled_moment v)
+      go None e = tt
+      go (Some r) e = elim (is_applied r) as (λ b. IsUpTo m (if b then Some r.written.0 else None)) [ true ↦ up k r e | false ↦ tt ]
+
+  waiting_upto : (h : Ticketed) → IsUpTo m (waiting_at records h)
+  waiting_upto h = go h.operation
+    where
+      at : (n g : ℕ) (v : Option (Record K V)) → get records n ≡ v → IsUpTo m (option_and_then (written_if records g) v)
+      at n g None e = tt
+      at n g (Some r) e = elim (g == r.generation) as (λ b. IsUpTo m (if b then Some r.written.0 else None)) [ true ↦ up n r e | false ↦ tt ]
+
+      go : (o : Operation) → IsUpTo m (written_by records o)
+      go (Removal n g) = tt
+      go (Upsert n g w x) = at n g (get records n) refl
+
+  -- nothing was written later
+  all_upto : (ns : List ℕ) (ws : List Ticketed) → AllByRecursion (IsUpTo m) (map (settled_at records) ns ++ map (waiting_at records) ws)
+  all_upto ns ws = all_append (IsUpTo m) (map (settled_at records) ns) (map (waiting_at records) ws)
+      (all_map (IsUpTo m) (settled_at records) ns (all_of (λ k. IsUpTo m (settled_at records k)) ns (λ k there. settled_upto k)))
+      (all_map (IsUpTo m) (waiting_at records) ws (all_of (λ h. IsUpTo m (waiting_at records h)) ws (λ h there. waiting_upto h)))
+
+module _ {K V X P W : Type 0} (s : State K V X P W) (ns : List ℕ) (records : Records K V) (p : Operation) (given : AreTicketed s.outstanding s.writes s.next_ticket) (rising : AreRising s.outstanding s.writes) (o : IsInOrder s ns) where
+  -- where the records before have the same moments or none, and the operation comes last
+  handed_in_order : ((k : ℕ) → (settled_at records k ≡ settled_at s.records k) ⊎ (settled_at records k ≡ None)) →
+      ((h : Ticketed) → Contains (waiting_by_ticket s) h → (waiting_at records h ≡ waiting_at s.records h) ⊎ (waiting_at records h ≡ None)) →
+      ((h : Ticketed) → Contains (waiting_by_ticket s) h → IsNewer records h.operation) → IsNewer records p →
+      ((h : Ticketed) → Contains (waiting_by_ticket s) h → IsLater h.operation p) →
+      (written_by records p ≡ None) ⊎ ((m : ℕ) × (written_by records p ≡ Some m) × ((k : ℕ) (r : Record K V) → get records k ≡ Some r → r.written.0 ≤ m)) →
+      IsInOrder (handing_out (record s { records = records }) p) ns
+  handed_in_order settled waiting newer last later moment =
+      in_order_from (handing_out (record s { records = records }) p) ns (subst (IsOrdered records s.access ns) (sym same) (record {
+        once = o.listed.0;
+        members = o.listed.1;
+        newer = λ h there. newest h (Contains-push_cases (waiting_by_ticket s) x h there);
+        rises = subst (Rises 0) (sym moved) (risen moment);
+        later = later_pushed (waiting_by_ticket s) x old.later (all_of (λ (h : Ticketed). IsLater h.operation p) (waiting_by_ticket s) later);
+      })) o.rising (λ h ticket there out. below h ticket there out (same_or_apart ticket s.next_ticket))
+    where
+      x : Ticketed
+      x = record { ticket = s.next_ticket; operation = p }
+
+      old : IsOrdered s.records s.access ns (waiting_by_ticket s)
+      old = ordered_from s ns o rising
+
+      same : waiting_by_ticket (handing_out (record s { records = records }) p) ≡ waiting_by_ticket s ++ x ∷ []
+      same = ap (λ es. s.writes ++ map (λ (e : ℕ × Operation). record { ticket = e.0; operation = e.1 }) es) (entries_pushed s.outstanding s.next_ticket p (λ j q at. given.handed j q at))
+          ∙ ap (λ hs. s.writes ++ hs) (map-append (λ (e : ℕ × Operation). record { ticket = e.0; operation = e.1 }) (entries s.outstanding) ((s.next_ticket, p) ∷ []))
+          ∙ sym (append_assoc s.writes (handed_out s.outstanding) (x ∷ []))
+
+      newest : (h : Ticketed) → Contains (waiting_by_ticket s) h ⊎ (x ≡ h) → IsNewer records h.operation
+      newest h (inl there) = newer h there
+      newest h (inr e) = subst (λ (q : Ticketed). IsNewer records q.operation) e last
+
+      moved : map (settled_at records) ns ++ map (waiting_at records) (waiting_by_ticket s ++ x ∷ []) ≡ (map (settled_at records) ns ++ map (waiting_at records) (waiting_by_ticket s)) ++ written_by records p ∷ []
+      moved = ap (λ xs. map (settled_at records) ns ++ xs) (map-append (waiting_at records) (waiting_by_ticket s) (x ∷ [])) ∙ sym (append_assoc (map (settled_at records) ns) (map (waiting_at records) (waiting_by_ticket s)) (written_by records p ∷ []))
+
+      before : Rises 0 (map (settled_at records) ns ++ map (waiting_at records) (waiting_by_ticket s))
+      before = thins_each (settled_at s.records) (settled_at records) ns (map (waiting_at s.records) (waiting_by_ticket s)) (map (waiting_at records) (waiting_by_ticket s)) settled
+          (thins_every (waiting_at s.records) (waiting_at records) (waiting_by_ticket s) (all_of (λ h. (waiting_at records h ≡ waiting_at s.records h) ⊎ (waiting_at records h ≡ None)) (waiting_by_ticket s) waiting)) 0 old.rises
+
+      risen : (written_by records p ≡ None) ⊎ ((m : ℕ) × (written_by records p ≡ Some m) × ((k : ℕ) (r : Record K V) → get records k ≡ Some r → r.written.0 ≤ m)) → Rises 0 ((map (settled_at records) ns ++ map (waiting_at records) (waiting_by_ticket s)) ++ written_by records p ∷ [])
+      risen (inl none) = subst (λ m. Rises 0 ((map (settled_at records) ns ++ map (waiting_at records) (waiting_by_ticket s)) ++ m ∷ [])) (sym none) (rises_with_none 0 (map (settled_at records) ns ++ map (waiting_at records) (waiting_by_ticket s)) before)
+      risen (inr (m, at, up)) = subst (λ m. Rises 0 ((map (settled_at records) ns ++ map (waiting_at records) (waiting_by_ticket s)) ++ m ∷ [])) (sym at)
+          (rises_pushed 0 m (map (settled_at records) ns ++ map (waiting_at records) (waiting_by_ticket s)) before (omega arith) (all_upto records m up ns (waiting_by_ticket s)))
+
+      below : (h : Ticketed) (ticket : ℕ) → Contains s.writes h → contains_key (insert s.outstanding s.next_ticket p) ticket ≡ true → (ticket ≡ s.next_ticket) ⊎ AreApart ticket s.next_ticket → h.ticket < ticket
+      below h ticket there out (inl e) = subst (λ n. h.ticket < n) (sym e) (given.sent h there)
+      below h ticket there out (inr apart) = o.below h ticket there (sym (ap is_some (get_past_insert s.outstanding s.next_ticket p ticket apart)) ∙ out)

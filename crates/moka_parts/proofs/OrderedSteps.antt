@@ -34,7 +34,7 @@ use Rattle.moka_parts.specs.Listed.{ListedRun}
 use Rattle.moka_parts.proofs.CallsKeep.{record_at_its_number}
 use Rattle.moka_parts.proofs.StepsKeep.{hit_valid}
 use Rattle.moka_parts.proofs.OrderedStates.{sent_in_order}
-use Rattle.moka_parts.proofs.OrderedCalls.{in_order_with, inserted_in_order, replaced_in_order, removal_in_order, hit_in_order}
+use Rattle.moka_parts.proofs.OrderedChanges.{in_order_with, inserted_in_order, replaced_in_order, removal_in_order, hit_in_order}
 use Rattle.moka_parts.proofs.OrderedRuns.{IsOrderedWhereKept, listed_run_in_order}
 
 module _ {K V X P W : Type 0} (before after : List ℕ) where
