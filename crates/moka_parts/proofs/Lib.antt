@@ -15,9 +15,9 @@ pub mod InOrder
 pub mod OrderKept
 pub mod Tickets
 pub mod OrderedStates
+pub mod OrderedCalls
 pub mod CallsKeep
 pub mod StepsKeep
-pub mod OrderedCalls
 pub mod Promises
 pub mod Surplus
 pub mod OneMore
@@ -37,7 +37,6 @@ pub mod Admission
 pub mod RunsGoOn
 pub mod OrderedList
 pub mod OrderedAges
-pub mod OrderedChanges
 pub mod OrderedRuns
 pub mod OrderedSteps
 pub mod OrderedDrive

@@ -1,5 +1,5 @@
 -- The course of the write list: after each read, write and step it has just the members' numbers, each once.
-use Rattle.std.proofs.Common.{◌≡◌, refl, ℕ, Bool, true, false, ◌==◌, ◌||◌, nat_lt, List, [], ◌∷◌, ◌++◌, Option, Some, None, is_some, ap, sym, ◌∙◌, inl, inr, if◌then◌else◌}
+use Rattle.std.proofs.Common.{◌≡◌, refl, ℕ, Bool, true, false, nat_lt, List, [], ◌∷◌, ◌++◌, Option, Some, None, is_some, ap, sym, subst, ◌∙◌, if◌then◌else◌}
 use Rattle.std.specs.Prelude.{⊤}
 use Rattle.std.specs.Option.{option_map_or}
 use Rattle.std.specs.FinMap.{get}
@@ -12,64 +12,36 @@ use Rattle.moka_parts.specs.declared.records.Operation.{Operation}
 use Rattle.moka_parts.specs.declared.records.Operation.TheVariants.{Upsert, Removal}
 use Rattle.moka_parts.specs.declared.records.ReadOperation.{ReadOperation}
 use Rattle.moka_parts.specs.declared.records.ReadOperation.TheVariants.{Hit, Miss}
-use Rattle.moka_parts.specs.Records.{member, counted_of, is_member, without_member, without_members, to_back, all_to_back, total_weight, has_room, is_listed, without_number, without_numbers, number_to_back}
+use Rattle.moka_parts.specs.Records.{member, counted_of, is_member, without_member, without_members, to_back, all_to_back, total_weight, has_room, without_number, without_numbers, number_to_back}
 use Rattle.moka_parts.specs.State.{State, Contents, contents, keeps_write_list}
 use Rattle.moka_parts.specs.Reads.{after_read, after_reads}
 use Rattle.moka_parts.specs.Candidates.{victims_for, is_preferred}
 use Rattle.moka_parts.specs.Writes.{Fate, Ignored, Overtaken, Counted, Admitted, TooHeavy, Preferred, Refused, fate_by_frequency, fate_by_policy, fate_of_newcomer, fate_of_record, after_fate, after_write, after_writes}
 use Rattle.moka_parts.specs.Maintenance.{Choice, Removes, MovesToBack, Drops, Freedom, after_choice, after_choices, after_queued_reads, after_run}
 use Rattle.moka_parts.specs.Order.{IsListOf, IsWriteList, written_after_fate, written_after_write, written_after_writes, written_after_choice, written_after_choices, write_list_at_end}
-use Rattle.moka_parts.proofs.Maps.{AreApart, same_or_apart, itself_tested}
-use Rattle.moka_parts.proofs.AccessList.{counted_taken_out, counted_past_taken_out, counted_pushed, counted_past_pushed, counted-to_back, counted-all_to_back, uncounted_without}
-use Rattle.moka_parts.proofs.WriteList.{listed_pushed, listed_taken_out, listed_past_taken_out, listed_moved, once_taken_out, once_pushed, once_moved}
+use Rattle.moka_parts.proofs.AccessList.{counted_taken_out, counted-all_to_back, uncounted_without}
+use Rattle.moka_parts.proofs.WriteList.{once_taken_out, once_pushed, once_moved, once_without}
+use Rattle.moka_parts.proofs.InOrder.{members_taken_out, members_moved, members_all_moved, members_both_moved, members_pushed, members_without}
 use Rattle.moka_parts.proofs.RunKeepsSound.{Known, fate_known}
 
-or_false : (a : Bool) → (a || false) ≡ a
-or_false true = refl
-or_false false = refl
-
 module _ (access : List Member) (ns : List ℕ) (h : IsListOf access ns) where
-  -- what is not counted does not stand in the list
-  pub unlisted : (n : ℕ) → counted_of n access ≡ None → is_listed n ns ≡ false
-  unlisted n absent = h.1 n ∙ ap is_some absent
-
   -- a member leaves
-  pub list_taken_out : (n : ℕ) → IsListOf (without_member n access) (without_number n ns)
-  list_taken_out n = (once_taken_out n ns h.0, λ k. elim (same_or_apart k n) [
-    | inl same ↦ ap (λ x. is_listed x (without_number n ns)) same ∙ listed_taken_out n ns ∙ sym (ap is_some (ap (λ x. counted_of x (without_member n access)) same ∙ counted_taken_out n access))
-    | inr apart ↦ listed_past_taken_out n k ns apart ∙ h.1 k ∙ sym (ap is_some (counted_past_taken_out n k access apart))
-  ])
+  list_taken_out : (n : ℕ) → IsListOf (without_member n access) (without_number n ns)
+  list_taken_out n = (once_taken_out n ns h.0, members_taken_out ns access h.1 n)
 
   -- a new member stands at the back
-  pub list_pushed : (n w : ℕ) → counted_of n access ≡ None → IsListOf (access ++ member n w ∷ []) (ns ++ n ∷ [])
-  list_pushed n w absent = (once_pushed n ns h.0 (unlisted n absent), λ k. listed_pushed k n ns ∙ elim (same_or_apart k n) [
-    | inl same ↦ ap (λ x. is_listed x ns || (n == x)) same ∙ ap (λ b. b || (n == n)) (unlisted n absent) ∙ itself_tested n ∙ sym (ap is_some (ap (λ x. counted_of x (access ++ member n w ∷ [])) same ∙ counted_pushed n w access absent))
-    | inr apart ↦ ap (λ b. is_listed k ns || b) apart.back ∙ or_false (is_listed k ns) ∙ h.1 k ∙ sym (ap is_some (counted_past_pushed n w k access apart))
-  ])
-
-  -- a member goes to the back of the access list alone
-  pub list_of_read : (n : ℕ) → IsListOf (to_back n access) ns
-  list_of_read n = (h.0, λ k. h.1 k ∙ sym (ap is_some (counted-to_back n k access)))
-
-  -- several do
-  pub list_of_moved : (moved : List ℕ) → IsListOf (all_to_back moved access) ns
-  list_of_moved moved = (h.0, λ k. h.1 k ∙ sym (ap is_some (counted-all_to_back moved k access)))
+  list_pushed : (n w : ℕ) → counted_of n access ≡ None → IsListOf (access ++ member n w ∷ []) (ns ++ n ∷ [])
+  list_pushed n w absent = (once_pushed n ns h.0 (h.1 n ∙ ap is_some absent), members_pushed ns access h.1 n w absent)
 
   -- a member goes to the back of both lists
-  pub list_moved : (n : ℕ) → IsListOf (to_back n access) (number_to_back n ns)
-  list_moved n = (once_moved n ns h.0, λ k. listed_moved n k ns ∙ h.1 k ∙ sym (ap is_some (counted-to_back n k access)))
+  list_moved : (n : ℕ) → IsListOf (to_back n access) (number_to_back n ns)
+  list_moved n = (once_moved n ns h.0, members_both_moved ns access h.1 n)
 
-  -- a member's weight is counted anew, at the back
-  pub list_counted : (n w : ℕ) → is_member n access ≡ true → IsListOf (without_member n access ++ member n w ∷ []) (number_to_back n ns)
-  list_counted n w there = (once_moved n ns h.0, λ k. listed_moved n k ns ∙ h.1 k ∙ elim (same_or_apart k n) [
-    | inl same ↦ ap (λ x. is_member x access) same ∙ there ∙ sym (ap is_some (ap (λ x. counted_of x (without_member n access ++ member n w ∷ [])) same ∙ counted_pushed n w (without_member n access) (counted_taken_out n access)))
-    | inr apart ↦ sym (ap is_some (counted_past_pushed n w k (without_member n access) apart ∙ counted_past_taken_out n k access apart))
-  ])
-
--- members leave
-pub list_without : (gone access : List Member) (ns : List ℕ) → IsListOf access ns → IsListOf (without_members gone access) (without_numbers gone ns)
-list_without [] access ns h = h
-list_without (a ∷ gone) access ns h = list_without gone (without_member a.number access) (without_number a.number ns) (list_taken_out access ns h a.number)
+-- a member's weight is counted anew, at the back
+list_counted : (access : List Member) (ns : List ℕ) (n w : ℕ) → IsListOf access ns → is_member n access ≡ true → IsListOf (without_member n access ++ member n w ∷ []) (number_to_back n ns)
+list_counted access ns n w h there =
+    subst (λ b. IsListOf (without_member n access ++ member n w ∷ []) (if b then without_number n ns ++ n ∷ [] else ns)) (sym (h.1 n ∙ there))
+    (list_pushed (without_member n access) (without_number n ns) (list_taken_out access ns h n) n w (counted_taken_out n access))
 
 -- ---- writes
 
@@ -114,13 +86,13 @@ module _ {K V : Type 0} (c : Contents K V) (ns : List ℕ) (h : IsListOf c.acces
       IsListOf (after_fate c number generation weight moved r f).access (written_after_fate true number ns f)
   fate_listed number generation weight moved r Ignored known counts = h
   fate_listed number generation weight moved r Overtaken known counts = list_moved c.access ns h number
-  fate_listed number generation weight moved r Counted known counts = list_counted c.access ns h number weight counts
+  fate_listed number generation weight moved r Counted known counts = list_counted c.access ns number weight h counts
   fate_listed number generation weight moved r Admitted known counts = list_pushed c.access ns h number weight known.1
   fate_listed number generation weight moved r TooHeavy known counts = h
   fate_listed number generation weight moved r (Preferred victims) known counts =
-      list_pushed (without_members victims (all_to_back moved c.access)) (without_numbers victims ns) (list_without victims (all_to_back moved c.access) ns (list_of_moved c.access ns h moved)) number weight
+      list_pushed (without_members victims (all_to_back moved c.access)) (without_numbers victims ns) (once_without victims ns h.0, members_without victims ns (all_to_back moved c.access) (members_all_moved ns c.access h.1 moved)) number weight
       (uncounted_without victims number (all_to_back moved c.access) (counted-all_to_back moved number c.access ∙ known.1))
-  fate_listed number generation weight moved r Refused known counts = list_of_moved c.access ns h moved
+  fate_listed number generation weight moved r Refused known counts = (h.0, members_all_moved ns c.access h.1 moved)
 
 module _ {K V : Type 0} (capacity : Option ℕ) (policy : EvictionPolicy) where
   -- a write
@@ -146,7 +118,7 @@ module _ {K V : Type 0} where
   pub reads_listed : (c : Contents K V) (ns : List ℕ) (rs : List ReadOperation) → IsListOf c.access ns → IsListOf (after_reads c rs).access ns
   reads_listed c ns [] h = h
   reads_listed c ns (Hit number hash renewed ∷ rs) h = reads_listed (after_read c (Hit number hash renewed)) ns rs
-      (elim (is_some (get c.records number)) as (λ b. IsListOf (if b then to_back number c.access else c.access) ns) [ true ↦ list_of_read c.access ns h number | false ↦ h ])
+      (elim (is_some (get c.records number)) as (λ b. IsListOf (if b then to_back number c.access else c.access) ns) [ true ↦ (h.0, members_moved ns c.access h.1 number) | false ↦ h ])
   reads_listed c ns (Miss hash ∷ rs) h = reads_listed (after_read c (Miss hash)) ns rs h
 
   -- a step

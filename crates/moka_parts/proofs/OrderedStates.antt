@@ -129,7 +129,7 @@ module _ {K V : Type 0} (records : Records K V) (m : ℕ) (up : (k : ℕ) (r : R
 
 module _ {K V X P W : Type 0} (s : State K V X P W) (ns : List ℕ) (records : Records K V) (p : Operation) (given : AreTicketed s.outstanding s.writes s.next_ticket) (rising : AreRising s.outstanding s.writes) (o : IsInOrder s ns) where
   -- where the records before have the same moments or none, and the operation comes last
-  handed_in_order : ((k : ℕ) → (settled_at records k ≡ settled_at s.records k) ⊎ (settled_at records k ≡ None)) →
+  pub handed_in_order : ((k : ℕ) → (settled_at records k ≡ settled_at s.records k) ⊎ (settled_at records k ≡ None)) →
       ((h : Ticketed) → Contains (waiting_by_ticket s) h → (waiting_at records h ≡ waiting_at s.records h) ⊎ (waiting_at records h ≡ None)) →
       ((h : Ticketed) → Contains (waiting_by_ticket s) h → IsNewer records h.operation) → IsNewer records p →
       ((h : Ticketed) → Contains (waiting_by_ticket s) h → IsLater h.operation p) →

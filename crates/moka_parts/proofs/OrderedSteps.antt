@@ -34,7 +34,7 @@ use Rattle.moka_parts.specs.Listed.{ListedRun}
 use Rattle.moka_parts.proofs.CallsKeep.{record_at_its_number}
 use Rattle.moka_parts.proofs.StepsKeep.{hit_valid}
 use Rattle.moka_parts.proofs.OrderedStates.{sent_in_order}
-use Rattle.moka_parts.proofs.OrderedChanges.{in_order_with, inserted_in_order, replaced_in_order, removal_in_order, hit_in_order}
+use Rattle.moka_parts.proofs.OrderedCalls.{order_with, inserted_in_order, replaced_in_order, taken_in_order, hit_in_order}
 use Rattle.moka_parts.proofs.OrderedRuns.{IsOrderedWhereKept, listed_run_in_order}
 
 module _ {K V X P W : Type 0} (before after : List ℕ) where
@@ -64,12 +64,12 @@ module _ {K V X P W : Type 0} (ns : List ℕ) where
   -- a predicate that is registered, or refused
   pub predicate_in_order : (s t : State K V X P W) (predicate : P) (now : Instant) (a : Result Uuid (PredicateRefused P)) (ids : List Uuid) → IsOrderedWhereKept s ns → InvalidateStep s predicate now a ids t → IsOrderedWhereKept t ns
   predicate_in_order s t predicate now (Ok id) ids order (on, few, free, same) =
-      subst (λ x. IsOrderedWhereKept x ns) (sym same) (λ kept. in_order_with ns s s.reads s.invalid_before (s.predicates ++ record { id = id; predicate = predicate; registered = now } ∷ []) s.housekeeping s.capacity (order kept))
+      subst (λ x. IsOrderedWhereKept x ns) (sym same) (λ kept. order_with s ns (order kept) s.reads s.invalid_before (s.predicates ++ record { id = id; predicate = predicate; registered = now } ∷ []) s.housekeeping s.capacity s.next_number)
   predicate_in_order s t predicate now (Err refused) ids order (back, why, same) = subst (λ x. IsOrderedWhereKept x ns) (sym same) order
 
   -- another capacity, or none
   pub capacity_in_order : (s t : State K V X P W) (capacity : Option ℕ) (a : Result (Unit {0}) CapacityError) → IsOrderedWhereKept s ns → CapacityStep s capacity a t → IsOrderedWhereKept t ns
-  capacity_in_order s t capacity (Ok u) order (neither_zero, same) = subst (λ x. IsOrderedWhereKept x ns) (sym same) (λ kept. in_order_with ns s s.reads s.invalid_before s.predicates s.housekeeping capacity (order kept))
+  capacity_in_order s t capacity (Ok u) order (neither_zero, same) = subst (λ x. IsOrderedWhereKept x ns) (sym same) (λ kept. order_with s ns (order kept) s.reads s.invalid_before s.predicates s.housekeeping capacity s.next_number)
   capacity_in_order s t capacity (Err refused) order (zero, same) = subst (λ x. IsOrderedWhereKept x ns) (sym same) order
 
   module _ (eq : K → K → Bool) where
@@ -79,7 +79,7 @@ module _ {K V X P W : Type 0} (ns : List ℕ) where
       where
         go : (o : Option (Record K V)) → RemovesAt s o a t → IsOrderedWhereKept t ns
         go None step = subst (λ x. IsOrderedWhereKept x ns) (sym step.1) order
-        go (Some r) step = subst (λ x. IsOrderedWhereKept x ns) (sym step.1) (λ kept. removal_in_order ns eq s r.number (r.generation + 1) valid (order kept))
+        go (Some r) step = subst (λ x. IsOrderedWhereKept x ns) (sym step.1) (λ kept. taken_in_order s ns (order kept) eq valid r.number (r.generation + 1))
 
     -- a get that does not record
     pub peek_in_order : (says : P → K → V → Bool → Type 0) (read : X → K → V → ℕ → Option ℕ → ℕ → Option ℕ) (s t : State K V X P W) (key : K) (ignored : Bool) (now : ℕ) (a : Result (Option V) OutOfMemory) → IsValid eq s → IsOrderedWhereKept s ns →
@@ -89,7 +89,7 @@ module _ {K V X P W : Type 0} (ns : List ℕ) where
         at : (o : Option (Record K V)) (a : Result (Option V) OutOfMemory) → record_of_key eq s.records key ≡ o → PeeksAt says read s o ignored now a t → IsOrderedWhereKept t ns
         at None a found (none, same) = subst (λ x. IsOrderedWhereKept x ns) (sym same) order
         at (Some r) (Ok None) found (missed, same) = subst (λ x. IsOrderedWhereKept x ns) (sym same) order
-        at (Some r) (Ok (Some value)) found (hit, is, same) = subst (λ x. IsOrderedWhereKept x ns) (sym same) (λ kept. hit_in_order ns eq read s key r now found valid (order kept))
+        at (Some r) (Ok (Some value)) found (hit, is, same) = subst (λ x. IsOrderedWhereKept x ns) (sym same) (λ kept. hit_in_order eq says read s ns key r now valid found (order kept))
         at (Some r) (Err x) found (hit, same) = subst (λ x. IsOrderedWhereKept x ns) (sym same) order
 
         go : (b : Bool) → MatchBool b ((a ≡ Ok None) × (t ≡ s)) (PeeksAt says read s (record_of_key eq s.records key) ignored now a t) → IsOrderedWhereKept t ns
@@ -105,8 +105,8 @@ module _ {K V X P W : Type 0} (ns : List ℕ) where
         no_run f same = ap (λ (x : Events K V). x.passes) same
 
         go : (o : Option (Record K V)) (a : Result (Ticket × Instant) (InsertRefused K V)) → record_of_key eq s.records key ≡ o → InsertsAt created updated weighs s o key hash value now a e t → (e.passes ≡ None) × IsOrderedWhereKept t ns
-        go None (Ok a) found (w, weight, free, ticket, moment, same, told) = (no_run _ told, subst (λ x. IsOrderedWhereKept x ns) (sym same) (λ kept. inserted_in_order ns eq created updated s key hash value now w valid late (order kept)))
-        go (Some r) (Ok a) found (w, weight, free, ticket, moment, same, told) = (no_run _ told, subst (λ x. IsOrderedWhereKept x ns) (sym same) (λ kept. replaced_in_order ns eq created updated s r key hash value now w found valid late (order kept)))
+        go None (Ok a) found (w, weight, free, ticket, moment, same, told) = (no_run _ told, subst (λ x. IsOrderedWhereKept x ns) (sym same) (λ kept. inserted_in_order eq created updated s ns key hash value now w valid late (order kept)))
+        go (Some r) (Ok a) found (w, weight, free, ticket, moment, same, told) = (no_run _ told, subst (λ x. IsOrderedWhereKept x ns) (sym same) (λ kept. replaced_in_order eq created updated s ns r key hash value now w valid found late (order kept)))
         go None (Err refused) found (why, same) = (no_run _ same.1, subst (λ x. IsOrderedWhereKept x ns) (sym same.0) order)
         go (Some r) (Err refused) found (why, same) = (no_run _ same.1, subst (λ x. IsOrderedWhereKept x ns) (sym same.0) order)
 
@@ -126,14 +126,14 @@ module _ {K V X L P W C I : Type 0} (m : Meaning K V X L P W C I) (before after 
       go : (b : Bool) → MatchBool b (KeeperRun (ListedRun m.says m.read before after) s now e t) (Unchanged s e t) → MatchBool b (KeeperRun (OrderlyRun m.says m.read) s now e t) (Unchanged s e t) × IsOrderedWhereKept t after
       go true (answer, mid, run, same) =
           let done = asked s mid (keeper_terms s.settings now) answer e valid order run in
-          ((answer, mid, done.0, same), subst (λ x. IsOrderedWhereKept x after) (sym same) (λ kept. in_order_with after mid mid.reads mid.invalid_before mid.predicates (after_run_due s.housekeeping s.settings.listening now answer) mid.capacity (done.1 kept)))
+          ((answer, mid, done.0, same), subst (λ x. IsOrderedWhereKept x after) (sym same) (λ kept. order_with mid after (done.1 kept) mid.reads mid.invalid_before mid.predicates (after_run_due s.housekeeping s.settings.listening now answer) mid.capacity mid.next_number))
       go false step = (step, stays before after s t e step list order)
 
   -- a read that is recorded
   recorded : (s t : State K V X P W) (now : ℕ) (r : ReadOperation) (e : Events K V) → IsValid m.eq s → IsOrderedWhereKept s before → (e.passes ≡ None → after ≡ before) → RecordsRead (ListedRun m.says m.read before after) s now r e t → RecordsRead (OrderlyRun m.says m.read) s now r e t × IsOrderedWhereKept t after
   recorded s t now r e valid order list (mid, run, same) =
       let done = due s mid (length s.reads) now e valid order list run in
-      ((mid, done.0, same), subst (λ x. IsOrderedWhereKept x after) (sym same) (λ kept. in_order_with after mid (queueing mid r).reads mid.invalid_before mid.predicates mid.housekeeping mid.capacity (done.1 kept)))
+      ((mid, done.0, same), subst (λ x. IsOrderedWhereKept x after) (sym same) (λ kept. order_with mid after (done.1 kept) (queueing mid r).reads mid.invalid_before mid.predicates mid.housekeeping mid.capacity mid.next_number))
 
   -- a get that records
   pub get_in_order : (s t : State K V X P W) (key : K) (hash : ℕ) (need_key ignored : Bool) (now : ℕ) (a : Result (Option (Entry K V)) OutOfMemory) (e : Events K V) → IsValid m.eq s → IsOrderedWhereKept s before → (e.passes ≡ None → after ≡ before) →
@@ -147,7 +147,7 @@ module _ {K V X L P W C I : Type 0} (m : Meaning K V X L P W C I) (before after 
       at None a found (none, read) = let done = recorded s t now (Miss hash) e valid order list read in ((none, done.0), done.1)
       at (Some r) (Ok None) found (missed, read) = let done = recorded s t now (Miss hash) e valid order list read in ((missed, done.0), done.1)
       at (Some r) (Ok (Some entry)) found (hit, value, k, read) =
-          let done = recorded (after_hit m.read s r now) t (hit_at m.read s r now) (hit_operation m.read s r now) e (hit_valid m.eq m.says m.read s key r now found valid) (λ kept. hit_in_order before m.eq m.read s key r now found valid (order kept)) list read in
+          let done = recorded (after_hit m.read s r now) t (hit_at m.read s r now) (hit_operation m.read s r now) e (hit_valid m.eq m.says m.read s key r now found valid) (λ kept. hit_in_order m.eq m.says m.read s before key r now valid found (order kept)) list read in
           ((hit, value, k, done.0), done.1)
       at (Some r) (Err x) found (hit, same) = ((hit, same), unchanged same)
 

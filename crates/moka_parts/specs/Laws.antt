@@ -17,7 +17,7 @@ use Rattle.moka_parts.specs.Settling.{IsConsistentState, IsWellNumbered, IsValid
 use Rattle.std.specs.Cmp.{IsEquivalence}
 use Rattle.moka_parts.specs.Time.{moment_of, is_before}
 use Rattle.moka_parts.specs.Records.{Records, Notice, record_of_key, with_record, numbers_of, total_weight}
-use Rattle.moka_parts.specs.State.{State, Settings, Contents, Meaning, Events, new_state}
+use Rattle.moka_parts.specs.State.{State, Settings, Contents, Meaning, Events, new_state, keeps_write_list}
 use Rattle.moka_sketch.specs.Frequency.{frequency}
 use Rattle.moka_parts.specs.Candidates.{prefix, frequency_of_all}
 use Rattle.moka_parts.specs.Bounds.{removed_by, IsPlainSurplus}
@@ -25,7 +25,8 @@ use Rattle.moka_parts.specs.Writes.{fate_by_policy, Preferred}
 use Rattle.moka_parts.specs.Maintenance.{Choice, Removes, MovesToBack, Drops, Freedom, Terms, Course, after_choice, kept_by_choice, CoversNothing, before_steps, AreFree, left_in_run, at_end, MaintenanceRun}
 use Rattle.moka_parts.specs.Exact.{IsExact, IsWithin}
 use Rattle.moka_parts.specs.Calls.{GetStep, PeekStep, ContainsStep, RemoveStep, entry_of}
-use Rattle.moka_parts.specs.Runs.{Cache, Step, AreSteps, MakesCalls, ReferenceRun, PromisedRun, last_state}
+use Rattle.moka_parts.specs.Order.{IsInOrder}
+use Rattle.moka_parts.specs.Runs.{Cache, Step, AreOrderly, AreSteps, MakesCalls, ReferenceRun, PromisedRun, last_state}
 use Rattle.moka_parts.specs.declared.policy.EvictionPolicy.TheVariants.{TinyLfu}
 
 -- ---- gets and looks
@@ -213,6 +214,11 @@ module _ {K V X P W : Type 0} (says : P → K → V → Bool → Type 0) (s : St
 -- every list of calls keeps a state valid
 abbrev pub StaysValid : {K V X L P W C I : Type 0} → Meaning K V X L P W C I → Type 0
 StaysValid {K} {V} {X} {L} {P} {W} m = (s : State K V X P W) (steps : List (Step K V X P W)) → IsEquivalence m.eq → IsValid m.eq s → AreSteps m (MaintenanceRun m.says) s steps → IsValid m.eq (last_state s steps)
+
+-- where the write list is kept, a list of calls in the order of time keeps a state in order
+abbrev pub StaysInOrder : {K V X L P W C I : Type 0} → Meaning K V X L P W C I → Type 0
+StaysInOrder {K} {V} {X} {L} {P} {W} m = (s : State K V X P W) (steps : List (Step K V X P W)) (before : List ℕ) → IsEquivalence m.eq → IsValid m.eq s → keeps_write_list s.settings ≡ true → AreOrderly s steps → IsInOrder s before →
+    AreSteps m (MaintenanceRun m.says) s steps → (after : List ℕ) × IsInOrder (last_state s steps) after
 
 -- calls whose runs of maintenance keep their promises are a run of the reference cache
 abbrev pub IsOfReference : {K V X L P W C I : Type 0} → (S : Type 0) → Meaning K V X L P W C I → Type 0

@@ -80,7 +80,7 @@ module _ {K V X P W : Type 0} where
   abbrev pub IsAtRestByWrite : State K V X P W → List ℕ → ℕ → Type 0
   IsAtRestByWrite s write_list now = (n : ℕ) (r : Record K V) → slice_get write_list 0 ≡ Some n → get s.records n ≡ Some r → (is_past_live s.settings r now ≡ false) × (is_written_before s.invalid_before r ≡ false)
 
-  -- a call in the order of time keeps a state in order, where the write list is kept
+  -- where the write list is kept, a call in the order of time keeps a state in order
   abbrev pub KeepsOrder : State K V X P W → List ℕ → Call K V P → State K V X P W → List ℕ → Type 0
   KeepsOrder s before c t after = keeps_write_list s.settings ≡ true → IsOrderly s c → IsInOrder s before → IsInOrder t after
 
