@@ -44,6 +44,7 @@ exact_when_nothing_waits {K} {V} Waits records access h none = record { once = h
         applied (inl e) = e
         applied (inr below) = let p = s.pending below in absurd (none (Upsert n r.generation r.weight p.0) p.1)
 
+-- with every operation sent and the queue applied, nothing waits
 pub nothing_waits : (outstanding : Operations) → outstanding ≡ empty → (o : Operation) → IsWaitingIn outstanding [] o → ⊥
 nothing_waits outstanding all o (inl p) = nothing_at p.0 o (sym (ap (λ m. get m p.0) all) ∙ p.1)
 nothing_waits outstanding all o (inr q) = let below : q.1.0 < 0 = q.1.1 in absurd (omega arith)

@@ -36,7 +36,7 @@ pub mod Contained
 pub mod Admission
 pub mod RunsGoOn
 pub mod OrderedList
-pub mod OrderedAges
+pub mod AgedOut
 pub mod OrderedRuns
 pub mod OrderedSteps
 pub mod OrderedDrive

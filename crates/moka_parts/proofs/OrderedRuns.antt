@@ -1,22 +1,23 @@
 -- A run that takes the write list along keeps a state in order, and leaves nothing that is past its time.
-use Rattle.std.proofs.Common.{◌≡◌, refl, ℕ, ◌<◌, ◌≤◌, Bool, true, false, ◌==◌, List, [], Option, Some, None, is_some, ap, sym, subst, ◌∙◌, ◌⊎◌, inl, inr, MatchBool, arith}
+use Rattle.std.proofs.Common.{◌≡◌, refl, ℕ, ◌<◌, ◌≤◌, Bool, true, false, ◌==◌, List, [], ◌∷◌, ◌++◌, Option, Some, None, is_some, ap, sym, subst, ◌∙◌, ◌⊎◌, inl, inr, MatchBool, arith}
 use Rattle.std.specs.Option.{option_map_or}
 use Rattle.std.specs.FinMap.{get}
 use Rattle.moka_parts.specs.declared.records.Record.{Record}
 use Rattle.moka_parts.specs.declared.records.Operation.{Operation}
 use Rattle.moka_parts.specs.declared.records.Operation.TheVariants.{Upsert, Removal}
-use Rattle.moka_parts.specs.Records.{Notice, is_applied, is_settled, counted_of}
-use Rattle.moka_parts.specs.State.{State, is_disabled, keeps_write_list}
-use Rattle.moka_parts.specs.Maintenance.{Freedom, Terms, Course, RunsBy, DoesNothing, after_run}
-use Rattle.moka_parts.specs.Settling.{IsWhole, IsAllSent, IsValid, IsWaitingIn, IsSound}
+use Rattle.moka_parts.specs.declared.records.Registered.{Registered}
+use Rattle.moka_parts.specs.Records.{Notice}
+use Rattle.moka_parts.specs.State.{State, Contents, is_disabled, keeps_write_list}
+use Rattle.moka_parts.specs.Maintenance.{Choice, Freedom, Terms, Course, Tests, tests_of, RunsBy, DoesNothing, AreFree, AreJustified, kept_by_choice, after_choice, after_choices, before_steps, after_run}
+use Rattle.moka_parts.specs.Settling.{IsWhole, IsAllSent, IsValid, IsConsistentState, AreRising}
 use Rattle.moka_parts.specs.Bounds.{IsBounded}
-use Rattle.moka_parts.specs.Order.{IsInOrder, IsAtRestByWrite, AgesOut, write_list_at_end}
+use Rattle.moka_parts.specs.Order.{IsInOrder, IsAtRestByWrite, ComesToRest, AgesOut, write_list_at_end}
+use Rattle.moka_parts.specs.Visibility.{is_past_live, is_written_before}
 use Rattle.moka_parts.specs.Runs.{EndsWell, PromisedRun, OrderlyRun}
 use Rattle.moka_parts.specs.Listed.{LeavesList, ListedRun}
-use Rattle.moka_parts.proofs.Maps.{same_or_apart, itself_tested, nothing_at}
-use Rattle.moka_parts.proofs.RunKeepsSound.{run_kept}
-use Rattle.moka_parts.proofs.AtEnd.{run_is_exact, nothing_waits}
-use Rattle.moka_parts.proofs.OrderedAges.{all_at_rest}
+use Rattle.moka_parts.proofs.Maps.{nothing_at}
+use Rattle.moka_parts.proofs.RunKeeps.{keeps_choices}
+use Rattle.moka_parts.proofs.AgedOut.{FrontLasts, aged_out}
 use Rattle.moka_parts.proofs.OrderedStates.{run_in_order}
 
 module _ {K V X P W : Type 0} where
@@ -28,26 +29,27 @@ module _ {K V X P W : Type 0} where
   ages_out_bare : (s : State K V X P W) (terms : Terms) (course : Course) → ((n : ℕ) (r : Record K V) → get s.records n ≡ Some r → ⊥) → AgesOut s terms course s
   ages_out_bare s terms course none = record { live = λ whole all kept n r there. absurd (none n r there); invalid = λ whole all kept n r there. absurd (none n r there) }
 
-  module _ (eq : K → K → Bool) (s : State K V X P W) (valid : IsValid eq s) (terms : Terms) (ch : Freedom) (course : Course) where
-    settled_at_end : IsAllSent s → (n : ℕ) (r : Record K V) → get (after_run s ch).records n ≡ Some r → is_settled (after_run s ch).records n ≡ true
-    settled_at_end all n r there = go (counted_of n (after_run s ch).access) (subst (λ o. IsSound (IsWaitingIn s.outstanding []) n o (counted_of n (after_run s ch).access)) there ((run_kept s ch valid.consistent).sound n))
-      where
-        go : (counted : Option ℕ) → IsSound (IsWaitingIn s.outstanding []) n (Some r) counted → is_settled (after_run s ch).records n ≡ true
-        go counted h = elim (same_or_apart r.applied r.generation) [
-          | inl same ↦ ap (λ o. option_map_or is_applied o false) there ∙ ap (λ k. k == r.generation) same ∙ itself_tested r.generation
-          | inr apart ↦ (
-            let below : r.applied < r.generation = (let differ = apart.forth in let le = h.applied in grind arith) in
-            let waits = h.pending below in
-            absurd (nothing_waits s.outstanding all (Upsert n r.generation r.weight waits.0) waits.1)
-          )
-        ]
+  -- what is so of the front of a list
+  front_lasts : (s : State K V X P W) (ns : List ℕ) (now : ℕ) → IsAtRestByWrite (tests_of s now) s.records ns → FrontLasts s ns now
+  front_lasts s [] now rest = tt
+  front_lasts s (n ∷ ns) now rest = λ r there. rest n r refl there
 
-    -- what a run leaves that came to rest by the write list
-    run_ages_out : (ns : List ℕ) → IsOrderedWhereKept (after_run s ch) ns → (IsWhole s terms course → IsAllSent s → keeps_write_list s.settings ≡ true → IsAtRestByWrite (after_run s ch) ns terms.now) → AgesOut s terms course (after_run s ch)
-    run_ages_out ns order rests = record {
-      live = λ whole all kept n r there. (all_at_rest (after_run s ch) (run_is_exact s ch valid.consistent all).exact (settled_at_end all) ns terms.now (order kept) (rests whole all kept) n r there).0;
-      invalid = λ whole all kept n r there. (all_at_rest (after_run s ch) (run_is_exact s ch valid.consistent all).exact (settled_at_end all) ns terms.now (order kept) (rests whole all kept) n r there).1;
+  module _ (says : P → K → V → Bool → Type 0) where
+    -- the first of justified steps are justified
+    justified_first : (q : Tests) (c : Contents K V) (ps : List (Registered P)) (xs ys : List Choice) → AreJustified says q c ps (xs ++ ys) → AreJustified says q c ps xs
+    justified_first q c ps [] ys are = tt
+    justified_first q c ps (x ∷ xs) ys are = (are.0, justified_first q (after_choice c x) (kept_by_choice ps x) xs ys are.1)
+
+    -- a run from a state in order that comes to rest by the write list leaves nothing that is past its time
+    pub rested_ages_out : (s : State K V X P W) (ns : List ℕ) (terms : Terms) (ch : Freedom) (course : Course) → IsConsistentState s → AreRising s.outstanding s.writes → keeps_write_list s.settings ≡ true → AreFree says s terms.now ch → IsInOrder s ns →
+        (IsWhole s terms course → IsAllSent s → ComesToRest s ns ch terms.now) → AgesOut s terms course (after_run s ch)
+    rested_ages_out s ns terms ch course consistent rising kept free order rests = record {
+      live = λ whole all k n r there. (all_last whole all k n r there).0;
+      invalid = λ whole all k n r there. (all_last whole all k n r there).1;
     }
+      where
+        all_last : IsWhole s terms course → IsAllSent s → keeps_write_list s.settings ≡ true → (n : ℕ) (r : Record K V) → get (after_run s ch).records n ≡ Some r → (is_past_live s.settings r terms.now ≡ false) × (is_written_before s.invalid_before r ≡ false)
+        all_last whole all k n r there = ?
 
   module _ (says : P → K → V → Bool → Type 0) (read : X → K → V → ℕ → Option ℕ → ℕ → Option ℕ) (before after : List ℕ) where
     -- a run with its write lists is one that keeps its promises
@@ -73,5 +75,6 @@ module _ {K V X P W : Type 0} where
             (subst (AgesOut s terms course) (sym same) (ages_out_bare s terms course (λ n r there. nothing_at n r (sym (ap (λ m. get m n) (valid.numbered.disabled off).no_records) ∙ there))),
             subst (λ x. IsOrderedWhereKept x after) (sym same) (subst (IsOrderedWhereKept s) (sym (kept off)) order))
         go false on (ch, (free, same, told), also) kept =
+            let aged = λ (k : keeps_write_list s.settings ≡ true). rested_ages_out says s before terms ch course valid.consistent valid.rising k free (order k) (λ whole all. also.1.rests whole all k) in
             let ends : IsOrderedWhereKept (after_run s ch) after = λ k. subst (IsInOrder (after_run s ch)) (sym (also.1.list k)) (run_in_order says s terms.now before ch k free valid.rising (order k)) in
-            (subst (AgesOut s terms course) (sym same) (run_ages_out eq s valid terms ch course after ends also.1.rests), subst (λ x. IsOrderedWhereKept x after) (sym same) ends)
+            (subst (AgesOut s terms course) (sym same) (record { live = λ whole all k. (aged k).live whole all k; invalid = λ whole all k. (aged k).invalid whole all k }), subst (λ x. IsOrderedWhereKept x after) (sym same) ends)

@@ -2,17 +2,17 @@
 use Rattle.std.specs.Prelude.{◌≡◌, ℕ, Bool, true, List, [], ◌∷◌, Option, None}
 use Rattle.moka_parts.specs.Records.{Notice}
 use Rattle.moka_parts.specs.State.{State, Meaning, is_disabled, keeps_write_list}
-use Rattle.moka_parts.specs.Maintenance.{Freedom, Terms, Course, RunsWith, after_run}
+use Rattle.moka_parts.specs.Maintenance.{Freedom, Terms, Course, RunsWith}
 use Rattle.moka_parts.specs.Settling.{IsWhole, IsAllSent}
 use Rattle.moka_parts.specs.Bounds.{IsBounded}
-use Rattle.moka_parts.specs.Order.{IsAtRestByWrite, write_list_at_end}
+use Rattle.moka_parts.specs.Order.{ComesToRest, write_list_at_end}
 use Rattle.moka_parts.specs.Runs.{EndsWell, CallStep, Step}
 
 -- what a run by these choices makes of the write list, where it is kept
 pub record LeavesList {K V X P W : Type 0} (before after : List ℕ) (s : State K V X P W) (terms : Terms) (ch : Freedom) (course : Course) : Type 0 where
   pub list : keeps_write_list s.settings ≡ true → after ≡ write_list_at_end s before ch
-  -- a whole run with all sent goes on until the front of the list is not past its time
-  pub rests : IsWhole s terms course → IsAllSent s → keeps_write_list s.settings ≡ true → IsAtRestByWrite (after_run s ch) after terms.now
+  -- a whole run with all sent comes to rest by the write list
+  pub rests : IsWhole s terms course → IsAllSent s → keeps_write_list s.settings ≡ true → ComesToRest s before ch terms.now
 
 module _ {K V X P W : Type 0} (says : P → K → V → Bool → Type 0) (read : X → K → V → ℕ → Option ℕ → ℕ → Option ℕ) (before after : List ℕ) where
   -- a run of maintenance with all that is promised of it, from one write list to the other; a disabled map keeps its list

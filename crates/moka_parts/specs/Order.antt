@@ -15,7 +15,7 @@ use Rattle.moka_parts.specs.Records.{Records, is_member, is_settled, is_listed, 
 use Rattle.moka_parts.specs.State.{State, Contents, keeps_write_list}
 use Rattle.moka_parts.specs.Visibility.{is_past_live, is_written_before}
 use Rattle.moka_parts.specs.Writes.{Fate, Ignored, Overtaken, Counted, Admitted, TooHeavy, Preferred, Refused, fate, after_write}
-use Rattle.moka_parts.specs.Maintenance.{Choice, Removes, MovesToBack, Drops, Freedom, Terms, Course, after_queued_reads}
+use Rattle.moka_parts.specs.Maintenance.{Choice, Removes, MovesToBack, Drops, Freedom, Terms, Course, after_choices, after_queued_reads, before_steps, Tests, tests_of, is_past_write}
 use Rattle.moka_parts.specs.Calls.{queue_length}
 use Rattle.moka_parts.specs.Settling.{IsWhole, IsAllSent}
 
@@ -76,10 +76,6 @@ pub record AgesOut {K V X P W : Type 0} (s : State K V X P W) (terms : Terms) (c
   pub invalid : IsWhole s terms course → IsAllSent s → keeps_write_list s.settings ≡ true → (n : ℕ) (r : Record K V) → get t.records n ≡ Some r → is_written_before t.invalid_before r ≡ false
 
 module _ {K V X P W : Type 0} where
-  -- at the moment the record at the front of the list is not past its time to live, nor written before the invalidation of all
-  abbrev pub IsAtRestByWrite : State K V X P W → List ℕ → ℕ → Type 0
-  IsAtRestByWrite s write_list now = (n : ℕ) (r : Record K V) → slice_get write_list 0 ≡ Some n → get s.records n ≡ Some r → (is_past_live s.settings r now ≡ false) × (is_written_before s.invalid_before r ≡ false)
-
   -- where the write list is kept, a call in the order of time keeps a state in order
   abbrev pub KeepsOrder : State K V X P W → List ℕ → Call K V P → State K V X P W → List ℕ → Type 0
   KeepsOrder s before c t after = keeps_write_list s.settings ≡ true → IsOrderly s c → IsInOrder s before → IsInOrder t after
@@ -123,6 +119,20 @@ abbrev pub written_after_choices : List ℕ → List Choice → List ℕ
 written_after_choices ns [] = ns
 written_after_choices ns (x ∷ xs) = written_after_choices (written_after_choice ns x) xs
 
--- the list after a run by these choices
-abbrev pub write_list_at_end : {K V X P W : Type 0} → State K V X P W → List ℕ → Freedom → List ℕ
-write_list_at_end s ns ch = written_after_choices (written_after_writes (keeps_write_list s.settings) s.capacity s.settings.policy (after_queued_reads s) ns s.writes ch.moves) ch.steps
+module _ {K V X P W : Type 0} (s : State K V X P W) (ns : List ℕ) where
+  -- the list after the queues of a run
+  abbrev pub write_list_before_steps : Freedom → List ℕ
+  write_list_before_steps ch = written_after_writes (keeps_write_list s.settings) s.capacity s.settings.policy (after_queued_reads s) ns s.writes ch.moves
+
+  -- and after a run by these choices
+  abbrev pub write_list_at_end : Freedom → List ℕ
+  write_list_at_end ch = written_after_choices (write_list_before_steps ch) ch.steps
+
+-- the record at the front of the write list is not past its time to live, nor written before the invalidation of all
+abbrev pub IsAtRestByWrite : {K V : Type 0} → Tests → Records K V → List ℕ → Type 0
+IsAtRestByWrite {K} {V} q records write_list = (n : ℕ) (r : Record K V) → slice_get write_list 0 ≡ Some n → get records n ≡ Some r → (is_past_write q r ≡ false) × (is_written_before q.invalid_before r ≡ false)
+
+-- it is so after some of the run's steps
+abbrev pub ComesToRest : {K V X P W : Type 0} → State K V X P W → List ℕ → Freedom → ℕ → Type 0
+ComesToRest s write_list ch now = (first second : List Choice) × (ch.steps ≡ first ++ second)
+    × IsAtRestByWrite (tests_of s now) (after_choices (before_steps s ch) first).records (written_after_choices (write_list_before_steps s write_list ch) first)
