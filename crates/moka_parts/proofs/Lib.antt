@@ -16,6 +16,7 @@ pub mod OrderKept
 pub mod Tickets
 pub mod OrderedStates
 pub mod OrderedCalls
+pub mod AgedOut
 pub mod CallsKeep
 pub mod StepsKeep
 pub mod Promises
@@ -36,7 +37,6 @@ pub mod Contained
 pub mod Admission
 pub mod RunsGoOn
 pub mod OrderedList
-pub mod AgedOut
 pub mod OrderedRuns
 pub mod OrderedSteps
 pub mod OrderedDrive

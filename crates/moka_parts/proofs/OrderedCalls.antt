@@ -1,7 +1,6 @@
 -- Where the write list is kept, calls in the order of time keep a state in order.
-use Rattle.std.proofs.Common.{◌≡◌, refl, ℕ, ◌+◌, ◌<◌, ◌≤◌, Bool, true, false, ◌==◌, List, [], ◌∷◌, ◌++◌, map, length, Option, Some, None, option_map, Result, Ok, Err, is_some, ap, sym, ◌∙◌, subst, ◌⊎◌, inl, inr, MatchBool, arith, true≢false, if◌then◌else◌}
-use Rattle.std.specs.Prelude.{Contains, ⊤, option_and_then}
-use Rattle.std.specs.Cmp.{IsEquivalence}
+use Rattle.std.proofs.Common.{◌≡◌, refl, ℕ, ◌+◌, ◌<◌, ◌≤◌, Bool, true, false, ◌==◌, List, [], ◌∷◌, ◌++◌, map, length, Option, Some, None, option_map, Result, Ok, Err, is_some, ap, sym, ◌∙◌, subst, ◌⊎◌, inl, inr, MatchBool, arith, if◌then◌else◌}
+use Rattle.std.specs.Prelude.{Contains, option_and_then}
 use Rattle.std.specs.Duration.{as_nanos}
 use Rattle.std.specs.FinMap.{get, insert, remove, contains_key}
 use Rattle.uuid.specs.declared.Uuid.{Uuid}
@@ -27,18 +26,18 @@ use Rattle.moka_parts.specs.declared.calls.Call.TheVariants as call
 use Rattle.moka_parts.specs.declared.calls.Reply.{Reply}
 use Rattle.moka_parts.specs.declared.calls.Reply.TheVariants as reply
 use Rattle.moka_parts.specs.Housekeeping.{Housekeeping, is_due, after_run_due, without_automatic}
-use Rattle.moka_parts.specs.Records.{Records, Notice, record_of_key, with_record, counted_of, is_applied}
+use Rattle.moka_parts.specs.Records.{record_of_key, with_record, counted_of}
 use Rattle.moka_parts.specs.State.{State, Meaning, Events, is_disabled, keeps_write_list}
-use Rattle.moka_parts.specs.Maintenance.{Terms, Course, Freedom, RunsBy, DoesNothing, MaintenanceRun, after_run}
-use Rattle.moka_parts.specs.Settling.{IsWaiting, IsTracked, AreTicketed, IsValid, WaitsAt, number_of}
+use Rattle.moka_parts.specs.Maintenance.{Terms, Freedom, RunsBy, DoesNothing, MaintenanceRun}
+use Rattle.moka_parts.specs.Settling.{IsWaiting, IsTracked, IsValid, WaitsAt}
 use Rattle.moka_parts.specs.Order.{waiting_by_ticket, written_if, written_by, IsNewer, IsInOrder, IsOrderly, write_list_at_end}
 use Rattle.moka_parts.specs.Calls.{handing_out, new_record, inserted, updated_record, replaced, keeper_terms, RemovesAt, RemoveStep, InvalidateStep, CapacityStep, InsertsAt, InsertStep, queue_length, SendsAt, SendStep, RunStep, KeeperRun, RunsIfDue, Unchanged, RecordsRead, queueing, hit_record, after_hit, hit_at, hit_operation, PeeksAt, PeekStep, GetsAt, GetStep}
 use Rattle.moka_parts.specs.Laws.{StaysInOrder}
-use Rattle.moka_parts.specs.Runs.{CallStep, Step, AreSteps, AreOrderly, last_state}
-use Rattle.moka_parts.proofs.Maps.{AreApart, same_or_apart, itself_tested, get_inserted, get_past_insert, get_removed, get_past_remove}
+use Rattle.moka_parts.specs.Runs.{CallStep}
+use Rattle.moka_parts.proofs.Maps.{same_or_apart, itself_tested, get_inserted, get_past_insert, get_removed, get_past_remove}
 use Rattle.moka_parts.proofs.RunKeeps.{keeps_remove}
 use Rattle.moka_parts.proofs.Rising.{waits_at}
-use Rattle.moka_parts.proofs.Rises.{Rises, thins_each, thins_all}
+use Rattle.moka_parts.proofs.Rises.{thins_each, thins_all}
 use Rattle.moka_parts.proofs.InOrder.{settled_moment, settled_at, waiting_at, waiting_less, IsLater, IsOrdered}
 use Rattle.moka_parts.proofs.OrderKept.{of_each}
 use Rattle.moka_parts.proofs.Tickets.{each_waits}
@@ -169,7 +168,7 @@ module _ {K V X P W : Type 0} (s : State K V X P W) (ns : List ℕ) (o : IsInOrd
 -- ---- one call
 
 -- the state after is in order with some write list, under the same settings
-abbrev GoesOn : {K V X P W : Type 0} → State K V X P W → State K V X P W → Type 0
+abbrev pub GoesOn : {K V X P W : Type 0} → State K V X P W → State K V X P W → Type 0
 GoesOn s t = (after : List ℕ) × IsInOrder t after × (t.settings ≡ s.settings)
 
 goes_alike : {K V X P W : Type 0} (s t : State K V X P W) (ns : List ℕ) → t ≡ s → IsInOrder s ns → GoesOn s t

@@ -16,9 +16,19 @@ use Rattle.moka_parts.specs.Visibility.{is_past_live, is_written_before}
 use Rattle.moka_parts.specs.Runs.{EndsWell, PromisedRun, OrderlyRun}
 use Rattle.moka_parts.specs.Listed.{LeavesList, ListedRun}
 use Rattle.moka_parts.proofs.Maps.{nothing_at}
-use Rattle.moka_parts.proofs.RunKeeps.{keeps_choices}
+use Rattle.moka_parts.proofs.RunKeeps.{Keeps, keeps_choices}
 use Rattle.moka_parts.proofs.AgedOut.{FrontLasts, aged_out}
 use Rattle.moka_parts.proofs.OrderedStates.{run_in_order}
+
+-- the first of justified steps are justified
+justified_first : {K V P : Type 0} (says : P → K → V → Bool → Type 0) (q : Tests) (c : Contents K V) (ps : List (Registered P)) (xs ys : List Choice) → AreJustified says q c ps (xs ++ ys) → AreJustified says q c ps xs
+justified_first says q c ps [] ys are = tt
+justified_first says q c ps (x ∷ xs) ys are = (are.0, justified_first says q (after_choice c x) (kept_by_choice ps x) xs ys are.1)
+
+-- further steps keep what they leave
+keeps_second : {K V : Type 0} (c : Contents K V) (xs ys : List Choice) → Keeps (after_choices c xs).records (after_choices c (xs ++ ys)).records
+keeps_second c [] ys = keeps_choices c ys
+keeps_second c (x ∷ xs) ys = keeps_second (after_choice c x) xs ys
 
 module _ {K V X P W : Type 0} where
   -- the state is in order with the list, where the list is kept
@@ -35,11 +45,6 @@ module _ {K V X P W : Type 0} where
   front_lasts s (n ∷ ns) now rest = λ r there. rest n r refl there
 
   module _ (says : P → K → V → Bool → Type 0) where
-    -- the first of justified steps are justified
-    justified_first : (q : Tests) (c : Contents K V) (ps : List (Registered P)) (xs ys : List Choice) → AreJustified says q c ps (xs ++ ys) → AreJustified says q c ps xs
-    justified_first q c ps [] ys are = tt
-    justified_first q c ps (x ∷ xs) ys are = (are.0, justified_first q (after_choice c x) (kept_by_choice ps x) xs ys are.1)
-
     -- a run from a state in order that comes to rest by the write list leaves nothing that is past its time
     pub rested_ages_out : (s : State K V X P W) (ns : List ℕ) (terms : Terms) (ch : Freedom) (course : Course) → IsConsistentState s → AreRising s.outstanding s.writes → keeps_write_list s.settings ≡ true → AreFree says s terms.now ch → IsInOrder s ns →
         (IsWhole s terms course → IsAllSent s → ComesToRest s ns ch terms.now) → AgesOut s terms course (after_run s ch)
@@ -49,7 +54,15 @@ module _ {K V X P W : Type 0} where
     }
       where
         all_last : IsWhole s terms course → IsAllSent s → keeps_write_list s.settings ≡ true → (n : ℕ) (r : Record K V) → get (after_run s ch).records n ≡ Some r → (is_past_live s.settings r terms.now ≡ false) × (is_written_before s.invalid_before r ≡ false)
-        all_last whole all k n r there = ?
+        all_last whole all k n r there =
+            let way = rests whole all in
+            let first : Freedom = record ch { steps = way.0 } in
+            let may : AreFree says s terms.now first = (free.0, justified_first says (tests_of s terms.now) (before_steps s ch) s.predicates way.0 way.1 (subst (AreJustified says (tests_of s terms.now) (before_steps s ch) s.predicates) way.2 free.1)) in
+            let aged = aged_out says s terms course ns first consistent rising kept may order (λ whole all. front_lasts (after_run s first) (write_list_at_end s ns first) terms.now way.3) in
+            let before = keeps_second (before_steps s ch) way.0 way.1 n r (subst (λ xs. get (after_choices (before_steps s ch) xs).records n ≡ Some r) way.2 there) in
+            let written : r.written.0 ≡ before.0.written.0 = ap (λ (x : Record K V). x.written.0) before.2.1 in
+            rw written (aged.live whole all k n before.0 before.1, aged.invalid whole all k n before.0 before.1)
+
 
   module _ (says : P → K → V → Bool → Type 0) (read : X → K → V → ℕ → Option ℕ → ℕ → Option ℕ) (before after : List ℕ) where
     -- a run with its write lists is one that keeps its promises

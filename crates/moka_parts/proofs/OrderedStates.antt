@@ -1,30 +1,29 @@
 -- States in order: after a run, a send, an insert, a hit and a removal.
-use Rattle.std.proofs.Common.{◌≡◌, refl, ℕ, ◌+◌, ◌<◌, ◌≤◌, Bool, true, false, cond, ◌==◌, List, [], ◌∷◌, ◌++◌, map, filter, Option, Some, None, option_map, is_some, ap, sym, ◌∙◌, subst, ◌⊎◌, inl, inr, arith, append_assoc, true≢false, if◌then◌else◌}
-use Rattle.std.specs.Prelude.{Contains, ⊤, filter_map, option_and_then}
+use Rattle.std.proofs.Common.{◌≡◌, refl, ℕ, ◌+◌, ◌<◌, ◌≤◌, Bool, true, false, cond, ◌==◌, List, [], ◌∷◌, ◌++◌, map, filter, length, Option, Some, None, option_map, is_some, ap, sym, ◌∙◌, subst, ◌⊎◌, inl, inr, arith, append_assoc, true≢false, if◌then◌else◌}
+use Rattle.std.specs.Prelude.{Contains, filter_map, option_and_then}
 use Rattle.std.specs.Option.{option_map_or}
-use Rattle.std.specs.List.{AllByRecursion, cons_option}
+use Rattle.std.specs.List.{IsDistinct, AllByRecursion, cons_option}
 use Rattle.std.specs.List.Sorted.{IsStrictlyIncreasing, IsNonDecreasing}
 use Rattle.std.proofs.lemmas.List.{map-append}
 use Rattle.std.proofs.lemmas.List.Elements.{filter_map-append, Contains-push_cases}
 use Rattle.std.specs.FinMap.{get, insert, remove, entries, contains_key}
 use Rattle.moka_parts.specs.declared.records.Record.{Record}
-use Rattle.moka_parts.specs.declared.records.Member.{Member}
 use Rattle.moka_parts.specs.declared.records.Ticketed.{Ticketed}
 use Rattle.moka_parts.specs.declared.records.Operation.{Operation}
 use Rattle.moka_parts.specs.declared.records.Operation.TheVariants.{Upsert, Removal}
-use Rattle.moka_parts.specs.Records.{Records, Operations, is_applied, is_settled}
+use Rattle.moka_parts.specs.Records.{Records, is_member, is_applied, is_settled}
 use Rattle.moka_parts.specs.State.{State, keeps_write_list}
 use Rattle.moka_parts.specs.Maintenance.{Freedom, AreFree, after_run}
 use Rattle.moka_parts.specs.Calls.{handing_out}
+use Rattle.moka_parts.specs.Runs.{IsEmpty}
 use Rattle.moka_parts.specs.Settling.{AreTicketed, AreRising}
 use Rattle.moka_parts.specs.Order.{waiting_by_ticket, written_at, written_if, written_by, IsNewer, IsInOrder, write_list_at_end}
-use Rattle.moka_parts.proofs.Maps.{AreApart, same_or_apart, itself_tested, get_inserted, get_past_insert, get_removed, get_past_remove}
-use Rattle.moka_parts.proofs.RunKeeps.{keeps_remove}
+use Rattle.moka_parts.proofs.Maps.{entries-empty, AreApart, same_or_apart, get_past_insert, get_removed, get_past_remove}
 use Rattle.moka_parts.proofs.Entries.{entries_pushed, entries_popped}
-use Rattle.moka_parts.proofs.Rises.{Climbs, climbs_from, non_decreasing_from, present, present_of, Rises, Thins, thins_each, thins_all, thins_every, IsUpTo, rises_pushed, rises_with_none}
-use Rattle.moka_parts.proofs.InOrder.{settled_moment, settled_at, waiting_at, waiting_less, IsLater, AreLater, IsOrdered}
-use Rattle.moka_parts.proofs.OrderKept.{of_each, run_ordered}
-use Rattle.moka_parts.proofs.Tickets.{all_of, all_map, all_append, all_both, TicketsRise, tickets_joined, tickets_rise, strictly_increasing, handed_out, each_waits, waiting_rise, are_later}
+use Rattle.moka_parts.proofs.Rises.{Climbs, climbs_from, non_decreasing_from, present, present_of, Rises, thins_each, thins_every, IsUpTo, rises_pushed, rises_with_none}
+use Rattle.moka_parts.proofs.InOrder.{settled_moment, settled_at, waiting_at, IsLater, AreLater, IsOrdered}
+use Rattle.moka_parts.proofs.OrderKept.{run_ordered}
+use Rattle.moka_parts.proofs.Tickets.{all_of, all_map, all_append, tickets_joined, tickets_rise, strictly_increasing, handed_out, each_waits, waiting_rise, are_later}
 
 -- ---- the order, as users and as proofs see it
 
@@ -48,12 +47,16 @@ module _ {K V : Type 0} (records : Records K V) where
       ∙ ap (λ xs. filter_map (written_at records) (filter (is_settled records) ns) ++ xs) (present_of (waiting_at records) ws)
 
 module _ {K V X P W : Type 0} (s : State K V X P W) (ns : List ℕ) where
+  -- settled and waiting moments rise
+  pub rises_from : IsInOrder s ns → Rises 0 (map (settled_at s.records) ns ++ map (waiting_at s.records) (waiting_by_ticket s))
+  rises_from o = subst (Climbs 0) (sym (same_moments s.records ns (waiting_by_ticket s))) (climbs_from _ o.written)
+
   pub ordered_from : IsInOrder s ns → AreRising s.outstanding s.writes → IsOrdered s.records s.access ns (waiting_by_ticket s)
   ordered_from o rising = record {
     once = o.listed.0;
     members = o.listed.1;
     newer = o.newer;
-    rises = subst (Climbs 0) (sym (same_moments s.records ns (waiting_by_ticket s))) (climbs_from _ o.written);
+    rises = rises_from o;
     later = are_later s.outstanding s.writes rising (waiting_by_ticket s) (waiting_rise s.outstanding s.writes o.rising (λ h ticket p there at. o.below h ticket there (ap is_some at))) (each_waits s.outstanding s.writes);
   }
 
@@ -174,3 +177,28 @@ module _ {K V X P W : Type 0} (s : State K V X P W) (ns : List ℕ) (records : R
       below : (h : Ticketed) (ticket : ℕ) → Contains s.writes h → contains_key (insert s.outstanding s.next_ticket p) ticket ≡ true → (ticket ≡ s.next_ticket) ⊎ AreApart ticket s.next_ticket → h.ticket < ticket
       below h ticket there out (inl e) = subst (λ n. h.ticket < n) (sym e) (given.sent h there)
       below h ticket there out (inr apart) = o.below h ticket there (sym (ap is_some (get_past_insert s.outstanding s.next_ticket p ticket apart)) ∙ out)
+
+-- ---- the start
+
+-- where nothing is kept and nothing waits
+pub empty_in_order : {K V X P W : Type 0} (s : State K V X P W) → IsEmpty s → IsInOrder s []
+unfolding IsDistinct
+empty_in_order {K} {V} s none = record {
+  listed = (tt, λ n. sym (ap (is_member n) none.access));
+  rising = λ k lt. absurd (no_queue k lt);
+  below = λ h ticket there at. absurd (no_write h there);
+  newer = λ h there. absurd (nothing h there);
+  written = subst (λ ws. IsNonDecreasing (filter_map (λ (h : Ticketed). written_by s.records h.operation) ws)) (sym waits) (λ i j d le lt. absurd (omega arith));
+}
+  where
+    waits : waiting_by_ticket s ≡ []
+    waits = ap (λ hs. hs ++ handed_out s.outstanding) none.writes ∙ ap (map (λ (e : ℕ × Operation). record { ticket = e.0; operation = e.1 })) (ap entries none.outstanding ∙ entries-empty)
+
+    no_queue : (k : ℕ) → k + 1 < length (map (λ (h : Ticketed). h.ticket) s.writes) → ⊥
+    no_queue k lt = let empty : length (map (λ (h : Ticketed). h.ticket) s.writes) ≡ 0 = ap (λ (hs : List Ticketed). length (map (λ (h : Ticketed). h.ticket) hs)) none.writes in omega arith
+
+    no_write : (h : Ticketed) → Contains s.writes h → ⊥
+    no_write h there = let gone : Contains [] h = subst (λ (hs : List Ticketed). Contains hs h) none.writes there in let below : gone.0 < 0 = gone.1 in omega arith
+
+    nothing : (h : Ticketed) → Contains (waiting_by_ticket s) h → ⊥
+    nothing h there = let gone : Contains [] h = subst (λ (hs : List Ticketed). Contains hs h) waits there in let below : gone.0 < 0 = gone.1 in omega arith

@@ -8,7 +8,8 @@ use Rattle.moka_parts.specs.State.{State, Meaning, is_disabled}
 use Rattle.moka_parts.specs.Maintenance.{Terms, Course, Freedom, RunsBy, DoesNothing, MaintenanceRun}
 use Rattle.moka_parts.specs.Bounds.{IsBounded}
 use Rattle.moka_parts.specs.Surroundings.{Leads, NoticeStep, Heard}
-use Rattle.moka_parts.specs.Runs.{PromisedRun, Cache, Befalls, Step, CallStep, AreSteps, MakesCalls, passes_after, last_passes, last_state, notices_of, readings_of, ids_of}
+use Rattle.moka_parts.specs.Order.{IsOrderly}
+use Rattle.moka_parts.specs.Runs.{PromisedRun, Cache, Befalls, Step, CallStep, AreSteps, AreOrderly, MakesCalls, passes_after, last_passes, last_state, notices_of, readings_of, ids_of}
 
 -- steps after steps
 pub Leads-append : {S A : Type 0} (step : S → A → S → Type 0) (a b c : S) (xs ys : List A) → Leads step a xs b → Leads step b ys c → Leads step a (xs ++ ys) c
@@ -41,8 +42,14 @@ module _ {K V X P W : Type 0} where
   last_passes_push before [] x = refl
   last_passes_push before (y ∷ xs) x = last_passes_push (passes_after before y.events.passes) xs x
 
+  -- of steps in the order of time, those before the last are, and so is the last call
+  pub orderly_front : (s : State K V X P W) (xs : List (Step K V X P W)) (x : Step K V X P W) → AreOrderly s (xs ++ x ∷ []) → AreOrderly s xs × IsOrderly (last_state s xs) x.call
+  orderly_front s [] x h = (tt, h.0)
+  orderly_front s (y ∷ xs) x h = let rest = orderly_front y.after xs x h.1 in ((h.0, rest.0), rest.1)
+
 module _ {K V X L P W C I : Type 0} (m : Meaning K V X L P W C I) (Runs : State K V X P W → Terms → Course → List (Notice K V) → State K V X P W → Type 0) where
-  AreSteps_push : (s : State K V X P W) (xs : List (Step K V X P W)) (x : Step K V X P W) → AreSteps m Runs s xs → CallStep m Runs (last_state s xs) x.call x.reply x.events x.after → AreSteps m Runs s (xs ++ x ∷ [])
+  -- one more step
+  pub AreSteps_push : (s : State K V X P W) (xs : List (Step K V X P W)) (x : Step K V X P W) → AreSteps m Runs s xs → CallStep m Runs (last_state s xs) x.call x.reply x.events x.after → AreSteps m Runs s (xs ++ x ∷ [])
   AreSteps_push s [] x h k = (k, tt)
   AreSteps_push s (y ∷ xs) x h k = (h.0, AreSteps_push y.after xs x h.1 k)
 

@@ -5,7 +5,7 @@ ghost use Rattle.moka_parts.specs.declared.records.Member.{Member};
 ghost use Rattle.moka_parts.specs.State.{State, Contents};
 ghost use Rattle.moka_parts.specs.Maintenance.{Freedom};
 ghost use Rattle.moka_parts.specs.Runs.{PromisedRun};
-ghost use Rattle.moka_parts.specs.Laws.{GetsWhatIsContained, StaysHidden, DropsOnlyIdle, RemovesJustOne, AdmitsWell, TellsEachOnce, PeeksQuietly, StartsValid, StaysValid, EndsExact, CountsNearly, RemovesEnough, RemovesFirst, IsOfReference};
+ghost use Rattle.moka_parts.specs.Laws.{GetsWhatIsContained, StaysHidden, DropsOnlyIdle, RemovesJustOne, AdmitsWell, TellsEachOnce, PeeksQuietly, StartsValid, StaysValid, StaysInOrder, EndsExact, CountsNearly, RemovesEnough, RemovesFirst, IsOfReference};
 
 use crate::closures::{PredicateFn, Weigher};
 use crate::housekeeper::Clock;
@@ -83,6 +83,20 @@ pub fn stays_valid<
     I: IdSource,
 >()
     ensures { StaysValid (record { eq = K.eq; tells = L.tells; says = P.says; weighs = W.weighs; observes = C.reads; gives = I.gives; created = X.created; read = X.read; updated = X.updated }) }
+{}
+
+/// Where the write list is kept, calls in the order of time keep a state in the order of writing.
+pub fn stays_in_order<
+    K: Eq,
+    V,
+    X: Expiry<K, V>,
+    L: Listener<K, V>,
+    P: PredicateFn<K, V>,
+    W: Weigher<K, V>,
+    C: Clock,
+    I: IdSource,
+>()
+    ensures { StaysInOrder (record { eq = K.eq; tells = L.tells; says = P.says; weighs = W.weighs; observes = C.reads; gives = I.gives; created = X.created; read = X.read; updated = X.updated }) }
 {}
 
 /// A run that begins with every operation sent ends with count and weight exactly the records'.
