@@ -37,6 +37,6 @@ pub mod Contained
 pub mod Admission
 pub mod RunsGoOn
 pub mod OrderedList
-pub mod OrderedRuns
 pub mod OrderedSteps
+pub mod OrderedRuns
 pub mod OrderedDrive

@@ -1,5 +1,5 @@
 -- One call in the order of time, and lists of them: each keeps a state in order, and each whole run with all sent leaves nothing that is past its time.
-use Rattle.std.proofs.Common.{◌≡◌, refl, ℕ, Bool, true, false, ◌<◌, List, [], ◌∷◌, ◌++◌, map, filter, length, Option, Some, None, option_map, Result, Ok, Err, ap, sym, ◌∙◌, subst, ◌||◌, true≢false, arith}
+use Rattle.std.proofs.Common.{◌≡◌, refl, ℕ, Bool, true, false, ◌<◌, List, [], ◌∷◌, ◌++◌, map, filter, length, Option, Some, None, option_map, Result, Ok, Err, ap, sym, ◌∙◌, subst, ◌⊎◌, inl, inr, ◌||◌, MatchBool, true≢false, arith}
 use Rattle.std.specs.Prelude.{Contains, filter_map}
 use Rattle.std.specs.List.Sorted.{IsNonDecreasing, IsStrictlyIncreasing}
 use Rattle.std.specs.FinMap.{entries}
@@ -11,25 +11,25 @@ use Rattle.moka_parts.specs.declared.calls.Call.{Call}
 use Rattle.moka_parts.specs.declared.calls.Call.TheVariants as call
 use Rattle.moka_parts.specs.declared.calls.Reply.{Reply}
 use Rattle.moka_parts.specs.declared.calls.Reply.TheVariants as reply
-use Rattle.moka_parts.specs.Records.{is_listed, is_member, is_settled}
-use Rattle.moka_parts.specs.State.{State, Meaning, Events, keeps_write_list}
-use Rattle.moka_parts.specs.Housekeeping.{without_automatic}
-use Rattle.moka_parts.specs.Maintenance.{Terms, Course, MaintenanceRun}
+use Rattle.moka_parts.specs.Records.{Notice, is_listed, is_member, is_settled}
+use Rattle.moka_parts.specs.State.{State, Settings, Meaning, is_disabled, keeps_write_list}
+use Rattle.moka_parts.specs.Housekeeping.{Housekeeping}
+use Rattle.moka_parts.specs.declared.records.ReadOperation.{ReadOperation}
+use Rattle.moka_parts.specs.declared.records.Record.{Record}
+use Rattle.moka_parts.specs.Maintenance.{Freedom, Terms, Course, RunsBy, DoesNothing, MaintenanceRun}
 use Rattle.moka_parts.specs.Settling.{IsValid}
-use Rattle.moka_parts.specs.Calls.{no_events}
-use Rattle.moka_parts.specs.Order.{waiting_by_ticket, written_at, written_by, IsWriteList, IsInOrder, IsOrderly, KeepsOrder}
+use Rattle.moka_parts.specs.Order.{waiting_by_ticket, written_at, written_by, IsWriteList, IsInOrder, IsOrderly, KeepsOrder, write_list_at_end}
+use Rattle.moka_parts.specs.Laws.{StaysInOrder}
 use Rattle.moka_parts.specs.Runs.{Cache, CallStep, Step, AreSteps, AreOrderly, MakesCalls, PromisedRun, OrderlyRun, IsEmpty, Drives, last_state}
 use Rattle.moka_parts.specs.Listed.{ListedRun, ListedStep, AreListedSteps}
 use Rattle.moka_parts.proofs.Maps.{itself_tested, entries-empty}
 use Rattle.moka_parts.proofs.RunsGoOn.{promised_is_run}
-use Rattle.moka_parts.proofs.StepsKeep.{call_keeps}
+use Rattle.moka_parts.proofs.StepsKeep.{hit_valid, call_keeps}
 use Rattle.moka_parts.proofs.Promises.{weaker_call}
-use Rattle.moka_parts.proofs.OrderedCalls.{order_with, call_goes}
-use Rattle.moka_parts.proofs.OrderedRuns.{IsOrderedWhereKept, listed_is_promised}
-use Rattle.moka_parts.proofs.OrderedSteps.{asked, due, get_in_order, send_in_order, predicate_in_order, capacity_in_order, remove_in_order, peek_in_order, insert_in_order, stays, without_run}
-
-passes : {K V : Type 0} (e f : Events K V) → e ≡ f → e.passes ≡ f.passes
-passes {K} {V} e f same = ap (λ (x : Events K V). x.passes) same
+use Rattle.moka_parts.proofs.OrderedStates.{run_in_order}
+use Rattle.moka_parts.proofs.OrderedCalls.{order_with, hit_in_order}
+use Rattle.moka_parts.proofs.OrderedSteps.{IsListedIn, call_ends}
+use Rattle.moka_parts.proofs.OrderedRuns.{listed_is_promised, listed_run_ends, listed_is_orderly}
 
 -- ---- an empty cache
 
@@ -59,55 +59,67 @@ empty_in_order {K} {V} {X} {P} {W} s ns empty listed = record {
     none_listed : ns ≡ []
     none_listed = no_number ns (λ n. listed.1 n ∙ ap (is_member n) empty.access)
 
--- ---- one call
+-- ---- calls of the reference cache
 
 module _ {K V X L P W C I : Type 0} (m : Meaning K V X L P W C I) where
-  -- one call
-  pub listed_call_in_order : (s t : State K V X P W) (before after : List ℕ) (c : Call K V P) (r : Reply K V P) (e : Events K V) → IsValid m.eq s → IsOrderedWhereKept s before → IsOrderly s c → (e.passes ≡ None → after ≡ before) →
-      CallStep m (ListedRun m.says m.read before after) s c r e t → CallStep m (OrderlyRun m.says m.read) s c r e t × IsOrderedWhereKept t after
-  listed_call_in_order s t before after (call.Insert key hash value now) (reply.Insert a) e valid order orderly list step =
-      let done = insert_in_order before m.eq m.created m.updated m.weighs s t key hash value now a e valid orderly order step.1 in
-      (step, subst (IsOrderedWhereKept t) (sym (list done.0)) done.1)
-  listed_call_in_order s t before after (call.Insert key hash value now) (reply.Disabled k v) e valid order orderly list step = (step, stays before after s t e step.3 list order)
-  listed_call_in_order s t before after (call.Send ticket) (reply.Send a) e valid order orderly list step = (step, without_run before after t e (passes e no_events step.1) list (send_in_order before s t ticket a orderly order step.0))
-  listed_call_in_order s t before after (call.Get key hash need_key now) (reply.Get a) e valid order orderly list step = get_in_order m before after s t key hash need_key false now.0 a e valid order list step
-  listed_call_in_order s t before after (call.GetUnrecorded key hash now) (reply.GetUnrecorded a) e valid order orderly list step = (step, without_run before after t e (passes e no_events step.1) list (peek_in_order before m.eq m.says m.read s t key false now.0 a valid order step.0))
-  listed_call_in_order s t before after (call.Contains key hash now) (reply.Contains shown) e valid order orderly list step = (step, stays before after s t e step.1 list order)
-  listed_call_in_order s t before after (call.Key key hash) (reply.Key a) e valid order orderly list step = (step, stays before after s t e step.1 list order)
-  listed_call_in_order s t before after (call.Scan key now) (reply.Scan a) e valid order orderly list step = (step, stays before after s t e step.1 list order)
-  listed_call_in_order s t before after (call.Remove key hash now) (reply.Remove removed told) e valid order orderly list step = (step, without_run before after t e (passes e _ step.2) list (remove_in_order before m.eq s t key removed valid order step.0))
-  listed_call_in_order s t before after (call.InvalidateAll now) reply.InvalidateAll e valid order orderly list step =
-      (step, without_run before after t e (passes e no_events step.1) list (subst (λ x. IsOrderedWhereKept x before) (sym step.0) (λ kept. order_with s before (order kept) s.reads (Some now) s.predicates s.housekeeping s.capacity s.next_number)))
-  listed_call_in_order s t before after (call.InvalidateIf predicate now) (reply.InvalidateIf a) e valid order orderly list step = (step, without_run before after t e (passes e _ step.1) list (predicate_in_order before s t predicate now a e.ids order step.0))
-  listed_call_in_order s t before after (call.Run now limit repeats batch) (reply.Run more) e valid order orderly list step = asked m before after s t (record { now = now.0; limit = option_map as_nanos limit; batch = batch }) more e valid order step
-  listed_call_in_order s t before after (call.RunIfDue now) reply.RunIfDue e valid order orderly list step = due m before after s t (length s.writes) now.0 e valid order list step
-  listed_call_in_order s t before after call.DisableAutoRun reply.DisableAutoRun e valid order orderly list step =
-      (step, without_run before after t e (passes e no_events step.1) list (subst (λ x. IsOrderedWhereKept x before) (sym step.0) (λ kept. order_with s before (order kept) s.reads s.invalid_before s.predicates (without_automatic s.housekeeping) s.capacity s.next_number)))
-  listed_call_in_order s t before after (call.Keys segment) (reply.Keys (Ok (Some keys))) e valid order orderly list step = (step, stays before after s t e step.1 list order)
-  listed_call_in_order s t before after (call.Keys segment) (reply.Keys (Ok None)) e valid order orderly list step = (step, stays before after s t e step.1 list order)
-  listed_call_in_order s t before after (call.Keys segment) (reply.Keys (Err refused)) e valid order orderly list step = (step, stays before after s t e step.1 list order)
-  listed_call_in_order s t before after call.Report (reply.Report count weight predicates) e valid order orderly list step = (step, stays before after s t e step.3 list order)
-  listed_call_in_order s t before after call.Pending (reply.Pending handed oldest writes reads) e valid order orderly list step = (step, stays before after s t e step.4 list order)
-  listed_call_in_order s t before after (call.SetCapacity capacity) (reply.SetCapacity a) e valid order orderly list step = (step, without_run before after t e (passes e no_events step.1) list (capacity_in_order before s t capacity a order step.0))
-  listed_call_in_order s t before after c r e valid order orderly list step = absurd step
+  -- some list is a write list in order
+  abbrev HasOrder : Settings X W → State K V X P W → Type 0
+  HasOrder settings t = (t.settings ≡ settings) × (keeps_write_list settings ≡ true → (after : List ℕ) × IsInOrder t after)
 
-  -- a call with its write lists is one whose run keeps its promises
-  pub listed_call_promised : (s : State K V X P W) (before after : List ℕ) (x : Step K V X P W) → ListedStep m s before x after → CallStep m (PromisedRun m.says m.read) s x.call x.reply x.events x.after
-  listed_call_promised s before after x step =
-      weaker_call m (ListedRun m.says m.read before after) (PromisedRun m.says m.read) (λ s terms course notices t run. listed_is_promised m.says m.read before after s terms course notices t run) s x.after x.call x.reply x.events step.0
+  run_has_order : (settings : Settings X W) (ns : List ℕ) (s : State K V X P W) (terms : Terms) (course : Course) (notices : List (Notice K V)) (t : State K V X P W) → IsValid m.eq s → IsListedIn settings ns s → MaintenanceRun m.says s terms course notices t → HasOrder settings t
+  run_has_order settings ns s terms course notices t valid h run = go (is_disabled s.capacity) run.0
+    where
+      go : (b : Bool) → MatchBool b (DoesNothing s course notices t) ((ch : Freedom) × RunsBy m.says s terms ch course notices t × Unit {0}) → HasOrder settings t
+      go true nothing = subst (HasOrder settings) (sym nothing.0) (h.0, λ kept. (ns, h.1 kept))
+      go false (ch, by, done) = subst (HasOrder settings) (sym by.1) (h.0, λ kept. (write_list_at_end s ns ch, run_in_order m.says s terms.now ns ch (ap keeps_write_list h.0 ∙ kept) by.0 valid.rising (h.1 kept)))
 
-  -- and one of the reference cache
-  listed_call_made : (s : State K V X P W) (before after : List ℕ) (x : Step K V X P W) → ListedStep m s before x after → CallStep m (MaintenanceRun m.says) s x.call x.reply x.events x.after
-  listed_call_made s before after x step =
-      weaker_call m (PromisedRun m.says m.read) (MaintenanceRun m.says) (λ s terms course notices t run. promised_is_run m.says m.read s terms course notices t run) s x.after x.call x.reply x.events (listed_call_promised s before after x step)
+  -- calls in the order of time keep a state in order
+  pub stays_in_order : StaysInOrder m
+  stays_in_order s [] ns laws valid kept orderly order done = (ns, order)
+  stays_in_order s (x ∷ xs) ns laws valid kept orderly order (step, rest) =
+      let next = call_ends m s.settings ns (MaintenanceRun m.says) (HasOrder s.settings) (run_has_order s.settings ns)
+          (λ t reads housekeeping h. (h.0, λ k. let o = h.1 k in (o.0, order_with t o.0 o.1 reads t.invalid_before t.predicates housekeeping t.capacity t.next_number)))
+          s x.after x.call x.reply x.events valid (refl, λ k. order) orderly.0 step in
+      let at : HasOrder s.settings x.after = elim next [ inl after ↦ after | inr as_before ↦ (as_before.1.0, λ k. (ns, as_before.1.1 k)) ] in
+      stays_in_order x.after xs (at.1 kept).0 laws (call_keeps m laws s x.after x.call x.reply x.events valid step) (ap keeps_write_list at.0 ∙ kept) orderly.1 (at.1 kept).1 rest
 
-  -- it keeps the order of writing
-  pub listed_keeps_order : (s : State K V X P W) (before after : List ℕ) (x : Step K V X P W) → IsValid m.eq s → ListedStep m s before x after → KeepsOrder s before x.call x.after after
-  listed_keeps_order s before after x valid step kept orderly order =
-      let goes = call_goes m s x.after before x.call x.reply x.events kept valid orderly order (listed_call_made s before after x step) in
-      (listed_call_in_order s x.after before after x.call x.reply x.events valid (λ k. order) orderly step.1 step.0).1 (ap keeps_write_list goes.2 ∙ kept)
+-- ---- calls with their write lists
 
-  -- ---- lists of calls
+module _ {K V X L P W C I : Type 0} (m : Meaning K V X L P W C I) where
+  module _ (s : State K V X P W) (before after : List ℕ) (x : Step K V X P W) (step : ListedStep m s before x after) where
+    -- its run keeps its promises
+    pub listed_call_promised : CallStep m (PromisedRun m.says m.read) s x.call x.reply x.events x.after
+    listed_call_promised =
+        weaker_call m (ListedRun m.says m.read before after) (PromisedRun m.says m.read) (λ _. Unit {0}) (λ s terms course notices t _ run. listed_is_promised m.says m.read before after s terms course notices t run) (λ _ _ _ _ _ good. good)
+        s x.after x.call x.reply x.events tt step.0
+
+    -- so it is one of the reference cache
+    listed_call_made : CallStep m (MaintenanceRun m.says) s x.call x.reply x.events x.after
+    listed_call_made =
+        weaker_call m (PromisedRun m.says m.read) (MaintenanceRun m.says) (λ _. Unit {0}) (λ s terms course notices t _ run. promised_is_run m.says m.read s terms course notices t run) (λ _ _ _ _ _ good. good)
+        s x.after x.call x.reply x.events tt listed_call_promised
+
+    module _ (valid : IsValid m.eq s) where
+      -- from a state in order it also removes what is past its time
+      pub listed_call_orderly : (keeps_write_list s.settings ≡ true → IsInOrder s before) → CallStep m (OrderlyRun m.says m.read) s x.call x.reply x.events x.after
+      listed_call_orderly order =
+          weaker_call m (ListedRun m.says m.read before after) (OrderlyRun m.says m.read) (λ s. IsValid m.eq s × (keeps_write_list s.settings ≡ true → IsInOrder s before))
+          (λ s terms course notices t good run. listed_is_orderly m.says m.read before after s terms course notices t run m.eq good.0 good.1)
+          (λ s key r now found good. (hit_valid m.eq m.says m.read s key r now found good.0, λ kept. hit_in_order m.eq m.read s before key r now good.0 found (good.1 kept)))
+          s x.after x.call x.reply x.events (valid, order) step.0
+
+      -- in the order of time it leaves a state in order
+      listed_call_ends : IsOrderly s x.call → (keeps_write_list s.settings ≡ true → IsInOrder s before) → IsListedIn s.settings after x.after
+      listed_call_ends orderly order = elim (call_ends m s.settings before (ListedRun m.says m.read before after) (IsListedIn s.settings after)
+          (λ q terms course notices t ok h run. listed_run_ends m.says m.read before after q terms course notices t run m.eq ok s.settings h)
+          (λ t reads housekeeping h. (h.0, λ kept. order_with t after (h.1 kept) reads t.invalid_before t.predicates housekeeping t.capacity t.next_number))
+          s x.after x.call x.reply x.events valid (refl, order) orderly step.0) [
+            | inl ends ↦ ends
+            | inr as_before ↦ subst (λ ns. IsListedIn s.settings ns x.after) (sym (step.1 as_before.0)) as_before.1
+          ]
+
+      pub listed_keeps_order : KeepsOrder s before x.call x.after after
+      listed_keeps_order kept orderly order = (listed_call_ends orderly (λ k. order)).1 kept
 
   -- their runs keep their promises
   pub listed_steps_promised : (s : State K V X P W) (before last : List ℕ) (xs : List (Step K V X P W)) → AreListedSteps m s before xs last → AreSteps m (PromisedRun m.says m.read) s xs
@@ -115,11 +127,13 @@ module _ {K V X L P W C I : Type 0} (m : Meaning K V X L P W C I) where
   listed_steps_promised s before last (x ∷ xs) (after, step, rest) = (listed_call_promised s before after x step, listed_steps_promised x.after after last xs rest)
 
   -- in the order of time, from a state in order, they also remove what is past its time
-  pub listed_steps_orderly : (s : State K V X P W) (before last : List ℕ) (xs : List (Step K V X P W)) → IsEquivalence m.eq → IsValid m.eq s → IsOrderedWhereKept s before → AreOrderly s xs → AreListedSteps m s before xs last → AreSteps m (OrderlyRun m.says m.read) s xs
+  pub listed_steps_orderly : (s : State K V X P W) (before last : List ℕ) (xs : List (Step K V X P W)) → IsEquivalence m.eq → IsValid m.eq s → (keeps_write_list s.settings ≡ true → IsInOrder s before) → AreOrderly s xs → AreListedSteps m s before xs last →
+      AreSteps m (OrderlyRun m.says m.read) s xs
   listed_steps_orderly s before last [] laws valid order orderly done = tt
   listed_steps_orderly s before last (x ∷ xs) laws valid order orderly (after, step, rest) =
-      let done = listed_call_in_order s x.after before after x.call x.reply x.events valid order orderly.0 step.1 step.0 in
-      (done.0, listed_steps_orderly x.after after last xs laws (call_keeps m laws s x.after x.call x.reply x.events valid (listed_call_made s before after x step)) done.1 orderly.1 rest)
+      let ends = listed_call_ends s before after x step valid orderly.0 order in
+      (listed_call_orderly s before after x step valid order,
+      listed_steps_orderly x.after after last xs laws (call_keeps m laws s x.after x.call x.reply x.events valid (listed_call_made s before after x step)) (λ kept. ends.1 (sym (ap keeps_write_list ends.0) ∙ kept)) orderly.1 rest)
 
   -- one more call
   pub AreListedSteps_push : (s : State K V X P W) (before mid last : List ℕ) (xs : List (Step K V X P W)) (x : Step K V X P W) → AreListedSteps m s before xs mid → ListedStep m (last_state s xs) mid x last → AreListedSteps m s before (xs ++ x ∷ []) last

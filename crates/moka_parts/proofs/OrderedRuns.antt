@@ -7,18 +7,19 @@ use Rattle.moka_parts.specs.declared.records.Operation.{Operation}
 use Rattle.moka_parts.specs.declared.records.Operation.TheVariants.{Upsert, Removal}
 use Rattle.moka_parts.specs.declared.records.Registered.{Registered}
 use Rattle.moka_parts.specs.Records.{Notice}
-use Rattle.moka_parts.specs.State.{State, Contents, is_disabled, keeps_write_list}
+use Rattle.moka_parts.specs.State.{State, Settings, Contents, is_disabled, keeps_write_list}
 use Rattle.moka_parts.specs.Maintenance.{Choice, Freedom, Terms, Course, Tests, tests_of, RunsBy, DoesNothing, AreFree, AreJustified, kept_by_choice, after_choice, after_choices, before_steps, after_run}
 use Rattle.moka_parts.specs.Settling.{IsWhole, IsAllSent, IsValid, IsConsistentState, AreRising}
 use Rattle.moka_parts.specs.Bounds.{IsBounded}
-use Rattle.moka_parts.specs.Order.{IsInOrder, IsAtRestByWrite, ComesToRest, AgesOut, write_list_at_end}
+use Rattle.moka_parts.specs.Order.{IsInOrder, IsAtRestByWrite, ComesToRest, AgesOut, AgesOutInOrder, write_list_at_end}
 use Rattle.moka_parts.specs.Visibility.{is_past_live, is_written_before}
-use Rattle.moka_parts.specs.Runs.{EndsWell, PromisedRun, OrderlyRun}
+use Rattle.moka_parts.specs.Runs.{PromisedRun, OrderlyRun}
 use Rattle.moka_parts.specs.Listed.{LeavesList, ListedRun}
 use Rattle.moka_parts.proofs.Maps.{nothing_at}
 use Rattle.moka_parts.proofs.RunKeeps.{Keeps, keeps_choices}
 use Rattle.moka_parts.proofs.AgedOut.{FrontLasts, aged_out}
 use Rattle.moka_parts.proofs.OrderedStates.{run_in_order}
+use Rattle.moka_parts.proofs.OrderedSteps.{IsListedIn}
 
 -- the first of justified steps are justified
 justified_first : {K V P : Type 0} (says : P → K → V → Bool → Type 0) (q : Tests) (c : Contents K V) (ps : List (Registered P)) (xs ys : List Choice) → AreJustified says q c ps (xs ++ ys) → AreJustified says q c ps xs
@@ -31,14 +32,6 @@ keeps_second c [] ys = keeps_choices c ys
 keeps_second c (x ∷ xs) ys = keeps_second (after_choice c x) xs ys
 
 module _ {K V X P W : Type 0} where
-  -- the state is in order with the list, where the list is kept
-  abbrev pub IsOrderedWhereKept : State K V X P W → List ℕ → Type 0
-  IsOrderedWhereKept s ns = keeps_write_list s.settings ≡ true → IsInOrder s ns
-
-  -- where the map holds nothing, nothing is past its time
-  ages_out_bare : (s : State K V X P W) (terms : Terms) (course : Course) → ((n : ℕ) (r : Record K V) → get s.records n ≡ Some r → ⊥) → AgesOut s terms course s
-  ages_out_bare s terms course none = record { live = λ whole all kept n r there. absurd (none n r there); invalid = λ whole all kept n r there. absurd (none n r there) }
-
   -- what is so of the front of a list
   front_lasts : (s : State K V X P W) (ns : List ℕ) (now : ℕ) → IsAtRestByWrite (tests_of s now) s.records ns → FrontLasts s ns now
   front_lasts s [] now rest = tt
@@ -64,30 +57,43 @@ module _ {K V X P W : Type 0} where
             rw written (aged.live whole all k n before.0 before.1, aged.invalid whole all k n before.0 before.1)
 
 
-  module _ (says : P → K → V → Bool → Type 0) (read : X → K → V → ℕ → Option ℕ → ℕ → Option ℕ) (before after : List ℕ) where
-    -- a run with its write lists is one that keeps its promises
-    pub listed_is_promised : (s : State K V X P W) (terms : Terms) (course : Course) (notices : List (Notice K V)) (t : State K V X P W) → ListedRun says read before after s terms course notices t → PromisedRun says read s terms course notices t
-    listed_is_promised s terms course notices t run = (go (is_disabled s.capacity) run.0, run.1.0)
-      where
-        go : (b : Bool) → MatchBool b (DoesNothing s course notices t) ((ch : Freedom) × RunsBy says s terms ch course notices t × (IsBounded s terms ch course × LeavesList before after s terms ch course)) →
-            MatchBool b (DoesNothing s course notices t) ((ch : Freedom) × RunsBy says s terms ch course notices t × IsBounded s terms ch course)
-        go true nothing = nothing
-        go false (ch, by, also) = (ch, by, also.0)
+-- ---- runs with their write lists
 
-    -- from a state in order it also removes what is past its time, and leaves a state in order
-    pub listed_run_in_order : (eq : K → K → Bool) (s : State K V X P W) (terms : Terms) (course : Course) (notices : List (Notice K V)) (t : State K V X P W) → IsValid eq s → IsOrderedWhereKept s before →
-        ListedRun says read before after s terms course notices t → OrderlyRun says read s terms course notices t × IsOrderedWhereKept t after
-    listed_run_in_order eq s terms course notices t valid order run =
-        let promised = listed_is_promised s terms course notices t run in
-        let aged = go (is_disabled s.capacity) refl run.0 run.1.1 in
-        ((promised.0, (promised.1, aged.0)), aged.1)
+module _ {K V X P W : Type 0} (says : P → K → V → Bool → Type 0) (read : X → K → V → ℕ → Option ℕ → ℕ → Option ℕ) (before after : List ℕ) (s : State K V X P W) (terms : Terms) (course : Course) (notices : List (Notice K V)) (t : State K V X P W)
+    (run : ListedRun says read before after s terms course notices t) where
+  -- such a run keeps its promises
+  pub listed_is_promised : PromisedRun says read s terms course notices t
+  listed_is_promised = (go (is_disabled s.capacity) run.0, run.1.0)
+    where
+      go : (b : Bool) → MatchBool b (DoesNothing s course notices t) ((ch : Freedom) × RunsBy says s terms ch course notices t × (IsBounded s terms ch course × LeavesList before after s terms ch course)) →
+          MatchBool b (DoesNothing s course notices t) ((ch : Freedom) × RunsBy says s terms ch course notices t × IsBounded s terms ch course)
+      go true nothing = nothing
+      go false (ch, by, also) = (ch, by, also.0)
+
+  module _ (eq : K → K → Bool) (valid : IsValid eq s) where
+    -- it keeps a state in order
+    pub listed_run_ends : (settings : Settings X W) → IsListedIn settings before s → IsListedIn settings after t
+    listed_run_ends settings h = go (is_disabled s.capacity) refl run.0
       where
-        go : (b : Bool) → is_disabled s.capacity ≡ b → MatchBool b (DoesNothing s course notices t) ((ch : Freedom) × RunsBy says s terms ch course notices t × (IsBounded s terms ch course × LeavesList before after s terms ch course)) →
-            (is_disabled s.capacity ≡ true → after ≡ before) → AgesOut s terms course t × IsOrderedWhereKept t after
-        go true off (same, none, nothing) kept =
-            (subst (AgesOut s terms course) (sym same) (ages_out_bare s terms course (λ n r there. nothing_at n r (sym (ap (λ m. get m n) (valid.numbered.disabled off).no_records) ∙ there))),
-            subst (λ x. IsOrderedWhereKept x after) (sym same) (subst (IsOrderedWhereKept s) (sym (kept off)) order))
-        go false on (ch, (free, same, told), also) kept =
-            let aged = λ (k : keeps_write_list s.settings ≡ true). rested_ages_out says s before terms ch course valid.consistent valid.rising k free (order k) (λ whole all. also.1.rests whole all k) in
-            let ends : IsOrderedWhereKept (after_run s ch) after = λ k. subst (IsInOrder (after_run s ch)) (sym (also.1.list k)) (run_in_order says s terms.now before ch k free valid.rising (order k)) in
-            (subst (AgesOut s terms course) (sym same) (record { live = λ whole all k. (aged k).live whole all k; invalid = λ whole all k. (aged k).invalid whole all k }), subst (λ x. IsOrderedWhereKept x after) (sym same) ends)
+        go : (b : Bool) → is_disabled s.capacity ≡ b → MatchBool b (DoesNothing s course notices t) ((ch : Freedom) × RunsBy says s terms ch course notices t × (IsBounded s terms ch course × LeavesList before after s terms ch course)) → IsListedIn settings after t
+        go true off nothing = subst (IsListedIn settings after) (sym nothing.0) (subst (λ ns. IsListedIn settings ns s) (sym (run.1.1 off)) h)
+        go false on (ch, (free, same, told), also) = subst (IsListedIn settings after) (sym same) (h.0, λ kept. let k = ap keeps_write_list h.0 ∙ kept in
+            subst (IsInOrder (after_run s ch)) (sym (also.1.list k)) (run_in_order says s terms.now before ch k free valid.rising (h.1 kept)))
+
+    -- and from one it removes what is past its time
+    pub listed_run_ages_out : AgesOutInOrder s before terms course t
+    listed_run_ages_out order = go (is_disabled s.capacity) refl run.0
+      where
+        bare : is_disabled s.capacity ≡ true → (n : ℕ) (r : Record K V) → get s.records n ≡ Some r → ⊥
+        bare off n r there = nothing_at n r (sym (ap (λ m. get m n) (valid.numbered.disabled off).no_records) ∙ there)
+
+        go : (b : Bool) → is_disabled s.capacity ≡ b → MatchBool b (DoesNothing s course notices t) ((ch : Freedom) × RunsBy says s terms ch course notices t × (IsBounded s terms ch course × LeavesList before after s terms ch course)) → AgesOut s terms course t
+        go true off nothing = subst (AgesOut s terms course) (sym nothing.0) (record { live = λ whole all kept n r there. absurd (bare off n r there); invalid = λ whole all kept n r there. absurd (bare off n r there) })
+        go false on (ch, (free, same, told), also) = subst (AgesOut s terms course) (sym same) (record { live = λ whole all kept. (aged kept).live whole all kept; invalid = λ whole all kept. (aged kept).invalid whole all kept })
+          where
+            aged : keeps_write_list s.settings ≡ true → AgesOut s terms course (after_run s ch)
+            aged kept = rested_ages_out says s before terms ch course valid.consistent valid.rising kept free order (λ whole all. also.1.rests whole all kept)
+
+    -- so it is an orderly run
+    pub listed_is_orderly : (keeps_write_list s.settings ≡ true → IsInOrder s before) → OrderlyRun says read s terms course notices t
+    listed_is_orderly order = (listed_is_promised.0, (listed_is_promised.1, record { live = λ whole all kept. (listed_run_ages_out (order kept)).live whole all kept; invalid = λ whole all kept. (listed_run_ages_out (order kept)).invalid whole all kept }))
