@@ -1,39 +1,20 @@
 -- The changes that calls in the order of time make keep a state in order.
-use Rattle.std.proofs.Common.{◌≡◌, refl, ℕ, ◌+◌, ◌<◌, ◌≤◌, Bool, true, false, ◌==◌, List, [], ◌∷◌, ◌++◌, map, length, Option, Some, None, option_map, Result, Ok, Err, is_some, ap, sym, ◌∙◌, subst, ◌⊎◌, inl, inr, MatchBool, arith, if◌then◌else◌}
+use Rattle.std.proofs.Common.{◌≡◌, refl, ℕ, ◌+◌, ◌<◌, ◌≤◌, Bool, false, ◌==◌, List, map, Option, Some, None, ap, sym, ◌∙◌, subst, ◌⊎◌, inl, inr, arith, if◌then◌else◌}
 use Rattle.std.specs.Prelude.{Contains, option_and_then}
-use Rattle.std.specs.Duration.{as_nanos}
-use Rattle.std.specs.FinMap.{get, insert, remove, contains_key}
-use Rattle.uuid.specs.declared.Uuid.{Uuid}
+use Rattle.std.specs.FinMap.{get, insert, remove}
 use Rattle.moka_parts.specs.declared.policy.Instant.{Instant}
 use Rattle.moka_parts.specs.declared.records.Record.{Record}
 use Rattle.moka_parts.specs.declared.records.Registered.{Registered}
 use Rattle.moka_parts.specs.declared.records.ReadOperation.{ReadOperation}
-use Rattle.moka_parts.specs.declared.records.ReadOperation.TheVariants.{Miss}
 use Rattle.moka_parts.specs.declared.records.Ticketed.{Ticketed}
 use Rattle.moka_parts.specs.declared.records.Operation.{Operation}
 use Rattle.moka_parts.specs.declared.records.Operation.TheVariants.{Upsert, Removal}
-use Rattle.moka_parts.specs.declared.calls.Ticket.{Ticket}
-use Rattle.moka_parts.specs.declared.calls.Entry.{Entry}
-use Rattle.moka_parts.specs.declared.calls.KvEntry.{KvEntry}
-use Rattle.moka_parts.specs.declared.error.OutOfMemory.{OutOfMemory}
-use Rattle.moka_parts.specs.declared.error.InsertRefused.{InsertRefused}
-use Rattle.moka_parts.specs.declared.error.SendError.{SendError}
-use Rattle.moka_parts.specs.declared.error.SendError.TheVariants.{UnknownTicket, QueueFull}
-use Rattle.moka_parts.specs.declared.error.PredicateRefused.{PredicateRefused}
-use Rattle.moka_parts.specs.declared.error.CapacityError.{CapacityError}
-use Rattle.moka_parts.specs.declared.calls.Call.{Call}
-use Rattle.moka_parts.specs.declared.calls.Call.TheVariants as call
-use Rattle.moka_parts.specs.declared.calls.Reply.{Reply}
-use Rattle.moka_parts.specs.declared.calls.Reply.TheVariants as reply
-use Rattle.moka_parts.specs.Housekeeping.{Housekeeping, is_due, after_run_due, without_automatic}
+use Rattle.moka_parts.specs.Housekeeping.{Housekeeping}
 use Rattle.moka_parts.specs.Records.{record_of_key, with_record, counted_of}
-use Rattle.moka_parts.specs.State.{State, Meaning, Events, is_disabled, keeps_write_list}
-use Rattle.moka_parts.specs.Maintenance.{Terms, Freedom, RunsBy, DoesNothing, MaintenanceRun}
+use Rattle.moka_parts.specs.State.{State}
 use Rattle.moka_parts.specs.Settling.{IsWaiting, IsTracked, IsValid, WaitsAt}
-use Rattle.moka_parts.specs.Order.{waiting_by_ticket, written_if, written_by, IsNewer, IsInOrder, IsOrderly, write_list_at_end}
-use Rattle.moka_parts.specs.Calls.{handing_out, new_record, inserted, updated_record, replaced, keeper_terms, RemovesAt, RemoveStep, InvalidateStep, CapacityStep, InsertsAt, InsertStep, queue_length, SendsAt, SendStep, RunStep, KeeperRun, RunsIfDue, Unchanged, RecordsRead, queueing, hit_record, after_hit, hit_at, hit_operation, PeeksAt, PeekStep, GetsAt, GetStep}
-use Rattle.moka_parts.specs.Laws.{StaysInOrder}
-use Rattle.moka_parts.specs.Runs.{CallStep}
+use Rattle.moka_parts.specs.Order.{waiting_by_ticket, written_if, written_by, IsNewer, IsInOrder}
+use Rattle.moka_parts.specs.Calls.{handing_out, new_record, inserted, updated_record, replaced, hit_record, after_hit}
 use Rattle.moka_parts.proofs.Maps.{same_or_apart, itself_tested, get_inserted, get_past_insert, get_removed, get_past_remove}
 use Rattle.moka_parts.proofs.RunKeeps.{keeps_remove}
 use Rattle.moka_parts.proofs.Rising.{waits_at}
@@ -41,9 +22,8 @@ use Rattle.moka_parts.proofs.Rises.{thins_each, thins_all}
 use Rattle.moka_parts.proofs.InOrder.{settled_moment, settled_at, waiting_at, waiting_less, IsLater, IsOrdered}
 use Rattle.moka_parts.proofs.OrderKept.{of_each}
 use Rattle.moka_parts.proofs.Tickets.{each_waits}
-use Rattle.moka_parts.proofs.OrderedStates.{ordered_from, in_order_from, run_in_order, sent_in_order, handed_in_order}
+use Rattle.moka_parts.proofs.OrderedStates.{ordered_from, in_order_from, handed_in_order}
 use Rattle.moka_parts.proofs.CallsKeep.{record_at_its_number, nothing_waits_of_next}
-use Rattle.moka_parts.proofs.StepsKeep.{hit_valid, call_keeps}
 
 -- ---- one change of a state
 

@@ -1,21 +1,15 @@
 -- One call in the order of time, and lists of them: each keeps a state in order, and each whole run with all sent leaves nothing that is past its time.
-use Rattle.std.proofs.Common.{◌≡◌, refl, ℕ, Bool, true, false, ◌<◌, List, [], ◌∷◌, ◌++◌, map, filter, length, Option, Some, None, option_map, Result, Ok, Err, ap, sym, ◌∙◌, subst, ◌⊎◌, inl, inr, ◌||◌, MatchBool, true≢false, arith}
+use Rattle.std.proofs.Common.{◌≡◌, refl, ℕ, Bool, true, false, ◌<◌, List, [], ◌∷◌, ◌++◌, map, filter, ap, sym, ◌∙◌, subst, inl, inr, ◌||◌, MatchBool, true≢false, arith}
 use Rattle.std.specs.Prelude.{Contains, filter_map}
 use Rattle.std.specs.List.Sorted.{IsNonDecreasing, IsStrictlyIncreasing}
 use Rattle.std.specs.FinMap.{entries}
 use Rattle.std.specs.Cmp.{IsEquivalence}
-use Rattle.std.specs.Duration.{as_nanos}
 use Rattle.moka_parts.specs.declared.records.Ticketed.{Ticketed}
 use Rattle.moka_parts.specs.declared.records.Operation.{Operation}
 use Rattle.moka_parts.specs.declared.calls.Call.{Call}
-use Rattle.moka_parts.specs.declared.calls.Call.TheVariants as call
 use Rattle.moka_parts.specs.declared.calls.Reply.{Reply}
-use Rattle.moka_parts.specs.declared.calls.Reply.TheVariants as reply
 use Rattle.moka_parts.specs.Records.{Notice, is_listed, is_member, is_settled}
 use Rattle.moka_parts.specs.State.{State, Settings, Meaning, is_disabled, keeps_write_list}
-use Rattle.moka_parts.specs.Housekeeping.{Housekeeping}
-use Rattle.moka_parts.specs.declared.records.ReadOperation.{ReadOperation}
-use Rattle.moka_parts.specs.declared.records.Record.{Record}
 use Rattle.moka_parts.specs.Maintenance.{Freedom, Terms, Course, RunsBy, DoesNothing, MaintenanceRun}
 use Rattle.moka_parts.specs.Settling.{IsValid}
 use Rattle.moka_parts.specs.Order.{waiting_by_ticket, written_at, written_by, IsWriteList, IsInOrder, IsOrderly, KeepsOrder, write_list_at_end}

@@ -1,23 +1,20 @@
 -- A run that takes the write list along keeps a state in order, and leaves nothing that is past its time.
-use Rattle.std.proofs.Common.{◌≡◌, refl, ℕ, ◌<◌, ◌≤◌, Bool, true, false, ◌==◌, List, [], ◌∷◌, ◌++◌, Option, Some, None, is_some, ap, sym, subst, ◌∙◌, ◌⊎◌, inl, inr, MatchBool, arith}
-use Rattle.std.specs.Option.{option_map_or}
+use Rattle.std.proofs.Common.{◌≡◌, refl, ℕ, Bool, true, false, List, [], ◌∷◌, ◌++◌, Option, Some, ap, sym, subst, ◌∙◌, MatchBool}
 use Rattle.std.specs.FinMap.{get}
 use Rattle.moka_parts.specs.declared.records.Record.{Record}
-use Rattle.moka_parts.specs.declared.records.Operation.{Operation}
-use Rattle.moka_parts.specs.declared.records.Operation.TheVariants.{Upsert, Removal}
 use Rattle.moka_parts.specs.declared.records.Registered.{Registered}
 use Rattle.moka_parts.specs.Records.{Notice}
 use Rattle.moka_parts.specs.State.{State, Settings, Contents, is_disabled, keeps_write_list}
 use Rattle.moka_parts.specs.Maintenance.{Choice, Freedom, Terms, Course, Tests, tests_of, RunsBy, DoesNothing, AreFree, AreJustified, kept_by_choice, after_choice, after_choices, before_steps, after_run}
 use Rattle.moka_parts.specs.Settling.{IsWhole, IsAllSent, IsValid, IsConsistentState, AreRising}
 use Rattle.moka_parts.specs.Bounds.{IsBounded}
-use Rattle.moka_parts.specs.Order.{IsInOrder, IsAtRestByWrite, ComesToRest, AgesOut, AgesOutInOrder, write_list_at_end}
+use Rattle.moka_parts.specs.Order.{IsInOrder, ComesToRest, AgesOut, AgesOutInOrder}
 use Rattle.moka_parts.specs.Visibility.{is_past_live, is_written_before}
 use Rattle.moka_parts.specs.Runs.{PromisedRun, OrderlyRun}
 use Rattle.moka_parts.specs.Listed.{LeavesList, ListedRun}
 use Rattle.moka_parts.proofs.Maps.{nothing_at}
 use Rattle.moka_parts.proofs.RunKeeps.{Keeps, keeps_choices}
-use Rattle.moka_parts.proofs.AgedOut.{FrontLasts, aged_out}
+use Rattle.moka_parts.proofs.AgedOut.{aged_out}
 use Rattle.moka_parts.proofs.OrderedStates.{run_in_order}
 use Rattle.moka_parts.proofs.OrderedSteps.{IsListedIn}
 
@@ -32,11 +29,6 @@ keeps_second c [] ys = keeps_choices c ys
 keeps_second c (x ∷ xs) ys = keeps_second (after_choice c x) xs ys
 
 module _ {K V X P W : Type 0} where
-  -- what is so of the front of a list
-  front_lasts : (s : State K V X P W) (ns : List ℕ) (now : ℕ) → IsAtRestByWrite (tests_of s now) s.records ns → FrontLasts s ns now
-  front_lasts s [] now rest = tt
-  front_lasts s (n ∷ ns) now rest = λ r there. rest n r refl there
-
   module _ (says : P → K → V → Bool → Type 0) where
     -- a run from a state in order that comes to rest by the write list leaves nothing that is past its time
     pub rested_ages_out : (s : State K V X P W) (ns : List ℕ) (terms : Terms) (ch : Freedom) (course : Course) → IsConsistentState s → AreRising s.outstanding s.writes → keeps_write_list s.settings ≡ true → AreFree says s terms.now ch → IsInOrder s ns →
@@ -51,7 +43,7 @@ module _ {K V X P W : Type 0} where
             let way = rests whole all in
             let first : Freedom = record ch { steps = way.0 } in
             let may : AreFree says s terms.now first = (free.0, justified_first says (tests_of s terms.now) (before_steps s ch) s.predicates way.0 way.1 (subst (AreJustified says (tests_of s terms.now) (before_steps s ch) s.predicates) way.2 free.1)) in
-            let aged = aged_out says s terms course ns first consistent rising kept may order (λ whole all. front_lasts (after_run s first) (write_list_at_end s ns first) terms.now way.3) in
+            let aged = aged_out says s terms course ns first consistent rising kept may order (λ whole all. way.3) in
             let before = keeps_second (before_steps s ch) way.0 way.1 n r (subst (λ xs. get (after_choices (before_steps s ch) xs).records n ≡ Some r) way.2 there) in
             let written : r.written.0 ≡ before.0.written.0 = ap (λ (x : Record K V). x.written.0) before.2.1 in
             rw written (aged.live whole all k n before.0 before.1, aged.invalid whole all k n before.0 before.1)

@@ -11,16 +11,12 @@ use Rattle.moka_parts.specs.declared.calls.Reply.{Reply}
 use Rattle.moka_parts.specs.declared.calls.Reply.TheVariants as reply
 use Rattle.moka_parts.specs.Housekeeping.{is_due}
 use Rattle.moka_parts.specs.Records.{Notice, record_of_key}
-use Rattle.moka_parts.specs.State.{State, Meaning, Events, is_disabled, keeps_write_list}
-use Rattle.moka_parts.specs.Settling.{IsValid}
-use Rattle.moka_parts.specs.Order.{IsInOrder}
+use Rattle.moka_parts.specs.State.{State, Meaning, Events, is_disabled}
 use Rattle.moka_parts.specs.Maintenance.{Terms, Course, MaintenanceRun}
 use Rattle.moka_parts.specs.Calls.{after_hit, hit_at, hit_operation, RunStep, KeeperRun, RunsIfDue, Unchanged, RecordsRead, GetsAt, GetStep}
 use Rattle.moka_parts.specs.Runs.{CallStep, Step, Cache, AreSteps, MakesCalls, PromisedRun}
 use Rattle.moka_parts.specs.Laws.{IsOfReference}
 use Rattle.moka_parts.proofs.RunsGoOn.{promised_is_run}
-use Rattle.moka_parts.proofs.StepsKeep.{hit_valid}
-use Rattle.moka_parts.proofs.OrderedCalls.{hit_in_order}
 
 module _ {K V X L P W C I : Type 0} (m : Meaning K V X L P W C I) (More Less : State K V X P W → Terms → Course → List (Notice K V) → State K V X P W → Type 0)
     (Good : State K V X P W → Type 0) (weaker : (s : State K V X P W) (terms : Terms) (course : Course) (notices : List (Notice K V)) (t : State K V X P W) → Good s → More s terms course notices t → Less s terms course notices t)
