@@ -134,3 +134,74 @@ pub fn is_of_reference<
 >()
     ensures { IsOfReference S (record { eq = K.eq; tells = L.tells; says = P.says; weighs = W.weighs; observes = C.reads; gives = I.gives; created = X.created; read = X.read; updated = X.updated }) }
 {}
+
+#[cfg(test)]
+mod tests {
+    use super::*;
+    use crate::closures::{NoPredicate, NoWeigher};
+    use crate::housekeeper::FixedClock;
+    use crate::invalidator::PredicateId;
+    use crate::notification::NoListener;
+    use crate::policy::NoExpiry;
+    use uuid::Uuid;
+
+    /// Gives the same identifier each time.
+    struct OneId;
+
+    impl IdSource for OneId {
+        ghost use Rattle.std.specs.Prelude.{◌≡◌};
+
+        ghost gives = { λ before _ after. after ≡ before };
+
+        fn next_id(&mut self) -> PredicateId {
+            Uuid::nil()
+        }
+    }
+
+    #[test]
+    fn hold_of_plain_types(_rt: HostRuntime) {
+        gets_what_is_contained::<u8, char, NoExpiry, NoPredicate, NoWeigher>();
+        removes_just_one::<u8, char, NoExpiry, NoPredicate, NoWeigher>();
+        peeks_quietly::<u8, char, NoExpiry, NoPredicate, NoWeigher>();
+        admits_well::<u8, char>();
+        drops_only_idle::<u8, char, NoExpiry, NoPredicate, NoWeigher>();
+        removes_enough::<u8, char, NoExpiry, NoPredicate, NoWeigher>();
+        removes_first::<u8, char, NoExpiry, NoPredicate, NoWeigher>();
+        starts_valid::<u8, char, NoExpiry, NoPredicate, NoWeigher>();
+        ends_exact::<u8, char, NoExpiry, NoPredicate, NoWeigher>();
+        counts_nearly::<u8, char, NoExpiry, NoPredicate, NoWeigher>();
+        stays_hidden::<u8, char, NoExpiry, NoListener, NoPredicate, NoWeigher, FixedClock, OneId>();
+        stays_valid::<u8, char, NoExpiry, NoListener, NoPredicate, NoWeigher, FixedClock, OneId>();
+        stays_in_order::<
+            u8,
+            char,
+            NoExpiry,
+            NoListener,
+            NoPredicate,
+            NoWeigher,
+            FixedClock,
+            OneId,
+        >();
+        tells_each_once::<
+            u8,
+            char,
+            NoExpiry,
+            NoListener,
+            NoPredicate,
+            NoWeigher,
+            FixedClock,
+            OneId,
+        >();
+        is_of_reference::<
+            u8,
+            char,
+            (),
+            NoExpiry,
+            NoListener,
+            NoPredicate,
+            NoWeigher,
+            FixedClock,
+            OneId,
+        >();
+    }
+}
