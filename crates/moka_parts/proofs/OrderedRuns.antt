@@ -18,6 +18,9 @@ use Rattle.moka_parts.proofs.AgedOut.{aged_out}
 use Rattle.moka_parts.proofs.OrderedStates.{run_in_order}
 use Rattle.moka_parts.proofs.OrderedSteps.{IsListedIn}
 
+same_moment : {K V : Type 0} (q r : Record K V) (g : ℕ) → q ≡ record r { applied = g } → q.written.0 ≡ r.written.0
+same_moment {K} {V} q r g same = ap (λ (x : Record K V). x.written.0) same
+
 -- the first of justified steps are justified
 justified_first : {K V P : Type 0} (says : P → K → V → Bool → Type 0) (q : Tests) (c : Contents K V) (ps : List (Registered P)) (xs ys : List Choice) → AreJustified says q c ps (xs ++ ys) → AreJustified says q c ps xs
 justified_first says q c ps [] ys are = tt
@@ -45,7 +48,7 @@ module _ {K V X P W : Type 0} where
             let may : AreFree says s terms.now first = (free.0, justified_first says (tests_of s terms.now) (before_steps s ch) s.predicates way.0 way.1 (subst (AreJustified says (tests_of s terms.now) (before_steps s ch) s.predicates) way.2 free.1)) in
             let aged = aged_out says s terms course ns first consistent rising kept may order (λ whole all. way.3) in
             let before = keeps_second (before_steps s ch) way.0 way.1 n r (subst (λ xs. get (after_choices (before_steps s ch) xs).records n ≡ Some r) way.2 there) in
-            let written : r.written.0 ≡ before.0.written.0 = ap (λ (x : Record K V). x.written.0) before.2.1 in
+            let written : r.written.0 ≡ before.0.written.0 = same_moment r before.0 before.2.0 before.2.1 in
             rw written (aged.live whole all k n before.0 before.1, aged.invalid whole all k n before.0 before.1)
 
 
