@@ -72,8 +72,8 @@ module _ {K V X L P W C I : Type 0} (m : Meaning K V X L P W C I) where
   stays_in_order s [] ns laws valid kept orderly order done = (ns, order)
   stays_in_order s (x ∷ xs) ns laws valid kept orderly order (step, rest) =
       let next = call_ends m s.settings ns (MaintenanceRun m.says) (HasOrder s.settings) (run_has_order s.settings ns)
-          (λ t reads housekeeping h. (h.0, λ k. let o = h.1 k in (o.0, order_with t o.0 o.1 reads t.invalid_before t.predicates housekeeping t.capacity t.next_number)))
-          s x.after x.call x.reply x.events valid (refl, λ k. order) orderly.0 step in
+      (λ t reads housekeeping h. (h.0, λ k. let o = h.1 k in (o.0, order_with t o.0 o.1 reads t.invalid_before t.predicates housekeeping t.capacity t.next_number)))
+      s x.after x.call x.reply x.events valid (refl, λ k. order) orderly.0 step in
       let at : HasOrder s.settings x.after = elim next [ inl after ↦ after | inr as_before ↦ (as_before.1.0, λ k. (ns, as_before.1.1 k)) ] in
       stays_in_order x.after xs (at.1 kept).0 laws (call_keeps m laws s x.after x.call x.reply x.events valid step) (ap keeps_write_list at.0 ∙ kept) orderly.1 (at.1 kept).1 rest
 
@@ -125,14 +125,21 @@ module _ {K V X L P W C I : Type 0} (m : Meaning K V X L P W C I) where
       AreSteps m (OrderlyRun m.says m.read) s xs
   listed_steps_orderly s before last [] laws valid order orderly done = tt
   listed_steps_orderly s before last (x ∷ xs) laws valid order orderly (after, step, rest) =
-      let ends = listed_call_ends s before after x step valid orderly.0 order in
-      (listed_call_orderly s before after x step valid order,
-      listed_steps_orderly x.after after last xs laws (call_keeps m laws s x.after x.call x.reply x.events valid (listed_call_made s before after x step)) (λ kept. ends.1 (sym (ap keeps_write_list ends.0) ∙ kept)) orderly.1 rest)
+      let ends = listed_call_ends s before after x step valid orderly.0 order in (
+        listed_call_orderly s before after x step valid order,
+        listed_steps_orderly x.after after last xs laws (call_keeps m laws s x.after x.call x.reply x.events valid (listed_call_made s before after x step)) (λ kept. ends.1 (sym (ap keeps_write_list ends.0) ∙ kept)) orderly.1 rest,
+      )
 
   -- one more call
   pub AreListedSteps_push : (s : State K V X P W) (before mid last : List ℕ) (xs : List (Step K V X P W)) (x : Step K V X P W) → AreListedSteps m s before xs mid → ListedStep m (last_state s xs) mid x last → AreListedSteps m s before (xs ++ x ∷ []) last
   AreListedSteps_push s before mid last [] x same step = (last, subst (λ ns. ListedStep m s ns x last) same step, refl)
   AreListedSteps_push s before mid last (y ∷ xs) x (after, first, rest) step = (after, first, AreListedSteps_push y.after after mid last xs x rest step)
+
+  -- one more call of a cache
+  pub lists_go_on : {S : Type 0} (Runs : State K V X P W → Terms → Course → List (Notice K V) → State K V X P W → Type 0) (calls : List (Call K V P)) (replies : List (Reply K V P)) (steps : List (Step K V X P W)) (old mid : Cache K V S X L P W) (clock clock_after : C) (ids ids_after : I) (x : Step K V X P W) (last : List ℕ) →
+      MakesCalls m Runs calls replies steps old clock ids mid clock_after ids_after → AreListedSteps m old.state old.write_list steps mid.write_list → ListedStep m mid.state mid.write_list x last → AreListedSteps m old.state old.write_list (steps ++ x ∷ []) last
+  lists_go_on Runs calls replies steps old mid clock clock_after ids ids_after x last made lists step =
+      AreListedSteps_push old.state old.write_list mid.write_list last steps x lists (subst (λ s. ListedStep m s mid.write_list x last) (ap (λ c. c.state) made.ends) step)
 
   -- what `drive` promises, from the write lists beside its calls
   pub drives_in_order : {S : Type 0} (calls : List (Call K V P)) (replies : List (Reply K V P)) (steps : List (Step K V X P W)) (old new : Cache K V S X L P W) (clock clock_after : C) (ids ids_after : I) →

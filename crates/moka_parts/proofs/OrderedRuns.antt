@@ -51,7 +51,6 @@ module _ {K V X P W : Type 0} where
             let written : r.written.0 ≡ before.0.written.0 = same_moment r before.0 before.2.0 before.2.1 in
             rw written (aged.live whole all k n before.0 before.1, aged.invalid whole all k n before.0 before.1)
 
-
 -- ---- runs with their write lists
 
 module _ {K V X P W : Type 0} (says : P → K → V → Bool → Type 0) (read : X → K → V → ℕ → Option ℕ → ℕ → Option ℕ) (before after : List ℕ) (s : State K V X P W) (terms : Terms) (course : Course) (notices : List (Notice K V)) (t : State K V X P W)
@@ -72,8 +71,11 @@ module _ {K V X P W : Type 0} (says : P → K → V → Bool → Type 0) (read :
       where
         go : (b : Bool) → is_disabled s.capacity ≡ b → MatchBool b (DoesNothing s course notices t) ((ch : Freedom) × RunsBy says s terms ch course notices t × (IsBounded s terms ch course × LeavesList before after s terms ch course)) → IsListedIn settings after t
         go true off nothing = subst (IsListedIn settings after) (sym nothing.0) (subst (λ ns. IsListedIn settings ns s) (sym (run.1.1 off)) h)
-        go false on (ch, (free, same, told), also) = subst (IsListedIn settings after) (sym same) (h.0, λ kept. let k = ap keeps_write_list h.0 ∙ kept in
-            subst (IsInOrder (after_run s ch)) (sym (also.1.list k)) (run_in_order says s terms.now before ch k free valid.rising (h.1 kept)))
+        go false on (ch, (free, same, told), also) = subst (IsListedIn settings after) (sym same) (
+          h.0,
+          λ kept. let k = ap keeps_write_list h.0 ∙ kept in
+              subst (IsInOrder (after_run s ch)) (sym (also.1.list k)) (run_in_order says s terms.now before ch k free valid.rising (h.1 kept)),
+        )
 
     -- and from one it removes what is past its time
     pub listed_run_ages_out : AgesOutInOrder s before terms course t

@@ -46,7 +46,7 @@ module _ {K V : Type 0} (records : Records K V) where
 abbrev pub IsListOf : List Member → List ℕ → Type 0
 IsListOf access ns = IsDistinct (◌==◌) ns × ((n : ℕ) → is_listed n ns ≡ is_member n access)
 
--- the list is a write list of the state
+-- the same of a state
 abbrev pub IsWriteList : {K V X P W : Type 0} → State K V X P W → List ℕ → Type 0
 IsWriteList s write_list = IsListOf s.access write_list
 
