@@ -1,6 +1,5 @@
 -- From a state in order, a run that leaves a front of the write list that is not past its time leaves no record that is.
 use Rattle.std.proofs.Common.{◌≡◌, refl, ℕ, ◌+◌, ◌<◌, ◌≤◌, Bool, true, false, ◌==◌, ◌||◌, min, nat_le, List, [], ◌∷◌, ◌++◌, map, Option, Some, None, is_some, ap, sym, ◌∙◌, subst, inl, inr, arith, true≢false, if◌then◌else◌}
-use Rattle.std.specs.Prelude.{⊤}
 use Rattle.std.specs.FinMap.{get}
 use Rattle.moka_parts.specs.declared.records.Record.{Record}
 use Rattle.moka_parts.specs.declared.records.Operation.{Operation}
@@ -9,9 +8,9 @@ use Rattle.moka_parts.specs.Time.{greatest, deadline, has_passed, is_before, mom
 use Rattle.moka_parts.specs.Records.{counted_of, is_member, is_applied, is_listed}
 use Rattle.moka_parts.specs.State.{State, keeps_write_list}
 use Rattle.moka_parts.specs.Visibility.{is_past_live, is_written_before}
-use Rattle.moka_parts.specs.Maintenance.{Terms, Course, Freedom, AreFree, after_run}
+use Rattle.moka_parts.specs.Maintenance.{Terms, Course, Freedom, AreFree, after_run, tests_of}
 use Rattle.moka_parts.specs.Settling.{IsSound, IsConsistent, IsConsistentState, IsWaitingIn, AreRising, IsWhole, IsAllSent}
-use Rattle.moka_parts.specs.Order.{waiting_by_ticket, IsInOrder, AgesOut, write_list_at_end}
+use Rattle.moka_parts.specs.Order.{waiting_by_ticket, IsInOrder, AgesOut, write_list_at_end, IsAtRestByWrite}
 use Rattle.moka_parts.proofs.Maps.{same_or_apart, same_by_test, itself_tested}
 use Rattle.moka_parts.proofs.RunKeepsSound.{run_kept}
 use Rattle.moka_parts.proofs.AtEnd.{nothing_waits}
@@ -58,14 +57,9 @@ later_after : (bound : Option ℕ) (a b : ℕ) → a ≤ b → is_before a bound
 later_after None a b le e = refl
 later_after (Some t) a b le e = grind (arith, le, e)
 
--- the front of the list is not past its time
-abbrev pub FrontLasts : {K V X P W : Type 0} → State K V X P W → List ℕ → ℕ → Type 0
-FrontLasts t [] now = ⊤
-FrontLasts {K} {V} t (n ∷ ns) now = (r : Record K V) → get t.records n ≡ Some r → (is_past_live t.settings r now ≡ false) × (is_written_before t.invalid_before r ≡ false)
-
 module _ {K V X P W : Type 0} (t : State K V X P W) (now : ℕ) (Waits : Operation → Type 0) (none : (o : Operation) → Waits o → ⊥) (sound : IsConsistent Waits t.records t.access) where
   -- then none is
-  all_last : (ns : List ℕ) → IsInOrder t ns → FrontLasts t ns now → (n : ℕ) (r : Record K V) → get t.records n ≡ Some r → (is_past_live t.settings r now ≡ false) × (is_written_before t.invalid_before r ≡ false)
+  all_last : (ns : List ℕ) → IsInOrder t ns → IsAtRestByWrite (tests_of t now) t.records ns → (n : ℕ) (r : Record K V) → get t.records n ≡ Some r → (is_past_live t.settings r now ≡ false) × (is_written_before t.invalid_before r ≡ false)
   all_last ns o front n r there = go ns front (rises_from t ns o) (o.listed.1 n ∙ settled.1) (λ k. o.listed.1 k)
     where
       settled : (is_applied r ≡ true) × (is_some (counted_of n t.access) ≡ true)
@@ -82,14 +76,14 @@ module _ {K V X P W : Type 0} (t : State K V X P W) (now : ℕ) (Waits : Operati
       is_first : (k : ℕ) (ns : List ℕ) → is_listed k (k ∷ ns) ≡ true
       is_first k ns = ap (λ b. b || is_listed k ns) (itself_tested k)
 
-      go : (ns : List ℕ) → FrontLasts t ns now → Rises 0 (map (settled_at t.records) ns ++ map (waiting_at t.records) (waiting_by_ticket t)) → is_listed n ns ≡ true → ((k : ℕ) → is_listed k ns ≡ is_member k t.access) → (is_past_live t.settings r now ≡ false) × (is_written_before t.invalid_before r ≡ false)
+      go : (ns : List ℕ) → IsAtRestByWrite (tests_of t now) t.records ns → Rises 0 (map (settled_at t.records) ns ++ map (waiting_at t.records) (waiting_by_ticket t)) → is_listed n ns ≡ true → ((k : ℕ) → is_listed k ns ≡ is_member k t.access) → (is_past_live t.settings r now ≡ false) × (is_written_before t.invalid_before r ≡ false)
       go [] front rises listed members = absurd (true≢false (sym listed))
       go (k ∷ ns) front rises listed members =
           let own = member_settled k (get t.records k) (counted_of k t.access) (sym (members k) ∙ is_first k ns) (sound.sound k) in
           let first : settled_at t.records k ≡ Some own.0.written.0 = ap settled_moment own.1 ∙ ap (λ b. if b then Some own.0.written.0 else None) own.2 in
           let raised : Rises own.0.written.0 (map (settled_at t.records) (k ∷ ns) ++ map (waiting_at t.records) (waiting_by_ticket t)) = raise (settled_at t.records k) own.0.written.0 (map (settled_at t.records) ns ++ map (waiting_at t.records) (waiting_by_ticket t)) first rises in
           let le = rises_above (settled_at t.records) own.0.written.0 (k ∷ ns) (map (waiting_at t.records) (waiting_by_ticket t)) n r.written.0 raised listed moment in
-          let lasts = front own.0 own.1 in
+          let lasts = front k own.0 refl own.1 in
           (later_lasts t.settings.time_to_live own.0.written.0 r.written.0 now le lasts.0, later_after (moment_of t.invalid_before) own.0.written.0 r.written.0 le lasts.1)
         where
           raise : (v : Option ℕ) (w : ℕ) (xs : List (Option ℕ)) → v ≡ Some w → Rises 0 (v ∷ xs) → Rises w (v ∷ xs)
@@ -98,7 +92,7 @@ module _ {K V X P W : Type 0} (t : State K V X P W) (now : ℕ) (Waits : Operati
 
 -- a run from a state in order, that leaves such a front once all is sent
 pub aged_out : {K V X P W : Type 0} (says : P → K → V → Bool → Type 0) (s : State K V X P W) (terms : Terms) (course : Course) (ns : List ℕ) (ch : Freedom) → IsConsistentState s → AreRising s.outstanding s.writes → keeps_write_list s.settings ≡ true → AreFree says s terms.now ch → IsInOrder s ns →
-    (IsWhole s terms course → IsAllSent s → FrontLasts (after_run s ch) (write_list_at_end s ns ch) terms.now) → AgesOut s terms course (after_run s ch)
+    (IsWhole s terms course → IsAllSent s → IsAtRestByWrite (tests_of s terms.now) (after_run s ch).records (write_list_at_end s ns ch)) → AgesOut s terms course (after_run s ch)
 aged_out says s terms course ns ch h rising kept free o front = record {
   live = λ whole all _ n r there. (last whole all n r there).0;
   invalid = λ whole all _ n r there. (last whole all n r there).1;

@@ -40,3 +40,7 @@ pub mod RunsGoOn
 pub mod Registry
 pub mod Scanned
 pub mod ListsOfCalls
+pub mod OrderedList
+pub mod OrderedSteps
+pub mod OrderedRuns
+pub mod OrderedDrive

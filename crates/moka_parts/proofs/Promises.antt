@@ -11,16 +11,12 @@ use Rattle.moka_parts.specs.declared.calls.Reply.{Reply}
 use Rattle.moka_parts.specs.declared.calls.Reply.TheVariants as reply
 use Rattle.moka_parts.specs.Housekeeping.{is_due}
 use Rattle.moka_parts.specs.Records.{Notice, record_of_key}
-use Rattle.moka_parts.specs.State.{State, Meaning, Events, is_disabled, keeps_write_list}
-use Rattle.moka_parts.specs.Settling.{IsValid}
-use Rattle.moka_parts.specs.Order.{IsInOrder}
+use Rattle.moka_parts.specs.State.{State, Meaning, Events, is_disabled}
 use Rattle.moka_parts.specs.Maintenance.{Terms, Course, MaintenanceRun}
 use Rattle.moka_parts.specs.Calls.{after_hit, hit_at, hit_operation, RunStep, KeeperRun, RunsIfDue, Unchanged, RecordsRead, GetsAt, GetStep}
-use Rattle.moka_parts.specs.Runs.{CallStep, Step, Cache, AreSteps, MakesCalls, PromisedRun, ListedRun, OrderlyRun}
+use Rattle.moka_parts.specs.Runs.{CallStep, Step, Cache, AreSteps, MakesCalls, PromisedRun}
 use Rattle.moka_parts.specs.Laws.{IsOfReference}
 use Rattle.moka_parts.proofs.RunsGoOn.{promised_is_run}
-use Rattle.moka_parts.proofs.StepsKeep.{hit_valid}
-use Rattle.moka_parts.proofs.OrderedCalls.{hit_in_order}
 
 module _ {K V X L P W C I : Type 0} (m : Meaning K V X L P W C I) (More Less : State K V X P W → Terms → Course → List (Notice K V) → State K V X P W → Type 0)
     (Good : State K V X P W → Type 0) (weaker : (s : State K V X P W) (terms : Terms) (course : Course) (notices : List (Notice K V)) (t : State K V X P W) → Good s → More s terms course notices t → Less s terms course notices t)
@@ -101,19 +97,3 @@ weaker_is_run m More Less weaker calls replies steps old new clock clock_after i
 pub is_of_reference : {K V X L P W C I : Type 0} (S : Type 0) (m : Meaning K V X L P W C I) → IsOfReference S m
 is_of_reference S m calls replies steps old new clock clock_after ids ids_after h =
     weaker_is_run m (PromisedRun m.says m.read) (MaintenanceRun m.says) (promised_is_run m.says m.read) calls replies steps old new clock clock_after ids ids_after h
-
--- where a state is in order, runs that say what they promise of such states promise it
-module _ {K V X P W : Type 0} (says : P → K → V → Bool → Type 0) (read : X → K → V → ℕ → Option ℕ → ℕ → Option ℕ) (write_list : List ℕ) where
-  pub listed_is_promised : (s : State K V X P W) (terms : Terms) (course : Course) (notices : List (Notice K V)) (t : State K V X P W) → ListedRun says read write_list s terms course notices t → PromisedRun says read s terms course notices t
-  listed_is_promised s terms course notices t (run, outcome) = (run, outcome.0)
-
-  pub listed_is_orderly : (s : State K V X P W) (terms : Terms) (course : Course) (notices : List (Notice K V)) (t : State K V X P W) → (keeps_write_list s.settings ≡ true → IsInOrder s write_list) → ListedRun says read write_list s terms course notices t → OrderlyRun says read s terms course notices t
-  listed_is_orderly s terms course notices t o (run, outcome) = (run, (outcome.0, record { live = λ whole all kept. (outcome.1 (o kept)).live whole all kept; invalid = λ whole all kept. (outcome.1 (o kept)).invalid whole all kept }))
-
--- one call from a state in order
-pub listed_call_is_orderly : {K V X L P W C I : Type 0} (m : Meaning K V X L P W C I) (s t : State K V X P W) (write_list : List ℕ) (c : Call K V P) (r : Reply K V P) (e : Events K V) → IsValid m.eq s → (keeps_write_list s.settings ≡ true → IsInOrder s write_list) → CallStep m (ListedRun m.says m.read write_list) s c r e t → CallStep m (OrderlyRun m.says m.read) s c r e t
-listed_call_is_orderly m s t write_list c r e h o step =
-    weaker_call m (ListedRun m.says m.read write_list) (OrderlyRun m.says m.read) (λ s. IsValid m.eq s × (keeps_write_list s.settings ≡ true → IsInOrder s write_list))
-    (λ s terms course notices t good. listed_is_orderly m.says m.read write_list s terms course notices t good.1)
-    (λ s key r now found good. (hit_valid m.eq m.says m.read s key r now found good.0, λ kept. hit_in_order m.eq m.says m.read s write_list key r now good.0 found (good.1 kept)))
-    s t c r e (h, o) step

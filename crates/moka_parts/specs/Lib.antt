@@ -23,6 +23,7 @@ pub mod Calls
 pub mod Order
 pub mod Bounds
 pub mod Runs
+pub mod Listed
 pub mod Laws
 pub mod Synchronous
 pub mod Texts

@@ -1,10 +1,11 @@
 -- States in which operations wait in the order of their writing, and what that gives.
-use Rattle.std.specs.Prelude.{◌≡◌, ℕ, Bool, true, false, ◌==◌, ◌<◌, ◌≤◌, List, [], ◌∷◌, ◌++◌, length, map, filter, filter_map, Option, Some, None, option_map, option_and_then, Contains, if◌then◌else◌, ⊤}
+use Rattle.std.specs.Prelude.{◌≡◌, ℕ, Bool, true, false, ◌==◌, ◌<◌, ◌≤◌, List, [], ◌∷◌, ◌++◌, length, map, filter, filter_map, Option, Some, None, option_map, option_and_then, Contains, slice_get, if◌then◌else◌, ⊤}
 use Rattle.std.specs.List.{IsDistinct}
 use Rattle.std.specs.List.Sorted.{IsNonDecreasing, IsStrictlyIncreasing}
 use Rattle.std.specs.FinMap.{get, entries, contains_key}
 use Rattle.moka_parts.specs.declared.policy.EvictionPolicy.{EvictionPolicy}
 use Rattle.moka_parts.specs.declared.records.Record.{Record}
+use Rattle.moka_parts.specs.declared.records.Member.{Member}
 use Rattle.moka_parts.specs.declared.records.Ticketed.{Ticketed}
 use Rattle.moka_parts.specs.declared.records.Operation.{Operation}
 use Rattle.moka_parts.specs.declared.records.Operation.TheVariants.{Upsert, Removal}
@@ -14,7 +15,7 @@ use Rattle.moka_parts.specs.Records.{Records, is_member, is_settled, is_listed, 
 use Rattle.moka_parts.specs.State.{State, Contents, keeps_write_list}
 use Rattle.moka_parts.specs.Visibility.{is_past_live, is_written_before}
 use Rattle.moka_parts.specs.Writes.{Fate, Ignored, Overtaken, Counted, Admitted, TooHeavy, Preferred, Refused, fate, after_write}
-use Rattle.moka_parts.specs.Maintenance.{Choice, Removes, MovesToBack, Drops, Freedom, Terms, Course, after_queued_reads}
+use Rattle.moka_parts.specs.Maintenance.{Choice, Removes, MovesToBack, Drops, Freedom, Terms, Course, after_choices, after_queued_reads, before_steps, Tests, tests_of, is_past_write}
 use Rattle.moka_parts.specs.Calls.{queue_length}
 use Rattle.moka_parts.specs.Settling.{IsWhole, IsAllSent}
 
@@ -41,10 +42,13 @@ module _ {K V : Type 0} (records : Records K V) where
   IsNewer (Removal number generation) = ⊤
   IsNewer (Upsert number generation weight hash) = (r : Record K V) → get records number ≡ Some r → r.applied < generation
 
-module _ {K V X P W : Type 0} where
-  -- the write list has just the members' numbers, each once
-  abbrev pub IsWriteList : State K V X P W → List ℕ → Type 0
-  IsWriteList s write_list = IsDistinct (◌==◌) write_list × ((n : ℕ) → is_listed n write_list ≡ is_member n s.access)
+-- the list has just the members' numbers, each once
+abbrev pub IsListOf : List Member → List ℕ → Type 0
+IsListOf access ns = IsDistinct (◌==◌) ns × ((n : ℕ) → is_listed n ns ≡ is_member n access)
+
+-- the same of a state
+abbrev pub IsWriteList : {K V X P W : Type 0} → State K V X P W → List ℕ → Type 0
+IsWriteList s write_list = IsListOf s.access write_list
 
 -- with this write list, members stand and operations wait in the order of their writing
 pub record IsInOrder {K V X P W : Type 0} (s : State K V X P W) (write_list : List ℕ) : Type 0 where
@@ -115,6 +119,20 @@ abbrev pub written_after_choices : List ℕ → List Choice → List ℕ
 written_after_choices ns [] = ns
 written_after_choices ns (x ∷ xs) = written_after_choices (written_after_choice ns x) xs
 
--- the list after a run by these choices
-abbrev pub write_list_at_end : {K V X P W : Type 0} → State K V X P W → List ℕ → Freedom → List ℕ
-write_list_at_end s ns ch = written_after_choices (written_after_writes (keeps_write_list s.settings) s.capacity s.settings.policy (after_queued_reads s) ns s.writes ch.moves) ch.steps
+module _ {K V X P W : Type 0} (s : State K V X P W) (ns : List ℕ) where
+  -- the list after the queues of a run
+  abbrev pub write_list_before_steps : Freedom → List ℕ
+  write_list_before_steps ch = written_after_writes (keeps_write_list s.settings) s.capacity s.settings.policy (after_queued_reads s) ns s.writes ch.moves
+
+  -- and after a run by these choices
+  abbrev pub write_list_at_end : Freedom → List ℕ
+  write_list_at_end ch = written_after_choices (write_list_before_steps ch) ch.steps
+
+-- the record at the front of the write list is not past its time to live, nor written before the invalidation of all
+abbrev pub IsAtRestByWrite : {K V : Type 0} → Tests → Records K V → List ℕ → Type 0
+IsAtRestByWrite {K} {V} q records write_list = (n : ℕ) (r : Record K V) → slice_get write_list 0 ≡ Some n → get records n ≡ Some r → (is_past_write q r ≡ false) × (is_written_before q.invalid_before r ≡ false)
+
+-- it is so after some of the run's steps
+abbrev pub ComesToRest : {K V X P W : Type 0} → State K V X P W → List ℕ → Freedom → ℕ → Type 0
+ComesToRest s write_list ch now = (first second : List Choice) × (ch.steps ≡ first ++ second)
+    × IsAtRestByWrite (tests_of s now) (after_choices (before_steps s ch) first).records (written_after_choices (write_list_before_steps s write_list ch) first)

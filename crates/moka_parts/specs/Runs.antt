@@ -14,7 +14,7 @@ use Rattle.moka_parts.specs.State.{State, Meaning, Events, is_disabled}
 use Rattle.moka_parts.specs.Maintenance.{Terms, Course, RunsWith, MaintenanceRun}
 use Rattle.moka_parts.specs.Settling.{LeavesBehind, Settles}
 use Rattle.moka_parts.specs.Bounds.{IsBounded}
-use Rattle.moka_parts.specs.Order.{IsOrderly, AgesOut, AgesOutInOrder}
+use Rattle.moka_parts.specs.Order.{IsOrderly, AgesOut}
 use Rattle.moka_parts.specs.Housekeeping.{without_automatic}
 use Rattle.moka_parts.specs.Surroundings.{Heard}
 pub use Rattle.moka_parts.specs.Surroundings.{Leads}
@@ -146,10 +146,6 @@ module _ {K V X P W : Type 0} (says : P → K → V → Bool → Type 0) (read :
   -- a run of maintenance with all that is promised of it
   abbrev pub PromisedRun : State K V X P W → Terms → Course → List (Notice K V) → State K V X P W → Type 0
   PromisedRun s terms course notices t = RunsWith says EndsWell IsBounded s terms course notices t
-
-  -- the same, where from a state that is in order with this write list a whole run also removes what is past its time
-  abbrev pub ListedRun : List ℕ → State K V X P W → Terms → Course → List (Notice K V) → State K V X P W → Type 0
-  ListedRun write_list s terms course notices t = RunsWith says (λ s terms course t. EndsWell s terms course t × AgesOutInOrder s write_list terms course t) IsBounded s terms course notices t
 
   -- the same, where a whole run also removes what is past its time
   abbrev pub OrderlyRun : State K V X P W → Terms → Course → List (Notice K V) → State K V X P W → Type 0

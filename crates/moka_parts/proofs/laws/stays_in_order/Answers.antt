@@ -1,4 +1,4 @@
-use Rattle.moka_parts.proofs.OrderedCalls.{stays_in_order}
+use Rattle.moka_parts.proofs.OrderedDrive.{stays_in_order}
 use Rattle.moka_parts.proofs.laws.stays_in_order.Goals as goal
 
 pub returns : goal.returns
