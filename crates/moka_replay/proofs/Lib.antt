@@ -3,3 +3,5 @@ pub mod Printable
 pub mod Lines
 pub mod Served
 pub mod Bounded
+pub mod Unheard
+pub mod KeptNotices

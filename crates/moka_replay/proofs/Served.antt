@@ -3,21 +3,27 @@ use Rattle.std.proofs.Common.{◌≡◌, refl, ℕ, ◌+◌, Bool, true, false, 
 use Rattle.std.specs.List.{AllByRecursion, list_all}
 use Rattle.std.specs.Option.{option_and_then, option_map, option_map_or, option_or}
 use Rattle.std.specs.Str.{bytes_eq}
+use Rattle.moka_parts.specs.declared.calls.Call.TheVariants.{Remove, Keys, Report}
 use Rattle.moka_drive.specs.Served.{IsServed}
 use Rattle.moka_replay.specs.declared.script.settings.Settings.{Settings}
 use Rattle.moka_replay.specs.declared.script.settings.Setting.{Setting}
 use Rattle.moka_replay.specs.declared.script.Line.TheVariants as line
-use Rattle.moka_replay.specs.Lex.{number_of, is_printable, words_of}
+use Rattle.moka_replay.specs.Lex.{number_of, alone, is_printable, words_of}
 use Rattle.moka_replay.specs.Settings.{setting_of, put_in}
-use Rattle.moka_replay.specs.Calls.{CallText, insert_of, send_of, get_of, contains_of, key_of, remove_of, run_of, keys_of, report_of, call_of}
-use Rattle.moka_replay.specs.Script.{LineText, ScriptText, asked_by_name, asked_by, asked_in, is_comment, has_lru, joined, with_line, lines_read, lines_of, no_text, script_of}
+use Rattle.moka_replay.specs.Calls.{CallText, insert_of, send_of, get_of, contains_of, key_of, remove_of, run_of, call_of}
+use Rattle.moka_replay.specs.Script.{LineText, ScriptText, asked_by_name, asked_by, is_served, if_served, asked_in, is_comment, has_lru, joined, with_line, lines_read, lines_of, no_text, script_of}
 
 -- ---- calls
 
--- the call, if there is one, is served
+-- the call is one that the driver makes, but for the telling of a removal
+abbrev Makes : CallText → Type 0
+Makes (Remove key hash now) = Unit {0}
+Makes call = IsServed call
+
+-- the same of the call, if there is one
 abbrev Serves : Option CallText → Type 0
 Serves None = Unit {0}
-Serves (Some call) = IsServed call
+Serves (Some call) = Makes call
 
 serves_if : (b : Bool) (x : Option CallText) (y : Option CallText) → Serves x → Serves y → Serves (if b then x else y)
 serves_if true x y p q = p
@@ -58,8 +64,9 @@ serves_key (key ∷ more ∷ rest) = tt
 
 serves_remove : (arguments : List (List ℕ)) → Serves (remove_of arguments)
 serves_remove [] = tt
-serves_remove (key ∷ []) = serves_then (number_of 32 key) _ (λ k. refl)
-serves_remove (key ∷ more ∷ rest) = tt
+serves_remove (key ∷ []) = serves_then (number_of 32 key) _ (λ k. tt)
+serves_remove (key ∷ now ∷ []) = serves_then (number_of 64 now) _ (λ n. serves_then (number_of 32 key) _ (λ k. tt))
+serves_remove (key ∷ now ∷ more ∷ rest) = tt
 
 serves_run : (arguments : List (List ℕ)) → Serves (run_of arguments)
 serves_run [] = tt
@@ -67,13 +74,9 @@ serves_run (now ∷ []) = tt
 serves_run (now ∷ batch ∷ []) = serves_then (number_of 64 now) _ (λ n. serves_then (number_of 32 batch) _ (λ b. tt))
 serves_run (now ∷ batch ∷ more ∷ rest) = tt
 
-serves_keys : (arguments : List (List ℕ)) → Serves (keys_of arguments)
-serves_keys [] = tt
-serves_keys (more ∷ rest) = tt
-
-serves_report : (arguments : List (List ℕ)) → Serves (report_of arguments)
-serves_report [] = tt
-serves_report (more ∷ rest) = tt
+serves_alone : (call : CallText) (arguments : List (List ℕ)) → Makes call → Serves (alone call arguments)
+serves_alone call [] p = p
+serves_alone call (more ∷ rest) p = tt
 
 serves_call : (name : List ℕ) (arguments : List (List ℕ)) → Serves (call_of name arguments)
 serves_call name arguments =
@@ -84,8 +87,8 @@ serves_call name arguments =
     (serves_if (bytes_eq name (codes "key")) _ _ (serves_key arguments)
     (serves_if (bytes_eq name (codes "remove")) _ _ (serves_remove arguments)
     (serves_if (bytes_eq name (codes "run")) _ _ (serves_run arguments)
-    (serves_if (bytes_eq name (codes "keys")) _ _ (serves_keys arguments)
-    (serves_if (bytes_eq name (codes "report")) (report_of arguments) None (serves_report arguments) tt))))))))
+    (serves_if (bytes_eq name (codes "keys")) _ _ (serves_alone (Keys 0) arguments tt)
+    (serves_if (bytes_eq name (codes "report")) (alone Report arguments) None (serves_alone Report arguments tt) tt))))))))
 
 -- ---- lines
 
@@ -96,21 +99,41 @@ ServesLine (Some line.Nothing) = Unit {0}
 ServesLine (Some (line.Setting setting)) = Unit {0}
 ServesLine (Some (line.Call call)) = IsServed call
 
+-- the driver makes it, but for the telling of a removal
+abbrev MakesLine : Option LineText → Type 0
+MakesLine None = Unit {0}
+MakesLine (Some line.Nothing) = Unit {0}
+MakesLine (Some (line.Setting setting)) = Unit {0}
+MakesLine (Some (line.Call call)) = Makes call
+
+makes_line_if : (b : Bool) (x y : Option LineText) → MakesLine x → MakesLine y → MakesLine (if b then x else y)
+makes_line_if true x y p q = p
+makes_line_if false x y p q = q
+
 serves_line_if : (b : Bool) (x y : Option LineText) → ServesLine x → ServesLine y → ServesLine (if b then x else y)
 serves_line_if true x y p q = p
 serves_line_if false x y p q = q
 
-serves_either : (setting : Option Setting) (call : Option CallText) → Serves call → ServesLine (option_or (option_map line.Setting setting) (option_map line.Call call))
-serves_either (Some setting) call p = tt
-serves_either None None p = tt
-serves_either None (Some call) p = p
+makes_either : (setting : Option Setting) (call : Option CallText) → Serves call → MakesLine (option_or (option_map line.Setting setting) (option_map line.Call call))
+makes_either (Some setting) call p = tt
+makes_either None None p = tt
+makes_either None (Some call) p = p
 
-serves_words : (words : List (List ℕ)) → ServesLine (asked_by words)
-serves_words [] = tt
-serves_words (name ∷ arguments) = serves_line_if (is_comment name) (Some line.Nothing) (asked_by_name name arguments) tt (serves_either (setting_of name arguments) (call_of name arguments) (serves_call name arguments))
+makes_words : (words : List (List ℕ)) → MakesLine (asked_by words)
+makes_words [] = tt
+makes_words (name ∷ arguments) = makes_line_if (is_comment name) (Some line.Nothing) (asked_by_name name arguments) tt (makes_either (setting_of name arguments) (call_of name arguments) (serves_call name arguments))
+
+-- what tells of a removal is not served
+serves_line : (asked : Option LineText) → MakesLine asked → ServesLine (option_and_then if_served asked)
+serves_line None p = tt
+serves_line (Some line.Nothing) p = tt
+serves_line (Some (line.Setting setting)) p = serves_line_if (is_served (line.Setting setting)) (Some (line.Setting setting)) None tt tt
+serves_line (Some (line.Call (Remove key hash None))) p = refl
+serves_line (Some (line.Call (Remove key hash (Some now)))) p = tt
+serves_line (Some (line.Call call)) p = p
 
 serves_in : (text : List ℕ) → ServesLine (asked_in text)
-serves_in text = serves_line_if (list_all is_printable text) (asked_by (words_of text)) None (serves_words (words_of text)) tt
+serves_in text = serves_line_if (list_all is_printable text) (option_and_then if_served (asked_by (words_of text))) None (serves_line (asked_by (words_of text)) (makes_words (words_of text))) tt
 
 -- ---- scripts
 

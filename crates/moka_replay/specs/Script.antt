@@ -3,8 +3,9 @@ use Rattle.std.specs.Prelude.{◌≡◌, ℕ, ◌+◌, ◌==◌, Bool, true, fal
 use Rattle.std.specs.List.{slice_split, list_all}
 use Rattle.std.specs.Option.{option_or, option_map_or}
 use Rattle.moka_parts.specs.declared.policy.EvictionPolicy.TheVariants.{Lru}
+use Rattle.moka_parts.specs.declared.calls.Call.TheVariants.{Remove}
 use Rattle.moka_replay.specs.declared.script.settings.Settings.{Settings}
-use Rattle.moka_replay.specs.declared.script.settings.Setting.TheVariants.{Policy}
+use Rattle.moka_replay.specs.declared.script.settings.Setting.TheVariants.{Policy, Listener}
 use Rattle.moka_replay.specs.declared.script.Script.{Script}
 use Rattle.moka_replay.specs.declared.script.calls.LineCall.{LineCall}
 use Rattle.moka_replay.specs.declared.script.Line.{Line}
@@ -40,9 +41,19 @@ abbrev pub asked_by : List (List ℕ) → Option LineText
 asked_by [] = Some line.Nothing
 asked_by (name ∷ arguments) = if is_comment name then Some line.Nothing else asked_by_name name arguments
 
+-- whether the cache serves what a line asks for: it does not take a listener yet, nor tell of a removal
+abbrev pub is_served : LineText → Bool
+is_served (line.Setting Listener) = false
+is_served (line.Call (Remove key hash (Some now))) = false
+is_served line = true
+
+-- what is asked for, where the cache serves it
+abbrev pub if_served : LineText → Option LineText
+if_served line = if is_served line then Some line else None
+
 -- what a line asks for
 abbrev pub asked_in : List ℕ → Option LineText
-asked_in text = if list_all is_printable text then asked_by (words_of text) else None
+asked_in text = if list_all is_printable text then asked_by (words_of text) >>= if_served else None
 
 -- ---- scripts
 

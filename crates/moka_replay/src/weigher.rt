@@ -28,26 +28,3 @@ impl Weigher<u32, Word> for NumberWeigher {
 
     ghost one_weight = { λ _ _ _ _ _ first second. first ∙ sym second };
 }
-
-#[cfg(test)]
-mod tests {
-    use super::*;
-    use std::test::Fail;
-
-    #[test]
-    fn weighs_words(rt: HostRuntime) -> Result<(), Fail> {
-        for (word, weight) in [
-            ("0", 0),
-            ("4294967295", u32::MAX),
-            ("4294967296", 1),
-            ("0000000007", 7),
-            ("00000000007", 1),
-            ("a", 1),
-            ("+7", 1),
-        ] {
-            let value = Word::new(rt.alloc(), word)?;
-            assert_eq!(rt; NumberWeigher.weigh(&1, &value), weight, "of {word}");
-        }
-        Ok(())
-    }
-}

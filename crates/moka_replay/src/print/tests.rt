@@ -1,8 +1,10 @@
 use super::*;
 use crate::key_range::KeyRange;
+use crate::notices::Notices;
 use crate::word::Word;
 use moka_parts::calls::{DriveRefused, KvEntry, Ticket};
 use moka_parts::error::{CapacityError, InsertRefused, OutOfMemory, PredicateRefused};
+use moka_parts::notification::{Listener, RemovalCause};
 use moka_parts::policy::Instant;
 use std::fmt::Display;
 use std::process::Abort;
@@ -61,6 +63,32 @@ fn prints_replies(rt: HostRuntime) -> Result<(), Fail> {
         assert_eq!(rt; is_refused_memory(&reply), is_refused, "at {text}");
     }
     Ok(())
+}
+
+/// A listener with room for two notices keeps the first two, and they are printed behind the replies.
+#[test]
+fn prints_notices(rt: HostRuntime) -> Result<(), Fail> {
+    let mut notices = Notices::with_room(rt.alloc(), 2).ok().ok_or("memory")?;
+    for (key, value, cause) in [
+        (0, "a", RemovalCause::Replaced),
+        (1, "c", RemovalCause::Size),
+        (2, "d", RemovalCause::Expired),
+    ] {
+        notices.notify(key, Word::new(rt.alloc(), value)?, cause);
+    }
+    let text = ReplayText {
+        replies: &[Reply::Run(false)],
+        notices: notices.as_slice(),
+        total: Total {
+            count: 4,
+            weight: 5,
+        },
+    };
+    check(
+        &rt,
+        &text,
+        "done\nnotice 0 a Replaced\nnotice 1 c Size\ncount 4 weight 5",
+    )
 }
 
 /// The errors of the cache's calls, in its own words.
