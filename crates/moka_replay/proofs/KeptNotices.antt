@@ -1,7 +1,6 @@
 -- Each notice finds its room: no more is told than was inserted and removed.
-use Rattle.std.proofs.Common.{◌≡◌, refl, sym, ap, ◌∙◌, ℕ, ◌+◌, ◌≤◌, Bool, true, false, cond, nat_lt, List, [], ◌∷◌, ◌++◌, append_assoc, append-nil, length, length-append, map, flat_map, count_by, Option, Some, None, Result, Ok, Err, arith, is_some, ◌⊎◌, inl, inr, if◌then◌else◌}
-use Rattle.std.specs.List.Sorted.{IsPermutation}
-use Rattle.std.specs.Cmp.{IsEquivalence}
+use Rattle.std.proofs.Common.{◌≡◌, refl, sym, ap, ◌∙◌, ℕ, ◌+◌, ◌≤◌, Bool, true, false, cond, nat_lt, List, [], ◌∷◌, ◌++◌, append_assoc, append-nil, length, length-append, map, Option, Some, None, Result, Ok, Err, arith, nat_eq, unwrap_or}
+use Rattle.std.specs.Cmp.{IsEquivalence, nat_eq_equiv}
 use Rattle.std.proofs.lemmas.List.{length-map}
 use Rattle.std.proofs.lemmas.List.Sums.{sum_by-cons}
 use Rattle.std.proofs.lemmas.List.Sorted.{length_permutation}
@@ -15,17 +14,24 @@ use Rattle.moka_parts.specs.declared.calls.Ticket.{Ticket}
 use Rattle.moka_parts.specs.declared.policy.Instant.{Instant}
 use Rattle.moka_parts.specs.declared.error.OutOfMemory.{OutOfMemory}
 use Rattle.moka_parts.specs.Records.{when_listening}
-use Rattle.moka_parts.specs.State.{State, Settings, Meaning, Events}
+use Rattle.moka_parts.specs.State as state
+use Rattle.moka_parts.specs.State.{State, Meaning, Events}
 use Rattle.moka_parts.specs.Maintenance.{MaintenanceRun}
 use Rattle.moka_parts.specs.Settling.{IsValid}
 use Rattle.moka_parts.specs.Surroundings.{Leads, NoticeStep, Heard}
-use Rattle.moka_parts.specs.Calls.{NotifyStep, NotifiesAfter}
-use Rattle.moka_parts.specs.Runs.{Step, CallStep, AreSteps, calls_of, notices_of, last_state}
-use Rattle.moka_parts.specs.Laws.{values_of, values_put, values_handed, values_told, ConservesValues, AllConserveValues}
+use Rattle.moka_parts.specs.Calls.{NotifiesAfter}
+use Rattle.moka_parts.specs.Runs.{Step, CallStep, AreSteps, SettlingRun, calls_of, notices_of, last_state}
+use Rattle.moka_parts.specs.Laws.{values_of, values_put, values_handed, values_told, AllConserveValues}
 use Rattle.moka_parts.proofs.ConservedCalls.{tells_each_once}
+use Rattle.moka_parts.specs.declared.records.Record.{Record}
+use Rattle.moka_parts.proofs.NewCache.{new_is_valid}
+use Rattle.moka_parts.proofs.Values.{values-empty}
+use Rattle.moka_parts.proofs.Promises.{weaker_steps}
 use Rattle.moka_replay.specs.declared.key_range.KeyRange.{KeyRange}
 use Rattle.moka_replay.specs.Calls.{CallText}
-use Rattle.moka_replay.specs.Notices.{ScriptNotice, Kept, Keeps, needs_room, room_of, told_of}
+use Rattle.moka_replay.specs.Notices.{ScriptNotice, Kept, Keeps, needs_room, room_of, listener_for, told_of}
+use Rattle.moka_replay.specs.declared.script.settings.Settings.{Settings}
+use Rattle.moka_replay.specs.Played.{ScriptStep, script_meaning, first_state}
 
 -- ---- the listener
 
@@ -51,7 +57,7 @@ module _ {X L W C I : Type 0} (m : Meaning ℕ (List ℕ) X L KeyRange W C I) wh
   at_most_one false n = omega arith
 
   -- a removal tells no more than it hands back
-  after_removal : (settings : Settings X W) (removed : Option (KvEntry ℕ (List ℕ) × Ticket)) (now : Option Instant) (told : Option (Result (Unit {0}) OutOfMemory)) (notices : List ScriptNotice) → NotifiesAfter settings removed now told notices → length notices ≤ length (values_handed {K = ℕ} {P = KeyRange} (reply.Remove removed told))
+  after_removal : (settings : state.Settings X W) (removed : Option (KvEntry ℕ (List ℕ) × Ticket)) (now : Option Instant) (told : Option (Result (Unit {0}) OutOfMemory)) (notices : List ScriptNotice) → NotifiesAfter settings removed now told notices → length notices ≤ length (values_handed {K = ℕ} {P = KeyRange} (reply.Remove removed told))
   after_removal settings (Some removed) (Some now) (Some (Ok u)) notices step = rw step (at_most_one settings.listening _)
   after_removal settings (Some removed) (Some now) (Some (Err e)) notices step = rw step.1 (omega arith)
   after_removal settings (Some removed) (Some now) None notices step = absurd step
@@ -88,16 +94,35 @@ module _ {X L W C I : Type 0} (m : Meaning ℕ (List ℕ) X L KeyRange W C I) wh
       omega arith
 
   -- from nothing, with a listener that has room for what the calls may tell, all of it is kept
-  pub told_in_full : (laws : IsEquivalence m.eq) (s : State ℕ (List ℕ) X KeyRange W) (steps : List (Step ℕ (List ℕ) X KeyRange W)) (before after : Option Kept) → IsValid m.eq s → values_of s.records ≡ [] → is_some before ≡ s.settings.listening → (before ≡ None) ⊎ (before ≡ Some (record { told = []; room = room_of (calls_of steps) })) → AreSteps m (MaintenanceRun m.says) s steps → Heard Keeps before (notices_of steps) after → notices_of steps ≡ told_of after
-  told_in_full laws s steps None None valid empty listening none done heard = heard
-  told_in_full laws s steps None (Some after) valid empty listening none done heard = absurd heard
-  told_in_full laws s steps (Some before) None valid empty listening none done heard = absurd heard
-  told_in_full laws s steps (Some before) (Some after) valid empty listening (inl none) done heard = cc
-  told_in_full laws s steps (Some before) (Some after) valid empty listening (inr new) done heard =
-      let same : before ≡ record { told = []; room = room_of (calls_of steps) } = cc in
-      let told : before.told ≡ [] = ap (λ kept. kept.told) same in
-      let room : before.room ≡ room_of (calls_of steps) = ap (λ kept. kept.room) same in
-      let within = fits s steps done (tells_each_once m s steps laws valid (sym listening) done) in
+  told_in_full : (laws : IsEquivalence m.eq) (s : State ℕ (List ℕ) X KeyRange W) (steps : List (Step ℕ (List ℕ) X KeyRange W)) (listening : Bool) (after : Option Kept) → IsValid m.eq s → values_of s.records ≡ [] → s.settings.listening ≡ listening → AreSteps m (MaintenanceRun m.says) s steps → Heard Keeps (listener_for listening (calls_of steps)) (notices_of steps) after → notices_of steps ≡ told_of after
+  told_in_full laws s steps false None valid empty listens done heard = heard
+  told_in_full laws s steps false (Some after) valid empty listens done heard = absurd heard
+  told_in_full laws s steps true None valid empty listens done heard = absurd heard
+  told_in_full laws s steps true (Some after) valid empty listens done heard =
+      let within = fits s steps done (tells_each_once m s steps laws valid listens done) in
       let nothing : length (values_of s.records) ≡ 0 = ap length empty in
-      let none_before : length before.told ≡ 0 = ap length told in
-      sym (keeps_all before after (notices_of steps) heard (omega arith) ∙ ap (λ l. l ++ notices_of steps) told)
+      sym (keeps_all (record { told = []; room = room_of (calls_of steps) }) after (notices_of steps) heard (omega arith))
+
+-- ---- a script
+
+-- what always holds of records and operations holds of the state that a script begins with
+first_is_valid : (settings : Settings) → IsValid nat_eq (first_state settings)
+first_is_valid settings =
+    let valid = new_is_valid ℕ (List ℕ) KeyRange (first_state settings).settings settings.capacity 0 (unwrap_or settings.first 1) nat_eq in
+    record {
+      consistent = record { once = valid.consistent.once; sound = valid.consistent.sound };
+      numbered = record {
+        numbered = valid.numbered.numbered;
+        known = valid.numbered.known;
+        one_each = valid.numbered.one_each;
+        ticketed = valid.numbered.ticketed;
+        queued = valid.numbered.queued;
+        disabled = valid.numbered.disabled;
+      };
+    }
+
+-- its listener keeps all that the calls tell
+pub told_by_script : (settings : Settings) (calls : List CallText) (steps : List ScriptStep) (after : Option Kept) → calls_of steps ≡ calls → AreSteps script_meaning (SettlingRun script_meaning.says script_meaning.read) (first_state settings) steps → Heard Keeps (listener_for settings.listener calls) (notices_of steps) after → notices_of steps ≡ told_of after
+told_by_script settings calls steps after made done heard =
+    let whole = weaker_steps script_meaning (SettlingRun script_meaning.says script_meaning.read) (MaintenanceRun script_meaning.says) (λ s terms course notices t run. (run.0, tt)) (first_state settings) steps done in
+    told_in_full script_meaning nat_eq_equiv (first_state settings) steps settings.listener after (first_is_valid settings) (ap (map (λ (r : Record ℕ (List ℕ)). r.value)) values-empty) refl whole (rw made heard)

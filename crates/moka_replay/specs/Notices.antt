@@ -35,6 +35,10 @@ needs_room call = false
 abbrev pub room_of : List CallText → ℕ
 room_of calls = count_by needs_room calls
 
+-- the listener of a list of calls, if one is asked for
+abbrev pub listener_for : Bool → List CallText → Option Kept
+listener_for is_asked calls = if is_asked then Some (record { told = []; room = room_of calls }) else None
+
 -- the cause, in a word
 abbrev pub cause_text : RemovalCause → List ℕ
 cause_text Expired = codes "Expired"

@@ -2,14 +2,14 @@
 ghost use Rattle.std.specs.Prelude.{◌≡◌, None, false, is_some, IfOk};
 ghost use Rattle.std.specs.List.{AllByRecursion};
 ghost use Rattle.moka_drive.specs.Served.{IsServed};
-ghost use Rattle.moka_replay.specs.Notices.{told_of};
+ghost use Rattle.moka_replay.specs.Notices.{told_of, listener_for};
 ghost use Rattle.moka_replay.specs.Script.{text_of};
 ghost use Rattle.moka_replay.specs.Played.{AreReplies, chosen_policy, first_state, total_of};
 ghost use Rattle.moka_engine.specs.BaseCache.{IsLruWhereBounded};
 
 use crate::key_range::KeyRange;
 use crate::notices::{Notices, room_for};
-use crate::script::{Script, ScriptReply, Settings};
+use crate::script::{Script, ScriptCall, ScriptReply, Settings};
 use crate::sources::{CountedIds, StoppedClock};
 use crate::weigher::NumberWeigher;
 use crate::word::Word;
@@ -53,11 +53,7 @@ pub fn play(alloc: Global, script: Script) -> Result<Played, OutOfMemory>
     ensures { IfOk result (λ played. AreReplies (text_of script) played.replies.items (told_of played.cache.listener) (total_of played.cache.state)) }
 {
     let Script { settings, calls } = script;
-    let listener = if settings.listener {
-        Some(Notices::with_room(alloc, room_for(&calls))?)
-    } else {
-        None
-    };
+    let listener = listener_for(alloc, settings.listener, &calls)?;
     let mut cache = new_cache(alloc, settings, listener)?;
     match drive(
         alloc,
@@ -68,6 +64,21 @@ pub fn play(alloc: Global, script: Script) -> Result<Played, OutOfMemory>
     ) {
         Ok(replies) => Ok(Played { replies, cache }),
         Err(refused) => Err(refused.error),
+    }
+}
+
+/// The listener of a script, if it asks for one, with room for all that its calls may tell.
+fn listener_for(
+    alloc: Global,
+    is_asked: bool,
+    calls: &[ScriptCall],
+) -> Result<Option<Notices>, OutOfMemory>
+    ensures { IfOk result (λ listener. listener ≡ listener_for is_asked calls.now) }
+{
+    if is_asked {
+        Ok(Some(Notices::with_room(alloc, room_for(calls))?))
+    } else {
+        Ok(None)
     }
 }
 
