@@ -380,8 +380,8 @@ fn goes_on_where_memory_was_refused_once(rt: HostRuntime) -> Result<(), Fail> {
     let (mut printed, mut said) = ([0; 256], [0; 256]);
     let (mut out, mut err) = (printed.as_mut_slice(), said.as_mut_slice());
     let status = replay(rt.alloc(), &mut script.as_bytes(), &mut out, &mut err);
-    let (out_left, err_left) = (out.len(), err.len());
-    let (printed, said) = (&printed[..256 - out_left], &said[..256 - err_left]);
+    let printed = str::from_utf8(&printed)?.trim_end_matches('\0');
+    let said = str::from_utf8(&said)?.trim_end_matches('\0');
     for (text, line, number) in [
         (
             "ticket 1\nvalue a\nticket 2\nvalue b\nticket 3\nvalue b\nkeys 1 2\nkeys 1 2\ncount 0 weight 0\n",
@@ -430,7 +430,7 @@ fn goes_on_where_memory_was_refused_once(rt: HostRuntime) -> Result<(), Fail> {
             3,
         ),
     ] {
-        if printed == text.as_bytes() && said == line.as_bytes() && status == number {
+        if (printed, said, status) == (text, line, number) {
             return Ok(());
         }
     }
