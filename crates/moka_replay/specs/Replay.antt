@@ -28,14 +28,14 @@ Says (Ok text) script = script_of text.items ≡ Ok script
 Says (Err error) script = ⊥
 
 -- memory may be refused to the calls in front of the first faulty line, and to the play of a right script
-abbrev pub MayWantMemory : List ℕ → Type 0
-MayWantMemory text = (asks_for_memory text ≡ true) ⊎ IsOk (script_of text)
+abbrev pub MayRunOutOfMemory : List ℕ → Type 0
+MayRunOutOfMemory text = (asks_for_memory text ≡ true) ⊎ IsOk (script_of text)
 
 -- why a replay stops: the input was not read, its first faulty line is named, or memory was refused
 abbrev pub Stops : Reading → Failure → Type 0
 Stops (Err error) failure = IsReadFailure error failure
 Stops (Ok text) (BadLine number) = script_of text.items ≡ Err number
-Stops (Ok text) OutOfMemory = MayWantMemory text.items
+Stops (Ok text) OutOfMemory = MayRunOutOfMemory text.items
 Stops (Ok text) failure = ⊥
 
 -- the script is what the input says, or the reading stops with reason

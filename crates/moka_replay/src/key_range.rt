@@ -3,7 +3,7 @@ use crate::word::Word;
 use moka_parts::closures::PredicateFn;
 
 /// Covers the keys from `low` to `high`.
-#[derive(Clone, Copy, Debug, PartialEq, Eq)]
+#[derive(Clone, Copy)]
 pub struct KeyRange {
     pub low: u32,
     pub high: u32,

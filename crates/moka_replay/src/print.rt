@@ -155,7 +155,7 @@ fn write_ticket<W: fmt::Write>(f: &mut fmt::Formatter<W>, ticket: Option<Ticket>
 }
 
 /// How many entries there are, and their weight.
-#[derive(Clone, Copy, Debug, PartialEq, Eq)]
+#[derive(Clone, Copy)]
 pub struct Total {
     pub count: u64,
     pub weight: u64,

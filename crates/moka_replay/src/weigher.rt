@@ -8,7 +8,7 @@ const MOST_DIGITS: usize = 10;
 
 /// A word of one to ten digits weighs the number that it says, if it fits in 32 bits; any other
 /// word weighs 1.
-#[derive(Clone, Copy, Debug)]
+#[derive(Clone, Copy)]
 pub struct NumberWeigher;
 
 impl Weigher<u32, Word> for NumberWeigher {

@@ -1,9 +1,8 @@
 use super::*;
-use crate::key_range::KeyRange;
 use crate::notices::Notices;
 use crate::word::Word;
 use moka_parts::calls::{DriveRefused, KvEntry, Ticket};
-use moka_parts::error::{CapacityError, InsertRefused, OutOfMemory, PredicateRefused};
+use moka_parts::error::{CapacityError, OutOfMemory};
 use moka_parts::notification::{Listener, RemovalCause};
 use moka_parts::policy::Instant;
 use std::fmt::Display;
@@ -108,18 +107,7 @@ fn prints_refusals(rt: HostRuntime) -> Result<(), Fail> {
         &CapacityError::ZeroCapacity,
         "A capacity cannot be changed from zero or to zero",
     )?;
-    let insert = InsertRefused {
-        error: InsertError::OutOfMemory,
-        key: 1,
-        value: Word::new(rt.alloc(), "a")?,
-    };
-    check(&rt, &insert, "Out of memory")?;
-    let predicate = PredicateRefused {
-        error: PredicateError::OutOfMemory,
-        predicate: KeyRange { low: 0, high: 9 },
-    };
-    check(&rt, &predicate, "Out of memory")?;
-    let drive = DriveRefused::<u32, Word, KeyRange> {
+    let drive = DriveRefused::<u8, u8, u8> {
         error: OutOfMemory,
         calls: Vec::new(rt.alloc()),
     };

@@ -9,7 +9,7 @@ use crate::weigher::NumberWeigher;
 use moka_parts::policy::EvictionPolicy;
 
 /// What a script sets before its first call; `None` where it has no such line.
-#[derive(Clone, Copy, Debug)]
+#[derive(Clone, Copy)]
 pub struct Settings {
     /// The first ticket.
     pub first: Option<FirstTicket>,
@@ -71,7 +71,7 @@ impl Settings {
 }
 
 /// A line that sets something.
-#[derive(Clone, Copy, Debug)]
+#[derive(Clone, Copy)]
 pub enum Setting {
     First(FirstTicket),
     Capacity(u64),
