@@ -7,7 +7,7 @@ use Rattle.moka_parts.specs.declared.policy.EvictionPolicy.TheVariants.{TinyLfu,
 use Rattle.moka_engine.specs.BaseCache.{IsLruWhereBounded}
 use Rattle.moka_replay.specs.declared.script.settings.Settings.{Settings}
 use Rattle.moka_replay.specs.declared.script.settings.Setting.{Setting}
-use Rattle.moka_replay.specs.declared.script.settings.Setting.TheVariants.{First, Capacity, Policy, Weigh}
+use Rattle.moka_replay.specs.declared.script.settings.Setting.TheVariants.{First, Capacity, Policy, Weigh, Listener}
 use Rattle.moka_replay.specs.declared.script.Line.TheVariants as line
 use Rattle.moka_replay.specs.Settings.{is_allowed, put_in, filled}
 use Rattle.moka_replay.specs.Calls.{CallText}
@@ -48,12 +48,18 @@ promises_policy true old TinyLfu capacity later (inr waits) none = inr waits
 promises_policy false old Lru capacity later p none = p
 promises_policy false old TinyLfu capacity later p none = p
 
+-- a listener, where none is set
+promises_unless : (with_lru b : Bool) (settings : Settings) (calls : List CallText) (later : Bool) → Promises with_lru settings.policy settings.capacity later → PromisesAll with_lru (option_map (λ settings. (settings, calls)) (if b then None else Some settings)) later
+promises_unless with_lru true settings calls later p = tt
+promises_unless with_lru false settings calls later p = p
+
 -- a setting that is allowed
 promises_put : (with_lru : Bool) (settings : Settings) (setting : Setting) (calls : List CallText) (later : Bool) → Promises with_lru settings.policy settings.capacity (unwrap_or (lru_in (Some (line.Setting setting))) later) → is_allowed with_lru setting ≡ true → PromisesAll with_lru (option_map (λ settings. (settings, calls)) (put_in settings setting)) later
 promises_put with_lru settings (First first) calls later p allowed = promises_filled with_lru settings.first first (λ place. record settings { first = place }) calls later (λ none. p)
 promises_put with_lru settings (Capacity capacity) calls later p allowed = promises_filled with_lru settings.capacity capacity (λ place. record settings { capacity = place }) calls later (λ none. promises_capacity with_lru settings.policy settings.capacity capacity later allowed p)
 promises_put with_lru settings (Policy policy) calls later p allowed = promises_filled with_lru settings.policy policy (λ place. record settings { policy = place }) calls later (λ none. promises_policy with_lru settings.policy policy settings.capacity later p none)
 promises_put with_lru settings (Weigh weigher) calls later p allowed = promises_filled with_lru settings.weigher weigher (λ place. record settings { weigher = place }) calls later (λ none. p)
+promises_put with_lru settings Listener calls later p allowed = promises_unless with_lru settings.listener (record settings { listener = true }) calls later p
 
 promises_if : (with_lru b c : Bool) (set : Option ScriptText) (later : Bool) → (c ≡ true → PromisesAll with_lru set later) → PromisesAll with_lru (if b && c then set else None) later
 promises_if with_lru true true set later p = p refl

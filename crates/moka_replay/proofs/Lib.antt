@@ -3,3 +3,4 @@ pub mod Printable
 pub mod Lines
 pub mod Served
 pub mod Bounded
+pub mod KeptNotices

@@ -3,18 +3,19 @@ use Rattle.std.proofs.Common.{◌≡◌, refl, ℕ, ◌+◌, Bool, true, false, 
 use Rattle.std.specs.List.{AllByRecursion, list_all}
 use Rattle.std.specs.Option.{option_and_then, option_map, option_map_or, option_or}
 use Rattle.std.specs.Str.{bytes_eq}
+use Rattle.moka_parts.specs.declared.calls.Call.TheVariants.{Remove, Keys, Report}
 use Rattle.moka_drive.specs.Served.{IsServed}
 use Rattle.moka_replay.specs.declared.script.settings.Settings.{Settings}
 use Rattle.moka_replay.specs.declared.script.settings.Setting.{Setting}
 use Rattle.moka_replay.specs.declared.script.Line.TheVariants as line
-use Rattle.moka_replay.specs.Lex.{number_of, is_printable, words_of}
+use Rattle.moka_replay.specs.Lex.{number_of, alone, is_printable, words_of}
 use Rattle.moka_replay.specs.Settings.{setting_of, put_in}
-use Rattle.moka_replay.specs.Calls.{CallText, insert_of, send_of, get_of, contains_of, key_of, remove_of, run_of, keys_of, report_of, call_of}
+use Rattle.moka_replay.specs.Calls.{CallText, insert_of, send_of, get_of, contains_of, key_of, remove_of, run_of, call_of}
 use Rattle.moka_replay.specs.Script.{LineText, ScriptText, asked_by_name, asked_by, asked_in, is_comment, has_lru, joined, with_line, lines_read, lines_of, no_text, script_of}
 
 -- ---- calls
 
--- the call, if there is one, is served
+-- the same of the call, if there is one
 abbrev Serves : Option CallText → Type 0
 Serves None = Unit {0}
 Serves (Some call) = IsServed call
@@ -59,7 +60,8 @@ serves_key (key ∷ more ∷ rest) = tt
 serves_remove : (arguments : List (List ℕ)) → Serves (remove_of arguments)
 serves_remove [] = tt
 serves_remove (key ∷ []) = serves_then (number_of 32 key) _ (λ k. tt)
-serves_remove (key ∷ more ∷ rest) = tt
+serves_remove (key ∷ now ∷ []) = serves_then (number_of 64 now) _ (λ n. serves_then (number_of 32 key) _ (λ k. tt))
+serves_remove (key ∷ now ∷ more ∷ rest) = tt
 
 serves_run : (arguments : List (List ℕ)) → Serves (run_of arguments)
 serves_run [] = tt
@@ -67,13 +69,9 @@ serves_run (now ∷ []) = tt
 serves_run (now ∷ batch ∷ []) = serves_then (number_of 64 now) _ (λ n. serves_then (number_of 32 batch) _ (λ b. tt))
 serves_run (now ∷ batch ∷ more ∷ rest) = tt
 
-serves_keys : (arguments : List (List ℕ)) → Serves (keys_of arguments)
-serves_keys [] = tt
-serves_keys (more ∷ rest) = tt
-
-serves_report : (arguments : List (List ℕ)) → Serves (report_of arguments)
-serves_report [] = tt
-serves_report (more ∷ rest) = tt
+serves_alone : (call : CallText) (arguments : List (List ℕ)) → IsServed call → Serves (alone call arguments)
+serves_alone call [] p = p
+serves_alone call (more ∷ rest) p = tt
 
 serves_call : (name : List ℕ) (arguments : List (List ℕ)) → Serves (call_of name arguments)
 serves_call name arguments =
@@ -84,8 +82,8 @@ serves_call name arguments =
     (serves_if (bytes_eq name (codes "key")) _ _ (serves_key arguments)
     (serves_if (bytes_eq name (codes "remove")) _ _ (serves_remove arguments)
     (serves_if (bytes_eq name (codes "run")) _ _ (serves_run arguments)
-    (serves_if (bytes_eq name (codes "keys")) _ _ (serves_keys arguments)
-    (serves_if (bytes_eq name (codes "report")) (report_of arguments) None (serves_report arguments) tt))))))))
+    (serves_if (bytes_eq name (codes "keys")) _ _ (serves_alone (Keys 0) arguments tt)
+    (serves_if (bytes_eq name (codes "report")) (alone Report arguments) None (serves_alone Report arguments tt) tt))))))))
 
 -- ---- lines
 

@@ -6,7 +6,7 @@ use Rattle.moka_parts.specs.declared.calls.Call.TheVariants.{Insert, Send, Get, 
 use Rattle.moka_replay.specs.declared.key_range.KeyRange.{KeyRange}
 use Rattle.moka_replay.specs.declared.script.calls.LineCall.{LineCall}
 use Rattle.moka_replay.specs.declared.script.calls.LineCall.TheVariants as line_call
-use Rattle.moka_replay.specs.Lex.{number_of, ◌>>=◌}
+use Rattle.moka_replay.specs.Lex.{number_of, alone, ◌>>=◌}
 
 -- a call whose value is its bytes
 abbrev pub CallText : Type 0
@@ -55,11 +55,15 @@ key_of (key ∷ []) = do
   Some (Key k k)
 key_of _ = None
 
--- `remove KEY`: nobody is told
+-- `remove KEY`, of which nobody is told, or `remove KEY NOW`, which the listener is told of at that moment
 abbrev pub remove_of : List (List ℕ) → Option CallText
 remove_of (key ∷ []) = do
   k ← number_of 32 key
   Some (Remove k k None)
+remove_of (key ∷ now ∷ []) = do
+  n ← number_of 64 now
+  k ← number_of 32 key
+  Some (Remove k k (Some (record { 0 = n })))
 remove_of _ = None
 
 -- `run NOW BATCH`: no time limit, four passes
@@ -70,17 +74,7 @@ run_of (now ∷ batch ∷ []) = do
   Some (Run (record { 0 = n }) None 4 b)
 run_of _ = None
 
--- `keys`: those of the one segment
-abbrev pub keys_of : List (List ℕ) → Option CallText
-keys_of [] = Some (Keys 0)
-keys_of _ = None
-
--- `report`
-abbrev pub report_of : List (List ℕ) → Option CallText
-report_of [] = Some Report
-report_of _ = None
-
--- the call of that name
+-- the call of that name; `keys` asks for those of the one segment
 abbrev pub call_of : List ℕ → List (List ℕ) → Option CallText
 call_of name arguments =
     if bytes_eq name (codes "insert") then insert_of arguments
@@ -90,6 +84,6 @@ call_of name arguments =
     else (if bytes_eq name (codes "key") then key_of arguments
     else (if bytes_eq name (codes "remove") then remove_of arguments
     else (if bytes_eq name (codes "run") then run_of arguments
-    else (if bytes_eq name (codes "keys") then keys_of arguments
-    else (if bytes_eq name (codes "report") then report_of arguments
+    else (if bytes_eq name (codes "keys") then alone (Keys 0) arguments
+    else (if bytes_eq name (codes "report") then alone Report arguments
     else None))))))))

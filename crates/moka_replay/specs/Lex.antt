@@ -1,5 +1,5 @@
 -- The words and the numbers of a line.
-use Rattle.std.specs.Prelude.{ℕ, ◌^◌, Bool, ◌&&◌, ◌==◌, nat_le, nat_lt, not, List, length, filter, map, Option, Some, None, option_and_then, unwrap_or, if◌then◌else◌}
+use Rattle.std.specs.Prelude.{ℕ, ◌^◌, Bool, ◌&&◌, ◌==◌, nat_le, nat_lt, not, List, [], length, filter, map, Option, Some, None, option_and_then, unwrap_or, if◌then◌else◌}
 use Rattle.std.specs.Borrow.{Bor}
 use Rattle.std.specs.List.{slice_split, list_all}
 use Rattle.std.specs.Char.{is_ascii_digit}
@@ -33,3 +33,8 @@ o >>= f = option_and_then f o
 -- one to ten digits weigh the number that they say, if it is below 2^32, and any other word weighs 1
 abbrev pub weight_of : List ℕ → ℕ
 weight_of word = if nat_lt 10 (length word) then 1 else unwrap_or (number_of 32 word) 1
+
+-- what a line asks for whose first word stands alone
+abbrev pub alone : {A : Type 0} → A → List (List ℕ) → Option A
+alone asked [] = Some asked
+alone asked _ = None

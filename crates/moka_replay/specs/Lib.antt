@@ -2,6 +2,7 @@ pub mod Lex
 pub mod Settings
 pub mod Calls
 pub mod Script
+pub mod Notices
 pub mod Text
 pub mod Failure
 pub mod Arguments

@@ -5,16 +5,16 @@ use Rattle.moka_parts.specs.declared.calls.Reply.{Reply}
 use Rattle.moka_parts.specs.declared.policy.EvictionPolicy.{EvictionPolicy}
 use Rattle.moka_parts.specs.declared.policy.EvictionPolicy.TheVariants.{TinyLfu}
 use Rattle.moka_parts.specs.declared.policy.NoExpiry.{NoExpiry}
-use Rattle.moka_parts.specs.declared.notification.NoListener.{NoListener}
 use Rattle.moka_parts.specs.State.{State, Meaning, new_state}
 use Rattle.moka_parts.specs.Housekeeping.{new_housekeeping, without_automatic}
-use Rattle.moka_parts.specs.Runs.{Step, calls_of, replies_of, last_state, AreSteps, PromisedRun}
+use Rattle.moka_parts.specs.Runs.{Step, calls_of, replies_of, notices_of, last_state, AreSteps, PromisedRun}
 use Rattle.moka_replay.specs.declared.key_range.KeyRange.{KeyRange}
 use Rattle.moka_replay.specs.declared.print.Total.{Total}
 use Rattle.moka_replay.specs.declared.script.settings.Settings.{Settings}
 use Rattle.moka_replay.specs.declared.sources.CountedIds.{CountedIds}
 use Rattle.moka_replay.specs.declared.sources.StoppedClock.{StoppedClock}
 use Rattle.moka_replay.specs.declared.weigher.NumberWeigher.{NumberWeigher}
+use Rattle.moka_replay.specs.Notices.{ScriptNotice, Kept, Keeps}
 use Rattle.moka_replay.specs.Script.{ScriptText}
 use Rattle.moka_replay.specs.Lex.{weight_of}
 
@@ -26,10 +26,10 @@ abbrev pub ScriptStep : Type 0
 ScriptStep = Step ℕ (List ℕ) NoExpiry KeyRange NumberWeigher
 
 -- what the parts of a script mean
-abbrev pub script_meaning : Meaning ℕ (List ℕ) NoExpiry NoListener KeyRange NumberWeigher StoppedClock CountedIds
+abbrev pub script_meaning : Meaning ℕ (List ℕ) NoExpiry Kept KeyRange NumberWeigher StoppedClock CountedIds
 script_meaning = record {
   eq = nat_eq;
-  tells = λ before _ _ _ after. after ≡ before;
+  tells = Keeps;
   says = λ range key _ answer. answer ≡ (nat_le range.low key && nat_le key range.high);
   weighs = λ _ _ value weight. weight ≡ weight_of value;
   observes = λ before moment after. (moment.0 ≡ 0) × (after ≡ before);
@@ -51,7 +51,7 @@ first_state settings = record (new_state (record {
   time_to_idle = None;
   expiry = None;
   weigher = settings.weigher;
-  listening = false;
+  listening = settings.listener;
   invalidator = false;
   run_limit = 100000000;
   run_repeats = 4;
@@ -62,6 +62,6 @@ first_state settings = record (new_state (record {
 abbrev pub total_of : ScriptState → Total
 total_of state = record { count = state.count; weight = state.weight }
 
--- the calls, made one after the other on a new reference cache, give the replies and leave that total
-abbrev pub AreReplies : ScriptText → List (Reply ℕ (List ℕ) KeyRange) → Total → Type 0
-AreReplies script replies total = (steps : List ScriptStep) × (calls_of steps ≡ script.1) × (replies_of steps ≡ replies) × AreSteps script_meaning (PromisedRun script_meaning.says script_meaning.read) (first_state script.0) steps × (total ≡ total_of (last_state (first_state script.0) steps))
+-- the calls, made one after the other on a new reference cache, give the replies, tell the notices and leave that total
+abbrev pub AreReplies : ScriptText → List (Reply ℕ (List ℕ) KeyRange) → List ScriptNotice → Total → Type 0
+AreReplies script replies notices total = (steps : List ScriptStep) × (calls_of steps ≡ script.1) × (replies_of steps ≡ replies) × (notices_of steps ≡ notices) × AreSteps script_meaning (PromisedRun script_meaning.says script_meaning.read) (first_state script.0) steps × (total ≡ total_of (last_state (first_state script.0) steps))

@@ -14,7 +14,8 @@ use Rattle.moka_replay.specs.declared.play.Played.{Played}
 use Rattle.moka_replay.specs.declared.script.Script.{Script}
 use Rattle.moka_replay.specs.Failure.{failure_text, status_of, IsWritten, IsReadFailure}
 use Rattle.moka_replay.specs.Script.{ScriptText, script_of, asks_for_memory, text_of}
-use Rattle.moka_replay.specs.Played.{AreReplies}
+use Rattle.moka_replay.specs.Notices.{told_of}
+use Rattle.moka_replay.specs.Played.{AreReplies, total_of}
 use Rattle.moka_replay.specs.Text.{AreInOrder, replay_text, is_refused_memory}
 
 -- what a reading to the end answers
@@ -27,14 +28,14 @@ Says (Ok text) script = script_of text.items ≡ Ok script
 Says (Err error) script = ⊥
 
 -- memory may be refused to the calls in front of the first faulty line, and to the play of a right script
-abbrev pub MayWantMemory : List ℕ → Type 0
-MayWantMemory text = (asks_for_memory text ≡ true) ⊎ IsOk (script_of text)
+abbrev pub MayRunOutOfMemory : List ℕ → Type 0
+MayRunOutOfMemory text = (asks_for_memory text ≡ true) ⊎ IsOk (script_of text)
 
 -- why a replay stops: the input was not read, its first faulty line is named, or memory was refused
 abbrev pub Stops : Reading → Failure → Type 0
 Stops (Err error) failure = IsReadFailure error failure
 Stops (Ok text) (BadLine number) = script_of text.items ≡ Err number
-Stops (Ok text) OutOfMemory = MayWantMemory text.items
+Stops (Ok text) OutOfMemory = MayRunOutOfMemory text.items
 Stops (Ok text) failure = ⊥
 
 -- the script is what the input says, or the reading stops with reason
@@ -42,9 +43,13 @@ abbrev pub IsScriptRead : Reading → Result Script Failure → Type 0
 IsScriptRead read (Ok script) = Says read (text_of script)
 IsScriptRead read (Err failure) = Stops read failure
 
--- these are the replies to the script's calls, keys in rising order, and the total
+-- these are the replies to the script's calls, keys in rising order, and the cache that they left
 abbrev pub IsPlayedScript : ScriptText → Played → Type 0
-IsPlayedScript script played = (replies : List (Reply ℕ (List ℕ) KeyRange)) × AreReplies script replies played.total × AreInOrder replies played.replies.items
+IsPlayedScript script played = (replies : List (Reply ℕ (List ℕ) KeyRange)) × AreReplies script replies (told_of played.cache.listener) (total_of played.cache.state) × AreInOrder replies played.replies.items
+
+-- what is printed of it
+abbrev pub played_text : Played → List ℕ
+played_text played = replay_text played.replies.items (told_of played.cache.listener) (total_of played.cache.state)
 
 -- the input's script was played, or the replay stops with reason
 abbrev pub IsPlayed : Reading → Result Played Failure → Type 0
@@ -58,7 +63,7 @@ status_of_replies replies = if list_any is_refused_memory replies then 3 else 0
 -- the input's script was played and all of it printed, nothing said; or the replay stopped with reason, said it and printed nothing
 abbrev pub Ends : {W E : Type 0} → (W → List ℕ → Bool → W → Type 0) → (E → List ℕ → Bool → E → Type 0) → Reading → ℕ → W → E → W → E → Type 0
 Ends prints says read status out err out_after err_after =
-    ((played : Played) × IsPlayed read (Ok played) × IsWritten prints (replay_text played.replies.items played.total) (status_of_replies played.replies.items) status out out_after × (err_after ≡ err))
+    ((played : Played) × IsPlayed read (Ok played) × IsWritten prints (played_text played) (status_of_replies played.replies.items) status out out_after × (err_after ≡ err))
     ⊎ ((failure : Failure) × Stops read failure × IsWritten says (failure_text failure) (status_of failure) status err err_after × (out_after ≡ out))
 
 -- the replay ends as the input's answer has it

@@ -1,12 +1,12 @@
 -- What the settings of a script say.
-use Rattle.std.specs.Prelude.{ℕ, ◌==◌, Bool, true, ◌||◌, List, [], ◌∷◌, Option, Some, None, option_map, codes, if◌then◌else◌}
+use Rattle.std.specs.Prelude.{ℕ, ◌==◌, Bool, true, false, ◌||◌, List, [], ◌∷◌, Option, Some, None, option_map, codes, if◌then◌else◌}
 use Rattle.std.specs.Str.{bytes_eq}
 use Rattle.moka_parts.specs.declared.policy.EvictionPolicy.{EvictionPolicy}
 use Rattle.moka_parts.specs.declared.policy.EvictionPolicy.TheVariants.{Lru}
 use Rattle.moka_replay.specs.declared.script.settings.Settings.{Settings}
 use Rattle.moka_replay.specs.declared.script.settings.Setting.{Setting}
-use Rattle.moka_replay.specs.declared.script.settings.Setting.TheVariants.{First, Capacity, Policy, Weigh}
-use Rattle.moka_replay.specs.Lex.{number_of, ◌>>=◌}
+use Rattle.moka_replay.specs.declared.script.settings.Setting.TheVariants.{First, Capacity, Policy, Weigh, Listener}
+use Rattle.moka_replay.specs.Lex.{number_of, alone, ◌>>=◌}
 
 -- `first N`, where N is not 0
 abbrev pub first_of : List (List ℕ) → Option Setting
@@ -33,23 +33,19 @@ policy_of (name ∷ []) = do
   Some (Policy policy)
 policy_of _ = None
 
--- `weigh`
-abbrev pub weigh_of : List (List ℕ) → Option Setting
-weigh_of [] = Some (Weigh (record {}))
-weigh_of _ = None
-
 -- the setting of that name
 abbrev pub setting_of : List ℕ → List (List ℕ) → Option Setting
 setting_of name arguments =
     if bytes_eq name (codes "first") then first_of arguments
     else (if bytes_eq name (codes "capacity") then capacity_of arguments
     else (if bytes_eq name (codes "policy") then policy_of arguments
-    else (if bytes_eq name (codes "weigh") then weigh_of arguments
-    else None)))
+    else (if bytes_eq name (codes "weigh") then alone (Weigh (record {})) arguments
+    else (if bytes_eq name (codes "listener") then alone Listener arguments
+    else None))))
 
 -- nothing is set
 abbrev pub no_settings : Settings
-no_settings = record { first = None; capacity = None; policy = None; weigher = None }
+no_settings = record { first = None; capacity = None; policy = None; weigher = None; listener = false }
 
 -- whether a setting may stand in a script: a capacity other than 0 needs `policy lru`
 abbrev pub is_allowed : Bool → Setting → Bool
@@ -67,3 +63,4 @@ put_in settings (First first) = option_map (λ place. record settings { first = 
 put_in settings (Capacity capacity) = option_map (λ place. record settings { capacity = place }) (filled settings.capacity capacity)
 put_in settings (Policy policy) = option_map (λ place. record settings { policy = place }) (filled settings.policy policy)
 put_in settings (Weigh weigher) = option_map (λ place. record settings { weigher = place }) (filled settings.weigher weigher)
+put_in settings Listener = if settings.listener then None else Some (record settings { listener = true })

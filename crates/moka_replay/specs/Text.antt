@@ -16,6 +16,7 @@ use Rattle.moka_parts.specs.declared.error.SendError.TheVariants.{UnknownTicket,
 use Rattle.moka_parts.specs.declared.error.PredicateError.{PredicateError}
 use Rattle.moka_parts.specs.declared.error.PredicateError.TheVariants as predicate_error
 use Rattle.uuid.specs.Text.{lower, hyphenated_text}
+use Rattle.moka_replay.specs.Notices.{ScriptNotice, notice_lines}
 use Rattle.moka_replay.specs.declared.print.Total.{Total}
 use Rattle.moka_replay.specs.declared.key_range.KeyRange.{KeyRange}
 
@@ -111,9 +112,9 @@ reply_text (SetCapacity (Err _)) = codes "refused zero"
 abbrev pub reply_lines : List (Reply ℕ (List ℕ) KeyRange) → List ℕ
 reply_lines replies = flat_map (λ reply. reply_text reply ++ codes "\n") replies
 
--- a line for each reply, and then the total, without the last line feed
-abbrev pub replay_text : List (Reply ℕ (List ℕ) KeyRange) → Total → List ℕ
-replay_text replies total = reply_lines replies ++ total_text total
+-- a line for each reply, one for each notice, and then the total, without the last line feed
+abbrev pub replay_text : List (Reply ℕ (List ℕ) KeyRange) → List ScriptNotice → Total → List ℕ
+replay_text replies notices total = reply_lines replies ++ (notice_lines notices ++ total_text total)
 
 -- a reply, and the same with its keys, if it has any, in rising order
 abbrev pub IsInOrder : Reply ℕ (List ℕ) KeyRange → Reply ℕ (List ℕ) KeyRange → Type 0

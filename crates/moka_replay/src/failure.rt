@@ -19,7 +19,7 @@ pub const FAULTY: u8 = 2;
 pub const REFUSED: u8 = 3;
 
 /// Why a replay stopped before it printed anything.
-#[derive(Clone, Copy, Debug, PartialEq, Eq)]
+#[derive(Clone, Copy)]
 pub enum Failure {
     /// There are more arguments than one.
     Usage,

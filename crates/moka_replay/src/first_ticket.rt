@@ -2,7 +2,7 @@
 use std::marker::Model;
 
 /// The first ticket of a cache, at least 1. Seen as its number.
-#[derive(Clone, Copy, Debug)]
+#[derive(Clone, Copy)]
 pub struct FirstTicket {
     number: u64,
 }

@@ -2,7 +2,7 @@
 ghost use Rattle.std.specs.Prelude.{◌≡◌, ◌≤◌, take};
 ghost use Rattle.std.specs.List.{list_all};
 ghost use Rattle.std.specs.Char.{is_ascii_digit};
-ghost use Rattle.moka_replay.specs.Lex.{texts, words_of, number_of, is_numeral, is_printable};
+ghost use Rattle.moka_replay.specs.Lex.{texts, alone, words_of, number_of, is_numeral, is_printable};
 
 /// A number has at most twenty digits.
 const MOST_DIGITS: usize = 20;
@@ -66,4 +66,15 @@ pub fn first_words(text: &str) -> ([&str; MOST_WORDS], usize)
         count += 1;
     }
     (words, count)
+}
+
+/// What a line asks for whose first word stands alone.
+pub fn alone<T: Drop>(asked: T, arguments: &[&str]) -> Option<T>
+    ensures { result ≡ alone asked (texts arguments.now) }
+{
+    if arguments.is_empty() {
+        Some(asked)
+    } else {
+        None
+    }
 }

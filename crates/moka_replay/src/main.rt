@@ -8,6 +8,7 @@ mod failure;
 mod first_ticket;
 mod key_range;
 mod lex;
+mod notices;
 mod play;
 mod print;
 mod replay;

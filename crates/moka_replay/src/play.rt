@@ -1,14 +1,15 @@
 //! Makes the calls of a script on a cache.
-ghost use Rattle.std.specs.Prelude.{◌≡◌, IfOk};
+ghost use Rattle.std.specs.Prelude.{◌≡◌, is_some, IfOk};
 ghost use Rattle.std.specs.List.{AllByRecursion};
 ghost use Rattle.moka_drive.specs.Served.{IsServed};
+ghost use Rattle.moka_replay.specs.Notices.{told_of, listener_for};
 ghost use Rattle.moka_replay.specs.Script.{text_of};
-ghost use Rattle.moka_replay.specs.Played.{AreReplies, chosen_policy, first_state};
+ghost use Rattle.moka_replay.specs.Played.{AreReplies, chosen_policy, first_state, total_of};
 ghost use Rattle.moka_engine.specs.BaseCache.{IsLruWhereBounded};
 
 use crate::key_range::KeyRange;
-use crate::print::Total;
-use crate::script::{Script, ScriptReply, Settings};
+use crate::notices::{Notices, room_for};
+use crate::script::{Script, ScriptCall, ScriptReply, Settings};
 use crate::sources::{CountedIds, StoppedClock};
 use crate::weigher::NumberWeigher;
 use crate::word::Word;
@@ -16,7 +17,6 @@ use moka_drive::drive;
 use moka_engine::base_cache::BaseCache;
 use moka_parts::error::OutOfMemory;
 use moka_parts::housekeeper::HousekeeperConfig;
-use moka_parts::notification::NoListener;
 use moka_parts::policy::{EvictionPolicy, ExpirationPolicy, Instant, NoExpiry};
 use std::alloc::Global;
 use std::hash::{BuildHasherDefault, FoldHasher};
@@ -25,34 +25,35 @@ use std::hash::{BuildHasherDefault, FoldHasher};
 const FIRST_TICKET: u64 = 1;
 
 /// A cache that a script's calls are made on.
-type ScriptCache = BaseCache<
+pub type ScriptCache = BaseCache<
     u32,
     Word,
     BuildHasherDefault<FoldHasher>,
     NoExpiry,
-    NoListener,
+    Notices,
     KeyRange,
     NumberWeigher,
 >;
 
-/// What came of the calls of a script.
+/// What came of the calls of a script; the cache has the notices and the report of the last run.
 #[derive(Drop)]
 pub struct Played {
     pub replies: Vec<ScriptReply>,
-    pub total: Total,
+    pub cache: ScriptCache,
 }
 
 /// Makes the calls of a script, one after the other, on a new cache.
 ///
 /// # Errors
-/// `OutOfMemory` where memory for the cache or for the replies is refused.
+/// `OutOfMemory` where memory for the cache, for its listener or for the replies is refused.
 pub fn play(alloc: Global, script: Script) -> Result<Played, OutOfMemory>
     requires served { AllByRecursion IsServed script.calls.items }
     requires bounded { IsLruWhereBounded script.settings.capacity (chosen_policy script.settings) }
-    ensures { IfOk result (λ played. AreReplies (text_of script) played.replies.items played.total) }
+    ensures { IfOk result (λ played. AreReplies (text_of script) played.replies.items (told_of played.cache.listener) (total_of played.cache.state)) }
 {
     let Script { settings, calls } = script;
-    let mut cache = new_cache(alloc, settings)?;
+    let listener = listener_for(alloc, settings.listener, &calls)?;
+    let mut cache = new_cache(alloc, settings, listener)?;
     match drive(
         alloc,
         &mut cache,
@@ -60,21 +61,36 @@ pub fn play(alloc: Global, script: Script) -> Result<Played, OutOfMemory>
         &mut CountedIds::new(),
         &mut StoppedClock,
     ) {
-        Ok(replies) => {
-            let total = Total {
-                count: cache.entry_count(),
-                weight: cache.weighted_size(),
-            };
-            Ok(Played { replies, total })
-        }
+        Ok(replies) => Ok(Played { replies, cache }),
         Err(refused) => Err(refused.error),
     }
 }
 
+/// The listener of a script, if it asks for one, with room for all that its calls may tell.
+fn listener_for(
+    alloc: Global,
+    is_asked: bool,
+    calls: &[ScriptCall],
+) -> Result<Option<Notices>, OutOfMemory>
+    ensures { IfOk result (λ listener. listener ≡ listener_for is_asked calls.now) }
+{
+    if is_asked {
+        Ok(Some(Notices::with_room(alloc, room_for(calls))?))
+    } else {
+        Ok(None)
+    }
+}
+
 /// The cache that a script begins with, made at 0.
-fn new_cache(alloc: Global, settings: Settings) -> Result<ScriptCache, OutOfMemory>
-    requires { IsLruWhereBounded settings.capacity (chosen_policy settings) }
-    ensures { IfOk result (λ cache. cache.state ≡ first_state settings) }
+fn new_cache(
+    alloc: Global,
+    settings: Settings,
+    listener: Option<Notices>,
+) -> Result<ScriptCache, OutOfMemory>
+    requires bounded { IsLruWhereBounded settings.capacity (chosen_policy settings) }
+    requires listens { is_some listener ≡ settings.listener }
+    ensures state { IfOk result (λ cache. cache.state ≡ first_state settings) }
+    ensures listener { IfOk result (λ cache. cache.listener ≡ listener) }
 {
     let first = match settings.first {
         Some(ticket) => ticket.number(),
@@ -88,7 +104,7 @@ fn new_cache(alloc: Global, settings: Settings) -> Result<ScriptCache, OutOfMemo
         BuildHasherDefault::default(),
         settings.weigher,
         settings.policy.unwrap_or(EvictionPolicy::tiny_lfu()),
-        None,
+        listener,
         ExpirationPolicy::default(),
         HousekeeperConfig::default(),
         false,
@@ -96,6 +112,3 @@ fn new_cache(alloc: Global, settings: Settings) -> Result<ScriptCache, OutOfMemo
         first,
     )
 }
-
-#[cfg(test)]
-mod tests;

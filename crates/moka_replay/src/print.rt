@@ -1,8 +1,10 @@
 //! What a replay prints.
 ghost use Rattle.std.specs.Prelude.{◌≡◌};
 ghost use Rattle.moka_replay.specs.Text.{insert_error_text, send_error_text, predicate_error_text, is_refused_memory, value_text, key_text, keys_text, removal_text, report_text, pending_text, ticket_text, IsInOrder, AreInOrder};
+ghost use Rattle.moka_replay.specs.Notices.{notice_lines};
 ghost use Rattle.std.specs.Fmt.{WritesOnOk};
 
+use crate::notices::{Notice, NoticeText};
 use crate::script::ScriptReply;
 use crate::word::Word;
 use moka_parts::calls::{KvEntry, Reply, Ticket};
@@ -153,7 +155,7 @@ fn write_ticket<W: fmt::Write>(f: &mut fmt::Formatter<W>, ticket: Option<Ticket>
 }
 
 /// How many entries there are, and their weight.
-#[derive(Clone, Copy, Debug, PartialEq, Eq)]
+#[derive(Clone, Copy)]
 pub struct Total {
     pub count: u64,
     pub weight: u64,
@@ -170,10 +172,11 @@ impl fmt::Display for Total {
     }
 }
 
-/// All that a replay prints, without the last line feed: a line for each reply, and then the total.
+/// All that a replay prints, without the last line feed: a line for each reply, one for each notice, and then the total.
 #[derive(Clone, Copy)]
 pub struct ReplayText<'a> {
     pub replies: &'a [ScriptReply],
+    pub notices: &'a [Notice],
     pub total: Total,
 }
 
@@ -181,14 +184,25 @@ impl fmt::Display for ReplayText<'_> {
     ghost use Rattle.std.specs.Prelude.{Some};
     ghost use Rattle.moka_replay.specs.Text.{replay_text};
 
-    ghost output = { λ text. Some (replay_text text.replies.now text.total) };
+    ghost output = { λ text. Some (replay_text text.replies.now text.notices.now text.total) };
 
     fn fmt<W: fmt::Write>(&self, f: &mut fmt::Formatter<W>) -> fmt::Result {
         for reply in self.replies {
             writeln!(f, "{}", ReplyText(reply))?;
         }
+        write_notices(f, self.notices)?;
         write!(f, "{}", self.total)
     }
+}
+
+/// Writes a line for each notice.
+fn write_notices<W: fmt::Write>(f: &mut fmt::Formatter<W>, notices: &[Notice]) -> fmt::Result
+    ensures { WritesOnOk W.write_str_gives f.old result (notice_lines notices.now) f.new }
+{
+    for notice in notices {
+        writeln!(f, "{}", NoticeText(notice))?;
+    }
+    Ok(())
 }
 
 /// The keys in their order, one space before each.
@@ -229,8 +243,16 @@ pub fn is_refused_memory(reply: &ScriptReply) -> bool
     }
 }
 
+/// The replies, with the keys of each, if it has any, in rising order.
+pub fn in_order(mut replies: Vec<ScriptReply>) -> Vec<ScriptReply>
+    ensures { AreInOrder replies.items result.items }
+{
+    sort_keys(&mut replies);
+    replies
+}
+
 /// Puts the keys of each reply, if it has any, in rising order.
-pub fn sort_keys(replies: &mut [ScriptReply])
+fn sort_keys(replies: &mut [ScriptReply])
     ensures { AreInOrder replies.old replies.new }
 {
     for reply in replies.iter_mut() {

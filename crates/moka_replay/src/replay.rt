@@ -1,16 +1,17 @@
 //! Reads a script, makes its calls on a cache, and prints what comes of it.
-ghost use Rattle.std.specs.Prelude.{◌≡◌, IfOk};
+ghost use Rattle.std.specs.Prelude.{◌≡◌, false, option_copied, IfOk};
 ghost use Rattle.std.specs.List.{AllByRecursion};
 ghost use Rattle.moka_drive.specs.Served.{IsServed};
 ghost use Rattle.moka_engine.specs.BaseCache.{IsLruWhereBounded};
 ghost use Rattle.moka_replay.specs.Failure.{IsWritten};
+ghost use Rattle.moka_replay.specs.Notices.{told_of};
 ghost use Rattle.moka_replay.specs.Played.{chosen_policy};
-ghost use Rattle.moka_replay.specs.Text.{replay_text};
-ghost use Rattle.moka_replay.specs.Replay.{Reading, Answers, Ends, IsReplayed, IsPlayed, IsScriptRead, status_of_replies};
+ghost use Rattle.moka_replay.specs.Replay.{Reading, Answers, Ends, IsReplayed, IsPlayed, IsScriptRead, played_text, status_of_replies};
 
 use crate::failure::{Failure, REFUSED, REPLAYED, tell, write_with_status};
+use crate::notices::{Notice, Notices};
 use crate::play::{Played, play};
-use crate::print::{ReplayText, is_refused_memory, sort_keys};
+use crate::print::{ReplayText, Total, in_order, is_refused_memory};
 use crate::script::{Script, ScriptReply, parse};
 use crate::streams::{Sink, Source};
 use std::alloc::Global;
@@ -55,20 +56,35 @@ fn play_script<R: Source>(alloc: Global, input: &mut R) -> Result<Played, Failur
     ensures { (read : Reading) × R.gives input.old read input.new × IsPlayed read result }
 {
     let script = read_script(alloc, input)?;
-    let mut played = play(alloc, script)?;
-    sort_keys(&mut played.replies);
-    Ok(played)
+    let Played { replies, cache } = play(alloc, script)?;
+    let replies = in_order(replies);
+    Ok(Played { replies, cache })
 }
 
 /// Prints what came of the calls, and answers the status.
 fn print<W: Sink>(out: &mut W, played: &Played) -> u8
-    ensures { IsWritten W.takes (replay_text played.now.replies.items played.now.total) (status_of_replies played.now.replies.items) result out.old out.new }
+    ensures { IsWritten W.takes (played_text played.now) (status_of_replies played.now.replies.items) result out.old out.new }
 {
+    let cache = &played.cache;
     let text = ReplayText {
         replies: &played.replies,
-        total: played.total,
+        notices: told(cache.listener()),
+        total: Total {
+            count: cache.entry_count(),
+            weight: cache.weighted_size(),
+        },
     };
     write_with_status(out, text, status_of(&played.replies))
+}
+
+/// What a listener was told, if one is set.
+fn told(listener: Option<&Notices>) -> &[Notice]
+    ensures { result.now ≡ told_of (option_copied listener.entry) }
+{
+    match listener {
+        Some(notices) => notices.as_slice(),
+        None => &[],
+    }
 }
 
 /// The status of a replay with these replies.

@@ -1,11 +1,12 @@
 //! Scripts: settings, and then calls on the cache, one a line.
 ghost use Rattle.std.specs.Prelude.{◌≡◌, ◌<◌, ◌^◌, length, option_map};
-ghost use Rattle.moka_replay.specs.Lex.{texts};
+ghost use Rattle.moka_replay.specs.Lex.{texts, words_of};
 ghost use Rattle.moka_replay.specs.Script.{line_text, asked_by, asked_in, lru_in, has_lru, lines_of, IsParseOf};
 
 use crate::failure::Failure;
 use crate::lex::{first_words, is_printable};
 use calls::{LineCall, parse_call};
+use moka_parts::calls::Call;
 use moka_parts::policy::EvictionPolicy;
 use settings::{Setting, parse_setting};
 use std::alloc::Global;
@@ -87,6 +88,14 @@ fn parse_words<'a>(words: &[&'a str]) -> Option<Line<LineCall<'a>>>
     Some(Line::Call(parse_call(name, arguments)?))
 }
 
+/// What a text asks for.
+fn parse_text(text: &str) -> Option<Line<LineCall<'_>>>
+    ensures { option_map line_text result ≡ asked_by (words_of text.now) }
+{
+    let (words, count) = first_words(text);
+    parse_words(&words[..count])
+}
+
 /// What a line asks for.
 fn parse_line(line: &[u8]) -> Option<Line<LineCall<'_>>>
     ensures { option_map line_text result ≡ asked_in line.now }
@@ -97,8 +106,7 @@ fn parse_line(line: &[u8]) -> Option<Line<LineCall<'_>>>
     let Ok(text) = str::from_utf8(line) else {
         return None;
     };
-    let (words, count) = first_words(text);
-    parse_words(&words[..count])
+    parse_text(text)
 }
 
 /// Whether a line tells that `policy lru` stands among the settings: it does itself, or a call ends them. Any other line

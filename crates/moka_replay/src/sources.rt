@@ -5,7 +5,7 @@ use moka_parts::policy::Instant;
 use uuid::Uuid;
 
 /// A clock that stands at 0.
-#[derive(Clone, Copy, Debug)]
+#[derive(Clone, Copy)]
 pub struct StoppedClock;
 
 impl Clock for StoppedClock {
@@ -19,7 +19,7 @@ impl Clock for StoppedClock {
 }
 
 /// Counts identifiers up from 1; the greatest is given again and again.
-#[derive(Clone, Copy, Debug)]
+#[derive(Clone, Copy)]
 pub struct CountedIds {
     given: u64,
 }

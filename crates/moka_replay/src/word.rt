@@ -58,9 +58,3 @@ impl fmt::Display for Word {
         f.write_str(self.as_str())
     }
 }
-
-impl fmt::Debug for Word {
-    fn fmt<W: fmt::Write>(&self, f: &mut fmt::Formatter<W>) -> fmt::Result {
-        write!(f, "{:?}", self.as_str())
-    }
-}

@@ -1,8 +1,9 @@
 use super::*;
-use crate::key_range::KeyRange;
+use crate::notices::Notices;
 use crate::word::Word;
 use moka_parts::calls::{DriveRefused, KvEntry, Ticket};
-use moka_parts::error::{CapacityError, InsertRefused, OutOfMemory, PredicateRefused};
+use moka_parts::error::{CapacityError, OutOfMemory};
+use moka_parts::notification::{Listener, RemovalCause};
 use moka_parts::policy::Instant;
 use std::fmt::Display;
 use std::process::Abort;
@@ -63,6 +64,32 @@ fn prints_replies(rt: HostRuntime) -> Result<(), Fail> {
     Ok(())
 }
 
+/// A listener with room for two notices keeps the first two, and they are printed behind the replies.
+#[test]
+fn prints_notices(rt: HostRuntime) -> Result<(), Fail> {
+    let mut notices = Notices::with_room(rt.alloc(), 2).ok().ok_or("memory")?;
+    for (key, value, cause) in [
+        (0, "a", RemovalCause::Replaced),
+        (1, "c", RemovalCause::Size),
+        (2, "d", RemovalCause::Expired),
+    ] {
+        notices.notify(key, Word::new(rt.alloc(), value)?, cause);
+    }
+    let text = ReplayText {
+        replies: &[Reply::Run(false)],
+        notices: notices.as_slice(),
+        total: Total {
+            count: 4,
+            weight: 5,
+        },
+    };
+    check(
+        &rt,
+        &text,
+        "done\nnotice 0 a Replaced\nnotice 1 c Size\ncount 4 weight 5",
+    )
+}
+
 /// The errors of the cache's calls, in its own words.
 #[test]
 fn prints_refusals(rt: HostRuntime) -> Result<(), Fail> {
@@ -80,18 +107,7 @@ fn prints_refusals(rt: HostRuntime) -> Result<(), Fail> {
         &CapacityError::ZeroCapacity,
         "A capacity cannot be changed from zero or to zero",
     )?;
-    let insert = InsertRefused {
-        error: InsertError::OutOfMemory,
-        key: 1,
-        value: Word::new(rt.alloc(), "a")?,
-    };
-    check(&rt, &insert, "Out of memory")?;
-    let predicate = PredicateRefused {
-        error: PredicateError::OutOfMemory,
-        predicate: KeyRange { low: 0, high: 9 },
-    };
-    check(&rt, &predicate, "Out of memory")?;
-    let drive = DriveRefused::<u32, Word, KeyRange> {
+    let drive = DriveRefused::<u8, u8, u8> {
         error: OutOfMemory,
         calls: Vec::new(rt.alloc()),
     };

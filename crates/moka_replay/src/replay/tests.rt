@@ -168,6 +168,15 @@ fn replays_scripts(rt: HostRuntime) -> Result<(), Fail> {
             done\ncount 1 weight 1 predicates 0\ncount 1 weight 1\n",
         ),
         (
+            "weigh\ninsert 1 0 0\ninsert 2 0000000007 0\ninsert 3 00000000007 0\ninsert 4 +7 0\ninsert 5 4294967296 0\n\
+            send 1\nrun 0 10\nreport\nsend 2\nrun 0 10\nreport\nsend 3\nrun 0 10\nreport\n\
+            send 4\nrun 0 10\nreport\nsend 5\nrun 0 10\nreport\n",
+            "ticket 1\nticket 2\nticket 3\nticket 4\nticket 5\n\
+            sent\ndone\ncount 1 weight 0 predicates 0\nsent\ndone\ncount 2 weight 7 predicates 0\n\
+            sent\ndone\ncount 3 weight 8 predicates 0\nsent\ndone\ncount 4 weight 9 predicates 0\n\
+            sent\ndone\ncount 5 weight 10 predicates 0\ncount 5 weight 10\n",
+        ),
+        (
             "capacity 0\ninsert 1 a 0\nget 1 0\nrun 0 10\n",
             "disabled\nnone\ndone\ncount 0 weight 0\n",
         ),
@@ -360,6 +369,73 @@ fn reads_long_lines(rt: HostRuntime) -> Result<(), Fail> {
     check_fault(&rt, script.as_str(), 2)?;
     let script = format!(in rt.alloc(); "insert 1 {word} 0\n#{word}\u{1}\n")?;
     check_fault(&rt, script.as_str(), 2)
+}
+
+/// One refused growth, wherever it comes, ends the replay before it prints, or is one call's reply: nothing has changed
+/// then, and the next attempt succeeds. With ample memory nothing is refused.
+#[test]
+fn goes_on_where_memory_was_refused_once(rt: HostRuntime) -> Result<(), Fail> {
+    let script =
+        "insert 1 a 0\nget 1 0\ninsert 1 b 0\nget 1 0\ninsert 2 b 0\nget 2 0\nkeys\nkeys\n";
+    let (mut printed, mut said) = ([0; 256], [0; 256]);
+    let (mut out, mut err) = (printed.as_mut_slice(), said.as_mut_slice());
+    let status = replay(rt.alloc(), &mut script.as_bytes(), &mut out, &mut err);
+    let printed = str::from_utf8(&printed)?.trim_end_matches('\0');
+    let said = str::from_utf8(&said)?.trim_end_matches('\0');
+    for (text, line, number) in [
+        (
+            "ticket 1\nvalue a\nticket 2\nvalue b\nticket 3\nvalue b\nkeys 1 2\nkeys 1 2\ncount 0 weight 0\n",
+            "",
+            0,
+        ),
+        ("", "out of memory\n", 3),
+        (
+            "refused memory\nnone\nticket 1\nvalue b\nticket 2\nvalue b\nkeys 1 2\nkeys 1 2\ncount 0 weight 0\n",
+            "",
+            3,
+        ),
+        (
+            "ticket 1\nrefused memory\nticket 2\nvalue b\nticket 3\nvalue b\nkeys 1 2\nkeys 1 2\ncount 0 weight 0\n",
+            "",
+            3,
+        ),
+        (
+            "ticket 1\nvalue a\nrefused memory\nvalue a\nticket 2\nvalue b\nkeys 1 2\nkeys 1 2\ncount 0 weight 0\n",
+            "",
+            3,
+        ),
+        (
+            "ticket 1\nvalue a\nticket 2\nrefused memory\nticket 3\nvalue b\nkeys 1 2\nkeys 1 2\ncount 0 weight 0\n",
+            "",
+            3,
+        ),
+        (
+            "ticket 1\nvalue a\nticket 2\nvalue b\nrefused memory\nnone\nkeys 1\nkeys 1\ncount 0 weight 0\n",
+            "",
+            3,
+        ),
+        (
+            "ticket 1\nvalue a\nticket 2\nvalue b\nticket 3\nrefused memory\nkeys 1 2\nkeys 1 2\ncount 0 weight 0\n",
+            "",
+            3,
+        ),
+        (
+            "ticket 1\nvalue a\nticket 2\nvalue b\nticket 3\nvalue b\nrefused memory\nkeys 1 2\ncount 0 weight 0\n",
+            "",
+            3,
+        ),
+        (
+            "ticket 1\nvalue a\nticket 2\nvalue b\nticket 3\nvalue b\nkeys 1 2\nrefused memory\ncount 0 weight 0\n",
+            "",
+            3,
+        ),
+    ] {
+        if (printed, said, status) == (text, line, number) {
+            return Ok(());
+        }
+    }
+    assert!(rt; false, "status {status}: {printed:?} {said:?}");
+    Ok(())
 }
 
 #[test]

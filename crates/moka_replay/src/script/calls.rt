@@ -1,10 +1,10 @@
 //! The calls of a script.
 ghost use Rattle.std.specs.Prelude.{◌≡◌, option_map};
 ghost use Rattle.moka_replay.specs.Lex.{texts};
-ghost use Rattle.moka_replay.specs.Calls.{call_of, call_text, insert_of, send_of, get_of, contains_of, key_of, remove_of, run_of, keys_of, report_of};
+ghost use Rattle.moka_replay.specs.Calls.{call_of, call_text, insert_of, send_of, get_of, contains_of, key_of, remove_of, run_of};
 
 use crate::key_range::KeyRange;
-use crate::lex::{number, small_number};
+use crate::lex::{alone, number, small_number};
 use crate::word::Word;
 use moka_parts::calls::{Call, Reply, Ticket};
 use moka_parts::policy::Instant;
@@ -117,18 +117,20 @@ fn key(arguments: &[&str]) -> Option<ScriptCall>
     })
 }
 
-/// `remove KEY`, of which nobody is told
+/// `remove KEY`, of which nobody is told, or `remove KEY NOW`, which the listener is told of at that moment
 fn remove(arguments: &[&str]) -> Option<ScriptCall>
     ensures { result ≡ remove_of (texts arguments.now) }
 {
-    let [key] = arguments else {
-        return None;
+    let (key, now) = match arguments {
+        [key] => (key, None),
+        [key, now] => (key, Some(Instant(number(now)?))),
+        _ => return None,
     };
     let key = small_number(key)?;
     Some(Call::Remove {
         key,
         hash: u64::from(key),
-        now: None,
+        now,
     })
 }
 
@@ -149,28 +151,6 @@ fn run(arguments: &[&str]) -> Option<ScriptCall>
     })
 }
 
-/// `keys`, those of the one segment
-fn keys(arguments: &[&str]) -> Option<ScriptCall>
-    ensures { result ≡ keys_of (texts arguments.now) }
-{
-    if arguments.is_empty() {
-        Some(Call::Keys { segment: 0 })
-    } else {
-        None
-    }
-}
-
-/// `report`
-fn report(arguments: &[&str]) -> Option<ScriptCall>
-    ensures { result ≡ report_of (texts arguments.now) }
-{
-    if arguments.is_empty() {
-        Some(Call::Report)
-    } else {
-        None
-    }
-}
-
 /// The call of that name, if there is one.
 pub fn parse_call<'a>(name: &str, arguments: &[&'a str]) -> Option<LineCall<'a>>
     ensures { option_map call_text result ≡ call_of name.now (texts arguments.now) }
@@ -183,8 +163,8 @@ pub fn parse_call<'a>(name: &str, arguments: &[&'a str]) -> Option<LineCall<'a>>
         "key" => key(arguments)?,
         "remove" => remove(arguments)?,
         "run" => run(arguments)?,
-        "keys" => keys(arguments)?,
-        "report" => report(arguments)?,
+        "keys" => alone(Call::Keys { segment: 0 }, arguments)?,
+        "report" => alone(Call::Report, arguments)?,
         _ => return None,
     };
     Some(LineCall::Other(call))

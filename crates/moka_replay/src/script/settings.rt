@@ -1,15 +1,15 @@
 //! The settings of a script.
 ghost use Rattle.std.specs.Prelude.{◌≡◌};
 ghost use Rattle.moka_replay.specs.Lex.{texts};
-ghost use Rattle.moka_replay.specs.Settings.{first_of, capacity_of, policy_of, policy_named, weigh_of, setting_of};
+ghost use Rattle.moka_replay.specs.Settings.{first_of, capacity_of, policy_of, policy_named, setting_of};
 
 use crate::first_ticket::FirstTicket;
-use crate::lex::number;
+use crate::lex::{alone, number};
 use crate::weigher::NumberWeigher;
 use moka_parts::policy::EvictionPolicy;
 
 /// What a script sets before its first call; `None` where it has no such line.
-#[derive(Clone, Copy, Debug)]
+#[derive(Clone, Copy)]
 pub struct Settings {
     /// The first ticket.
     pub first: Option<FirstTicket>,
@@ -19,6 +19,8 @@ pub struct Settings {
     pub policy: Option<EvictionPolicy>,
     /// What weighs the values.
     pub weigher: Option<NumberWeigher>,
+    /// Whether a listener keeps the notices.
+    pub listener: bool,
 }
 
 impl Settings {
@@ -34,6 +36,7 @@ impl Settings {
             capacity: None,
             policy: None,
             weigher: None,
+            listener: false,
         }
     }
 
@@ -58,18 +61,23 @@ impl Settings {
                 weigher: Some(weigher),
                 ..self
             }),
+            Setting::Listener if !self.listener => Some(Settings {
+                listener: true,
+                ..self
+            }),
             _ => None,
         }
     }
 }
 
 /// A line that sets something.
-#[derive(Clone, Copy, Debug)]
+#[derive(Clone, Copy)]
 pub enum Setting {
     First(FirstTicket),
     Capacity(u64),
     Policy(EvictionPolicy),
     Weigh(NumberWeigher),
+    Listener,
 }
 
 impl Setting {
@@ -82,7 +90,7 @@ impl Setting {
     {
         match self {
             Setting::Capacity(capacity) => has_lru || *capacity == 0,
-            Setting::First(_) | Setting::Policy(_) | Setting::Weigh(_) => true,
+            Setting::First(_) | Setting::Policy(_) | Setting::Weigh(_) | Setting::Listener => true,
         }
     }
 }
@@ -128,17 +136,6 @@ fn policy_named(name: &str) -> Option<EvictionPolicy>
     }
 }
 
-/// `weigh`
-fn weigh(arguments: &[&str]) -> Option<Setting>
-    ensures { result ≡ weigh_of (texts arguments.now) }
-{
-    if arguments.is_empty() {
-        Some(Setting::Weigh(NumberWeigher))
-    } else {
-        None
-    }
-}
-
 /// The setting of that name, if there is one.
 pub fn parse_setting(name: &str, arguments: &[&str]) -> Option<Setting>
     ensures { result ≡ setting_of name.now (texts arguments.now) }
@@ -147,7 +144,8 @@ pub fn parse_setting(name: &str, arguments: &[&str]) -> Option<Setting>
         "first" => first(arguments),
         "capacity" => capacity(arguments),
         "policy" => policy(arguments),
-        "weigh" => weigh(arguments),
+        "weigh" => alone(Setting::Weigh(NumberWeigher), arguments),
+        "listener" => alone(Setting::Listener, arguments),
         _ => None,
     }
 }

@@ -1,0 +1,15 @@
+use Rattle.std.proofs.Common.{◌≡◌, ◌∙◌, ap, subst}
+use Rattle.moka_parts.specs.Surroundings.{Heard}
+use Rattle.moka_parts.specs.Runs.{AreSteps, PromisedRun, notices_of, last_state}
+use Rattle.moka_replay.specs.Notices.{Keeps, listener_for}
+use Rattle.moka_replay.specs.Played.{script_meaning, total_of}
+use Rattle.moka_replay.proofs.KeptNotices.{told_by_script}
+use Rattle.moka_replay.proofs.play.play.Goals as goal
+
+pub returns-in-Ok : goal.returns-in-Ok
+returns-in-Ok c =
+    let run = c.in-Ok.ensures.run in
+    let listens : c.in_ok-cache.cache.listener ≡ listener_for c.args.script.settings.listener c.args.script.calls.items = c.in_ok-cache.ensures.listener ∙ (c.in_ok-listener.ensures ∙ ap (λ calls. listener_for c.args.script.settings.listener calls) c.deref.ensures.value) in
+    let heard = subst (λ listener. Heard Keeps listener (notices_of run.0) c.drive.new.cache.listener) listens run.1.heard in
+    let done = subst (λ s. AreSteps script_meaning (PromisedRun script_meaning.says script_meaning.read) s run.0) c.in_ok-cache.ensures.state run.1.are_steps in
+    (run.0, run.1.calls_made, run.1.replies_given, told_by_script c.args.script.settings c.args.script.calls.items run.0 c.drive.new.cache.listener run.1.calls_made done heard, done, ap (λ cache. total_of cache.state) run.1.ends ∙ ap (λ s. total_of (last_state s run.0)) c.in_ok-cache.ensures.state)
