@@ -96,6 +96,44 @@ fn replays_scripts(rt: HostRuntime) -> Result<(), Fail> {
             "ticket 1\nsent\ndone\ncount 1 weight 1\n",
         ),
         (
+            "capacity 4\npolicy lru\nlistener\ninsert 0 a 1\nsend 1\nrun 1 10\ninsert 0 b 2\n\
+            insert 1 c 3\ninsert 2 d 3\ninsert 3 e 3\ninsert 4 f 3\nsend 3\nsend 4\nsend 5\n\
+            send 6\nrun 4 10\nkeys\nreport\n",
+            "ticket 1\nsent\ndone\nticket 2\nticket 3\nticket 4\nticket 5\nticket 6\nsent\nsent\n\
+            sent\nsent\ndone\nkeys 0 2 3 4\ncount 4 weight 4 predicates 0\nnotice 0 a Replaced\n\
+            notice 1 c Size\ncount 4 weight 4\n",
+        ),
+        (
+            "capacity 4\npolicy lru\nweigh\nlistener\ninsert 1 1 0\ninsert 2 1 0\ninsert 3 1 0\n\
+            send 1\nsend 2\nsend 3\nrun 0 10\nreport\ninsert 3 9 1\nsend 4\nrun 1 10\nreport\n\
+            insert 4 5 2\nsend 5\nrun 2 10\nreport\n",
+            "ticket 1\nticket 2\nticket 3\nsent\nsent\nsent\ndone\n\
+            count 3 weight 3 predicates 0\nticket 4\nsent\ndone\ncount 0 weight 0 predicates 0\n\
+            ticket 5\nsent\ndone\ncount 0 weight 0 predicates 0\nnotice 3 1 Replaced\n\
+            notice 1 1 Size\nnotice 2 1 Size\nnotice 3 9 Size\nnotice 4 5 Size\n\
+            count 0 weight 0\n",
+        ),
+        (
+            "capacity 1\npolicy lru\nweigh\nlistener\ninsert 1 0 0\ninsert 2 0 0\ninsert 3 1 0\n\
+            send 1\nsend 2\nsend 3\nrun 0 10\nreport\ninsert 4 1 0\nsend 4\nrun 0 10\nreport\n\
+            keys\n",
+            "ticket 1\nticket 2\nticket 3\nsent\nsent\nsent\ndone\n\
+            count 3 weight 1 predicates 0\nticket 4\nsent\ndone\ncount 1 weight 1 predicates 0\n\
+            keys 4\nnotice 1 0 Size\nnotice 2 0 Size\nnotice 3 1 Size\ncount 1 weight 1\n",
+        ),
+        (
+            "capacity 1\npolicy lru\ninsert 1 a 0\nsend 1\nrun 0 10\nremove 1\ninsert 2 b 1\n\
+            send 3\nrun 1 10\nreport\nkeys\nsend 2\nrun 2 10\nreport\n",
+            "ticket 1\nsent\ndone\nremoved a ticket 2\nticket 3\nsent\ndone\n\
+            count 1 weight 1 predicates 0\nkeys\nsent\ndone\ncount 0 weight 0 predicates 0\n\
+            count 0 weight 0\n",
+        ),
+        (
+            "listener\ninsert 1 a 0\nremove 1 5\nremove 1 5\ninsert 2 b 0\ninsert 2 c 1\nremove 2\n",
+            "ticket 1\nremoved a ticket 2\nnone\nticket 3\nticket 4\nremoved c ticket 5\n\
+            notice 1 a Explicit\nnotice 2 b Replaced\ncount 0 weight 0\n",
+        ),
+        (
             "first 18446744073709551614\ninsert 1 a 0\ninsert 2 b 0\ninsert 1 c 0\n",
             "ticket 18446744073709551614\nrefused numbers\nrefused numbers\ncount 0 weight 0\n",
         ),
@@ -153,13 +191,6 @@ fn replays_scripts(rt: HostRuntime) -> Result<(), Fail> {
             "ticket 1\nticket 2\nticket 3\nticket 4\ndone\ncount 0 weight 0 predicates 0\n\
             keys 1 2 3 4\nsent\nsent\nsent\nsent\ndone\ncount 2 weight 2 predicates 0\nkeys 3 4\n\
             count 2 weight 2\n",
-        ),
-        (
-            "capacity 1\npolicy lru\ninsert 1 a 0\nsend 1\nrun 0 10\nremove 1\n\
-            insert 2 b 1\nsend 3\nrun 1 10\nreport\nkeys\nsend 2\nrun 2 10\nreport\n",
-            "ticket 1\nsent\ndone\nremoved a ticket 2\nticket 3\nsent\ndone\n\
-            count 1 weight 1 predicates 0\nkeys\nsent\ndone\ncount 0 weight 0 predicates 0\n\
-            count 0 weight 0\n",
         ),
         (
             "capacity 1\npolicy lru\ninsert 1 a 0\ninsert 2 b 0\nsend 1\nsend 2\nrun 0 0\nreport\n\
@@ -275,7 +306,10 @@ fn names_the_first_faulty_line(rt: HostRuntime) -> Result<(), Fail> {
         ("first 2\ncapacity 4\nfirst 0\n", 2),
         ("capacity 4\nfirst 0\npolicy lru\n", 2),
         ("capacity 4\nreport\npolicy lru\n", 1),
-        ("remove 1\nremove 1 4\n", 2),
+        ("remove 1 4\nremove 1 4 5\n", 2),
+        ("listener\nlistener\n", 2),
+        ("listener 1\n", 1),
+        ("report\nlistener\n", 2),
         ("contains 1\n", 1),
         ("key 1 0\n", 1),
         ("keys 0\n", 1),
