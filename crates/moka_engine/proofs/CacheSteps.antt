@@ -1,16 +1,16 @@
 -- A cache whose inner part changed: its state, what always holds of it, and what nobody was told.
-use Rattle.std.proofs.Common.{◌≡◌, refl, ℕ, Bool, true, false, List, [], ◌⊎◌, inl, inr, Option, Some, None, is_some, ap, sym, subst, ◌∙◌}
+use Rattle.std.proofs.Common.{◌≡◌, refl, ℕ, ◌<◌, Bool, List, [], inl, inr, Option, Some, None, is_some, ap, sym, subst, ◌∙◌}
 use Rattle.std.specs.FinMap.{get, insert, remove}
 use Rattle.moka_parts.specs.declared.notification.RemovalCause.{RemovalCause}
 use Rattle.moka_parts.specs.declared.records.Record.{Record}
 use Rattle.moka_parts.specs.Calls.{no_events}
-use Rattle.moka_parts.specs.Records.{Notice, Records}
+use Rattle.moka_parts.specs.Records.{Notice, Records, record_of_key}
 use Rattle.moka_parts.specs.Runs.{Cache, Befalls}
 use Rattle.moka_parts.specs.Settling.{IsValid}
 use Rattle.moka_parts.specs.State.{State}
 use Rattle.moka_parts.specs.Surroundings.{Heard}
 use Rattle.moka_store.proofs.Gets.{after_insert, after_remove}
-use Rattle.moka_engine.specs.BaseCache.{IsCache, IsServed, NoneExpires}
+use Rattle.moka_engine.specs.BaseCache.{IsCache, NoneExpires}
 use Rattle.moka_engine.specs.Interior.{Interior}
 
 -- the state with this inner part
@@ -77,3 +77,16 @@ module _ {K V X L P W : Type 0} {eq : K → K → Bool} {l : Option L} {s : Stat
     };
     listens = h.listens ∙ sym same;
   }
+
+  module _ (i : Interior K V) (inside : with_inner s i ≡ s) where
+    -- none of the inner part's records expires
+    pub unexpiring-inside : NoneExpires i.kept.records
+    unexpiring-inside = subst (λ (t : State K V X P W). NoneExpires t.records) (sym inside) h.served.unexpiring
+
+    -- and each stands at its own number, which was given out
+    pub number-inside : (n : ℕ) (r : Record K V) → get i.kept.records n ≡ Some r → (r.number ≡ n) × (n < s.next_number)
+    number-inside n r there = h.valid.numbered.numbered.numbered n r (ap (λ (t : State K V X P W). get t.records n) (sym inside) ∙ there)
+
+    -- the record of a key
+    pub key-inside : (key : K) (o : Option (Record K V)) → record_of_key eq i.kept.records key ≡ o → record_of_key eq s.records key ≡ o
+    key-inside key o found = ap (λ (t : State K V X P W). record_of_key eq t.records key) (sym inside) ∙ found

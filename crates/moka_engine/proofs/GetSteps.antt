@@ -1,5 +1,5 @@
 -- Look-ups as steps of the reference cache, and what always holds after them.
-use Rattle.std.proofs.Common.{◌≡◌, refl, ℕ, Bool, true, false, not, List, [], ◌∷◌, ◌++◌, length, inl, inr, Option, Some, None, Result, Ok, Err, ap, sym, subst, ◌∙◌, arith, if◌then◌else◌}
+use Rattle.std.proofs.Common.{◌≡◌, refl, ℕ, Bool, true, false, List, [], ◌∷◌, ◌++◌, length, inl, inr, Option, Some, None, Result, Ok, Err, ap, sym, subst, ◌∙◌, arith, if◌then◌else◌}
 use Rattle.std.specs.Prelude.{nat_lt}
 use Rattle.std.specs.Cmp.{IsEquivalence}
 use Rattle.std.specs.FinMap.{get, insert}
@@ -10,7 +10,7 @@ use Rattle.moka_parts.specs.declared.policy.Instant.{Instant}
 use Rattle.moka_parts.specs.declared.records.ReadOperation.{ReadOperation}
 use Rattle.moka_parts.specs.declared.records.ReadOperation.TheVariants.{Hit, Miss}
 use Rattle.moka_parts.specs.declared.records.Record.{Record}
-use Rattle.moka_parts.specs.Calls.{no_events, queue_length, GetsAt, GetStep, RecordsRead, RunsIfDue, queueing, after_hit, hit_at, hit_operation}
+use Rattle.moka_parts.specs.Calls.{no_events, queue_length, GetsAt, GetStep, RunsIfDue, queueing, after_hit, hit_at, hit_operation}
 use Rattle.moka_parts.specs.Maintenance.{Terms, Course, MaintenanceRun}
 use Rattle.moka_parts.specs.Records.{Notice, record_of_key, with_record}
 use Rattle.moka_parts.specs.Runs.{Cache, Befalls}
@@ -24,7 +24,7 @@ use Rattle.moka_parts.proofs.StepsKeep.{get_keeps}
 use Rattle.moka_store.specs.Store.{Kept}
 use Rattle.moka_engine.specs.BaseCache.{IsCache, NoneExpires}
 use Rattle.moka_engine.specs.Interior.{Interior, IsLocated}
-use Rattle.moka_engine.proofs.CacheSteps.{with_inner, befalls-quietly, unexpiring-inserted, cache-inner}
+use Rattle.moka_engine.proofs.CacheSteps.{with_inner, befalls-quietly, unexpiring-inserted, cache-inner, unexpiring-inside, number-inside, key-inside}
 
 same_duration : (d : Option ℕ) → is_same_duration d d ≡ true
 same_duration None = refl
@@ -91,15 +91,11 @@ module _ {K V X P W : Type 0} (s : State K V X P W) (i : Interior K V) (inside :
   hit_state mid j n r number now rest kept step =
       ap (with_inner s) step ∙ ap (λ t. queueing t (Hit n r.hash false)) (record_read mid n r number now rest kept) ∙ ap (λ k. queueing (record s { records = with_record s.records (record r { read = now }) }) (Hit k r.hash false)) (sym number)
 
--- the number of a record that was found
-number_found : {K V X L P W : Type 0} {eq : K → K → Bool} {l : Option L} {s : State K V X P W} (h : IsCache eq l s) (i : Interior K V) (inside : with_inner s i ≡ s) (n : ℕ) (r : Record K V) → get i.kept.records n ≡ Some r → r.number ≡ n
-number_found h i inside n r there = (h.valid.numbered.numbered.numbered n r (ap (λ (t : State _ _ _ _ _). get t.records n) (sym inside) ∙ there)).0
-
 -- a record that was found and read is located
 pub located-read : {K V X L P W : Type 0} {eq : K → K → Bool} {l : Option L} {s : State K V X P W} (h : IsCache eq l s) (i : Interior K V) (inside : with_inner s i ≡ s) (n place : ℕ) (r : Record K V) → get i.kept.records n ≡ Some r → get i.kept.places n ≡ Some place
     → (now : Instant) (mid : Interior K V) → mid ≡ record i { kept = mid.kept } → mid.kept ≡ record i.kept { records = insert i.kept.records n (record r { read = now; expires = r.expires }) } → IsLocated mid.kept.places mid.next_number n place
 located-read {K} {V} h i inside n place r there placed now mid rest kept =
-    let given = (h.valid.numbered.numbered.numbered n r (ap (λ (t : State _ _ _ _ _). get t.records n) (sym inside) ∙ there)).1 in
+    let given = (number-inside h i inside n r there).1 in
     let next = ap (λ (t : State _ _ _ _ _). t.next_number) inside in
     let next_so = ap (λ (j : Interior K V). j.next_number) rest in
     let places = ap (λ (k : Kept K V). get k.places n) kept in
@@ -118,7 +114,7 @@ module _ {K V X L P W : Type 0} {eq : K → K → Bool} (laws : IsEquivalence eq
   cache-missed hidden j step =
       let done = missed h says never (MaintenanceRun says) enabled key hash false now hidden in
       let valid = get_keeps eq says never s (queueing s (Miss hash)) key hash false false now.0 (Ok None) no_events h.valid done in
-      let none : NoneExpires i.kept.records = subst (λ (t : State K V X P W). NoneExpires t.records) (sym inside) h.served.unexpiring in
+      let none = unexpiring-inside h i inside in
       cache-inner h l j refl (subst (IsValid eq) (sym (reads_queued s i inside j (Miss hash) step)) valid) (subst (λ (x : Interior K V). NoneExpires x.kept.records) (sym step) none)
 
   -- after a hit
@@ -126,10 +122,10 @@ module _ {K V X L P W : Type 0} {eq : K → K → Bool} (laws : IsEquivalence eq
       → mid ≡ record i { kept = mid.kept } → mid.kept ≡ record i.kept { records = insert i.kept.records n (record r { read = now; expires = r.expires }) }
       → j ≡ record mid { reads = if nat_lt (length mid.reads) queue_length then mid.reads ++ Hit n r.hash false ∷ [] else mid.reads } → IsCache eq l (with_inner s j)
   cache-hit n r there found shown mid j rest kept step =
-      let number = number_found h i inside n r there in
-      let done = hit h says never (MaintenanceRun says) enabled key hash false now r (ap (λ (t : State K V X P W). record_of_key eq t.records key) (sym inside) ∙ found) shown (record { key = None; value = r.value }) refl refl in
+      let number = (number-inside h i inside n r there).0 in
+      let done = hit h says never (MaintenanceRun says) enabled key hash false now r (key-inside h i inside key (Some r) found) shown (record { key = None; value = r.value }) refl refl in
       let valid = get_keeps eq says never s (queueing (record s { records = with_record s.records (record r { read = now }) }) (Hit r.number r.hash false)) key hash false false now.0 (Ok (Some (record { key = None; value = r.value }))) no_events h.valid done in
-      let none : NoneExpires i.kept.records = subst (λ (t : State K V X P W). NoneExpires t.records) (sym inside) h.served.unexpiring in
+      let none = unexpiring-inside h i inside in
       let read_none : NoneExpires mid.kept.records = subst (λ (k : Kept K V). NoneExpires k.records) (sym kept) (unexpiring-inserted i.kept.records none n (record r { read = now; expires = r.expires }) (none n r there)) in
       cache-inner h l j refl (subst (IsValid eq) (sym (hit_state s i inside mid j n r number now rest kept step)) valid) (subst (λ (x : Interior K V). NoneExpires x.kept.records) (sym step) read_none)
 
@@ -160,7 +156,7 @@ module _ {K V S X L P W C : Type 0} (says : P → K → V → Bool → Type 0) (
 
     module _ (n : ℕ) (r : Record K V) (there : get i.kept.records n ≡ Some r) (found : record_of_key eq i.kept.records key ≡ Some r) (shown : has_lapsed old.state.settings old.state.invalid_before r moment.0 ≡ false) where
       found_in_state : record_of_key eq old.state.records key ≡ Some r
-      found_in_state = ap (λ (t : State K V X P W). record_of_key eq t.records key) (sym inside) ∙ found
+      found_in_state = key-inside h i inside key (Some r) found
 
       -- of what is visible
       pub get_hits : (mid j : Interior K V) → mid ≡ record i { kept = mid.kept } → mid.kept ≡ record i.kept { records = insert i.kept.records n (record r { read = moment; expires = r.expires }) }
@@ -170,7 +166,7 @@ module _ {K V S X L P W C : Type 0} (says : P → K → V → Bool → Type 0) (
           let done = hit h says read Runs enabled key hash need_key moment r found_in_state shown entry value own in
           subst (Gets (Ok (Some entry)) (with_inner old.state j)) is (
             no_events,
-            subst (λ t. GetStep says read Runs eq old.state key hash need_key false moment.0 (Ok (Some entry)) no_events t) (sym (hit_state old.state i inside mid j n r (number_found h i inside n r there) moment rest kept step)) done,
+            subst (λ t. GetStep says read Runs eq old.state key hash need_key false moment.0 (Ok (Some entry)) no_events t) (sym (hit_state old.state i inside mid j n r (number-inside h i inside n r there).0 moment rest kept step)) done,
             befalls-quietly tells old (with_inner old.state j),
             refl,
           )

@@ -1,5 +1,5 @@
 -- Inserts as steps of the reference cache, and what always holds after them.
-use Rattle.std.proofs.Common.{◌≡◌, refl, ℕ, ◌+◌, ◌^◌, ◌≤◌, Bool, true, false, List, [], ◌∷◌, ◌↔◌, Option, Some, None, Result, Ok, Err, is_some, ap, sym, subst, ◌∙◌, arith}
+use Rattle.std.proofs.Common.{◌≡◌, refl, ℕ, ◌+◌, ◌^◌, ◌≤◌, Bool, true, false, [], ◌∷◌, ◌↔◌, Option, Some, None, Result, Ok, Err, is_some, ap, sym, subst, ◌∙◌, arith}
 use Rattle.std.specs.Prelude.{nat_le}
 use Rattle.std.specs.Cmp.{IsEquivalence}
 use Rattle.std.specs.FinMap.{get, insert, len}
@@ -11,20 +11,18 @@ use Rattle.moka_parts.specs.declared.notification.RemovalCause.{RemovalCause}
 use Rattle.moka_parts.specs.declared.policy.Instant.{Instant}
 use Rattle.moka_parts.specs.declared.records.Operation.TheVariants.{Upsert}
 use Rattle.moka_parts.specs.declared.records.Record.{Record}
-use Rattle.moka_parts.specs.Calls.{no_events, only_notices, Weighs, InsertsAt, InsertStep, HasInsertError, inserted, replaced}
+use Rattle.moka_parts.specs.Calls.{no_events, only_notices, Weighs, InsertStep, HasInsertError, inserted, replaced}
 use Rattle.moka_parts.specs.Causes.{cause_of_replacement}
 use Rattle.moka_parts.specs.Notification.{HearsOnce}
-use Rattle.moka_parts.specs.Records.{Notice, when_listening, record_of_key, with_record}
+use Rattle.moka_parts.specs.Records.{when_listening, record_of_key, with_record}
 use Rattle.moka_parts.specs.Runs.{Cache, Befalls}
 use Rattle.moka_parts.specs.Settling.{IsValid}
 use Rattle.moka_parts.specs.State.{State, Events, is_disabled}
-use Rattle.moka_parts.specs.Surroundings.{Heard}
-use Rattle.moka_parts.proofs.CallsKeep.{inserted_valid, replaced_valid, record_at_its_number}
-use Rattle.moka_store.specs.declared.store.Update.{Update}
+use Rattle.moka_parts.proofs.CallsKeep.{inserted_valid, replaced_valid}
 use Rattle.moka_store.specs.Updates.{updated}
 use Rattle.moka_engine.specs.BaseCache.{IsCache, NoneExpires}
 use Rattle.moka_engine.specs.Interior.{Interior, first_record, handing_out_inside}
-use Rattle.moka_engine.proofs.CacheSteps.{with_inner, without_room, inside-roomier, befalls-quietly, still_set, unexpiring-inserted, cache-inner}
+use Rattle.moka_engine.proofs.CacheSteps.{with_inner, without_room, inside-roomier, befalls-quietly, unexpiring-inserted, cache-inner, unexpiring-inside, number-inside, key-inside}
 
 -- ---- refusals
 
@@ -59,21 +57,17 @@ module _ {K V X L P W : Type 0} {eq : K → K → Bool} {l : Option L} {s : Stat
   inside : with_inner s i ≡ s
   inside = inside-roomier s before i inside_before rooms
 
-  -- the number of the record that was found
-  number_of_found : (n : ℕ) (r : Record K V) → get before.kept.records n ≡ Some r → r.number ≡ n
-  number_of_found n r there = (h.valid.numbered.numbered.numbered n r (ap (λ (t : State K V X P W). get t.records n) (sym inside_before) ∙ there)).0
-
   -- what always holds after an insert of a key that is there
   pub cache-updated : (laws : IsEquivalence eq) (m : Option L) (same : is_some m ≡ is_some l) (key : K) (n : ℕ) (r : Record K V) → get before.kept.records n ≡ Some r → record_of_key eq before.kept.records key ≡ Some r → (hash : ℕ) (value : V) (now : Instant) (w : ℕ)
       → j ≡ handing_out_inside i (insert i.kept.records n (updated (record { value = value; now = now; expires = r.expires; weight = w }) r)) (Upsert n (r.generation + 1) w hash) j → IsCache eq m (with_inner s j)
   cache-updated laws m same key n r there found hash value now w step =
       let created : X → K → V → ℕ → Option ℕ = λ _ _ _ _. None in
       let updating : X → K → V → ℕ → Option ℕ → Option ℕ = λ _ _ _ _ _. None in
-      let valid = replaced_valid eq created updating s r key hash value now w (ap (λ (t : State K V X P W). record_of_key eq t.records key) (sym inside_before) ∙ found) h.valid in
-      let none : NoneExpires i.kept.records = subst (λ (t : State K V X P W). NoneExpires t.records) (sym inside) h.served.unexpiring in
+      let valid = replaced_valid eq created updating s r key hash value now w (key-inside h before inside_before key (Some r) found) h.valid in
+      let none = unexpiring-inside h i inside in
       cache-inner h m j same
-      (subst (IsValid eq) (sym (replaces created updating s i j inside h.served.no_expiry r n (number_of_found n r there) key hash value now w step)) valid)
-      (subst (λ (x : Interior K V). NoneExpires x.kept.records) (sym step) (unexpiring-inserted i.kept.records none n (updated (record { value = value; now = now; expires = r.expires; weight = w }) r) (h.served.unexpiring n r (ap (λ (t : State K V X P W). get t.records n) (sym inside_before) ∙ there))))
+      (subst (IsValid eq) (sym (replaces created updating s i j inside h.served.no_expiry r n (number-inside h before inside_before n r there).0 key hash value now w step)) valid)
+      (subst (λ (x : Interior K V). NoneExpires x.kept.records) (sym step) (unexpiring-inserted i.kept.records none n (updated (record { value = value; now = now; expires = r.expires; weight = w }) r) (unexpiring-inside h before inside_before n r there)))
 
   -- what always holds after an insert of a new key
   pub cache-inserted : (laws : IsEquivalence eq) → is_disabled s.capacity ≡ false → (key : K) → record_of_key eq s.records key ≡ None → (hash : ℕ) (value : V) (now : Instant) (w : ℕ)
@@ -83,7 +77,7 @@ module _ {K V X L P W : Type 0} {eq : K → K → Bool} {l : Option L} {s : Stat
       let updating : X → K → V → ℕ → Option ℕ → Option ℕ = λ _ _ _ _ _. None in
       let new : Record K V = first_record i.next_number key hash (record { value = value; now = now; expires = None; weight = w }) in
       let here : with_inner s (record (handing_out_inside i (with_record i.kept.records new) (Upsert i.next_number 1 w hash) j) { next_number = i.next_number + 1 }) ≡ inserted created updating (with_inner s i) key hash value now w = rw h.served.no_expiry refl in
-      let none : NoneExpires i.kept.records = subst (λ (t : State K V X P W). NoneExpires t.records) (sym inside) h.served.unexpiring in
+      let none = unexpiring-inside h i inside in
       cache-inner h l j refl
       (subst (IsValid eq) (sym (ap (with_inner s) step ∙ here ∙ ap (λ t. inserted created updating t key hash value now w) inside)) (inserted_valid eq created updating s key hash value now w laws enabled absent h.valid))
       (subst (λ (x : Interior K V). NoneExpires x.kept.records) (sym step) (unexpiring-inserted i.kept.records none i.next_number new refl))
@@ -122,7 +116,7 @@ module _ {K V S X L P W : Type 0} (created : X → K → V → ℕ → Option �
       → Inserts (Ok (ticket, moment)) (with_inner old.state j) m now
   update_returns l h told m j n r there found w weighed enough ticket next step left same_value cause same_cause heard =
       let numbers : nat_le (2 ^ 64) (before.next_ticket + len before.kept.records + 0) ≡ false = not_at_least (2 ^ 64) (before.next_ticket + len before.kept.records + 0) (λ p. enough (omega arith)) in
-      let step_so = replaces created updating old.state i j inside_still h.served.no_expiry r n (number_of_found h before inside_before i j rooms n r there) key hash value moment w step in
+      let step_so = replaces created updating old.state i j inside_still h.served.no_expiry r n (number-inside h before inside_before n r there).0 key hash value moment w step in
       subst (Inserts (Ok (ticket, moment)) (with_inner old.state j) m) is (
         only_notices (when_listening old.state.settings.listening ((key, r.value, cause_of_replacement old.state.settings old.state.invalid_before r moment.0) ∷ [])),
         rw (found_in_state (Some r) found) (w, weighed, subst (λ (t : State K V X P W). nat_le (2 ^ 64) (t.next_ticket + len t.records + 0) ≡ false) inside_before numbers, next ∙ ap (λ (t : State K V X P W). t.next_ticket) inside_still, refl, step_so, refl),

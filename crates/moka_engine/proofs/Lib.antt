@@ -9,3 +9,4 @@ pub mod InsertSteps
 pub mod RemoveSteps
 pub mod GetSteps
 pub mod RunSteps
+pub mod IdleRuns

@@ -1,14 +1,14 @@
 -- A send keeps what always holds of a cache.
-use Rattle.std.proofs.Common.{◌≡◌, refl, ℕ, Bool, List, [], ◌∷◌, ◌++◌, Option, Some, Result, Ok, Err, OnOk, OnErr, is_some, ap, sym, subst, ◌∙◌}
+use Rattle.std.proofs.Common.{◌≡◌, refl, ℕ, Bool, [], ◌∷◌, ◌++◌, Option, Some, Result, Ok, Err, OnOk, OnErr, sym, subst}
 use Rattle.std.specs.FinMap.{get, remove}
 use Rattle.moka_parts.specs.declared.error.SendError.{SendError}
 use Rattle.moka_parts.specs.declared.records.Operation.{Operation}
 use Rattle.moka_parts.specs.Settling.{IsValid}
 use Rattle.moka_parts.specs.State.{State}
 use Rattle.moka_parts.proofs.StepsKeep.{sent_valid}
-use Rattle.moka_engine.specs.BaseCache.{IsCache, NoneExpires}
+use Rattle.moka_engine.specs.BaseCache.{IsCache}
 use Rattle.moka_engine.specs.Interior.{Interior}
-use Rattle.moka_engine.proofs.CacheSteps.{with_inner, cache-inner}
+use Rattle.moka_engine.proofs.CacheSteps.{with_inner, cache-inner, unexpiring-inside}
 
 module _ {K V X L P W : Type 0} {eq : K → K → Bool} {l : Option L} {s : State K V X P W} (h : IsCache eq l s) (i j : Interior K V) (inside : with_inner s i ≡ s) where
   -- whatever the answer
@@ -18,8 +18,5 @@ module _ {K V X L P W : Type 0} {eq : K → K → Bool} {l : Option L} {s : Stat
   cache-sent ticket (Ok _) ok err =
       let after = record i { outstanding = remove i.outstanding ticket; writes = i.writes ++ record { ticket = ticket; operation = ok.0 } ∷ []; operation_room = j.operation_room } in
       let valid : IsValid eq (with_inner s i) = subst (IsValid eq) (sym inside) h.valid in
-      rw ok.2 (cache-inner h l after refl (sent_valid eq (with_inner s i) ticket ok.0 ok.1 valid) (none inside))
-    where
-      none : with_inner s i ≡ s → NoneExpires i.kept.records
-      none inside = subst (λ (t : State K V X P W). NoneExpires t.records) (sym inside) h.served.unexpiring
+      rw ok.2 (cache-inner h l after refl (sent_valid eq (with_inner s i) ticket ok.0 ok.1 valid) (unexpiring-inside h i inside))
   cache-sent ticket (Err e) ok err = rw err (subst (IsCache eq l) (sym inside) h)

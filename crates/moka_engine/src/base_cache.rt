@@ -9,7 +9,7 @@ ghost use Rattle.moka_parts.specs.Exact.{IsExact};
 ghost use Rattle.moka_parts.specs.Housekeeping.{new_housekeeping, without_automatic};
 ghost use Rattle.moka_parts.specs.Records.{Notice, record_of_key};
 ghost use Rattle.moka_parts.specs.Runs.{Befalls, PromisedRun};
-ghost use Rattle.moka_parts.specs.Settling.{IsValid};
+ghost use Rattle.moka_parts.specs.Settling.{IsValid, leaves_more_idle};
 ghost use Rattle.moka_parts.specs.State.{Events, is_disabled, limits_of, new_state};
 ghost use Rattle.moka_parts.specs.Surroundings.{Leads};
 ghost use Rattle.moka_parts.specs.Time.{greatest};
@@ -235,11 +235,9 @@ impl<
     pub fn policy(&self) -> Policy
         ensures { result ≡ limits_of self.now.state }
     {
-        Policy::new(
-            self.max_capacity,
-            self.expiration_policy.time_to_live(),
-            self.expiration_policy.time_to_idle(),
-        )
+        let times = &self.expiration_policy;
+        let (live, idle) = (times.time_to_live(), times.time_to_idle());
+        Policy::new(self.max_capacity, live, idle)
     }
 
     /// The hash of a key by the cache's own hasher.
@@ -546,7 +544,7 @@ impl<
     ///   anything to test records by.
     ///
     /// Once every operation was sent, a run leaves count and weight exactly the records', and one that was not cut short,
-    /// with a `batch` of at least 1, the weight within the capacity.
+    /// with a `batch` of at least 1, also the weight within the capacity.
     pub fn run_pending_tasks<C: Clock>(
         &mut self,
         now: Instant,
@@ -563,6 +561,7 @@ impl<
             × Befalls L.tells e self.old self.new
             × Leads C.reads clock.old e.readings clock.new }
         ensures exact { self.old.state.outstanding ≡ finite.empty → IsExact self.new.state }
+        ensures idle { is_disabled self.old.state.capacity ≡ false → batch ≡ 0 → result ≡ leaves_more_idle self.new.state }
     {
         if self.is_map_disabled() {
             self.passes = 0;

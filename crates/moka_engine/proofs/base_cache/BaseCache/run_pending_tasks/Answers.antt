@@ -1,10 +1,12 @@
-use Rattle.std.proofs.Common.{◌≡◌, refl, Option, None, is_some, option_map, ap, sym, ◌∙◌, min, if◌then◌else◌}
+use Rattle.std.proofs.Common.{◌≡◌, true≢false, refl, None, option_map, ap, sym, ◌∙◌, min, if◌then◌else◌}
 use Rattle.std.specs.Duration.{as_nanos}
 use Rattle.std.specs.String.{string_bytes}
+use Rattle.moka_parts.specs.Maintenance.{is_over}
 use Rattle.moka_parts.specs.Runs.{Cache}
 use Rattle.moka_parts.specs.State.{is_disabled}
 use Rattle.moka_parts.specs.Time.{greatest}
 use Rattle.moka_engine.specs.BaseCache.{settings_of}
+use Rattle.moka_engine.proofs.IdleRuns.{idle_answer}
 use Rattle.moka_engine.proofs.RunSteps.{run_keeps_cache, run_ends_exact, cache_runs, disabled_cache_runs, disabled_exact}
 use Rattle.moka_engine.proofs.base_cache.BaseCache.run_pending_tasks.Goals as goal
 
@@ -50,3 +52,11 @@ returns-clause-exact g c = λ sent.
     c.self.invariant enabled c.apply_queues.ensures.applied c.apply_queues.ensures.rest (record { now = c.args.now.0; limit = option_map as_nanos c.args.limit; batch = c.args.batch }) (rw (c.time_to_live.ensures, c.time_to_idle.ensures) refl) limited c.make_passes-ran.ensures.ran c.make_passes-ran.ensures.rest
     c.member_count.result c.saturated-self-inside.result c.member_count.ensures (c.saturated-self-inside.ensures ∙ ap (λ n. min n greatest) c.total_weight.ensures)
     (ap (λ (x : Cache g.row.K.Denot g.row.V.Denot g.row.S.Denot g.row.X.Denot g.row.L.Denot g.row.P.Denot g.row.W.Denot). x.state.outstanding) c.self.view_is ∙ sent)
+
+pub returns-then-is_map_disabled-clause-idle : goal.returns-then-is_map_disabled-clause-idle
+returns-then-is_map_disabled-clause-idle g c = λ enabled. absurd (true≢false (sym c.if-is_map_disabled.true ∙ (c.is_map_disabled.ensures ∙ enabled)))
+
+pub returns-clause-idle : goal.returns-clause-idle
+returns-clause-idle g c = λ _ zero.
+    idle_answer c.self.inside.expiration_policy.time_to_live c.self.inside.expiration_policy.time_to_idle c.self.invariant.served.no_live c.time_to_idle.result c.time_to_idle.ensures c.self.inside.valid_after
+    (is_over c.self.inside.max_capacity c.make_passes-ran.new.self.kept.access) c.make_passes-ran.result.is_left (c.make_passes-ran.ensures.ran.idle zero).1
