@@ -1,6 +1,6 @@
 -- A cache whose inner part changed: its state, what always holds of it, and what nobody was told.
-use Rattle.std.proofs.Common.{◌≡◌, refl, ℕ, Bool, true, false, List, [], ◌⊎◌, inl, inr, Option, Some, None, is_some, ap, sym, subst, ◌∙◌}
-use Rattle.std.specs.FinMap.{get, insert, remove}
+use Rattle.std.proofs.Common.{◌≡◌, refl, ℕ, Bool, List, [], inl, inr, Option, Some, None, is_some, ap, sym, ◌∙◌}
+use Rattle.std.specs.FinMap.{insert, remove}
 use Rattle.moka_parts.specs.declared.notification.RemovalCause.{RemovalCause}
 use Rattle.moka_parts.specs.declared.records.Record.{Record}
 use Rattle.moka_parts.specs.Calls.{no_events}
@@ -10,7 +10,7 @@ use Rattle.moka_parts.specs.Settling.{IsValid}
 use Rattle.moka_parts.specs.State.{State}
 use Rattle.moka_parts.specs.Surroundings.{Heard}
 use Rattle.moka_store.proofs.Gets.{after_insert, after_remove}
-use Rattle.moka_engine.specs.BaseCache.{IsCache, IsServed, NoneExpires}
+use Rattle.moka_engine.specs.BaseCache.{IsCache, NoneExpires}
 use Rattle.moka_engine.specs.Interior.{Interior}
 
 -- the state with this inner part

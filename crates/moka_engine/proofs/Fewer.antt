@@ -1,6 +1,6 @@
 -- A map whose keys are all in another one has no more of them.
-use Rattle.std.proofs.Common.{◌≡◌, ℕ, zero, suc, ◌+◌, ◌≤◌, true, false, List, [], ◌∷◌, length, Option, Some, None, ◌⊎◌, inl, inr, refl, sym, ap, ◌∙◌, arith}
-use Rattle.std.proofs.lemmas.Bool.{cases_eq, cond-true}
+use Rattle.std.proofs.Common.{◌≡◌, ℕ, zero, suc, ◌≤◌, true, List, [], ◌∷◌, length, Some, refl, ap, ◌∙◌, arith}
+use Rattle.std.proofs.lemmas.Bool.{cond-true}
 use Rattle.std.specs.Ordering.{nat_cmp, eq_by_cmp}
 use Rattle.std.specs.FinMap.{FinMap, entries, find, get, remove, len, get-entries, len-entries}
 use Rattle.moka_store.proofs.Gets.{after_remove, get-past_remove}

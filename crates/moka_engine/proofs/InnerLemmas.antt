@@ -1,5 +1,5 @@
 -- How the facts of the inner part follow each kind of change.
-use Rattle.std.proofs.Common.{◌≡◌, ℕ, zero, suc, ◌+◌, ◌-◌, ◌<◌, ◌≤◌, ◌^◌, List, [], ◌∷◌, ◌++◌, map, length, Option, Some, None, option_map, ◌⊎◌, inl, inr, Result, Ok, Err, IsOk, OnOk, IfErr, refl, sym, ap, subst, ◌∙◌, arith}
+use Rattle.std.proofs.Common.{◌≡◌, ℕ, ◌+◌, ◌<◌, ◌≤◌, ◌^◌, List, [], ◌∷◌, ◌++◌, length, Some, None, option_map, ◌⊎◌, inl, inr, Result, Ok, Err, IsOk, OnOk, IfErr, refl, sym, ap, subst, ◌∙◌, arith}
 use Rattle.std.specs.Prelude.{Contains}
 use Rattle.std.proofs.lemmas.List.{length-append, map-append}
 use Rattle.std.proofs.lemmas.List.Elements.{Contains-push_cases}
@@ -29,7 +29,7 @@ use Rattle.moka_maintenance.specs.declared.queued.QueuedRead.{QueuedRead}
 use Rattle.moka_maintenance.specs.Queued.{IsReadAt, handed_of, writes_of}
 use Rattle.moka_engine.specs.Inner.{IsInner, AreLocated, HasUse}
 use Rattle.moka_engine.specs.Interior.{IsLocated, IsReadLocated, operations_of}
-use Rattle.moka_engine.proofs.Fewer.{AreKeysOf, len-fewer}
+use Rattle.moka_engine.proofs.Fewer.{len-fewer}
 use Rattle.moka_engine.proofs.ValuesLemmas.{get-map_values, map_values-insert, map_values-remove, map_values-found}
 
 -- ---- where what waits is located

@@ -1,5 +1,5 @@
 -- Inserts as steps of the reference cache, and what always holds after them.
-use Rattle.std.proofs.Common.{◌≡◌, refl, ℕ, ◌+◌, ◌^◌, ◌≤◌, Bool, true, false, List, [], ◌∷◌, ◌↔◌, Option, Some, None, Result, Ok, Err, is_some, ap, sym, subst, ◌∙◌, arith}
+use Rattle.std.proofs.Common.{◌≡◌, refl, ℕ, ◌+◌, ◌^◌, ◌≤◌, Bool, true, false, [], ◌∷◌, ◌↔◌, Option, Some, None, Result, Ok, Err, is_some, ap, sym, subst, ◌∙◌, arith}
 use Rattle.std.specs.Prelude.{nat_le}
 use Rattle.std.specs.Cmp.{IsEquivalence}
 use Rattle.std.specs.FinMap.{get, insert, len}
@@ -11,20 +11,18 @@ use Rattle.moka_parts.specs.declared.notification.RemovalCause.{RemovalCause}
 use Rattle.moka_parts.specs.declared.policy.Instant.{Instant}
 use Rattle.moka_parts.specs.declared.records.Operation.TheVariants.{Upsert}
 use Rattle.moka_parts.specs.declared.records.Record.{Record}
-use Rattle.moka_parts.specs.Calls.{no_events, only_notices, Weighs, InsertsAt, InsertStep, HasInsertError, inserted, replaced}
+use Rattle.moka_parts.specs.Calls.{no_events, only_notices, Weighs, InsertStep, HasInsertError, inserted, replaced}
 use Rattle.moka_parts.specs.Causes.{cause_of_replacement}
 use Rattle.moka_parts.specs.Notification.{HearsOnce}
-use Rattle.moka_parts.specs.Records.{Notice, when_listening, record_of_key, with_record}
+use Rattle.moka_parts.specs.Records.{when_listening, record_of_key, with_record}
 use Rattle.moka_parts.specs.Runs.{Cache, Befalls}
 use Rattle.moka_parts.specs.Settling.{IsValid}
 use Rattle.moka_parts.specs.State.{State, Events, is_disabled}
-use Rattle.moka_parts.specs.Surroundings.{Heard}
-use Rattle.moka_parts.proofs.CallsKeep.{inserted_valid, replaced_valid, record_at_its_number}
-use Rattle.moka_store.specs.declared.store.Update.{Update}
+use Rattle.moka_parts.proofs.CallsKeep.{inserted_valid, replaced_valid}
 use Rattle.moka_store.specs.Updates.{updated}
 use Rattle.moka_engine.specs.BaseCache.{IsCache, NoneExpires}
 use Rattle.moka_engine.specs.Interior.{Interior, first_record, handing_out_inside}
-use Rattle.moka_engine.proofs.CacheSteps.{with_inner, without_room, inside-roomier, befalls-quietly, still_set, unexpiring-inserted, cache-inner}
+use Rattle.moka_engine.proofs.CacheSteps.{with_inner, without_room, inside-roomier, befalls-quietly, unexpiring-inserted, cache-inner}
 
 -- ---- refusals
 

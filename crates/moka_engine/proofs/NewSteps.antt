@@ -1,14 +1,12 @@
 -- What holds of a new cache.
-use Rattle.std.proofs.Common.{◌≡◌, refl, ℕ, Bool, false, List, [], Option, Some, None, is_some, ap, sym, subst, ◌∙◌}
-use Rattle.std.specs.FinMap.{get}
+use Rattle.std.proofs.Common.{◌≡◌, refl, ℕ, Bool, false, List, [], Option, None, is_some, ap, sym, subst, ◌∙◌}
 use Rattle.moka_parts.specs.declared.housekeeper.HousekeeperConfig.{HousekeeperConfig}
 use Rattle.moka_parts.specs.declared.policy.EvictionPolicy.{EvictionPolicy}
-use Rattle.moka_parts.specs.declared.records.Record.{Record}
 use Rattle.moka_parts.specs.declared.records.Registered.{Registered}
 use Rattle.moka_parts.specs.Housekeeper.{Keeper, new_keeper}
 use Rattle.moka_parts.specs.Housekeeping.{without_automatic, new_housekeeping}
 use Rattle.moka_parts.specs.Policy.{Expirations}
-use Rattle.moka_parts.specs.State.{State, Settings, new_state}
+use Rattle.moka_parts.specs.State.{Settings, new_state}
 use Rattle.moka_parts.proofs.Maps.{nothing_at}
 use Rattle.moka_parts.proofs.NewCache.{new_is_valid}
 use Rattle.moka_parts.proofs.StepsKeep.{valid_with}

@@ -1,14 +1,12 @@
 -- Removals by a caller as steps of the reference cache, and what always holds after them.
-use Rattle.std.proofs.Common.{◌≡◌, refl, ℕ, ◌+◌, Bool, Option, Some, None, ap, sym, subst, ◌∙◌}
+use Rattle.std.proofs.Common.{◌≡◌, refl, ℕ, ◌+◌, Bool, Option, Some, ap, sym, subst, ◌∙◌}
 use Rattle.std.specs.FinMap.{get, remove}
-use Rattle.moka_parts.specs.declared.calls.KvEntry.{KvEntry}
 use Rattle.moka_parts.specs.declared.calls.Ticket.{Ticket}
 use Rattle.moka_parts.specs.declared.records.Operation.TheVariants.{Removal}
 use Rattle.moka_parts.specs.declared.records.Record.{Record}
 use Rattle.moka_parts.specs.Calls.{RemoveStep, entry_of, handing_out}
 use Rattle.moka_parts.specs.Records.{record_of_key}
 use Rattle.moka_parts.specs.Runs.{Cache}
-use Rattle.moka_parts.specs.Settling.{IsValid}
 use Rattle.moka_parts.specs.State.{State}
 use Rattle.moka_parts.proofs.CallsKeep.{remove_keeps}
 use Rattle.moka_engine.specs.BaseCache.{IsCache, NoneExpires}

@@ -1,5 +1,5 @@
 -- A send keeps what always holds of a cache.
-use Rattle.std.proofs.Common.{◌≡◌, refl, ℕ, Bool, List, [], ◌∷◌, ◌++◌, Option, Some, Result, Ok, Err, OnOk, OnErr, is_some, ap, sym, subst, ◌∙◌}
+use Rattle.std.proofs.Common.{◌≡◌, refl, ℕ, Bool, [], ◌∷◌, ◌++◌, Option, Some, Result, Ok, Err, OnOk, OnErr, sym, subst}
 use Rattle.std.specs.FinMap.{get, remove}
 use Rattle.moka_parts.specs.declared.error.SendError.{SendError}
 use Rattle.moka_parts.specs.declared.records.Operation.{Operation}

@@ -1,5 +1,5 @@
 -- What always holds of a cache, and how its parts make the state that contracts see.
-use Rattle.std.specs.Prelude.{◌≡◌, ℕ, Bool, true, false, ◌||◌, List, [], Option, Some, None, is_some, ◌⊎◌, ⊤}
+use Rattle.std.specs.Prelude.{◌≡◌, ℕ, Bool, false, ◌||◌, List, [], Option, Some, None, is_some, ◌⊎◌, ⊤}
 use Rattle.std.specs.FinMap.{get}
 use Rattle.moka_parts.specs.declared.policy.EvictionPolicy.{EvictionPolicy}
 use Rattle.moka_parts.specs.declared.policy.EvictionPolicy.TheVariants.{Lru}

@@ -550,6 +550,10 @@ impl<
     ///
     /// Once every operation was sent, a run leaves count and weight exactly the records', and one that was not cut short,
     /// with a `batch` of at least 1, the weight within the capacity.
+    ///
+    /// If the cache was empty at first, and all calls since were made in the order of time, such a run also leaves no
+    /// record past its time to live, and none written before the last invalidation of all. This applies to caches with
+    /// a time to live or with predicates; so far there are none.
     pub fn run_pending_tasks<C: Clock>(
         &mut self,
         now: Instant,

@@ -1,4 +1,4 @@
-use Rattle.std.proofs.Common.{refl, ap, sym, ◌∙◌}
+use Rattle.std.proofs.Common.{refl, ap, sym}
 use Rattle.moka_parts.specs.declared.error.InsertError.TheVariants.{NumbersUsedUp}
 use Rattle.moka_engine.proofs.CacheSteps.{without_room, still_set}
 use Rattle.moka_engine.proofs.InsertSteps.{cache-updated, update_refused, update_returns}

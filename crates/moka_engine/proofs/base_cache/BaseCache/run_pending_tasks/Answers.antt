@@ -1,4 +1,4 @@
-use Rattle.std.proofs.Common.{◌≡◌, refl, Option, None, is_some, option_map, ap, sym, ◌∙◌, min, if◌then◌else◌}
+use Rattle.std.proofs.Common.{◌≡◌, refl, None, option_map, ap, sym, ◌∙◌, min, if◌then◌else◌}
 use Rattle.std.specs.Duration.{as_nanos}
 use Rattle.std.specs.String.{string_bytes}
 use Rattle.moka_parts.specs.Runs.{Cache}

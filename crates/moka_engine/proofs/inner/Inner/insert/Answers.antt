@@ -1,6 +1,5 @@
-use Rattle.std.proofs.Common.{◌+◌, refl, ap, ◌∙◌, arith}
+use Rattle.std.proofs.Common.{◌+◌, refl, ap, arith}
 use Rattle.std.specs.FinMap as finite
-use Rattle.moka_parts.specs.Records.{record_of_key}
 use Rattle.moka_parts.specs.declared.records.Operation.TheVariants.{Upsert}
 use Rattle.moka_store.specs.Store.{Kept}
 use Rattle.moka_engine.specs.Interior.{Interior, first_record}

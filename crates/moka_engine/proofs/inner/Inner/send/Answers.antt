@@ -1,12 +1,9 @@
-use Rattle.std.proofs.Common.{◌≡◌, ◌+◌, ℕ, Option, Some, None, is_some, option_map, false, true, refl, sym, ap, ◌∙◌, arith, subst, map, length}
+use Rattle.std.proofs.Common.{◌≡◌, ◌+◌, Option, Some, None, is_some, option_map, true, refl, sym, ◌∙◌}
 use Rattle.std.specs.FinMap.{get}
-use Rattle.std.proofs.lemmas.List.{length-map, map-append}
-use Rattle.circular_buffer.specs.Buffer.{Buffer}
+use Rattle.std.proofs.lemmas.List.{map-append}
 use Rattle.moka_parts.proofs.Values.{remove_absent}
-use Rattle.moka_store.proofs.Gets.{none-of, not_below}
+use Rattle.moka_store.proofs.Gets.{none-of}
 use Rattle.moka_maintenance.specs.declared.queued.PlacedWrite.{PlacedWrite}
-use Rattle.moka_maintenance.specs.Queued.{handed_of}
-use Rattle.moka_engine.specs.Inner.{IsInner}
 use Rattle.moka_engine.proofs.InnerLemmas.{inner-sent, inner-unsent}
 use Rattle.moka_engine.proofs.ValuesLemmas.{get-map_values, map_values-none, map_values-remove}
 use Rattle.moka_engine.proofs.inner.Inner.send.Goals as goal
