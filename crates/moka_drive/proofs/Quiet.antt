@@ -28,7 +28,7 @@ nothing_heard tells (Some l) = refl
 
 -- no event befalls a cache that stays the same
 pub nothing_befalls : {K V S X L P W : Type 0} (tells : L → K → V → RemovalCause → L → Type 0) (c : Cache K V S X L P W) → Befalls tells no_events c c
-nothing_befalls tells c = record { kept = refl; heard = nothing_heard tells c.listener; passes = refl }
+nothing_befalls tells c = record { kept = refl; heard = nothing_heard tells c.listener; passes = refl; listed = λ none. refl }
 
 -- before the first call
 pub no_calls : {K V S X L P W C I : Type 0} (m : Meaning K V X L P W C I) (Runs : State K V X P W → Terms → Course → List (Notice K V) → State K V X P W → Type 0) (c : Cache K V S X L P W) (clock : C) (ids : I) → MakesCalls m Runs [] [] [] c clock ids c clock ids
@@ -66,4 +66,5 @@ module _ {K V S X L P W : Type 0} (tells : L → K → V → RemovalCause → L 
         kept = after.kept ∙ ap (λ n. record mid { name = n; state = new.state; listener = new.listener; write_list = new.write_list; passes = new.passes }) name ∙ ap (λ h. record old { hasher = h; state = new.state; listener = new.listener; write_list = new.write_list; passes = new.passes }) hasher;
         heard = subst (λ l. Heard tells l ns new.listener) same after.heard;
         passes = after.passes ∙ before.passes;
+        listed = λ none. after.listed none ∙ before.listed refl;
       }

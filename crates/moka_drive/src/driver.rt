@@ -6,8 +6,9 @@ ghost use Rattle.moka_parts.specs.Surroundings.{Leads};
 ghost use Rattle.moka_parts.specs.Calls.{only_notices, KeyStep, NotifiesAfter};
 ghost use Rattle.moka_parts.specs.Records.{Notice};
 ghost use Rattle.moka_parts.specs.declared.calls.Ticket.{Ticket};
-ghost use Rattle.moka_parts.specs.Laws.{AllConserveValues};
-ghost use Rattle.moka_parts.specs.Runs.{Befalls, CallStep, MakesCalls, PromisedRun, Step};
+ghost use Rattle.moka_parts.specs.Drives.{Drives};
+ghost use Rattle.moka_parts.specs.Listed.{ListedRun};
+ghost use Rattle.moka_parts.specs.Runs.{Befalls, CallStep};
 ghost use Rattle.moka_parts.specs.declared.calls.Reply.TheVariants.{Report};
 ghost use Rattle.moka_drive.specs.Served.{IsServed, RemovesAndNotifies};
 
@@ -32,6 +33,11 @@ use std::hash::{BuildHasher, Hash};
 /// value that leaves the map in a call exactly once, in the order in which they leave; the value of a removal is handed
 /// back instead.
 ///
+/// The calls are in the order of time if no insert is earlier than the last write of a record that is there, and each send
+/// moves the oldest operation that waits. If the cache is empty at first and the calls are in the order of time, such a
+/// run also leaves no record past its time to live, and none written before the last invalidation of all. This applies
+/// to caches with a time to live or with predicates; so far there are none.
+///
 /// # Errors
 /// `OutOfMemory` if there is no room for the replies. The calls come back, and none was made. If a single call is
 /// refused, that is its reply, and the next follows.
@@ -55,19 +61,17 @@ pub fn drive<
     requires keys { (x y : K) → K.is_clone x y → y ≡ x }
     requires values { (x y : V) → V.is_clone x y → y ≡ x }
     requires served { AllByRecursion IsServed calls.items }
-    ensures run { IfOk result (λ replies. (steps : List (Step K V X P W))
-        × MakesCalls (record {
-          eq = K.eq;
-          tells = L.tells;
-          says = P.says;
-          weighs = W.weighs;
-          observes = C.reads;
-          gives = I.gives;
-          created = X.created;
-          read = X.read;
-          updated = X.updated;
-        }) (PromisedRun P.says X.read) calls.items replies.items steps cache.old clock.old ids.old cache.new clock.new ids.new
-        × (cache.old.state.settings.listening ≡ true → AllConserveValues cache.old.state steps)) }
+    ensures run { IfOk result (λ replies. Drives (record {
+      eq = K.eq;
+      tells = L.tells;
+      says = P.says;
+      weighs = W.weighs;
+      observes = C.reads;
+      gives = I.gives;
+      created = X.created;
+      read = X.read;
+      updated = X.updated;
+    }) calls.items replies.items cache.old clock.old ids.old cache.new clock.new ids.new) }
     ensures refused { IfErr result (λ e. e.calls ≡ calls) }
     ensures unchanged { OnErr result ((cache.new ≡ cache.old) × (clock.new ≡ clock.old) × (ids.new ≡ ids.old)) }
 {
@@ -114,7 +118,7 @@ fn make<
           created = X.created;
           read = X.read;
           updated = X.updated;
-        }) (PromisedRun P.says X.read) cache.old.state call result e cache.new.state
+        }) (ListedRun P.says X.read cache.old.write_list cache.new.write_list) cache.old.state call result e cache.new.state
         × Befalls L.tells e cache.old cache.new
         × Leads C.reads clock.old e.readings clock.new
         × Leads I.gives ids.old e.ids ids.new }

@@ -42,7 +42,7 @@ module _ {K V L : Type 0} (tells : L → K → V → RemovalCause → L → Type
 
 -- a call that tells nothing changes the state alone
 pub befalls-quietly : {K V S X L P W : Type 0} (tells : L → K → V → RemovalCause → L → Type 0) (c : Cache K V S X L P W) (t : State K V X P W) → Befalls tells no_events c (record c { state = t })
-befalls-quietly tells c t = record { kept = refl; heard = nothing_heard tells c.listener; passes = refl }
+befalls-quietly tells c t = record { kept = refl; heard = nothing_heard tells c.listener; passes = refl; listed = λ none. refl }
 
 -- ---- expiries
 

@@ -124,5 +124,6 @@ module _ {K V S X L P W : Type 0} (created : X → K → V → ℕ → Option �
           kept = refl;
           heard = rw (h.listens ∙ ap is_some told, ← same_value, ← same_cause) heard;
           passes = refl;
+          listed = λ none. refl;
         },
       )

@@ -15,7 +15,8 @@ use Rattle.moka_parts.specs.Housekeeper.{Keeper}
 use Rattle.moka_parts.specs.Maintenance.{Terms, tests_of}
 use Rattle.moka_parts.specs.Calls.{RunStep}
 use Rattle.moka_parts.specs.Surroundings.{Leads}
-use Rattle.moka_parts.specs.Runs.{Cache, Befalls, PromisedRun}
+use Rattle.moka_parts.specs.Runs.{Cache, Befalls}
+use Rattle.moka_parts.specs.Listed.{ListedRun}
 use Rattle.moka_parts.proofs.AtEnd.{bare_is_exact}
 use Rattle.moka_parts.proofs.RunReturns.{run_returns, disabled_promised}
 use Rattle.moka_maintenance.specs.declared.sweep.Tests.{Tests}
@@ -95,18 +96,18 @@ module _ {K V X L P W C : Type 0} {tells : L → K → V → RemovalCause → L 
   -- the run keeps its promises
   pub cache_runs : {S : Type 0} (says : P → K → V → Bool → Type 0) (read : X → K → V → ℕ → Option ℕ → ℕ → Option ℕ) (name : Option (List ℕ)) (hasher : S) (passes_before : ℕ) {now : Cache K V S X L P W} →
       record { name = name; hasher = hasher; state = s; listener = l; write_list = []; passes = passes_before } ≡ now →
-      (e : Events K V) × RunStep (PromisedRun says read) now.state terms left e t × Befalls tells e now (record { name = name; hasher = hasher; state = t; listener = n; write_list = []; passes = passes }) × Leads reads clock e.readings clock_after
+      (e : Events K V) × RunStep (ListedRun says read now.write_list []) now.state terms left e t × Befalls tells e now (record { name = name; hasher = hasher; state = t; listener = n; write_list = []; passes = passes }) × Leads reads clock e.readings clock_after
   cache_runs says read name hasher passes_before is =
-      run_returns is [] (run_promised s simple terms by_state refl applied limited refl ran says read h.listens) (ap (λ t. record { name = name; hasher = hasher; state = t; listener = n; write_list = []; passes = passes }) ends)
+      run_returns is [] (run_promised s simple terms by_state refl applied limited refl ran says read [] h.listens) (ap (λ t. record { name = name; hasher = hasher; state = t; listener = n; write_list = []; passes = passes }) ends)
 
 -- ---- a disabled cache
 
 -- a run of it does nothing
 pub disabled_cache_runs : {K V S X L P W C : Type 0} (says : P → K → V → Bool → Type 0) (read : X → K → V → ℕ → Option ℕ → ℕ → Option ℕ) (tells : L → K → V → RemovalCause → L → Type 0) (reads : C → Instant → C → Type 0) {eq : K → K → Bool}
     {old now : Cache K V S X L P W} → old ≡ now → IsCache eq old.listener old.state → is_disabled old.state.capacity ≡ true → (terms : Terms) (clock : C) →
-    (e : Events K V) × RunStep (PromisedRun says read) now.state terms false e old.state × Befalls tells e now (record old { passes = 0 }) × Leads reads clock e.readings clock
+    (e : Events K V) × RunStep (ListedRun says read now.write_list old.write_list) now.state terms false e old.state × Befalls tells e now (record old { passes = 0 }) × Leads reads clock e.readings clock
 disabled_cache_runs says read tells reads {eq} {old} {now} is h disabled terms clock =
-    run_returns is old.write_list (disabled_promised old.state (h.valid.numbered.disabled disabled) disabled terms says read tells reads old.listener clock) refl
+    run_returns is old.write_list (disabled_promised old.state (h.valid.numbered.disabled disabled) disabled terms says read tells reads old.write_list old.listener clock) refl
 
 -- and its report is exact
 pub disabled_exact : {K V X L P W : Type 0} {eq : K → K → Bool} {l : Option L} (s : State K V X P W) → IsCache eq l s → is_disabled s.capacity ≡ true → IsExact s

@@ -7,10 +7,12 @@ ghost use Rattle.std.specs.String.{string_bytes};
 ghost use Rattle.moka_parts.specs.Calls.{no_events, only_notices, Weighs, InsertsAt, InsertStep, SendStep, RemoveStep, NotifyStep, ContainsStep, KeysStep, GetStep, RunStep};
 ghost use Rattle.moka_parts.specs.Exact.{IsExact};
 ghost use Rattle.moka_parts.specs.Housekeeping.{new_housekeeping, without_automatic};
+ghost use Rattle.moka_parts.specs.Listed.{ListedRun};
+ghost use Rattle.moka_parts.specs.Order.{IsWriteList};
 ghost use Rattle.moka_parts.specs.Records.{Notice, record_of_key};
-ghost use Rattle.moka_parts.specs.Runs.{Befalls, PromisedRun};
+ghost use Rattle.moka_parts.specs.Runs.{Befalls};
 ghost use Rattle.moka_parts.specs.Settling.{IsValid, leaves_more_idle};
-ghost use Rattle.moka_parts.specs.State.{Events, is_disabled, limits_of, new_state};
+ghost use Rattle.moka_parts.specs.State.{Events, is_disabled, keeps_write_list, limits_of, new_state};
 ghost use Rattle.moka_parts.specs.Surroundings.{Leads};
 ghost use Rattle.moka_parts.specs.Time.{greatest};
 ghost use Rattle.moka_store.specs.Store.{ClonesAreEqual};
@@ -217,6 +219,7 @@ impl<
     pub fn invariant_holds(&self)
         ensures valid { IsValid K.eq self.now.state }
         ensures listening { self.now.state.settings.listening ≡ is_some self.now.listener }
+        ensures listed { keeps_write_list self.now.state.settings ≡ true → IsWriteList self.now.state self.now.write_list }
     {
         let _passes = self.passes;
     }
@@ -502,7 +505,7 @@ impl<
         requires keys { ClonesAreEqual K.is_clone }
         requires values { ClonesAreEqual V.is_clone }
         ensures { (e : Events K V)
-            × GetStep P.says X.read (PromisedRun P.says X.read) K.eq self.old.state key.now hash need_key false now.0 result e self.new.state
+            × GetStep P.says X.read (ListedRun P.says X.read self.old.write_list self.new.write_list) K.eq self.old.state key.now hash need_key false now.0 result e self.new.state
             × Befalls L.tells e self.old self.new
             × Leads C.reads clock.old e.readings clock.new }
     {
@@ -545,6 +548,10 @@ impl<
     ///
     /// Once every operation was sent, a run leaves count and weight exactly the records', and one that was not cut short,
     /// with a `batch` of at least 1, also the weight within the capacity.
+    ///
+    /// If the cache was empty at first, and all calls since were made in the order of time, such a run also leaves no
+    /// record past its time to live, and none written before the last invalidation of all. This applies to caches with
+    /// a time to live or with predicates; so far there are none.
     pub fn run_pending_tasks<C: Clock>(
         &mut self,
         now: Instant,
@@ -557,7 +564,7 @@ impl<
         K: Drop,
         V: Drop,
         ensures step { (e : Events K V)
-            × RunStep (PromisedRun P.says X.read) self.old.state (record { now = now.0; limit = option_map as_nanos limit; batch = batch }) result e self.new.state
+            × RunStep (ListedRun P.says X.read self.old.write_list self.new.write_list) self.old.state (record { now = now.0; limit = option_map as_nanos limit; batch = batch }) result e self.new.state
             × Befalls L.tells e self.old self.new
             × Leads C.reads clock.old e.readings clock.new }
         ensures exact { self.old.state.outstanding ≡ finite.empty → IsExact self.new.state }

@@ -27,7 +27,7 @@ use Rattle.moka_parts.proofs.RunKeeps.{run_keeps}
 use Rattle.moka_parts.proofs.RunKeepsSound.{run_kept}
 use Rattle.moka_parts.proofs.StepsKeep.{run_valid}
 use Rattle.moka_parts.proofs.AtEnd.{nothing_waits, all_settled, count_is_near, run_is_exact}
-use Rattle.moka_parts.proofs.RunReturns.{IsPromised}
+use Rattle.moka_parts.proofs.RunReturns.{IsPromised, promised_is_listed}
 use Rattle.moka_parts.proofs.Surplus.{removes_enough, removes_first, removes_for_size_alone, leaves_settled}
 use Rattle.moka_maintenance.specs.declared.sweep.Tests.{Tests}
 use Rattle.moka_maintenance.specs.Steps.{HasUnsettled, Told, makes_room}
@@ -261,12 +261,14 @@ module _ {K V X P W L C : Type 0} {tells : L → K → V → RemovalCause → L 
   ran_by_terms : IsRan tells q reads (if s.settings.listening then terms.limit else None) terms.batch c d m n clock clock_after passes left
   ran_by_terms = subst (λ o. IsRan tells q reads o terms.batch c d m n clock clock_after passes left) limited (subst (λ k. IsRan tells q reads limit k c d m n clock clock_after passes left) batched ran)
 
-  -- it keeps all promises
-  pub run_promised : (says : P → K → V → Bool → Type 0) (read : X → K → V → ℕ → Option ℕ → ℕ → Option ℕ) → s.settings.listening ≡ is_some l → IsPromised says read tells reads s terms left passes (with_contents s d s.predicates) l n clock clock_after
-  run_promised says read listening = record {
+  -- it keeps all promises, and any write list, as none is kept
+  pub run_promised : (says : P → K → V → Bool → Type 0) (read : X → K → V → ℕ → Option ℕ → ℕ → Option ℕ) (ns : List ℕ) → s.settings.listening ≡ is_some l → IsPromised says read tells reads ns ns s terms left passes (with_contents s d s.predicates) l n clock clock_after
+  run_promised says read ns listening = record {
     readings = ran_by_terms.readings;
     notices = when_listening s.settings.listening (left_in_run s (choices s simple terms q by_state applied_to_state ran_by_terms));
-    run = promised s simple terms q by_state applied_to_state ran_by_terms says read;
+    run =
+        promised_is_listed says read ns s terms _ _ (with_contents s d s.predicates) simple.unordered
+        (promised s simple terms q by_state applied_to_state ran_by_terms says read);
     heard = promised_told s simple terms q by_state applied_to_state ran_by_terms listening;
     led = ran_by_terms.read;
   }

@@ -14,8 +14,9 @@ use Rattle.moka_parts.specs.Maintenance.{Freedom, Terms, Course, RunsBy, DoesNot
 use Rattle.moka_parts.specs.Settling.{IsValid}
 use Rattle.moka_parts.specs.Order.{waiting_by_ticket, written_at, written_by, IsWriteList, IsInOrder, IsOrderly, KeepsOrder, write_list_at_end}
 use Rattle.moka_parts.specs.Laws.{StaysInOrder}
-use Rattle.moka_parts.specs.Runs.{Cache, CallStep, Step, AreSteps, AreOrderly, MakesCalls, PromisedRun, OrderlyRun, IsEmpty, Drives, last_state}
+use Rattle.moka_parts.specs.Runs.{Cache, CallStep, Step, AreSteps, AreOrderly, MakesCalls, PromisedRun, OrderlyRun, IsEmpty, last_state}
 use Rattle.moka_parts.specs.Listed.{ListedRun, ListedStep, AreListedSteps}
+use Rattle.moka_parts.specs.Drives.{Drives}
 use Rattle.moka_parts.proofs.Maps.{itself_tested, entries-empty}
 use Rattle.moka_parts.proofs.RunsGoOn.{promised_is_run}
 use Rattle.moka_parts.proofs.StepsKeep.{hit_valid, call_keeps}
@@ -23,6 +24,7 @@ use Rattle.moka_parts.proofs.Promises.{weaker_call}
 use Rattle.moka_parts.proofs.OrderedStates.{run_in_order}
 use Rattle.moka_parts.proofs.OrderedCalls.{order_with, hit_in_order}
 use Rattle.moka_parts.proofs.OrderedSteps.{IsListedIn, call_ends}
+use Rattle.moka_parts.proofs.ListsOfCalls.{calls_tell_each_once}
 use Rattle.moka_parts.proofs.OrderedRuns.{listed_is_promised, listed_run_ends, listed_is_orderly}
 
 -- ---- an empty cache
@@ -149,4 +151,5 @@ module _ {K V X L P W C I : Type 0} (m : Meaning K V X L P W C I) where
     steps = steps;
     is_run = made;
     orderly = λ empty orderly. listed_steps_orderly old.state old.write_list new.write_list steps laws valid (λ kept. empty_in_order old.state old.write_list empty (listed kept)) orderly lists;
+    told_once = λ listening. calls_tell_each_once m made laws valid listening;
   }

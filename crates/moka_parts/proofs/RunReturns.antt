@@ -1,41 +1,53 @@
 -- A run with all that is promised of it, as a call of a cache; and one of a disabled cache.
-use Rattle.std.proofs.Common.{◌≡◌, refl, ℕ, Bool, true, false, true≢false, ◌&&◌, List, [], inl, Option, Some, None, ap, sym, subst, ◌∙◌, arith}
+use Rattle.std.proofs.Common.{◌≡◌, refl, ℕ, Bool, true, false, true≢false, ◌&&◌, List, [], inl, Option, Some, None, ap, sym, subst, ◌∙◌, arith, MatchBool}
 use Rattle.std.specs.List.{list_any}
 use Rattle.std.specs.FinMap.{get, len}
 use Rattle.moka_parts.specs.declared.notification.RemovalCause.{RemovalCause}
 use Rattle.moka_parts.specs.declared.policy.Instant.{Instant}
 use Rattle.moka_parts.specs.declared.records.Record.{Record}
 use Rattle.moka_parts.specs.Records.{Notice, is_settled}
-use Rattle.moka_parts.specs.State.{State, Events, is_disabled}
+use Rattle.moka_parts.specs.State.{State, Events, is_disabled, keeps_write_list}
 use Rattle.moka_parts.specs.Surroundings.{Leads, Heard}
-use Rattle.moka_parts.specs.Maintenance.{Terms, Course, is_late}
+use Rattle.moka_parts.specs.Maintenance.{Freedom, Terms, Course, RunsBy, DoesNothing, is_late}
 use Rattle.moka_parts.specs.Exact.{IsWithin}
 use Rattle.moka_parts.specs.Settling.{IsBare, LeavesBehind, Settles}
 use Rattle.moka_parts.specs.Calls.{run_events, RunStep}
+use Rattle.moka_parts.specs.Bounds.{IsBounded}
 use Rattle.moka_parts.specs.Runs.{Cache, Befalls, PromisedRun}
+use Rattle.moka_parts.specs.Listed.{LeavesList, ListedRun}
 use Rattle.moka_parts.proofs.AtEnd.{bare_is_exact}
 use Rattle.moka_parts.proofs.Maps.{nothing_at}
 
--- a run with all that is promised of it, and what listener and clock go through
+-- where no write list is kept, a run that keeps its promises leaves any list as it is
+pub promised_is_listed : {K V X P W : Type 0} (says : P → K → V → Bool → Type 0) (read : X → K → V → ℕ → Option ℕ → ℕ → Option ℕ) (ns : List ℕ) (s : State K V X P W) (terms : Terms) (course : Course) (notices : List (Notice K V)) (t : State K V X P W) →
+    keeps_write_list s.settings ≡ false → PromisedRun says read s terms course notices t → ListedRun says read ns ns s terms course notices t
+promised_is_listed says read ns s terms course notices t none run = (go (is_disabled s.capacity) run.0, (run.1, λ off. refl))
+  where
+    go : (b : Bool) → MatchBool b (DoesNothing s course notices t) ((ch : Freedom) × RunsBy says s terms ch course notices t × IsBounded s terms ch course) →
+        MatchBool b (DoesNothing s course notices t) ((ch : Freedom) × RunsBy says s terms ch course notices t × (IsBounded s terms ch course × LeavesList ns ns s terms ch course))
+    go true nothing = nothing
+    go false (ch, by, bounded) = (ch, by, (bounded, record { list = λ kept. absurd (true≢false (sym kept ∙ none)); rests = λ whole all kept. absurd (true≢false (sym kept ∙ none)) }))
+
+-- a run with all that is promised of it, from one write list to the other, and what listener and clock go through
 pub record IsPromised {K V X P W L C : Type 0} (says : P → K → V → Bool → Type 0) (read : X → K → V → ℕ → Option ℕ → ℕ → Option ℕ) (tells : L → K → V → RemovalCause → L → Type 0) (reads : C → Instant → C → Type 0)
-    (s : State K V X P W) (terms : Terms) (answer : Bool) (passes : ℕ) (t : State K V X P W) (l m : Option L) (clock clock_after : C) : Type 0 where
+    (before after : List ℕ) (s : State K V X P W) (terms : Terms) (answer : Bool) (passes : ℕ) (t : State K V X P W) (l m : Option L) (clock clock_after : C) : Type 0 where
   pub readings : List Instant
   pub notices : List (Notice K V)
-  pub run : PromisedRun says read s terms (record { answer = answer; readings = readings; passes = passes }) notices t
+  pub run : ListedRun says read before after s terms (record { answer = answer; readings = readings; passes = passes }) notices t
   pub heard : Heard tells l notices m
   pub led : Leads reads clock readings clock_after
 
 -- a cache that has made such a run
 pub run_returns : {K V S X L P W C : Type 0} {says : P → K → V → Bool → Type 0} {read : X → K → V → ℕ → Option ℕ → ℕ → Option ℕ} {tells : L → K → V → RemovalCause → L → Type 0} {reads : C → Instant → C → Type 0}
     {old now new : Cache K V S X L P W} (is : old ≡ now) {terms : Terms} {answer : Bool} {passes : ℕ} {t : State K V X P W} {m : Option L} {clock clock_after : C} (write_list : List ℕ) →
-    IsPromised says read tells reads old.state terms answer passes t old.listener m clock clock_after → new ≡ record old { state = t; listener = m; write_list = write_list; passes = passes } →
-    (e : Events K V) × RunStep (PromisedRun says read) now.state terms answer e new.state × Befalls tells e now new × Leads reads clock e.readings clock_after
+    IsPromised says read tells reads old.write_list write_list old.state terms answer passes t old.listener m clock clock_after → new ≡ record old { state = t; listener = m; write_list = write_list; passes = passes } →
+    (e : Events K V) × RunStep (ListedRun says read now.write_list new.write_list) now.state terms answer e new.state × Befalls tells e now new × Leads reads clock e.readings clock_after
 run_returns {K} {V} {S} {X} {L} {P} {W} {C} {says} {read} {tells} {reads} {old} {now} {new} is {terms} {answer} {passes} {t} {m} {clock} {clock_after} write_list h ends =
-    subst (λ now. (e : Events K V) × RunStep (PromisedRun says read) now.state terms answer e new.state × Befalls tells e now new × Leads reads clock e.readings clock_after) is
-    (subst (λ new. (e : Events K V) × RunStep (PromisedRun says read) old.state terms answer e new.state × Befalls tells e old new × Leads reads clock e.readings clock_after) (sym ends) (
+    subst (λ now. (e : Events K V) × RunStep (ListedRun says read now.write_list new.write_list) now.state terms answer e new.state × Befalls tells e now new × Leads reads clock e.readings clock_after) is
+    (subst (λ new. (e : Events K V) × RunStep (ListedRun says read old.write_list new.write_list) old.state terms answer e new.state × Befalls tells e old new × Leads reads clock e.readings clock_after) (sym ends) (
       run_events h.notices (record { answer = answer; readings = h.readings; passes = passes }),
       (record { answer = answer; readings = h.readings; passes = passes }, h.run, refl, refl),
-      record { kept = refl; heard = h.heard; passes = refl },
+      record { kept = refl; heard = h.heard; passes = refl; listed = λ none. cc },
       h.led,
     ))
 
@@ -89,11 +101,11 @@ module _ {K V X P W : Type 0} (s : State K V X P W) (bare : IsBare s.records s.a
       }
 
       -- with all that is promised of it
-      pub disabled_promised : {L C : Type 0} (tells : L → K → V → RemovalCause → L → Type 0) (reads : C → Instant → C → Type 0) (l : Option L) (clock : C) → IsPromised says read tells reads s terms false 0 s l l clock clock
-      disabled_promised tells reads l clock = record {
+      pub disabled_promised : {L C : Type 0} (tells : L → K → V → RemovalCause → L → Type 0) (reads : C → Instant → C → Type 0) (ns : List ℕ) (l : Option L) (clock : C) → IsPromised says read tells reads ns ns s terms false 0 s l l clock clock
+      disabled_promised tells reads ns l clock = record {
         readings = [];
         notices = [];
-        run = (rw disabled (refl, refl, refl), (leaves, settles));
+        run = (rw disabled (refl, refl, refl), ((leaves, settles), λ off. refl));
         heard = nothing_heard tells l;
         led = refl;
       }

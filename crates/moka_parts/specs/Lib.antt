@@ -25,5 +25,6 @@ pub mod Bounds
 pub mod Runs
 pub mod Listed
 pub mod Laws
+pub mod Drives
 pub mod Synchronous
 pub mod Texts

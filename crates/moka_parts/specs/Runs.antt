@@ -41,6 +41,8 @@ pub record Befalls {K V S X L P W : Type 0} (tells : L → K → V → RemovalCa
   pub kept : new ≡ record old { state = new.state; listener = new.listener; write_list = new.write_list; passes = new.passes }
   pub heard : Heard tells old.listener e.notices new.listener
   pub passes : new.passes ≡ passes_after old.passes e.passes
+  -- without a run of maintenance the write list stays
+  pub listed : e.passes ≡ None → new.write_list ≡ old.write_list
 
 -- ---- one call
 
@@ -157,10 +159,3 @@ pub record IsEmpty {K V X P W : Type 0} (s : State K V X P W) : Type 0 where
   pub outstanding : s.outstanding ≡ empty
   pub writes : s.writes ≡ []
   pub access : s.access ≡ []
-
--- what `drive` promises: a run of the reference cache in which each run of maintenance keeps its promises
-pub record Drives {K V S X L P W C I : Type 0} (m : Meaning K V X L P W C I) (calls : List (Call K V P)) (replies : List (Reply K V P)) (old : Cache K V S X L P W) (clock : C) (ids : I) (new : Cache K V S X L P W) (clock_after : C) (ids_after : I) : Type 0 where
-  pub steps : List (Step K V X P W)
-  pub is_run : MakesCalls m (PromisedRun m.says m.read) calls replies steps old clock ids new clock_after ids_after
-  -- from an empty cache, in the order of time, each whole run with all sent also removes what is past its time
-  pub orderly : IsEmpty old.state → AreOrderly old.state steps → AreSteps m (OrderlyRun m.says m.read) old.state steps

@@ -2,8 +2,9 @@ use Rattle.std.proofs.Common.{rules, arith, refl, sym, ap, subst, ◌∙◌, [],
 use Rattle.std.specs.List.{AllByRecursion}
 use Rattle.std.specs.Vec.Iter.{into_iter_items}
 use Rattle.moka_parts.specs.State.{Meaning}
-use Rattle.moka_parts.specs.Runs.{PromisedRun}
-use Rattle.moka_parts.proofs.ListsOfCalls.{calls_tell_each_once}
+use Rattle.moka_parts.specs.Runs.{PromisedRun, Step}
+use Rattle.moka_parts.specs.Listed.{ListedStep}
+use Rattle.moka_parts.proofs.OrderedDrive.{listed_call_promised, lists_go_on, drives_in_order}
 use Rattle.moka_parts.proofs.RunsGoOn.{MakesCalls_push}
 use Rattle.moka_drive.specs.Served.{IsServed}
 use Rattle.moka_drive.proofs.Quiet.{no_calls, empty_of_length}
@@ -13,7 +14,7 @@ pub loop-call-init : goal.loop-call-init
 loop-call-init g c = record {
   can = tt;
   finite = tt;
-  ran = ([], rw c.in-Ok.ensures.items (no_calls (record { eq = g.K.PartialEq.eq; tells = g.L.Listener.tells; says = g.P.PredicateFn.says; weighs = g.W.Weigher.weighs; observes = g.C.Clock.reads; gives = g.I.IdSource.gives; created = g.X.Expiry.created; read = g.X.Expiry.read; updated = g.X.Expiry.updated }) (PromisedRun g.P.PredicateFn.says g.X.Expiry.read) c.args.cache.now c.args.clock.now c.args.ids.now));
+  ran = ([], rw c.in-Ok.ensures.items (no_calls (record { eq = g.K.PartialEq.eq; tells = g.L.Listener.tells; says = g.P.PredicateFn.says; weighs = g.W.Weigher.weighs; observes = g.C.Clock.reads; gives = g.I.IdSource.gives; created = g.X.Expiry.created; read = g.X.Expiry.read; updated = g.X.Expiry.updated }) (PromisedRun g.P.PredicateFn.says g.X.Expiry.read) c.args.cache.now c.args.clock.now c.args.ids.now), refl);
   rest = search rules;
   served = grind (rules, c.requires.served);
   room = search rules;
@@ -27,17 +28,21 @@ push_reserved-requires g c = omega (arith, c.loop-call.invariant.room, ap length
 
 pub loop-call-preserved : goal.loop-call-preserved
 loop-call-preserved g c =
+    let m : Meaning g.row.K.Denot g.row.V.Denot g.row.X.Denot g.row.L.Denot g.row.P.Denot g.row.W.Denot g.row.C.Denot g.row.I.Denot = record { eq = g.K.PartialEq.eq; tells = g.L.Listener.tells; says = g.P.PredicateFn.says; weighs = g.W.Weigher.weighs; observes = g.C.Clock.reads; gives = g.I.IdSource.gives; created = g.X.Expiry.created; read = g.X.Expiry.read; updated = g.X.Expiry.updated } in
     let h = c.loop-call.invariant.ran in
     let k = c.make-reply.ensures in
+    let made : Step g.row.K.Denot g.row.V.Denot g.row.X.Denot g.row.P.Denot g.row.W.Denot = record { call = c.in-Some.call; reply = c.make-reply.result; events = k.0; after = c.make-reply.new.cache.state } in
+    let listed : ListedStep m c.loop-call.cache.state c.loop-call.cache.write_list made c.make-reply.new.cache.write_list = (k.1, k.2.listed) in
+    let promised = listed_call_promised m c.loop-call.cache.state c.loop-call.cache.write_list c.make-reply.new.cache.write_list made listed in
     let step = c.in-Some.ensures.steps in
     record {
       can = tt;
       finite = tt;
       ran = (
-        h.0 ++ record { call = c.in-Some.call; reply = c.make-reply.result; events = k.0; after = c.make-reply.new.cache.state } ∷ [],
-        rw c.push_reserved.ensures.items (MakesCalls_push (record { eq = g.K.PartialEq.eq; tells = g.L.Listener.tells; says = g.P.PredicateFn.says; weighs = g.W.Weigher.weighs; observes = g.C.Clock.reads; gives = g.I.IdSource.gives; created = g.X.Expiry.created; read = g.X.Expiry.read; updated = g.X.Expiry.updated }) (PromisedRun g.P.PredicateFn.says g.X.Expiry.read) c.loop-call.yielded c.loop-call.replies.items h.0 c.args.cache.now c.loop-call.cache c.make-reply.new.cache
-            c.args.clock.now c.loop-call.clock c.make-reply.new.clock c.args.ids.now c.loop-call.ids c.make-reply.new.ids
-            (record { call = c.in-Some.call; reply = c.make-reply.result; events = k.0; after = c.make-reply.new.cache.state }) h.1 k.1 refl k.2 k.3 k.4),
+        h.0 ++ made ∷ [],
+        rw c.push_reserved.ensures.items (MakesCalls_push m (PromisedRun m.says m.read) c.loop-call.yielded c.loop-call.replies.items h.0 c.args.cache.now c.loop-call.cache c.make-reply.new.cache
+            c.args.clock.now c.loop-call.clock c.make-reply.new.clock c.args.ids.now c.loop-call.ids c.make-reply.new.ids made h.1 promised refl k.2 k.3 k.4),
+        lists_go_on m (PromisedRun m.says m.read) c.loop-call.yielded c.loop-call.replies.items h.0 c.args.cache.now c.loop-call.cache c.args.clock.now c.loop-call.clock c.args.ids.now c.loop-call.ids made c.make-reply.new.cache.write_list h.1 h.2 listed,
       );
       rest = c.loop-call.invariant.rest ∙ (ap (λ xs. c.loop-call.yielded ++ xs) step.0 ∙ sym (append_assoc c.loop-call.yielded (c.in-Some.call ∷ []) (into_iter_items c.next.new.self)));
       served = (subst (AllByRecursion IsServed) step.0 c.loop-call.invariant.served).1;
@@ -46,8 +51,9 @@ loop-call-preserved g c =
 
 pub returns-clause-run : goal.returns-clause-run
 returns-clause-run g c =
+    let m : Meaning g.row.K.Denot g.row.V.Denot g.row.X.Denot g.row.L.Denot g.row.P.Denot g.row.W.Denot g.row.C.Denot g.row.I.Denot = record { eq = g.K.PartialEq.eq; tells = g.L.Listener.tells; says = g.P.PredicateFn.says; weighs = g.W.Weigher.weighs; observes = g.C.Clock.reads; gives = g.I.IdSource.gives; created = g.X.Expiry.created; read = g.X.Expiry.read; updated = g.X.Expiry.updated } in
     let h = c.loop-call.invariant.ran in
     let none = empty_of_length (into_iter_items c.loop-call.call-iterator) (sym c.loop-call.call-iterator.rest.ok.0 ∙ c.in-None.ensures.steps.0) in
     let all = c.loop-call.invariant.rest ∙ (ap (λ xs. c.loop-call.yielded ++ xs) none ∙ append-nil c.loop-call.yielded) in
-    let m : Meaning g.row.K.Denot g.row.V.Denot g.row.X.Denot g.row.L.Denot g.row.P.Denot g.row.W.Denot g.row.C.Denot g.row.I.Denot = record { eq = g.K.PartialEq.eq; tells = g.L.Listener.tells; says = g.P.PredicateFn.says; weighs = g.W.Weigher.weighs; observes = g.C.Clock.reads; gives = g.I.IdSource.gives; created = g.X.Expiry.created; read = g.X.Expiry.read; updated = g.X.Expiry.updated } in
-    (h.0, rw all h.1, λ listening. calls_tell_each_once m h.1 g.met.K.Eq.laws c.invariant_holds.ensures.valid listening)
+    drives_in_order m c.args.calls.items c.loop-call.replies.items h.0 c.args.cache.now c.loop-call.cache c.args.clock.now c.loop-call.clock c.args.ids.now c.loop-call.ids
+    g.met.K.Eq.laws c.invariant_holds.ensures.valid c.invariant_holds.ensures.listed (rw all h.1) h.2

@@ -1,6 +1,6 @@
 use Rattle.std.proofs.Common.{refl, sym, ◌∙◌}
 use Rattle.moka_parts.specs.Calls.{no_events}
-use Rattle.moka_parts.specs.Runs.{PromisedRun}
+use Rattle.moka_parts.specs.Listed.{ListedRun}
 use Rattle.moka_drive.proofs.Quiet.{nothing_befalls, keys_step}
 use Rattle.moka_drive.proofs.driver.make.Goals as goal
 
@@ -18,7 +18,7 @@ returns-in-Key g c =
 
 pub returns-in-Keys : goal.returns-in-Keys
 returns-in-Keys g c =
-    rw c.in-Keys.is (no_events, keys_step (record { eq = g.K.PartialEq.eq; tells = g.L.Listener.tells; says = g.P.PredicateFn.says; weighs = g.W.Weigher.weighs; observes = g.C.Clock.reads; gives = g.I.IdSource.gives; created = g.X.Expiry.created; read = g.X.Expiry.read; updated = g.X.Expiry.updated }) (PromisedRun g.P.PredicateFn.says g.X.Expiry.read) c.args.cache.now.state c.in-Keys.segment c.keys.result c.keys.ensures.ok c.keys.ensures.err, nothing_befalls g.L.Listener.tells c.args.cache.now, refl, refl)
+    rw c.in-Keys.is (no_events, keys_step (record { eq = g.K.PartialEq.eq; tells = g.L.Listener.tells; says = g.P.PredicateFn.says; weighs = g.W.Weigher.weighs; observes = g.C.Clock.reads; gives = g.I.IdSource.gives; created = g.X.Expiry.created; read = g.X.Expiry.read; updated = g.X.Expiry.updated }) (ListedRun g.P.PredicateFn.says g.X.Expiry.read c.args.cache.now.write_list c.args.cache.now.write_list) c.args.cache.now.state c.in-Keys.segment c.keys.result c.keys.ensures.ok c.keys.ensures.err, nothing_befalls g.L.Listener.tells c.args.cache.now, refl, refl)
 
 pub returns-in-Report : goal.returns-in-Report
 returns-in-Report g c =

@@ -1,4 +1,4 @@
-use Rattle.std.proofs.Common.{refl, [], ◌∷◌}
+use Rattle.std.proofs.Common.{refl, []}
 use Rattle.moka_drive.proofs.Quiet.{nothing_befalls}
 use Rattle.moka_drive.proofs.driver.notify.Goals as goal
 
