@@ -10,6 +10,6 @@ pub returns-in-Ok : goal.returns-in-Ok
 returns-in-Ok c =
     let run = c.in-Ok.ensures.run in
     let listens : c.in_ok-cache.cache.listener ≡ listener_for c.args.script.settings.listener c.args.script.calls.items = c.in_ok-cache.ensures.listener ∙ (c.in_ok-listener.ensures ∙ ap (λ calls. listener_for c.args.script.settings.listener calls) c.deref.ensures.value) in
-    let heard = subst (λ listener. Heard Keeps listener (notices_of run.0) c.drive.new.cache.listener) listens run.1.heard in
-    let done = subst (λ s. AreSteps script_meaning (PromisedRun script_meaning.says script_meaning.read) s run.0) c.in_ok-cache.ensures.state run.1.are_steps in
-    (run.0, run.1.calls_made, run.1.replies_given, told_by_script c.args.script.settings c.args.script.calls.items run.0 c.drive.new.cache.listener run.1.calls_made done heard, done, ap (λ cache. total_of cache.state) run.1.ends ∙ ap (λ s. total_of (last_state s run.0)) c.in_ok-cache.ensures.state)
+    let heard = subst (λ listener. Heard Keeps listener (notices_of run.steps) c.drive.new.cache.listener) listens run.is_run.heard in
+    let done = subst (λ s. AreSteps script_meaning (PromisedRun script_meaning.says script_meaning.read) s run.steps) c.in_ok-cache.ensures.state run.is_run.are_steps in
+    (run.steps, run.is_run.calls_made, run.is_run.replies_given, told_by_script c.args.script.settings c.args.script.calls.items run.steps c.drive.new.cache.listener run.is_run.calls_made done heard, done, ap (λ cache. total_of cache.state) run.is_run.ends ∙ ap (λ s. total_of (last_state s run.steps)) c.in_ok-cache.ensures.state)
