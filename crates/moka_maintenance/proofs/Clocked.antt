@@ -62,7 +62,3 @@ clocked-check {C} reads (Some limit) started c d e passes late h k = at h.readin
 -- one more pass that found it not late
 pub still_early : {C : Type 0} (reads : C → Instant → C → Type 0) (limit : Option ℕ) (started : Option Instant) (c d : C) (passes : ℕ) → IsChecked reads limit started c d passes false → Clocked reads limit started c d passes
 still_early reads limit started c d passes h = record { readings = h.readings; read = h.read; timed = h.timed; untimed = h.untimed; early = h.lateness; first = h.first }
-
--- a reading after the first
-pub checks-some : {C : Type 0} (reads : C → Instant → C → Type 0) (first : Instant) (limit : Option ℕ) (n : ℕ) (c d : C) (late : Bool) → limit ≡ Some n → (r : Instant) → reads c r d → late ≡ nat_le n (r.0 - first.0) → Checks reads (Some first) limit c late d
-checks-some reads first limit n c d late e r read is = subst (λ o. Checks reads (Some first) o c late d) (sym e) (r, read, is)

@@ -13,25 +13,10 @@ use Rattle.moka_parts.proofs.Maps.{same_by_test}
 use Rattle.moka_store.proofs.Gets.{some_same}
 use Rattle.moka_maintenance.proofs.Stepped.{length-on}
 
--- the number of the first member
-pub first_front : (xs : List Member) (n w : ℕ) → Some (member n w) ≡ slice_get xs 0 → is_front n xs ≡ true
-first_front [] n w e = cc
-first_front (a ∷ xs) n w e = let same : member n w ≡ a = some_same e in subst (λ (a : Member). a.number == n ≡ true) same (eq-eqb n n refl)
-
--- there is one front
-pub one_front : (xs : List Member) (n m : ℕ) → is_front n xs ≡ true → is_front m xs ≡ true → n ≡ m
-one_front [] n m h k = cc
-one_front (a ∷ xs) n m h k = sym (same_by_test a.number n h) ∙ same_by_test a.number m k
-
 -- where the capacity is not exceeded, the list is within it
 pub within-not_over : (capacity : Option ℕ) (xs : List Member) → is_over capacity xs ≡ false → IsWithin capacity xs
 within-not_over None xs e = tt
 within-not_over (Some capacity) xs e = grind arith
-
--- an empty list is within any capacity
-pub within-empty : (capacity : Option ℕ) (xs : List Member) → xs ≡ [] → IsWithin capacity xs
-within-empty None xs e = tt
-within-empty (Some capacity) xs e = rw e (omega arith)
 
 -- the front, and what is behind it
 pub record Front (n : ℕ) (xs : List Member) : Type 0 where

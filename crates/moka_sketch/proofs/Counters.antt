@@ -85,10 +85,6 @@ pub table_of-some : (words : List ℕ) (size : ℕ) → 0 < length words → tab
 table_of-some [] size l = absurd (omega arith)
 table_of-some (word ∷ words) size l = refl
 
-pub table_of-none : (words : List ℕ) (size : ℕ) → length words ≡ 0 → table_of words size ≡ None
-table_of-none [] size e = refl
-table_of-none (word ∷ words) size e = absurd (omega arith)
-
 -- words of zeros show a fresh table
 pub table_of-zeros : (n : ℕ) → 0 < n → table_of (replicate {A = ℕ} n 0) 0 ≡ Some (no_counts n)
 table_of-zeros n l =

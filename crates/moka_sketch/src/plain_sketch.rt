@@ -1,6 +1,6 @@
 //! The sketch with one byte a counter, against which the packed one is tested.
-ghost use Rattle.std.specs.Prelude.{◌≡◌, ◌+◌, ◌*◌, ◌/◌, ◌%◌, ◌^◌, ◌<◌, ◌≤◌, ◌↔◌, ℕ, true, IsTrue, length, slice_index, map, fold, min, Option, Some, None, IfOk, OnOk, OnErr};
-ghost use Rattle.moka_sketch.specs.Frequency.{Table, place_of, places_of, least_at, raised, can_rise, frequency, counted_once, no_counts, length_of, table_length_for};
+ghost use Rattle.std.specs.Prelude.{◌≡◌, ◌+◌, ◌*◌, ◌/◌, ◌%◌, ◌^◌, ◌<◌, ◌≤◌, ℕ, length, slice_index, map, fold, min, Option, Some, None, OnOk};
+ghost use Rattle.moka_sketch.specs.Frequency.{Table, place_of, places_of, least_at, raised, can_rise, frequency, counted_once, no_counts, table_length_for};
 ghost use Rattle.moka_sketch.specs.Plain.{plain_table_of, IsPlainSound};
 
 use crate::frequency_sketch::table_len_for;

@@ -26,10 +26,6 @@ lt-true a b l = search arith
 pub lt-false : (a b : ℕ) → b ≤ a → nat_lt a b ≡ false
 lt-false a b l = search arith
 
--- both tests are met
-pub lt-same : (a b n : ℕ) → a < n → b < n → nat_lt a n ≡ nat_lt b n
-lt-same a b n p q = lt-true a n p ∙ sym (lt-true b n q)
-
 pub past-head : (ns : List Node) (i : ℕ) → 2049 ≤ i → timer_at ns i ≡ held (at ns i)
 past-head ns i l = cond-false (nat_lt i 2049) None (held (at ns i)) (lt-false i 2049 l)
 
@@ -117,9 +113,6 @@ move-keeps ns ms os s t r a = record {
       let same = r.free i l in
       a.free i ne (subst (λ n. 2049 ≤ n.bucket) (sym same) l) ∙ same;
 }
-
-pub keeps-refl : (ns : List Node) → Keeps ns ns
-keeps-refl ns = record { size = refl; timers = λ _. refl; free = λ _ _. refl }
 
 pub keeps-trans : (ns ms os : List Node) → Keeps ns ms → Keeps ms os → Keeps ns os
 keeps-trans ns ms os a b = record {

@@ -43,12 +43,6 @@ get-within t n q l = get-from_entries nat_cmp_total (entries_of t 0 n) q ∙ fin
 pub get-past : (t : ℕ → Option Timer) (n q : ℕ) → n ≤ q → get (map_of t n) q ≡ None
 get-past t n q l = get-from_entries nat_cmp_total (entries_of t 0 n) q ∙ find-past t 0 n q (omega arith)
 
-pub same-slots : (t : ℕ → Option Timer) (n : ℕ) (m : FinMap nat_cmp Timer) → ((q : ℕ) → q < n → t q ≡ get m q) → ((q : ℕ) → n ≤ q → get m q ≡ None) → map_of t n ≡ m
-same-slots t n m low high = same_map nat_cmp_total nat_cmp-IsAntisymmetric (map_of t n) m (λ q. elim (cases_lt q n) as (λ _. get (map_of t n) q ≡ get m q) [
-  | inl l ↦ get-within t n q l ∙ low q l
-  | inr l ↦ get-past t n q l ∙ sym (high q l)
-])
-
 -- ---- how many timers there are
 
 pub len-put-new : (m : FinMap nat_cmp Timer) (s : ℕ) (t : Timer) → get m s ≡ None → len (insert m s t) ≡ len m + 1

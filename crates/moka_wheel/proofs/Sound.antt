@@ -156,13 +156,6 @@ early-placed ns ws w u b placed le low on first early =
     ])
     (λ l. absurd (omega arith)) (λ l. absurd (omega arith))
 
--- to any later moment, where no bucket is marked
-pub clear-placed : (ns : List Node) (ws : List ℕ) (w u : ℕ) → IsPlaced ns ws w 2048 → w ≤ u → ((k : ℕ) → k < 2048 → bit_of ws k ≡ 0) → IsPlaced ns ws u 2048
-clear-placed ns ws w u placed le none =
-    move-placed ns ws w u 2048 placed le
-    (λ k l ne marked. absurd (omega (arith, none k l, marked)))
-    (λ l. absurd (omega arith)) (λ l. absurd (omega arith))
-
 -- ---- the bucket that was reached is empty
 
 pub empty-placed : (ns : List Node) (ws vs : List ℕ) (w r : ℕ) → IsPlaced ns ws w r → r < 2048 → behinds ns r ≡ r

@@ -1,5 +1,5 @@
 //! Timers in a plain list of pairs, with the contract of the wheel, to compare the wheel with.
-ghost use Rattle.std.specs.Prelude.{◌≡◌, ◌+◌, ◌<◌, ◌≤◌, ℕ, length, slice_index_or, IsOk, IsSome, IsTrue, OnOk, IfOk, IfSome, IfNone, Some, None, nat_eq, option_map, if◌then◌else◌};
+ghost use Rattle.std.specs.Prelude.{◌≡◌, ◌+◌, ◌<◌, ◌≤◌, ℕ, length, slice_index_or, IsOk, IsSome, IsTrue, OnOk, IfSome, IfNone, Some, None, option_map};
 ghost use Rattle.std.specs.FinMap.{empty, get, insert, remove};
 ghost use Rattle.moka_wheel.specs.Wheel.{Timer};
 
