@@ -36,6 +36,7 @@ use std::time::Duration;
 mod causes;
 mod gets;
 mod inserts;
+mod reports;
 #[cfg(test)]
 mod tests;
 
