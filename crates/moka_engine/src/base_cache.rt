@@ -31,6 +31,7 @@ use std::marker::Model;
 mod causes;
 mod gets;
 mod inserts;
+mod reports;
 mod runs;
 #[cfg(test)]
 mod tests;

@@ -1,5 +1,5 @@
 //! The map, the operations that wait, and both queues.
-ghost use Rattle.std.specs.Prelude.{◌≡◌, ◌+◌, ◌^◌, ◌<◌, ◌≤◌, ◌↔◌, ◌⊎◌, ℕ, [], ◌∷◌, ◌++◌, None, Some, Ok, Err, OnOk, OnErr, IfOk, IfSome, if◌then◌else◌, length, map, nat_lt, option_map, IsPermutation};
+ghost use Rattle.std.specs.Prelude.{◌≡◌, ◌+◌, ◌^◌, ◌<◌, ◌≤◌, ◌↔◌, ◌⊎◌, ℕ, [], ◌∷◌, ◌++◌, None, Some, Ok, Err, OnOk, OnErr, IfOk, IfSome, if◌then◌else◌, length, map, nat_lt, option_map, slice_get, IsPermutation};
 ghost use Rattle.std.specs.Duration.{as_nanos};
 ghost use Rattle.std.specs.FinMap as finite;
 ghost use Rattle.moka_parts.specs.Calls.{queue_length};
@@ -356,6 +356,34 @@ impl<K: Eq + Hash, V, S: BuildHasher> Inner<K, V, S> {
         ensures { result ≡ total_weight self.now.kept.access }
     {
         self.store.total_weight()
+    }
+
+    /// How many operations were handed out and not sent.
+    pub fn outstanding_count(&self) -> usize
+        ensures { result ≡ finite.len self.now.outstanding }
+    {
+        self.outstanding.len()
+    }
+
+    /// The least ticket of these.
+    pub fn oldest_outstanding(&self) -> Option<Ticket>
+        ensures { option_map (λ t. t.0) result ≡ slice_get (finite.keys self.now.outstanding) 0 }
+    {
+        self.outstanding.oldest().map(Ticket)
+    }
+
+    /// How many operations are queued.
+    pub fn write_count(&self) -> usize
+        ensures { result ≡ length self.now.writes }
+    {
+        self.writes.len()
+    }
+
+    /// How many reads are queued.
+    pub fn read_count(&self) -> usize
+        ensures { result ≡ length self.now.reads }
+    {
+        self.reads.len()
     }
 }
 
