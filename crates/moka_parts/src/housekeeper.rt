@@ -144,6 +144,19 @@ impl Housekeeper {
         }
     }
 
+    /// A housekeeper that remembers the same and gives the same to its runs.
+    pub fn copied(&self) -> Self
+        ensures { result ≡ self.now }
+    {
+        Housekeeper {
+            run_after: self.run_after,
+            more_entries_to_evict: self.more_entries_to_evict,
+            auto_run_enabled: self.auto_run_enabled,
+            is_eviction_listener_enabled: self.is_eviction_listener_enabled,
+            config: self.config,
+        }
+    }
+
     /// Whether a run is due before another read is queued, where so many wait.
     pub fn should_apply_reads(&self, len: usize, now: Instant) -> bool
         ensures { result ≡ is_due self.now.housekeeping len now.0 }

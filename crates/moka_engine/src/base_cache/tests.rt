@@ -12,6 +12,7 @@ use std::cell::Cell;
 use std::hash::{BuildHasherDefault, FoldHasher};
 use std::rc::Rc;
 use std::test::Fail;
+use std::time::Duration;
 
 /// What an entry weighs is its key.
 #[derive(Drop)]

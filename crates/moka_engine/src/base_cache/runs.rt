@@ -1,0 +1,103 @@
+//! Runs of maintenance. moka: `sync::base_cache::Inner::do_run_pending_tasks`.
+ghost use Rattle.std.specs.Prelude.{◌≡◌, ◌≤◌, min, option_map, None, false, if◌then◌else◌};
+ghost use Rattle.std.specs.Duration.{as_nanos};
+ghost use Rattle.std.specs.FinMap as finite;
+ghost use Rattle.moka_parts.specs.Calls.{RunStep};
+ghost use Rattle.moka_parts.specs.Exact.{IsExact};
+ghost use Rattle.moka_parts.specs.Listed.{ListedRun};
+ghost use Rattle.moka_parts.specs.Runs.{Befalls};
+ghost use Rattle.moka_parts.specs.Settling.{leaves_more_idle};
+ghost use Rattle.moka_parts.specs.State.{Events, is_disabled};
+ghost use Rattle.moka_parts.specs.Surroundings.{Leads};
+ghost use Rattle.moka_parts.specs.Time.{greatest};
+
+use super::BaseCache;
+use moka_maintenance::sweep::Tests;
+use moka_parts::closures::{PredicateFn, Weigher};
+use moka_parts::housekeeper::Clock;
+use moka_parts::notification::Listener;
+use moka_parts::policy::{Expiry, Instant};
+use std::hash::{BuildHasher, Hash};
+use std::time::Duration;
+
+impl<
+    K: Eq + Hash,
+    V,
+    S: BuildHasher,
+    X: Expiry<K, V>,
+    L: Listener<K, V>,
+    P: PredicateFn<K, V>,
+    W: Weigher<K, V>,
+> BaseCache<K, V, S, X, L, P, W> {
+    /// Runs maintenance: applies the queued reads and then the queued writes, and removes, in passes, what has expired,
+    /// what was invalidated and what exceeds the capacity. At the end the report is made. The answer tells whether more
+    /// is left. A capacity of 0 leaves nothing to do. The housekeeper is not touched.
+    ///
+    /// - `now`: the moment by which all is tested.
+    /// - `clock`: tells how long the run goes on. It is read only where a listener is set and there is a limit.
+    /// - `limit`: after this time no further pass is made, and more is left.
+    /// - `repeats`: how often a run may go back to its queues. With one owner nothing is queued meanwhile, so it has no
+    ///   effect.
+    /// - `batch`: how many records a step of a pass looks at. With 0 nothing is removed, and more is left where there is
+    ///   anything to test records by.
+    ///
+    /// Once every operation was sent, a run leaves count and weight exactly the records', and one that was not cut short,
+    /// with a `batch` of at least 1, also the weight within the capacity.
+    ///
+    /// If the cache was empty at first, and all calls since were made in the order of time, such a run also leaves no
+    /// record past its time to live, and none written before the last invalidation of all. This applies to caches with
+    /// a time to live or with predicates; so far there are none.
+    pub fn run_pending_tasks<C: Clock>(
+        &mut self,
+        now: Instant,
+        clock: &mut C,
+        limit: Option<Duration>,
+        repeats: u32,
+        batch: u32,
+    ) -> bool
+    where
+        K: Drop,
+        V: Drop,
+        ensures step { (e : Events K V)
+            × RunStep (ListedRun P.says X.read self.old.write_list self.new.write_list) self.old.state (record { now = now.0; limit = option_map as_nanos limit; batch = batch }) result e self.new.state
+            × Befalls L.tells e self.old self.new
+            × Leads C.reads clock.old e.readings clock.new }
+        ensures exact { self.old.state.outstanding ≡ finite.empty → IsExact self.new.state }
+        ensures idle { is_disabled self.old.state.capacity ≡ false → batch ≡ 0 → result ≡ leaves_more_idle self.new.state }
+    {
+        if self.is_map_disabled() {
+            self.passes = 0;
+            return false;
+        }
+        let limit = limit_of_run(self.notifier.is_enabled(), limit);
+        let tests = Tests {
+            now,
+            time_to_live: self.expiration_policy.time_to_live(),
+            time_to_idle: self.expiration_policy.time_to_idle(),
+            valid_after: self.valid_after,
+            capacity: self.max_capacity,
+        };
+        let notifier = &mut self.notifier;
+        self.inner
+            .apply_queues(notifier, self.max_capacity, self.eviction_policy);
+        let ran = self.inner.make_passes(notifier, clock, tests, limit, batch);
+        self.entry_count = self.inner.member_count() as u64;
+        self.weighted_size = saturated(self.inner.total_weight());
+        self.passes = ran.passes;
+        ran.is_left
+    }
+}
+
+// The time limit of a run: without a listener it has none.
+fn limit_of_run(is_listening: bool, limit: Option<Duration>) -> Option<Duration>
+    ensures { option_map as_nanos result ≡ (if is_listening then option_map as_nanos limit else None) }
+{
+    if is_listening { limit } else { None }
+}
+
+// The weight, or the greatest number where it is greater.
+fn saturated(weight: u128) -> u64
+    ensures { result ≡ min weight greatest }
+{
+    u64::try_from(weight).unwrap_or(u64::MAX)
+}
