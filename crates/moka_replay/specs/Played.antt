@@ -5,6 +5,7 @@ use Rattle.moka_parts.specs.declared.calls.Reply.{Reply}
 use Rattle.moka_parts.specs.declared.policy.EvictionPolicy.{EvictionPolicy}
 use Rattle.moka_parts.specs.declared.policy.EvictionPolicy.TheVariants.{TinyLfu}
 use Rattle.moka_parts.specs.declared.policy.NoExpiry.{NoExpiry}
+use Rattle.moka_parts.specs.Policy.{Expirations}
 use Rattle.moka_parts.specs.State.{State, Meaning, new_state}
 use Rattle.moka_parts.specs.Housekeeping.{new_housekeeping, without_automatic}
 use Rattle.moka_parts.specs.Runs.{Step, calls_of, replies_of, notices_of, last_state, AreSteps, PromisedRun}
@@ -43,12 +44,16 @@ script_meaning = record {
 abbrev pub chosen_policy : Settings → EvictionPolicy
 chosen_policy settings = unwrap_or settings.policy TinyLfu
 
+-- when its entries expire, in nanoseconds
+abbrev pub expirations_of : Settings → Expirations NoExpiry
+expirations_of settings = record { time_to_live = None; time_to_idle = settings.time_to_idle; expiry = None }
+
 -- the cache that a script begins with: made at 0, and no run starts by itself
 abbrev pub first_state : Settings → ScriptState
 first_state settings = record (new_state (record {
   policy = chosen_policy settings;
   time_to_live = None;
-  time_to_idle = None;
+  time_to_idle = settings.time_to_idle;
   expiry = None;
   weigher = settings.weigher;
   listening = settings.listener;

@@ -4,7 +4,7 @@ ghost use Rattle.std.specs.List.{AllByRecursion};
 ghost use Rattle.moka_drive.specs.Served.{IsServed};
 ghost use Rattle.moka_replay.specs.Notices.{told_of, listener_for};
 ghost use Rattle.moka_replay.specs.Script.{text_of};
-ghost use Rattle.moka_replay.specs.Played.{AreReplies, chosen_policy, first_state, total_of};
+ghost use Rattle.moka_replay.specs.Played.{AreReplies, chosen_policy, expirations_of, first_state, total_of};
 ghost use Rattle.moka_engine.specs.BaseCache.{IsLruWhereBounded};
 
 use crate::key_range::KeyRange;
@@ -20,6 +20,7 @@ use moka_parts::housekeeper::HousekeeperConfig;
 use moka_parts::policy::{EvictionPolicy, ExpirationPolicy, Instant, NoExpiry};
 use std::alloc::Global;
 use std::hash::{BuildHasherDefault, FoldHasher};
+use std::time::Duration;
 
 /// The first ticket where a script sets none.
 const FIRST_TICKET: u64 = 1;
@@ -105,10 +106,21 @@ fn new_cache(
         settings.weigher,
         settings.policy.unwrap_or(EvictionPolicy::tiny_lfu()),
         listener,
-        ExpirationPolicy::default(),
+        expirations_of(settings),
         HousekeeperConfig::default(),
         false,
         Instant(0),
         first,
     )
+}
+
+/// When the entries of a script's cache expire.
+fn expirations_of(settings: Settings) -> ExpirationPolicy<NoExpiry>
+    ensures { result ≡ expirations_of settings }
+{
+    let mut expirations = ExpirationPolicy::default();
+    if let Some(nanos) = settings.time_to_idle {
+        expirations.set_time_to_idle(Duration::from_nanos(nanos));
+    }
+    expirations
 }

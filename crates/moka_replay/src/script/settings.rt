@@ -1,10 +1,10 @@
 //! The settings of a script.
 ghost use Rattle.std.specs.Prelude.{◌≡◌};
 ghost use Rattle.moka_replay.specs.Lex.{texts};
-ghost use Rattle.moka_replay.specs.Settings.{first_of, capacity_of, policy_of, policy_named, setting_of};
+ghost use Rattle.moka_replay.specs.Settings.{policy_of, policy_named, setting_of};
 
 use crate::first_ticket::FirstTicket;
-use crate::lex::{alone, number};
+use crate::lex::{alone, lone_number};
 use crate::weigher::NumberWeigher;
 use moka_parts::policy::EvictionPolicy;
 
@@ -17,6 +17,8 @@ pub struct Settings {
     pub capacity: Option<u64>,
     /// How the cache chooses what stays.
     pub policy: Option<EvictionPolicy>,
+    /// How long an entry lasts after it was last inserted or read, in nanoseconds.
+    pub time_to_idle: Option<u64>,
     /// What weighs the values.
     pub weigher: Option<NumberWeigher>,
     /// Whether a listener keeps the notices.
@@ -35,6 +37,7 @@ impl Settings {
             first: None,
             capacity: None,
             policy: None,
+            time_to_idle: None,
             weigher: None,
             listener: false,
         }
@@ -57,6 +60,10 @@ impl Settings {
                 policy: Some(policy),
                 ..self
             }),
+            Setting::TimeToIdle(nanos) if self.time_to_idle.is_none() => Some(Settings {
+                time_to_idle: Some(nanos),
+                ..self
+            }),
             Setting::Weigh(weigher) if self.weigher.is_none() => Some(Settings {
                 weigher: Some(weigher),
                 ..self
@@ -76,6 +83,7 @@ pub enum Setting {
     First(FirstTicket),
     Capacity(u64),
     Policy(EvictionPolicy),
+    TimeToIdle(u64),
     Weigh(NumberWeigher),
     Listener,
 }
@@ -90,30 +98,9 @@ impl Setting {
     {
         match self {
             Setting::Capacity(capacity) => has_lru || *capacity == 0,
-            Setting::First(_) | Setting::Policy(_) | Setting::Weigh(_) | Setting::Listener => true,
+            _ => true,
         }
     }
-}
-
-/// `first N`
-fn first(arguments: &[&str]) -> Option<Setting>
-    ensures { result ≡ first_of (texts arguments.now) }
-{
-    let [ticket] = arguments else {
-        return None;
-    };
-    let ticket = FirstTicket::new(number(ticket)?)?;
-    Some(Setting::First(ticket))
-}
-
-/// `capacity N`
-fn capacity(arguments: &[&str]) -> Option<Setting>
-    ensures { result ≡ capacity_of (texts arguments.now) }
-{
-    let [capacity] = arguments else {
-        return None;
-    };
-    Some(Setting::Capacity(number(capacity)?))
 }
 
 /// `policy lru`
@@ -141,9 +128,12 @@ pub fn parse_setting(name: &str, arguments: &[&str]) -> Option<Setting>
     ensures { result ≡ setting_of name.now (texts arguments.now) }
 {
     match name {
-        "first" => first(arguments),
-        "capacity" => capacity(arguments),
+        "first" => lone_number(arguments)
+            .and_then(FirstTicket::new)
+            .map(Setting::First),
+        "capacity" => lone_number(arguments).map(Setting::Capacity),
         "policy" => policy(arguments),
+        "tti" => lone_number(arguments).map(Setting::TimeToIdle),
         "weigh" => alone(Setting::Weigh(NumberWeigher), arguments),
         "listener" => alone(Setting::Listener, arguments),
         _ => None,
