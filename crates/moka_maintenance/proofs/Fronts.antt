@@ -52,7 +52,7 @@ length-moved n xs f =
 -- ---- settled members
 
 module _ {K V : Type 0} (records : Records K V) where
-  settled-append : (xs ys : List Member) → settled_members records (xs ++ ys) ≡ settled_members records xs ++ settled_members records ys
+  pub settled-append : (xs ys : List Member) → settled_members records (xs ++ ys) ≡ settled_members records xs ++ settled_members records ys
   settled-append xs ys = filter-append (λ a. is_settled records a.number) xs ys
 
   -- one that is not settled, behind others of the kind
@@ -67,7 +67,7 @@ module _ {K V : Type 0} (records : Records K V) where
       go true none = cc
       go false none = none
 
-  first_unsettled : (a : Member) (xs : List Member) → settled_members records (a ∷ xs) ≡ [] → is_settled records a.number ≡ false
+  pub first_unsettled : (a : Member) (xs : List Member) → settled_members records (a ∷ xs) ≡ [] → is_settled records a.number ≡ false
   first_unsettled a xs none = go (is_settled records a.number) refl none
     where
       go : (b : Bool) → is_settled records a.number ≡ b → cond b (a ∷ settled_members records xs) (settled_members records xs) ≡ [] → is_settled records a.number ≡ false

@@ -6,6 +6,9 @@ pub mod Entered
 pub mod AllApplied
 pub mod Stepped
 pub mod Fronts
+pub mod Walk
+pub mod Walking
+pub mod Expelling
 pub mod Sweeping
 pub mod PassSteps
 pub mod Clocked

@@ -3,3 +3,4 @@ pub mod Steps
 pub mod Queues
 pub mod Sweeps
 pub mod Passes
+pub mod Chosen

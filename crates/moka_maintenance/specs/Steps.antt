@@ -8,12 +8,17 @@ use Rattle.moka_parts.specs.Records.{Notice, when_listening, is_member, is_settl
 use Rattle.moka_parts.specs.State.{Contents}
 use Rattle.moka_parts.specs.Surroundings.{Heard}
 use Rattle.moka_parts.specs.Maintenance.{Choice, Removes, MovesToBack, Drops, Tests, HasGround, after_choices, left_by_choices, after_choice}
+use Rattle.moka_sketch.specs.Frequency.{Table}
 use Rattle.moka_store.specs.Store.{Kept}
 
 module _ {K V : Type 0} where
-  -- what queues and steps work on, in a store; the sketch is off
+  -- what queues work on, in a store with a sketch
+  abbrev pub contents_with : Option Table → Kept K V → Contents K V
+  contents_with sketch k = record { records = k.records; access = k.access; sketch = sketch }
+
+  -- what steps work on, in a store: they see no sketch
   abbrev pub contents_in : Kept K V → Contents K V
-  contents_in k = record { records = k.records; access = k.access; sketch = None }
+  contents_in k = contents_with None k
 
   -- no number gains a row, and none moves
   abbrev pub AddsNoPlace : Kept K V → Kept K V → Type 0

@@ -2,6 +2,7 @@
 #![tactic(auto)]
 
 pub mod admission;
+mod choice;
 mod expel;
 pub mod passes;
 pub mod queued;

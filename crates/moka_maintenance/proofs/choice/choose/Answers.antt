@@ -1,0 +1,125 @@
+use Rattle.std.proofs.Common.{◌≡◌, refl, ℕ, ◌+◌, ◌-◌, ◌<◌, ◌≤◌, ◌&&◌, ◌⊎◌, inl, inr, Bool, true, false, None, Some, Option, IfSome, IsSome, List, option_map, nat_le, nat_lt, length, ap, sym, subst, ◌∙◌, arith}
+use Rattle.std.specs.FinMap.{FinMap, get}
+use Rattle.std.specs.Ordering.{nat_cmp}
+use Rattle.moka_sketch.specs.Frequency.{frequency}
+use Rattle.moka_parts.specs.declared.records.Member.{Member}
+use Rattle.moka_parts.specs.Candidates.{hash_of}
+use Rattle.moka_parts.specs.Records.{Records, counted_of, is_settled, member, to_back}
+use Rattle.moka_store.specs.Store.{Kept}
+use Rattle.moka_store.specs.declared.store.Handle.{Handle}
+use Rattle.moka_maintenance.specs.Chosen.{Chooses}
+use Rattle.moka_maintenance.specs.Steps.{contents_with}
+use Rattle.moka_maintenance.proofs.Walking.{Walks, walks-none, walks-settled, walks-left, walks-unsettled, walks-as, walks-over}
+use Rattle.moka_maintenance.proofs.choice.choose.Goals as goal
+use Rattle.moka_maintenance.proofs.choice.choose.Goals.{then-loop-weights-test+then-frequencies-frequency+else-unsettled-lt-MOST_UNSETTLED, then-loop-weights-test+else-frequencies-frequency, else-loop-weights-test, then-loop-weights-test+then-frequencies-frequency+then-unsettled-lt-MOST_UNSETTLED+in_default}
+
+-- what comes next, as a member
+abbrev named : Option (Handle × ℕ) → Option Member
+named o = option_map (λ f. member f.0.number f.1) o
+
+some_placed : (o : Option (Handle × ℕ)) {p q : FinMap nat_cmp ℕ} → p ≡ q → IfSome o (λ f. get p f.0.number ≡ Some f.0.place) → IfSome o (λ f. get q f.0.number ≡ Some f.0.place)
+some_placed None same h = tt
+some_placed (Some f) same h = ap (λ m. get m f.0.number) (sym same) ∙ h
+
+some_counted : (o : Option (Handle × ℕ)) (xs ys : List Member) → ((n : ℕ) → counted_of n ys ≡ counted_of n xs) → IfSome o (λ f. IsSome (counted_of f.0.number xs)) → IfSome o (λ f. IsSome (counted_of f.0.number ys))
+some_counted None xs ys same h = tt
+some_counted (Some f) xs ys same h = subst IsSome (sym (same f.0.number)) h
+
+pub loop-weights-init : goal.loop-weights-init
+loop-weights-init g c =
+    let k = contents_with c.args.sketch.now c.args.store.now in
+    let w = c.from-weight.result in
+    record {
+      walks =
+          subst (λ n. Walks k w c.args.hash c.args.store.now.access (named c.front-next.result) 0 0 0 0 n) (sym c.member_count-ahead.ensures.value)
+          (subst (λ o. Walks k w c.args.hash c.args.store.now.access o 0 0 0 0 (length c.args.store.now.access)) (sym c.front-next.ensures.front) (walks-none k w c.args.hash));
+      placed = c.front-next.ensures.placed;
+      member = c.front-next.ensures.member;
+      rest = refl;
+      few = omega arith;
+    }
+
+pub loop-weights-smaller-in-Some-frequency_of : goal.loop-weights-smaller-in-Some-frequency_of
+loop-weights-smaller-in-Some-frequency_of g c =
+    let k = contents_with c.args.sketch.now c.args.store.now in
+    let inv = c.loop-weights.invariant in
+    let l = c.loop-weights in
+    let walk : Walks k c.from-weight.result c.args.hash l.store.access (Some (member c.in-Some.handle.number c.in-Some.counted)) l.victims l.weights l.frequencies l.unsettled l.ahead =
+    subst (λ o. Walks k c.from-weight.result c.args.hash l.store.access (named o) l.victims l.weights l.frequencies l.unsettled l.ahead) c.in-Some.is inv.walks in
+    let is = ap (λ (s : Kept g.row.K.Denot g.row.V.Denot). is_settled s.records c.in-Some.handle.number) (sym inv.rest) ∙ c.in-Some-frequency_of.ensures.settled in
+    let some = walks-left k c.from-weight.result c.args.hash c.invariant_holds.ensures.distinct l.store.access (member c.in-Some.handle.number c.in-Some.counted) l.victims l.weights l.frequencies l.unsettled l.ahead walk
+    c.loop-weights-test.true c.if-unsettled-lt-MOST_UNSETTLED.true (named c.next-next.result) c.next-next.ensures.next is in
+    let less = c.saturating_sub-ahead.ensures in
+    omega arith
+
+pub loop-weights-preserved-in-Some-frequency_of : goal.loop-weights-preserved-in-Some-frequency_of
+loop-weights-preserved-in-Some-frequency_of g c =
+    let k = contents_with c.args.sketch.now c.args.store.now in
+    let inv = c.loop-weights.invariant in
+    let l = c.loop-weights in
+    let a = member c.in-Some.handle.number c.in-Some.counted in
+    let walk : Walks k c.from-weight.result c.args.hash l.store.access (Some a) l.victims l.weights l.frequencies l.unsettled l.ahead =
+    subst (λ o. Walks k c.from-weight.result c.args.hash l.store.access (named o) l.victims l.weights l.frequencies l.unsettled l.ahead) c.in-Some.is inv.walks in
+    let is = ap (λ (s : Kept g.row.K.Denot g.row.V.Denot). is_settled s.records c.in-Some.handle.number) (sym inv.rest) ∙ c.in-Some-frequency_of.ensures.settled in
+    let seen = c.from.ensures ∙ c.in-Some-frequency_of.ensures.seen c.in-Some.counted ∙ ap (λ (s : Kept g.row.K.Denot g.row.V.Denot). frequency c.args.sketch.now (hash_of (contents_with c.args.sketch.now s) a)) inv.rest in
+    let some = walks-left k c.from-weight.result c.args.hash c.invariant_holds.ensures.distinct l.store.access a l.victims l.weights l.frequencies l.unsettled l.ahead walk
+    c.loop-weights-test.true c.if-unsettled-lt-MOST_UNSETTLED.true (named c.next-next.result) c.next-next.ensures.next is in
+    record {
+      walks =
+          walks-as k c.from-weight.result c.args.hash l.store.access (named c.next-next.result) (l.victims + 1) (l.weights + a.counted) (l.frequencies + frequency c.args.sketch.now (hash_of k a)) 0 (l.ahead - 1) c.with_weight-weights.result (l.frequencies + c.from.result) c.saturating_sub-ahead.result
+          c.with_weight-weights.ensures (ap (λ n. l.frequencies + n) seen) c.saturating_sub-ahead.ensures
+          (walks-settled k c.from-weight.result c.args.hash c.invariant_holds.ensures.distinct l.store.access a l.victims l.weights l.frequencies l.unsettled l.ahead walk
+          c.loop-weights-test.true c.if-unsettled-lt-MOST_UNSETTLED.true (named c.next-next.result) c.next-next.ensures.next is);
+      placed = c.next-next.ensures.placed;
+      member = c.next-next.ensures.member;
+      rest = inv.rest;
+      few = (let less = c.saturating_sub-ahead.ensures in let few = inv.few in omega arith);
+    }
+
+pub loop-weights-preserved : goal.loop-weights-preserved
+loop-weights-preserved g c =
+    let k = contents_with c.args.sketch.now c.args.store.now in
+    let inv = c.loop-weights.invariant in
+    let l = c.loop-weights in
+    let a = member c.in-Some.handle.number c.in-Some.counted in
+    let walk : Walks k c.from-weight.result c.args.hash l.store.access (Some a) l.victims l.weights l.frequencies l.unsettled l.ahead =
+    subst (λ o. Walks k c.from-weight.result c.args.hash l.store.access (named o) l.victims l.weights l.frequencies l.unsettled l.ahead) c.in-Some.is inv.walks in
+    let is = ap (λ (s : Kept g.row.K.Denot g.row.V.Denot). is_settled s.records c.in-Some.handle.number) (sym inv.rest) ∙ c.in-None.ensures.unsettled in
+    let step = c.move_to_back.ensures.step in
+    record {
+      walks =
+          walks-as k c.from-weight.result c.args.hash c.move_to_back.new.self.access (named c.next-next.result) l.victims l.weights l.frequencies (l.unsettled + 1) (l.ahead - 1) l.weights l.frequencies c.saturating_sub-ahead.result refl refl c.saturating_sub-ahead.ensures
+          (walks-unsettled k c.from-weight.result c.args.hash c.invariant_holds.ensures.distinct l.store.access a l.victims l.weights l.frequencies l.unsettled l.ahead walk
+          c.loop-weights-test.true c.if-unsettled-lt-MOST_UNSETTLED.true (named c.next-next.result) c.next-next.ensures.next c.move_to_back.new.self.access (ap (λ (s : Kept g.row.K.Denot g.row.V.Denot). s.access) step) is);
+      placed = some_placed c.next-next.result (sym c.move_to_back.ensures.places) c.next-next.ensures.placed;
+      member = some_counted c.next-next.result l.store.access c.move_to_back.new.self.access c.move_to_back.ensures.counted c.next-next.ensures.member;
+      rest = step ∙ ap (λ (s : Kept g.row.K.Denot g.row.V.Denot). record s { access = to_back a.number l.store.access }) inv.rest ∙ ap (λ xs. record c.args.store.now { access = xs }) (sym (ap (λ (s : Kept g.row.K.Denot g.row.V.Denot). s.access) step));
+      few = (let less = c.saturating_sub-ahead.ensures in let few = inv.few in omega arith);
+    }
+
+pub returns-then-weights-weight-clause-chosen : goal.returns-then-weights-weight-clause-chosen
+returns-then-weights-weight-clause-chosen g c =
+    let k = contents_with c.args.sketch.now c.args.store.now in
+    let l = c.loop-weights in
+    let seen = c.from-frequency.ensures ∙ c.frequency.ensures in
+    let heavy : nat_le c.from-weight.result l.weights ≡ true = (let enough = c.if-weights-weight.true in grind arith) in
+    subst (Chooses k c.args.weight c.args.hash l.store.access l.victims) (ap (λ b. b && nat_lt l.frequencies (frequency c.args.sketch.now c.args.hash)) heavy ∙ ap (nat_lt l.frequencies) (sym seen))
+    (subst (λ w. Chooses k w c.args.hash l.store.access l.victims (nat_le c.from-weight.result l.weights && nat_lt l.frequencies (frequency c.args.sketch.now c.args.hash))) c.from-weight.ensures
+    (walks-over k c.from-weight.result c.args.hash c.invariant_holds.ensures.distinct l.store.access (named l.next) l.victims l.weights l.frequencies l.unsettled l.ahead l.invariant.walks (inl c.if-weights-weight.true)))
+
+pub returns-else-weights-weight-clause-chosen : goal.returns-else-weights-weight-clause-chosen
+returns-else-weights-weight-clause-chosen g c =
+    let k = contents_with c.args.sketch.now c.args.store.now in
+    let l = c.loop-weights in
+    let seen = c.from-frequency.ensures ∙ c.frequency.ensures in
+    let light = c.if-weights-weight.false in
+    let not_heavy : nat_le c.from-weight.result l.weights ≡ false = grind arith in
+    let over : (c.from-weight.result ≤ l.weights) ⊎ ((frequency c.args.sketch.now c.args.hash < l.frequencies) ⊎ ((6 ≤ l.unsettled) ⊎ (named l.next ≡ None))) = elim c.loop-weights-test.branch [
+      | then-loop-weights-test+then-frequencies-frequency+else-unsettled-lt-MOST_UNSETTLED w ↦ inr (inr (inl w.if-unsettled-lt-MOST_UNSETTLED.false))
+      | then-loop-weights-test+else-frequencies-frequency w ↦ inr (inl (subst (λ n. n < l.frequencies) seen w.if-frequencies-frequency.false))
+      | else-loop-weights-test w ↦ inl w.loop-weights-test.false
+      | then-loop-weights-test+then-frequencies-frequency+then-unsettled-lt-MOST_UNSETTLED+in_default w ↦ inr (inr (inr (ap named w.in_default.is)))
+    ] in
+    subst (Chooses k c.args.weight c.args.hash l.store.access l.victims) (ap (λ b. b && nat_lt l.frequencies (frequency c.args.sketch.now c.args.hash)) not_heavy ∙ sym not_heavy)
+    (subst (λ w. Chooses k w c.args.hash l.store.access l.victims (nat_le c.from-weight.result l.weights && nat_lt l.frequencies (frequency c.args.sketch.now c.args.hash))) c.from-weight.ensures
+    (walks-over k c.from-weight.result c.args.hash c.invariant_holds.ensures.distinct l.store.access (named l.next) l.victims l.weights l.frequencies l.unsettled l.ahead l.invariant.walks over))

@@ -1,0 +1,38 @@
+use Rattle.std.proofs.Common.{◌≡◌, ap, sym, subst, ◌∙◌, arith, ◌==◌}
+use Rattle.std.specs.FinMap as finite
+use Rattle.std.specs.List.{IsDistinct}
+use Rattle.moka_parts.specs.State.{Contents}
+use Rattle.moka_parts.specs.Records.{member, numbers_of}
+use Rattle.moka_parts.proofs.AccessList.{distinct_taken_out}
+use Rattle.moka_store.proofs.Gets.{get-past_remove}
+use Rattle.moka_maintenance.specs.Steps.{contents_in}
+use Rattle.moka_maintenance.proofs.Placed.{places-gone, places-on, rows-gone, rows-on}
+use Rattle.moka_maintenance.proofs.Expelling.{not_front, outside_stays, victims_settled, victims_step, victims_told}
+use Rattle.moka_maintenance.proofs.choice.expel_front.Goals as goal
+
+pub loop-left-preserved : goal.loop-left-preserved
+loop-left-preserved g c =
+    let inv = c.loop-left.invariant in
+    let old = c.loop-left.store in
+    let new = c.expel.new.store in
+    let a = member c.in-Some.handle.number c.in-Some.field-0-1 in
+    let front = c.in-Some.ensures.front in
+    let step = c.expel.ensures.step in
+    let records = ap (λ (d : Contents g.row.K.Denot g.row.V.Denot). d.records) step in
+    let gone = places-gone old new a.number c.expel.ensures.places in
+    record {
+      settled = victims_settled (contents_in old) (contents_in new) a c.loop-left.left inv.once front c.loop-left-test.true step inv.settled;
+      once = subst (λ (d : Contents g.row.K.Denot g.row.V.Denot). IsDistinct (◌==◌) (numbers_of d.access)) (sym step) (distinct_taken_out a.number old.access inv.once);
+      step = victims_step (contents_in old) (contents_in new) a c.loop-left.left inv.once front c.loop-left-test.true step ∙ inv.step;
+      told = λ m rest. inv.told m (victims_told (contents_in old) (contents_in new) a c.loop-left.left inv.once front c.loop-left-test.true step g.L.Listener.tells c.loop-left.notifier c.expel.new.notifier m c.expel.ensures.told rest);
+      others = λ n none.
+          (let before = inv.others n none in
+          let stays = outside_stays (contents_in old) (contents_in new) a c.loop-left.left inv.once front c.loop-left-test.true step n before.0 in (
+            stays.0,
+            stays.1 ∙ before.1,
+            ap (λ m. finite.get m n) c.expel.ensures.places ∙ get-past_remove old.places a.number n (not_front a old.access n front before.0) ∙ before.2,
+          ));
+      places = places-on c.args.store.now old new inv.places gone;
+      rows = rows-on c.args.store.now old new gone inv.rows (rows-gone old new a.number records c.expel.ensures.places);
+      room = (let before = inv.room in let after = c.expel.ensures.room in omega arith);
+    }
