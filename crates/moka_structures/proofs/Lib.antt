@@ -1,6 +1,7 @@
 pub mod Gets
 pub mod Linked
 pub mod Lookups
+pub mod Newest
 pub mod Nodes
 pub mod Orders
 pub mod Parts

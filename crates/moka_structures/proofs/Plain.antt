@@ -1,12 +1,11 @@
 -- The plain vector of members, which the tests compare with.
-use Rattle.std.proofs.Common.{◌≡◌, ◌≢◌, ℕ, zero, suc, ◌+◌, ◌<◌, List, [], ◌∷◌, ◌++◌, Bool, true, false, cond, is_some, rules, Option, Some, None, IfSome, length, nat_eq, refl, sym, ap, ◌∙◌, arith, get_or, slice_get, All}
+use Rattle.std.proofs.Common.{◌≡◌, ◌≢◌, ℕ, zero, suc, ◌+◌, ◌<◌, List, [], ◌∷◌, ◌++◌, Bool, true, false, cond, is_some, Some, None, length, nat_eq, refl, sym, ap, ◌∙◌, arith, get_or, slice_get, All}
 use Rattle.std.proofs.lemmas.Bool.{eq-eqb, ne_eqb, cond-true, cond-false}
 use Rattle.std.proofs.lemmas.List.{map_push}
 use Rattle.std.proofs.lemmas.List.Elements.{All-append}
 use Rattle.std.proofs.lemmas.List.Folds.{list_any_none}
 use Rattle.std.proofs.lemmas.Map.Keys.{IsDistinct-push}
 use Rattle.std.proofs.lemmas.Map.Made.{is_some-lookup}
-use Rattle.std.proofs.lemmas.Map.Entries.{lookup_from_place}
 use Rattle.std.proofs.lemmas.Map.Views.{All-map-remove_entry}
 use Rattle.moka_structures.proofs.Lookups.{lookup-without}
 use Rattle.std.specs.Cmp.{nat_eq_equiv}
@@ -97,8 +96,3 @@ distinct-moved ms s n given d all l =
 -- the slots left were given
 pub all-given-left : (ms : List (ℕ × ℕ)) (s given : ℕ) → All (λ k. k < given) (keys_of ms) → All (λ k. k < given) (keys_of (remove_entry (nat_eq s) ms))
 all-given-left ms s given all = All-map-remove_entry (nat_eq s) (λ (m : ℕ × ℕ). m.0) (λ k. k < given) ms all
-
--- the member at a place is found by its slot
-pub found-member : (ms : List (ℕ × ℕ)) (i : ℕ) (o : Option (ℕ × ℕ)) → o ≡ slice_get ms i → IsDistinct nat_eq (keys_of ms) → IfSome o (λ m. lookup (nat_eq m.0) ms ≡ Some m.1)
-found-member ms i None e d = search rules
-found-member ms i (Some m) e d = lookup_from_place nat_eq_equiv ms i m.0 m.1 d (sym e)

@@ -143,11 +143,6 @@ module _ {R : Type 0} (rows : List (Option (Row R))) (d : IsNumbered (row_at row
   unfolding records_of
   get-records p row e = get-map (λ _ row. row.stored) rows d p row e
 
-  -- the counted weight under a row's number
-  pub get-counted : (p : ℕ) (row : Row R) → row_at rows p ≡ Some row → get (counted_of rows) row.number ≡ counted_in row
-  unfolding counted_of
-  get-counted p row e = get-map (λ _ row. counted_in row) rows d p row e
-
   -- a row's place is under its number
   pub get-places : (p : ℕ) (row : Row R) → row_at rows p ≡ Some row → get (places_of rows) row.number ≡ Some p
   unfolding places_of
@@ -157,11 +152,6 @@ module _ {R : Type 0} (rows : List (Option (Row R))) (d : IsNumbered (row_at row
   pub record_row : (n : ℕ) (r : R) → get (records_of rows) n ≡ Some r → (p : ℕ) × (row : Row R) × (row_at rows p ≡ Some row) × (row.number ≡ n) × (row.stored ≡ Some r)
   unfolding records_of
   record_row n r h = let w = map-found (λ _ row. row.stored) rows d n r h in (w.place, w.row, w.at_is, w.number_is, w.value_is)
-
-  -- the row of a counted weight
-  pub counted_row : (n weight : ℕ) → get (counted_of rows) n ≡ Some weight → (p : ℕ) × (row : Row R) × (row_at rows p ≡ Some row) × (row.number ≡ n) × (counted_in row ≡ Some weight)
-  unfolding counted_of
-  counted_row n weight h = let w = map-found (λ _ row. counted_in row) rows d n weight h in (w.place, w.row, w.at_is, w.number_is, w.value_is)
 
   -- the row at a number's place
   pub placed_row : (place number : ℕ) → get (places_of rows) number ≡ Some place → (row : Row R) × (row_at rows place ≡ Some row) × (row.number ≡ number)

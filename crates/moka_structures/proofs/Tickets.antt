@@ -15,7 +15,7 @@ use Rattle.std.specs.Option.{option_map}
 use Rattle.std.specs.Ordering.{nat_cmp, eq_by_cmp, is_lt}
 use Rattle.std.specs.declared.cmp.Ordering.TheVariants.{Less}
 use Rattle.moka_structures.specs.Tickets.{items_of, slot_of, IsBelowAll, AreRising, IsTied}
-use Rattle.moka_structures.specs.declared.outstanding.Waiting.{Waiting}
+use Rattle.moka_structures.specs.declared.older.Waiting.{Waiting}
 use Rattle.moka_structures.proofs.Linked.{linked-same, linked-added, linked-removed}
 
 -- a ticket ties with itself
@@ -27,7 +27,7 @@ eq_other : (q n : ℕ) → q ≢ n → eq_by_cmp nat_cmp q n ≡ false
 eq_other q n h = grind arith
 
 -- the two tests of tickets agree
-eq-tests : (q n : ℕ) → eq_by_cmp nat_cmp q n ≡ nat_eq n q
+pub eq-tests : (q n : ℕ) → eq_by_cmp nat_cmp q n ≡ nat_eq n q
 eq-tests q n = elim (cases_eq q n) as (λ _. eq_by_cmp nat_cmp q n ≡ nat_eq n q) [
   | inl e ↦ ap (eq_by_cmp nat_cmp q) (sym e) ∙ eq_self q ∙ sym (eq-eqb n q (sym e))
   | inr ne ↦ eq_other q n ne ∙ sym (ne_eqb n q (λ e. ne (sym e)))
@@ -94,7 +94,7 @@ if-some None P h = search rules
 if-some (Some t) P h = h t refl
 
 -- nothing is there
-not-some : {X : Type 0} (o : Option X) → (IsSome o → ⊥) → o ≡ None
+pub not-some : {X : Type 0} (o : Option X) → (IsSome o → ⊥) → o ≡ None
 not-some None h = refl
 not-some (Some x) h = absurd (h refl)
 

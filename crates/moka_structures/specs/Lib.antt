@@ -1,6 +1,7 @@
 pub mod Lending
 pub mod Linked
 pub mod Links
+pub mod Newest
 pub mod Order
 pub mod Pending
 pub mod RecordTable

@@ -1,5 +1,7 @@
 -- How the nodes are linked. No public clause cites this module.
 use Rattle.std.specs.Prelude.{◌≡◌, ◌≢◌, ℕ, zero, suc, ◌+◌, ◌<◌, ◌≤◌, ◌^◌, List, [], ◌∷◌, map, length, slice_index_or, slice_set}
+use Rattle.std.specs.Global.{Vec}
+use Rattle.std.specs.Vec.{vec_capacity}
 use Rattle.moka_structures.specs.declared.order_list.Node.{Node}
 use Rattle.moka_structures.specs.Rings.{Ring, Frees}
 
@@ -30,6 +32,10 @@ detached ns s = with_before (with_behind ns (at ns s).before (at ns s).behind) (
 -- the node at the slot is put before the sentinel
 abbrev pub attached : List Node → ℕ → List Node
 attached ns s = with_before (with_behind (with_behind (with_before ns s (at ns 0).before) s 0) (at ns 0).before s) 0 s
+
+-- there is as much room for nodes as before
+abbrev pub KeepsCapacity : {X : Type 0} → (old new : Vec X) → Type 0
+KeepsCapacity old new = vec_capacity new ≡ vec_capacity old
 
 -- the links as plain functions of the slot
 abbrev pub behinds : List Node → ℕ → ℕ

@@ -78,6 +78,16 @@ pub record ChangesAt {R : Type 0} (old new : ℕ → Option (Row R)) (place : �
   pub changed : new place ≡ row
   pub others : (other : ℕ) → other ≢ place → new other ≡ old other
 
+module _ {R : Type 0} where
+  -- the row at the place becomes what the function makes of it, and every other place keeps what it had
+  abbrev pub ChangesRow : (old new : List (Option (Row R))) → ℕ → (Row R → Row R) → Type 0
+  ChangesRow old new place change = (row : Row R) → row_at old place ≡ Some row → ChangesAt (row_at old) (row_at new) place (Some (change row))
+
+  -- the member at the place gets another weight, and every other place keeps what it had
+  abbrev pub RecountsRow : (old new : List (Option (Row R))) → ℕ → ℕ → Type 0
+  RecountsRow old new place weight = (row : Row R) (m : Membership) → row_at old place ≡ Some row → row.membership ≡ Some m
+      → ChangesAt (row_at old) (row_at new) place (Some (record row { membership = Some (record m { counted = weight }) }))
+
 -- no two rows have the same number
 pub record IsNumbered {R : Type 0} (at : ℕ → Option (Row R)) : Type 0 where
   pub same : (p q : ℕ) (a b : Row R) → at p ≡ Some a → at q ≡ Some b → a.number ≡ b.number → p ≡ q

@@ -1,6 +1,7 @@
 //! The structures that the cache engine keeps its records in.
 #![tactic(auto)]
 
+mod older;
 pub mod order_list;
 pub mod outstanding;
 #[cfg(test)]

@@ -1,9 +1,9 @@
 //! An order of numbers as linked nodes in one table.
-ghost use Rattle.std.specs.Prelude.{◌≡◌, ◌≢◌, ◌+◌, ◌^◌, ◌<◌, ◌≤◌, ℕ, [], ◌∷◌, ◌++◌, length, ◌↔◌, OnOk, IfOk, IsOk, IfSome, IsSome, IsNone, None, Some, nat_eq, slice_get, vec_len, vec_capacity, if◌then◌else◌};
+ghost use Rattle.std.specs.Prelude.{◌≡◌, ◌≢◌, ◌+◌, ◌^◌, ◌<◌, ◌≤◌, ℕ, [], ◌∷◌, ◌++◌, length, ◌↔◌, OnOk, IfOk, IsOk, IfSome, IsSome, IsNone, None, Some, nat_eq, slice_get, vec_len, if◌then◌else◌};
 ghost use Rattle.std.specs.Map.{lookup, remove_entry, keys_of};
 ghost use Rattle.std.specs.List.{IsDistinct};
-ghost use Rattle.moka_structures.specs.Links.{at, detached, attached, with_behind, with_number};
-ghost use Rattle.moka_structures.specs.Order.{next_after};
+ghost use Rattle.moka_structures.specs.Links.{at, detached, attached, with_behind, with_number, KeepsCapacity};
+ghost use Rattle.moka_structures.specs.Order.{moved_to_back, next_after};
 
 use std::alloc::{AllocError, Global};
 use std::marker::Model;
@@ -26,7 +26,7 @@ fn detach(nodes: &mut Vec<Node>, slot: u32)
     requires before { (at nodes.old.items slot).before < vec_len nodes.old }
     requires behind { (at nodes.old.items slot).behind < vec_len nodes.old }
     ensures nodes { nodes.new.items ≡ detached nodes.old.items slot }
-    ensures capacity { vec_capacity nodes.new ≡ vec_capacity nodes.old }
+    ensures capacity { KeepsCapacity nodes.old nodes.new }
 {
     let before = nodes[slot as usize].before;
     let behind = nodes[slot as usize].behind;
@@ -40,7 +40,7 @@ fn attach(nodes: &mut Vec<Node>, slot: u32)
     requires slot { slot < vec_len nodes.old }
     requires last { (at nodes.old.items 0).before < vec_len nodes.old }
     ensures nodes { nodes.new.items ≡ attached nodes.old.items slot }
-    ensures capacity { vec_capacity nodes.new ≡ vec_capacity nodes.old }
+    ensures capacity { KeepsCapacity nodes.old nodes.new }
 {
     let last = nodes[0].before;
     nodes[slot as usize].before = last;
@@ -55,7 +55,7 @@ fn release(nodes: &mut Vec<Node>, slot: u32, free: u32)
     requires before { (at nodes.old.items slot).before < vec_len nodes.old }
     requires behind { (at nodes.old.items slot).behind < vec_len nodes.old }
     ensures nodes { nodes.new.items ≡ with_behind (detached nodes.old.items slot) slot free }
-    ensures capacity { vec_capacity nodes.new ≡ vec_capacity nodes.old }
+    ensures capacity { KeepsCapacity nodes.old nodes.new }
 {
     detach(nodes, slot);
     nodes[slot as usize].behind = free;
@@ -67,7 +67,7 @@ fn reuse(nodes: &mut Vec<Node>, slot: u32, number: u64) -> u32
     requires last { (at nodes.old.items 0).before < vec_len nodes.old }
     ensures next { result ≡ (at nodes.old.items slot).behind }
     ensures nodes { nodes.new.items ≡ attached (with_number nodes.old.items slot number) slot }
-    ensures capacity { vec_capacity nodes.new ≡ vec_capacity nodes.old }
+    ensures capacity { KeepsCapacity nodes.old nodes.new }
 {
     let next = nodes[slot as usize].behind;
     nodes[slot as usize].number = number;
@@ -191,7 +191,7 @@ impl OrderList {
     /// moka: `Deque::move_to_back`.
     pub fn move_to_back(&mut self, slot: u32)
         requires { IsSome (lookup (nat_eq slot) self.old.members) }
-        ensures members { (number : ℕ) → lookup (nat_eq slot) self.old.members ≡ Some number → self.new.members ≡ remove_entry (nat_eq slot) self.old.members ++ (slot, number) ∷ [] }
+        ensures members { (number : ℕ) → lookup (nat_eq slot) self.old.members ≡ Some number → self.new.members ≡ moved_to_back slot number self.old.members }
         ensures len { length self.new.members ≡ length self.old.members }
         ensures lookups { (s : ℕ) → lookup (nat_eq s) self.new.members ≡ lookup (nat_eq s) self.old.members }
         ensures distinct { IsDistinct nat_eq (keys_of self.old.members) }

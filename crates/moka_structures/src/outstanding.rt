@@ -2,40 +2,39 @@
 ghost use Rattle.std.specs.Prelude.{◌≡◌, ◌+◌, ◌<◌, ◌≤◌, ◌↔◌, ℕ, OnOk, IfOk, IfSome, IsOk, IsSome, IsNone, None, Some, is_some, nat_eq, slice_get, if◌then◌else◌};
 ghost use Rattle.std.specs.FinMap as map;
 
-use crate::order_list::OrderList;
+use crate::older::Older;
 use std::alloc::{AllocError, Global};
-use std::collections::HashMap;
 use std::marker::Model;
 
-// An item, and where its ticket stands in the order.
+// The item that was handed out last.
 #[derive(Clone, Copy)]
-struct Waiting<T: Copy> {
-    slot: u32,
+struct Newest<T: Copy> {
+    ticket: u64,
     item: T,
 }
 
 /// Items that were handed out under rising tickets and not taken back. They are taken by their ticket, in any
 /// order. Only `new` and `reserve` ask for memory.
+///
+/// The newest stands beside the others, so whoever takes each item before the next is handed out never reaches them.
 #[derive(Drop)]
 pub struct Outstanding<T: Copy> {
-    order: OrderList,
-    waiting: HashMap<u64, Waiting<T>>,
+    newest: Option<Newest<T>>,
+    older: Older<T>,
 }
 
 impl<T: Copy> Model for Outstanding<T> {
-    ghost use Rattle.std.specs.Prelude.{min};
-    ghost use Rattle.std.specs.HashMap.{spare};
     ghost use Rattle.moka_structures.specs.Pending.{Pending, pending_code};
 
     ghost Value = { Pending T };
 
     ghost coded = { pending_code T.code };
 
-    ghost use Rattle.moka_structures.specs.Tickets.{items_of, IsTied};
+    ghost use Rattle.moka_structures.specs.Newest.{with_newest, AreOlder};
 
-    ghost view = { λ a. record { items = items_of a.waiting; room = min a.order.room (spare a.waiting) } };
+    ghost view = { λ a. record a.older { items = with_newest a.newest a.older.items } };
 
-    ghost invariant = { λ a. IsTied a.order.members a.waiting };
+    ghost invariant = { λ a. AreOlder a.newest a.older.items };
 }
 
 impl<T: Copy> Outstanding<T> {
@@ -46,8 +45,8 @@ impl<T: Copy> Outstanding<T> {
         ensures len { IfOk result (λ o. map.len o.items ≡ 0) }
     {
         Ok(Outstanding {
-            order: OrderList::new(alloc)?,
-            waiting: HashMap::new(alloc),
+            newest: None,
+            older: Older::new(alloc)?,
         })
     }
 
@@ -55,7 +54,10 @@ impl<T: Copy> Outstanding<T> {
     pub fn len(&self) -> usize
         ensures { result ≡ map.len self.now.items }
     {
-        self.waiting.len()
+        match self.newest {
+            Some(_) => self.older.len() + 1,
+            None => self.older.len(),
+        }
     }
 
     /// Whether no item is out.
@@ -72,11 +74,11 @@ impl<T: Copy> Outstanding<T> {
         ensures items { self.new.items ≡ self.old.items }
         ensures kept { self.old.room ≤ self.new.room }
     {
-        self.order.reserve(additional)?;
-        self.waiting.reserve(additional)
+        self.older.reserve(additional)
     }
 
     /// Hands an item out under a ticket above all that are out, where there is room.
+    #[inline(always)]
     pub fn hand_out(&mut self, ticket: u64, item: T)
         requires room { 0 < self.old.room }
         requires newest { (q : ℕ) → IsSome (map.get self.old.items q) → q < ticket }
@@ -86,32 +88,36 @@ impl<T: Copy> Outstanding<T> {
         ensures len { map.len self.new.items ≡ map.len self.old.items + 1 }
         ensures room { self.old.room ≤ self.new.room + 1 }
     {
-        let slot = self.order.push_back(ticket);
-        let waiting = Waiting { slot, item };
-        match self.waiting.insert(ticket, waiting) {
-            Ok(_) => {}
-            Err(_) => unreachable!(),
-        }
+        let Some(before) = self.newest.replace(Newest { ticket, item }) else {
+            return;
+        };
+        self.older.hand_out(before.ticket, before.item);
     }
 
     /// The item that is out under a ticket.
+    #[inline(always)]
     pub fn get(&self, ticket: u64) -> Option<T>
         ensures { result ≡ map.get self.now.items ticket }
     {
-        match self.waiting.get(&ticket) {
-            Some(waiting) => Some(waiting.item),
-            None => None,
+        match self.newest {
+            Some(newest) if newest.ticket == ticket => Some(newest.item),
+            _ => self.older.get(ticket),
         }
     }
 
     /// Whether an item is out under a ticket.
+    #[inline(always)]
     pub fn contains(&self, ticket: u64) -> bool
         ensures { result ≡ is_some (map.get self.now.items ticket) }
     {
-        self.waiting.contains_key(&ticket)
+        match self.newest {
+            Some(newest) if newest.ticket == ticket => true,
+            _ => self.older.contains(ticket),
+        }
     }
 
     /// Takes the item under a ticket back, if it is out. The room that this makes is not promised.
+    #[inline(always)]
     pub fn take(&mut self, ticket: u64) -> Option<T>
         ensures item { result ≡ map.get self.old.items ticket }
         ensures items { self.new.items ≡ map.remove self.old.items ticket }
@@ -120,12 +126,12 @@ impl<T: Copy> Outstanding<T> {
         ensures len { map.len self.new.items + (if is_some result then 1 else 0) ≡ map.len self.old.items }
         ensures room { self.old.room ≤ self.new.room }
     {
-        match self.waiting.remove(&ticket) {
-            Some(waiting) => {
-                let _ticket = self.order.unlink(waiting.slot);
-                Some(waiting.item)
+        match self.newest {
+            Some(newest) if newest.ticket == ticket => {
+                self.newest = None;
+                Some(newest.item)
             }
-            None => None,
+            _ => self.older.take(ticket),
         }
     }
 
@@ -135,8 +141,11 @@ impl<T: Copy> Outstanding<T> {
         ensures least { IfSome result (λ t. IsSome (map.get self.now.items t) × ((q : ℕ) → IsSome (map.get self.now.items q) → t ≤ q)) }
         ensures none { IsNone result ↔ (self.now.items ≡ map.empty) }
     {
-        match self.order.front() {
-            Some((_, ticket)) => Some(ticket),
+        if let Some(ticket) = self.older.oldest() {
+            return Some(ticket);
+        }
+        match self.newest {
+            Some(newest) => Some(newest.ticket),
             None => None,
         }
     }

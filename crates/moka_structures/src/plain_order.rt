@@ -1,8 +1,8 @@
 //! The same order as a plain vector, and a script of steps on both, for tests.
-ghost use Rattle.std.specs.Prelude.{◌≡◌, ◌≢◌, ◌+◌, ◌<◌, ◌≤◌, ◌↔◌, ℕ, ◌∷◌, [], ◌++◌, length, OnOk, IsOk, IfSome, IsSome, IsNone, None, Some, nat_eq, slice_get, slice_index_or, vec_len, if◌then◌else◌};
+ghost use Rattle.std.specs.Prelude.{◌≡◌, ◌≢◌, ◌+◌, ◌<◌, ◌≤◌, ℕ, ◌∷◌, [], ◌++◌, length, OnOk, IsOk, IfSome, IsSome, None, Some, nat_eq, slice_get, slice_index_or, if◌then◌else◌};
 ghost use Rattle.std.specs.List.{IsDistinct, remove};
 ghost use Rattle.std.specs.Map.{lookup, remove_entry, keys_of};
-ghost use Rattle.moka_structures.specs.Order.{Order, next_after};
+ghost use Rattle.moka_structures.specs.Order.{Order, moved_to_back, next_after};
 
 use crate::order_list::OrderList;
 use std::alloc::{AllocError, Global};
@@ -28,7 +28,7 @@ trait Ordered {
 
     fn move_to_back(&mut self, slot: u32)
         requires { IsSome (lookup (nat_eq slot) (seen self.old).members) }
-        ensures members { (number : ℕ) → lookup (nat_eq slot) (seen self.old).members ≡ Some number → (seen self.new).members ≡ remove_entry (nat_eq slot) (seen self.old).members ++ (slot, number) ∷ [] }
+        ensures members { (number : ℕ) → lookup (nat_eq slot) (seen self.old).members ≡ Some number → (seen self.new).members ≡ moved_to_back slot number (seen self.old).members }
         ensures len { length (seen self.new).members ≡ length (seen self.old).members }
         ensures lookups { (s : ℕ) → lookup (nat_eq s) (seen self.new).members ≡ lookup (nat_eq s) (seen self.old).members }
         ensures room { (seen self.new).room ≡ (seen self.old).room };

@@ -5,7 +5,7 @@ ghost use Rattle.std.specs.FinMap as map;
 ghost use Rattle.std.specs.Option.{option_copied_mut, option_map, option_and_then};
 ghost use Rattle.moka_structures.specs.declared.record_table.Membership.{Membership};
 ghost use Rattle.moka_structures.specs.declared.record_table.Row.{Row};
-ghost use Rattle.moka_structures.specs.RecordTable.{row_at, number_at, stored_at, membership_at, find_at, ChangesAt, records_of, counted_of, places_of};
+ghost use Rattle.moka_structures.specs.RecordTable.{row_at, number_at, stored_at, membership_at, find_at, ChangesAt, ChangesRow, RecountsRow, records_of, counted_of, places_of};
 ghost use Rattle.slab.specs.Slab.{slab_len};
 
 use slab::Slab;
@@ -38,7 +38,8 @@ pub struct Row<R> {
 
 /// Rows of records by place.
 ///
-/// A number is never used twice, so a place and a number tell whether a record is still there, although the place of a row that was forgotten is given to a later one.
+/// A number is never used twice, so a place and a number tell whether a record is still there, although the place of a
+/// row that was forgotten is given to a later one.
 #[derive(Drop)]
 pub struct RecordTable<R> {
     rows: Rows<R>,
@@ -160,7 +161,7 @@ impl<R> RecordTable<R> {
     pub fn take(&mut self, place: usize) -> R
         requires { IsSome (stored_at self.old.rows place) }
         ensures taken { stored_at self.old.rows place ≡ Some result }
-        ensures changes { (row : Row R) → row_at self.old.rows place ≡ Some row → ChangesAt (row_at self.old.rows) (row_at self.new.rows) place (Some (record row { stored = None })) }
+        ensures changes { ChangesRow self.old.rows self.new.rows place (λ row. record row { stored = None }) }
         ensures records { records_of self.new.rows ≡ map.remove (records_of self.old.rows) (number_at self.old.rows place) }
         ensures counted { counted_of self.new.rows ≡ counted_of self.old.rows }
         ensures places { places_of self.new.rows ≡ places_of self.old.rows }
@@ -187,7 +188,7 @@ impl<R> RecordTable<R> {
     /// Another weight for the member at this place.
     pub fn set_counted(&mut self, place: usize, weight: u32)
         requires { IsSome (membership_at self.old.rows place) }
-        ensures changes { (row : Row R) (m : Membership) → row_at self.old.rows place ≡ Some row → row.membership ≡ Some m → ChangesAt (row_at self.old.rows) (row_at self.new.rows) place (Some (record row { membership = Some (record m { counted = weight }) })) }
+        ensures changes { RecountsRow self.old.rows self.new.rows place weight }
         ensures records { records_of self.new.rows ≡ records_of self.old.rows }
         ensures counted { counted_of self.new.rows ≡ map.insert (counted_of self.old.rows) (number_at self.old.rows place) weight }
         ensures places { places_of self.new.rows ≡ places_of self.old.rows }
@@ -201,7 +202,7 @@ impl<R> RecordTable<R> {
     pub fn set_membership(&mut self, place: usize, membership: Membership) -> Option<Membership>
         requires { IsSome (row_at self.old.rows place) }
         ensures old { result ≡ membership_at self.old.rows place }
-        ensures changes { (row : Row R) → row_at self.old.rows place ≡ Some row → ChangesAt (row_at self.old.rows) (row_at self.new.rows) place (Some (record row { membership = Some membership })) }
+        ensures changes { ChangesRow self.old.rows self.new.rows place (λ row. record row { membership = Some membership }) }
         ensures records { records_of self.new.rows ≡ records_of self.old.rows }
         ensures counted { counted_of self.new.rows ≡ map.insert (counted_of self.old.rows) (number_at self.old.rows place) membership.counted }
         ensures places { places_of self.new.rows ≡ places_of self.old.rows }
@@ -215,7 +216,7 @@ impl<R> RecordTable<R> {
     pub fn clear_membership(&mut self, place: usize) -> Option<Membership>
         requires { IsSome (row_at self.old.rows place) }
         ensures old { result ≡ membership_at self.old.rows place }
-        ensures changes { (row : Row R) → row_at self.old.rows place ≡ Some row → ChangesAt (row_at self.old.rows) (row_at self.new.rows) place (Some (record row { membership = None })) }
+        ensures changes { ChangesRow self.old.rows self.new.rows place (λ row. record row { membership = None }) }
         ensures records { records_of self.new.rows ≡ records_of self.old.rows }
         ensures counted { counted_of self.new.rows ≡ map.remove (counted_of self.old.rows) (number_at self.old.rows place) }
         ensures places { places_of self.new.rows ≡ places_of self.old.rows }
@@ -229,7 +230,7 @@ impl<R> RecordTable<R> {
     pub fn set_timer(&mut self, place: usize, timer: Option<u32>) -> Option<u32>
         requires { IsSome (row_at self.old.rows place) }
         ensures old { result ≡ option_and_then (λ row. row.timer) (row_at self.old.rows place) }
-        ensures changes { (row : Row R) → row_at self.old.rows place ≡ Some row → ChangesAt (row_at self.old.rows) (row_at self.new.rows) place (Some (record row { timer = timer })) }
+        ensures changes { ChangesRow self.old.rows self.new.rows place (λ row. record row { timer = timer }) }
         ensures records { records_of self.new.rows ≡ records_of self.old.rows }
         ensures counted { counted_of self.new.rows ≡ counted_of self.old.rows }
         ensures places { places_of self.new.rows ≡ places_of self.old.rows }
@@ -243,7 +244,7 @@ impl<R> RecordTable<R> {
     pub fn forget(&mut self, place: usize)
     where
         R: Drop,
-        requires { (row_at self.old.rows place) ≡ Some (record { number = number_at self.old.rows place; stored = None; membership = None; timer = None }) }
+        requires { row_at self.old.rows place ≡ Some (record { number = number_at self.old.rows place; stored = None; membership = None; timer = None }) }
         ensures changes { ChangesAt (row_at self.old.rows) (row_at self.new.rows) place None }
         ensures records { records_of self.new.rows ≡ records_of self.old.rows }
         ensures counted { counted_of self.new.rows ≡ counted_of self.old.rows }
@@ -289,7 +290,7 @@ impl<R> Rows<R> {
     fn take_stored(&mut self, place: usize) -> R
         requires { IsSome (stored_at self.old.slab.slots place) }
         ensures taken { stored_at self.old.slab.slots place ≡ Some result }
-        ensures changes { (row : Row R) → row_at self.old.slab.slots place ≡ Some row → ChangesAt (row_at self.old.slab.slots) (row_at self.new.slab.slots) place (Some (record row { stored = None })) }
+        ensures changes { ChangesRow self.old.slab.slots self.new.slab.slots place (λ row. record row { stored = None }) }
         ensures len { slab_len self.new.slab ≡ slab_len self.old.slab }
         ensures capacity { self.new.slab.capacity ≡ self.old.slab.capacity }
     {
@@ -305,7 +306,7 @@ impl<R> Rows<R> {
     // Another weight for the member at this place.
     fn recount(&mut self, place: usize, weight: u32)
         requires { IsSome (membership_at self.old.slab.slots place) }
-        ensures changes { (row : Row R) (m : Membership) → row_at self.old.slab.slots place ≡ Some row → row.membership ≡ Some m → ChangesAt (row_at self.old.slab.slots) (row_at self.new.slab.slots) place (Some (record row { membership = Some (record m { counted = weight }) })) }
+        ensures changes { RecountsRow self.old.slab.slots self.new.slab.slots place weight }
         ensures len { slab_len self.new.slab ≡ slab_len self.old.slab }
         ensures capacity { self.new.slab.capacity ≡ self.old.slab.capacity }
     {
@@ -326,7 +327,7 @@ impl<R> Rows<R> {
     ) -> Option<Membership>
         requires { IsSome (row_at self.old.slab.slots place) }
         ensures old { result ≡ membership_at self.old.slab.slots place }
-        ensures changes { (row : Row R) → row_at self.old.slab.slots place ≡ Some row → ChangesAt (row_at self.old.slab.slots) (row_at self.new.slab.slots) place (Some (record row { membership = membership })) }
+        ensures changes { ChangesRow self.old.slab.slots self.new.slab.slots place (λ row. record row { membership = membership }) }
         ensures len { slab_len self.new.slab ≡ slab_len self.old.slab }
         ensures capacity { self.new.slab.capacity ≡ self.old.slab.capacity }
     {
@@ -340,7 +341,7 @@ impl<R> Rows<R> {
     fn replace_timer(&mut self, place: usize, timer: Option<u32>) -> Option<u32>
         requires { IsSome (row_at self.old.slab.slots place) }
         ensures old { result ≡ option_and_then (λ row. row.timer) (row_at self.old.slab.slots place) }
-        ensures changes { (row : Row R) → row_at self.old.slab.slots place ≡ Some row → ChangesAt (row_at self.old.slab.slots) (row_at self.new.slab.slots) place (Some (record row { timer = timer })) }
+        ensures changes { ChangesRow self.old.slab.slots self.new.slab.slots place (λ row. record row { timer = timer }) }
         ensures len { slab_len self.new.slab ≡ slab_len self.old.slab }
         ensures capacity { self.new.slab.capacity ≡ self.old.slab.capacity }
     {

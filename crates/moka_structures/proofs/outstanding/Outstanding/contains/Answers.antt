@@ -1,7 +1,15 @@
-use Rattle.std.proofs.Common.{sym, ap, ◌∙◌, is_some, nat_eq}
-use Rattle.std.specs.HashMap.{get}
-use Rattle.moka_structures.proofs.Tickets.{get-items, same-some}
+use Rattle.std.proofs.Common.{is_some, sym, ap, ◌∙◌}
+use Rattle.moka_structures.proofs.Newest.{IsOther, other-some, other-none, get-newest, get-other}
+use Rattle.moka_structures.proofs.outstanding.Outstanding.contains.Goals.{in_default-via-in-Some+else-newest-ticket, in_default-via-in_default}
 use Rattle.moka_structures.proofs.outstanding.Outstanding.contains.Goals as goal
 
-pub returns : goal.returns
-returns g c = rw (← c.self.view_is) (c.contains_key.ensures ∙ same-some (get nat_eq c.self.inside.waiting c.args.ticket) ∙ ap is_some (sym (get-items c.self.inside.waiting c.args.ticket)))
+pub returns-in-Some : goal.returns-in-Some
+returns-in-Some g c = rw (← c.self.view_is) (sym (ap is_some (get-newest c.self.inside.newest c.self.inside.older.items c.in-Some.newest c.in-Some.is c.args.ticket c.if-newest-ticket.true)))
+
+pub returns-in_default : goal.returns-in_default
+returns-in_default g c =
+    let other = elim c.in_default.branch as (λ _. IsOther c.self.inside.newest c.args.ticket) [
+      | in_default-via-in-Some+else-newest-ticket w ↦ other-some c.self.inside.newest w.in-Some.newest c.args.ticket w.in-Some.is w.if-newest-ticket.false
+      | in_default-via-in_default w ↦ other-none c.self.inside.newest c.args.ticket w.in_default.is
+    ] in
+    rw (← c.self.view_is) (c.contains.ensures ∙ ap is_some (sym (get-other c.self.inside.newest c.self.inside.older.items c.args.ticket other)))

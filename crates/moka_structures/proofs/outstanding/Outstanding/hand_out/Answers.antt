@@ -1,27 +1,68 @@
-use Rattle.std.proofs.Common.{ℕ, ◌<◌, IsSome, subst, ap, ◌∙◌, refl, arith}
+use Rattle.std.proofs.Common.{ℕ, ◌<◌, IsSome, sym, ap, subst, ◌∙◌, arith}
 use Rattle.std.specs.FinMap as map
-use Rattle.moka_structures.specs.Tickets.{items_of}
-use Rattle.moka_structures.proofs.Tickets.{tied-handed, items-put, gets-updated, len-put, newest-of}
+use Rattle.moka_structures.specs.Newest.{with_newest}
+use Rattle.moka_structures.proofs.Newest.{joined, joined-none, get-put, put-newest, older-put}
+use Rattle.moka_structures.proofs.Tickets.{len-put, newest-of}
 use Rattle.moka_structures.proofs.outstanding.Outstanding.hand_out.Goals as goal
 
 pub invariant_of-self : goal.invariant_of-self
 invariant_of-self g c =
-    let newest : (q : ℕ) → IsSome (map.get (items_of c.self.inside.waiting) q) → q < c.args.ticket = rw (← c.self.view_is) at c.requires.newest in
-    let e = c.push_back-slot.ensures in
-    tied-handed _ _ _ _ c.self.invariant _ c.args.ticket _ refl e.distinct newest e.fresh e.members e.lookups c.in-Ok.ensures.updates.0
+    let o = c.self.inside.newest in
+    let m = c.self.inside.older.items in
+    let all = joined-none o m (sym c.replace.ensures.value ∙ c.in_default.is) in
+    let newest : (q : ℕ) → IsSome (map.get (with_newest c.self.inside.newest c.self.inside.older.items) q) → q < c.args.ticket = rw (← c.self.view_is) at c.requires.newest in
+    older-put c.replace.new.self m (with_newest o m) _ c.replace.ensures.after all newest
 
-pub returns-clause-items : goal.returns-clause-items
-returns-clause-items g c = rw (← c.self.view_is) (items-put c.self.inside.waiting c.insert.new.self c.args.ticket _ c.in-Ok.ensures.updates.0)
+pub returns-in_default-clause-gets : goal.returns-in_default-clause-gets
+returns-in_default-clause-gets g c q =
+    let o = c.self.inside.newest in
+    let m = c.self.inside.older.items in
+    let all = joined-none o m (sym c.replace.ensures.value ∙ c.in_default.is) in
+    rw (← c.self.view_is) (ap (λ i. map.get i q) (put-newest c.replace.new.self m (with_newest o m) _ c.replace.ensures.after all) ∙ get-put (with_newest o m) c.args.ticket c.args.item q)
+
+pub returns-in_default-clause-newest : goal.returns-in_default-clause-newest
+returns-in_default-clause-newest g c q h =
+    let o = c.self.inside.newest in
+    let m = c.self.inside.older.items in
+    let all = joined-none o m (sym c.replace.ensures.value ∙ c.in_default.is) in
+    let newest : (q : ℕ) → IsSome (map.get (with_newest c.self.inside.newest c.self.inside.older.items) q) → q < c.args.ticket = rw (← c.self.view_is) at c.requires.newest in
+    newest-of c.args.ticket q _ (map.get (with_newest o m) q) (newest q) (subst (λ o. IsSome o) (ap (λ i. map.get i q) (put-newest c.replace.new.self m (with_newest o m) _ c.replace.ensures.after all) ∙ get-put (with_newest o m) c.args.ticket c.args.item q) h)
+
+pub returns-in_default-clause-len : goal.returns-in_default-clause-len
+returns-in_default-clause-len g c =
+    let o = c.self.inside.newest in
+    let m = c.self.inside.older.items in
+    let all = joined-none o m (sym c.replace.ensures.value ∙ c.in_default.is) in
+    let newest : (q : ℕ) → IsSome (map.get (with_newest c.self.inside.newest c.self.inside.older.items) q) → q < c.args.ticket = rw (← c.self.view_is) at c.requires.newest in
+    rw (← c.self.view_is) (ap map.len (put-newest c.replace.new.self m (with_newest o m) _ c.replace.ensures.after all) ∙ len-put (with_newest o m) c.args.ticket c.args.item (λ some. omega (arith, newest c.args.ticket some)))
+
+pub invariant_of-self-2 : goal.invariant_of-self-2
+invariant_of-self-2 g c =
+    let o = c.self.inside.newest in
+    let m = c.self.inside.older.items in
+    let all = joined o m c.in-Some.before (sym c.replace.ensures.value ∙ c.in-Some.is) c.hand_out.new.self.items c.hand_out.ensures.items in
+    let newest : (q : ℕ) → IsSome (map.get (with_newest c.self.inside.newest c.self.inside.older.items) q) → q < c.args.ticket = rw (← c.self.view_is) at c.requires.newest in
+    older-put c.replace.new.self c.hand_out.new.self.items (with_newest o m) _ c.replace.ensures.after all newest
 
 pub returns-clause-gets : goal.returns-clause-gets
-returns-clause-gets g c q = rw (← c.self.view_is) (gets-updated c.self.inside.waiting c.insert.new.self c.args.ticket _ c.in-Ok.ensures.updates.0 q)
-
-pub returns-clause-len : goal.returns-clause-len
-returns-clause-len g c =
-    let newest : (q : ℕ) → IsSome (map.get (items_of c.self.inside.waiting) q) → q < c.args.ticket = rw (← c.self.view_is) at c.requires.newest in
-    rw (← c.self.view_is) (ap map.len (items-put c.self.inside.waiting c.insert.new.self c.args.ticket _ c.in-Ok.ensures.updates.0) ∙ len-put (items_of c.self.inside.waiting) c.args.ticket c.args.item (λ h. omega (arith, newest c.args.ticket h)))
+returns-clause-gets g c q =
+    let o = c.self.inside.newest in
+    let m = c.self.inside.older.items in
+    let all = joined o m c.in-Some.before (sym c.replace.ensures.value ∙ c.in-Some.is) c.hand_out.new.self.items c.hand_out.ensures.items in
+    rw (← c.self.view_is) (ap (λ i. map.get i q) (put-newest c.replace.new.self c.hand_out.new.self.items (with_newest o m) _ c.replace.ensures.after all) ∙ get-put (with_newest o m) c.args.ticket c.args.item q)
 
 pub returns-clause-newest : goal.returns-clause-newest
 returns-clause-newest g c q h =
-    let newest : (q : ℕ) → IsSome (map.get (items_of c.self.inside.waiting) q) → q < c.args.ticket = rw (← c.self.view_is) at c.requires.newest in
-    newest-of c.args.ticket q _ (map.get (items_of c.self.inside.waiting) q) (newest q) (subst (λ o. IsSome o) (gets-updated c.self.inside.waiting c.insert.new.self c.args.ticket _ c.in-Ok.ensures.updates.0 q) h)
+    let o = c.self.inside.newest in
+    let m = c.self.inside.older.items in
+    let all = joined o m c.in-Some.before (sym c.replace.ensures.value ∙ c.in-Some.is) c.hand_out.new.self.items c.hand_out.ensures.items in
+    let newest : (q : ℕ) → IsSome (map.get (with_newest c.self.inside.newest c.self.inside.older.items) q) → q < c.args.ticket = rw (← c.self.view_is) at c.requires.newest in
+    newest-of c.args.ticket q _ (map.get (with_newest o m) q) (newest q) (subst (λ o. IsSome o) (ap (λ i. map.get i q) (put-newest c.replace.new.self c.hand_out.new.self.items (with_newest o m) _ c.replace.ensures.after all) ∙ get-put (with_newest o m) c.args.ticket c.args.item q) h)
+
+pub returns-clause-len : goal.returns-clause-len
+returns-clause-len g c =
+    let o = c.self.inside.newest in
+    let m = c.self.inside.older.items in
+    let all = joined o m c.in-Some.before (sym c.replace.ensures.value ∙ c.in-Some.is) c.hand_out.new.self.items c.hand_out.ensures.items in
+    let newest : (q : ℕ) → IsSome (map.get (with_newest c.self.inside.newest c.self.inside.older.items) q) → q < c.args.ticket = rw (← c.self.view_is) at c.requires.newest in
+    rw (← c.self.view_is) (ap map.len (put-newest c.replace.new.self c.hand_out.new.self.items (with_newest o m) _ c.replace.ensures.after all) ∙ len-put (with_newest o m) c.args.ticket c.args.item (λ some. omega (arith, newest c.args.ticket some)))

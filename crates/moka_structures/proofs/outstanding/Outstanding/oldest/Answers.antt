@@ -1,35 +1,53 @@
-use Rattle.std.proofs.Common.{sym, refl}
-use Rattle.moka_structures.specs.Tickets.{items_of}
-use Rattle.moka_structures.proofs.Tickets.{member-out, least-ticket, first-key, none-out, no-first, some-empty}
+use Rattle.std.proofs.Common.{sym, ◌∙◌, refl}
+use Rattle.moka_structures.specs.Newest.{with_newest}
+use Rattle.moka_structures.proofs.Newest.{joined-none, least-older, least-newest}
+use Rattle.moka_structures.proofs.Tickets.{first-key, no-first, some-empty}
 use Rattle.moka_structures.proofs.outstanding.Outstanding.oldest.Goals as goal
 
 pub returns-in-Some-clause-first : goal.returns-in-Some-clause-first
 returns-in-Some-clause-first g c =
-    let o = c.self.inside.order.members in
-    let m = c.self.inside.waiting in
-    let t = c.self.invariant in
-    let ticket = c.in-Some.ticket in
-    rw (← c.self.view_is) (sym (first-key (items_of m) ticket (member-out o m t c.in-Some.field-0-0 ticket c.in-Some.ensures.found) (least-ticket o m t c.in-Some.field-0-0 ticket (sym c.in-Some.ensures.front))))
+    let o = c.self.inside.newest in
+    let m = c.self.inside.older.items in
+    let least = least-older o m c.in-Some.ticket c.self.invariant c.in-Some.ensures.least in
+    rw (← c.self.view_is) (sym (first-key (with_newest o m) c.in-Some.ticket least.0 least.1))
 
 pub returns-in-Some-clause-least : goal.returns-in-Some-clause-least
 returns-in-Some-clause-least g c =
-    let o = c.self.inside.order.members in
-    let m = c.self.inside.waiting in
-    let t = c.self.invariant in
-    let ticket = c.in-Some.ticket in
-    rw (← c.self.view_is) (member-out o m t c.in-Some.field-0-0 ticket c.in-Some.ensures.found, least-ticket o m t c.in-Some.field-0-0 ticket (sym c.in-Some.ensures.front))
+    let o = c.self.inside.newest in
+    let m = c.self.inside.older.items in
+    let least = least-older o m c.in-Some.ticket c.self.invariant c.in-Some.ensures.least in
+    rw (← c.self.view_is) (least)
 
 pub returns-in-Some-clause-none : goal.returns-in-Some-clause-none
 returns-in-Some-clause-none g c =
-    let out = member-out c.self.inside.order.members c.self.inside.waiting c.self.invariant c.in-Some.field-0-0 c.in-Some.ticket c.in-Some.ensures.found in
-    rw (← c.self.view_is) (λ h. absurd (let x = h in cc), λ h. absurd (some-empty (items_of c.self.inside.waiting) c.in-Some.ticket out h))
+    let o = c.self.inside.newest in
+    let m = c.self.inside.older.items in
+    let least = least-older o m c.in-Some.ticket c.self.invariant c.in-Some.ensures.least in
+    rw (← c.self.view_is) ((λ h. absurd (let x = h in cc), λ h. absurd (some-empty (with_newest o m) c.in-Some.ticket least.0 h)))
+
+pub returns-in-Some-newest-clause-first : goal.returns-in-Some-newest-clause-first
+returns-in-Some-newest-clause-first g c =
+    let o = c.self.inside.newest in
+    let m = c.self.inside.older.items in
+    let least = least-newest o m c.in-Some-newest.newest c.in-Some-newest.is (c.in_default.ensures.none.0 refl) in
+    rw (← c.self.view_is) (sym (first-key (with_newest o m) c.in-Some-newest.newest.ticket least.0 least.1))
+
+pub returns-in-Some-newest-clause-least : goal.returns-in-Some-newest-clause-least
+returns-in-Some-newest-clause-least g c =
+    let o = c.self.inside.newest in
+    let m = c.self.inside.older.items in
+    let least = least-newest o m c.in-Some-newest.newest c.in-Some-newest.is (c.in_default.ensures.none.0 refl) in
+    rw (← c.self.view_is) (least)
+
+pub returns-in-Some-newest-clause-none : goal.returns-in-Some-newest-clause-none
+returns-in-Some-newest-clause-none g c =
+    let o = c.self.inside.newest in
+    let m = c.self.inside.older.items in
+    let least = least-newest o m c.in-Some-newest.newest c.in-Some-newest.is (c.in_default.ensures.none.0 refl) in
+    rw (← c.self.view_is) ((λ h. absurd (let x = h in cc), λ h. absurd (some-empty (with_newest o m) c.in-Some-newest.newest.ticket least.0 h)))
 
 pub returns-in-None-clause-first : goal.returns-in-None-clause-first
 returns-in-None-clause-first g c =
-    let e = none-out c.self.inside.order.members c.self.inside.waiting c.self.invariant (c.in-None.ensures.none.0 refl) in
-    rw (← c.self.view_is) (sym (no-first (items_of c.self.inside.waiting) e))
-
-pub returns-in-None-clause-none : goal.returns-in-None-clause-none
-returns-in-None-clause-none g c =
-    let e = none-out c.self.inside.order.members c.self.inside.waiting c.self.invariant (c.in-None.ensures.none.0 refl) in
-    rw (← c.self.view_is) (λ _. e, λ _. refl)
+    let o = c.self.inside.newest in
+    let m = c.self.inside.older.items in
+    rw (← c.self.view_is) (sym (no-first (with_newest o m) (sym (joined-none o m c.in-None.is) ∙ c.in_default.ensures.none.0 refl)))
