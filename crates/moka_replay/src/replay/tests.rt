@@ -256,6 +256,11 @@ fn replays_scripts(rt: HostRuntime) -> Result<(), Fail> {
             handed 0 oldest none writes 1 reads 2\ndone\nhanded 0 oldest none writes 0 reads 0\n\
             count 1 weight 1\n",
         ),
+        (
+            "keeper 18446744073709551615 4294967295 1\nstart 5\ncapacity 1\npolicy lru\ninsert 1 a 0\n\
+            insert 2 b 0\nsend 1\nsend 2\nrun 0 10\nreport\n",
+            "ticket 1\nticket 2\nsent\nsent\ndone\ncount 1 weight 1 predicates 0\ncount 1 weight 1\n",
+        ),
         ("", "count 0 weight 0\n"),
         ("  \n# report", "count 0 weight 0\n"),
         (
@@ -353,6 +358,9 @@ fn names_the_first_faulty_line(rt: HostRuntime) -> Result<(), Fail> {
         ("capacity 4\nreport\npolicy lru\n", 1),
         ("remove 1 4\nremove 1 4 5\n", 2),
         ("tti 1\ntti 2\n", 2),
+        ("start 1\nstart 1\n", 2),
+        ("keeper 1 2 3\n\nkeeper 1 2 3\n", 3),
+        ("report\nkeeper 1 2 3\n", 2),
         ("report\ntti 1\n", 2),
         ("listener\nlistener\n", 2),
         ("listener 1\n", 1),
@@ -397,6 +405,16 @@ fn finds_each_fault(rt: HostRuntime) -> Result<(), Fail> {
         "tti x",
         "tti 1 1",
         "weigh x",
+        "start",
+        "start x",
+        "start 0 0",
+        "keeper 1 2",
+        "keeper 1 2 3 4",
+        "keeper x 2 3",
+        "keeper 1 x 3",
+        "keeper 1 4294967296 3",
+        "keeper 1 2 x",
+        "keeper 1 2 4294967296",
         "insert",
         "insert 1 a",
         "insert 1 a 0 0",

@@ -1,10 +1,10 @@
 //! The settings of a script.
 ghost use Rattle.std.specs.Prelude.{◌≡◌};
 ghost use Rattle.moka_replay.specs.Lex.{texts};
-ghost use Rattle.moka_replay.specs.Settings.{policy_of, policy_named, setting_of};
+ghost use Rattle.moka_replay.specs.Settings.{keeper_of, policy_of, policy_named, setting_of};
 
 use crate::first_ticket::FirstTicket;
-use crate::lex::{alone, lone_number};
+use crate::lex::{alone, lone_number, number, small_number};
 use crate::weigher::NumberWeigher;
 use moka_parts::policy::EvictionPolicy;
 
@@ -23,6 +23,18 @@ pub struct Settings {
     pub weigher: Option<NumberWeigher>,
     /// Whether a listener keeps the notices.
     pub listener: bool,
+    /// The moment at which the cache is made.
+    pub start: Option<u64>,
+    /// What the housekeeper gives to its runs.
+    pub keeper: Option<KeeperTerms>,
+}
+
+/// What the housekeeper gives to each run: its time limit in nanoseconds, its repeats and its batch.
+#[derive(Clone, Copy)]
+pub struct KeeperTerms {
+    pub limit: u64,
+    pub repeats: u32,
+    pub batch: u32,
 }
 
 impl Settings {
@@ -40,6 +52,8 @@ impl Settings {
             time_to_idle: None,
             weigher: None,
             listener: false,
+            start: None,
+            keeper: None,
         }
     }
 
@@ -72,6 +86,14 @@ impl Settings {
                 listener: true,
                 ..self
             }),
+            Setting::Start(now) if self.start.is_none() => Some(Settings {
+                start: Some(now),
+                ..self
+            }),
+            Setting::Keeper(keeper) if self.keeper.is_none() => Some(Settings {
+                keeper: Some(keeper),
+                ..self
+            }),
             _ => None,
         }
     }
@@ -86,6 +108,8 @@ pub enum Setting {
     TimeToIdle(u64),
     Weigh(NumberWeigher),
     Listener,
+    Start(u64),
+    Keeper(KeeperTerms),
 }
 
 impl Setting {
@@ -101,6 +125,23 @@ impl Setting {
             _ => true,
         }
     }
+}
+
+/// `keeper LIMIT REPEATS BATCH`
+fn keeper(arguments: &[&str]) -> Option<Setting>
+    ensures { result ≡ keeper_of (texts arguments.now) }
+{
+    let [limit, repeats, batch] = arguments else {
+        return None;
+    };
+    let limit = number(limit)?;
+    let repeats = small_number(repeats)?;
+    let batch = small_number(batch)?;
+    Some(Setting::Keeper(KeeperTerms {
+        limit,
+        repeats,
+        batch,
+    }))
 }
 
 /// `policy lru`
@@ -136,6 +177,8 @@ pub fn parse_setting(name: &str, arguments: &[&str]) -> Option<Setting>
         "tti" => lone_number(arguments).map(Setting::TimeToIdle),
         "weigh" => alone(Setting::Weigh(NumberWeigher), arguments),
         "listener" => alone(Setting::Listener, arguments),
+        "start" => lone_number(arguments).map(Setting::Start),
+        "keeper" => keeper(arguments),
         _ => None,
     }
 }
