@@ -64,10 +64,9 @@ module _ {K V X L P W : Type 0} {eq : K → K → Bool} {l : Option L} {s : Stat
       let created : X → K → V → ℕ → Option ℕ = λ _ _ _ _. None in
       let updating : X → K → V → ℕ → Option ℕ → Option ℕ = λ _ _ _ _ _. None in
       let valid = replaced_valid eq created updating s r key hash value now w (key-inside h before inside_before key (Some r) found) h.valid in
-      let none = unexpiring-inside h i inside in
       cache-inner h m j same
       (subst (IsValid eq) (sym (replaces created updating s i j inside h.served.no_expiry r n (number-inside h before inside_before n r there).0 key hash value now w step)) valid)
-      (subst (λ (x : Interior K V). NoneExpires x.kept.records) (sym step) (unexpiring-inserted i.kept.records none n (updated (record { value = value; now = now; expires = r.expires; weight = w }) r) (unexpiring-inside h before inside_before n r there)))
+      (λ none. subst (λ (x : Interior K V). NoneExpires x.kept.records) (sym step) (unexpiring-inserted i.kept.records (unexpiring-inside h i inside none) n (updated (record { value = value; now = now; expires = r.expires; weight = w }) r) (unexpiring-inside h before inside_before none n r there)))
 
   -- what always holds after an insert of a new key
   pub cache-inserted : (laws : IsEquivalence eq) → is_disabled s.capacity ≡ false → (key : K) → record_of_key eq s.records key ≡ None → (hash : ℕ) (value : V) (now : Instant) (w : ℕ)
@@ -77,10 +76,9 @@ module _ {K V X L P W : Type 0} {eq : K → K → Bool} {l : Option L} {s : Stat
       let updating : X → K → V → ℕ → Option ℕ → Option ℕ = λ _ _ _ _ _. None in
       let new : Record K V = first_record i.next_number key hash (record { value = value; now = now; expires = None; weight = w }) in
       let here : with_inner s (record (handing_out_inside i (with_record i.kept.records new) (Upsert i.next_number 1 w hash) j) { next_number = i.next_number + 1 }) ≡ inserted created updating (with_inner s i) key hash value now w = rw h.served.no_expiry refl in
-      let none = unexpiring-inside h i inside in
       cache-inner h l j refl
       (subst (IsValid eq) (sym (ap (with_inner s) step ∙ here ∙ ap (λ t. inserted created updating t key hash value now w) inside)) (inserted_valid eq created updating s key hash value now w laws enabled absent h.valid))
-      (subst (λ (x : Interior K V). NoneExpires x.kept.records) (sym step) (unexpiring-inserted i.kept.records none i.next_number new refl))
+      (λ none. subst (λ (x : Interior K V). NoneExpires x.kept.records) (sym step) (unexpiring-inserted i.kept.records (unexpiring-inside h i inside none) i.next_number new refl))
 
 -- ---- what the calls return
 

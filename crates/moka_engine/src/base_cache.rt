@@ -21,13 +21,13 @@ ghost use Rattle.moka_engine.specs.BaseCache.{IsLruWhereBounded};
 use crate::inner::Inner;
 use moka_maintenance::sweep::Tests;
 use moka_parts::calls::{Entry, KvEntry, Ticket};
-use moka_parts::closures::{PredicateFn, Weigher};
+use moka_parts::closures::{NoTest, PredicateFn, Weigher};
 use moka_parts::error::{InsertError, InsertRefused, OutOfMemory, SendError};
 use moka_parts::housekeeper::{Clock, Housekeeper, HousekeeperConfig};
 use moka_parts::notification::{Listener, RemovalNotifier};
 use moka_parts::policy::{EvictionPolicy, ExpirationPolicy, Expiry, Instant, Policy};
-use moka_parts::records::{ReadOperation, Registered};
-use moka_store::{Handle, Update};
+use moka_parts::records::Registered;
+use moka_store::Update;
 use std::alloc::Global;
 use std::hash::{BuildHasher, Hash};
 use std::marker::Model;
@@ -36,6 +36,7 @@ use std::time::Duration;
 mod causes;
 mod gets;
 mod inserts;
+mod looks;
 #[cfg(test)]
 mod tests;
 
@@ -509,29 +510,7 @@ impl<
             × Befalls L.tells e self.old self.new
             × Leads C.reads clock.old e.readings clock.new }
     {
-        if self.is_map_disabled() {
-            return Ok(None);
-        }
-        let (policy, valid_after) = (&self.expiration_policy, self.valid_after);
-        let shown = gets::find_shown(&self.inner, policy, valid_after, key, now);
-        let Some((handle, found)) = shown else {
-            self.inner.queue_read(0, ReadOperation::Miss { hash });
-            return Ok(None);
-        };
-        let Ok(entry) = gets::entry_of(found, need_key) else {
-            return Err(OutOfMemory);
-        };
-        let (hash, expires) = (found.hash, found.expires);
-        let Handle { number, place } = handle;
-        let renewed = false;
-        self.inner.touch(handle, now, expires);
-        let read = ReadOperation::Hit {
-            number,
-            hash,
-            renewed,
-        };
-        self.inner.queue_read(place, read);
-        Ok(Some(entry))
+        self.do_get_with_hash(key, hash, &mut NoTest, need_key, now, clock)
     }
 
     /// Runs maintenance: applies the queued reads and then the queued writes, and removes, in passes, what has expired,
