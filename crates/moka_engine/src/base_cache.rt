@@ -320,7 +320,7 @@ impl<
         };
         let (policy, valid_after) = (&self.expiration_policy, self.valid_after);
         let cause = causes::cause_of_replacement(found, policy, valid_after, now);
-        let expires = found.expires;
+        let expires = inserts::expires_at_update(found, policy, &key, &value, now);
         if let Err(error) = self.inner.reserve_operation() {
             return Err(InsertRefused { error, key, value });
         }
@@ -352,6 +352,7 @@ impl<
         requires weighed { Weighs W.weighs self.old.state.settings.weigher key value weight }
         ensures { (e : Events K V) × InsertsAt X.created X.updated W.weighs self.old.state None key hash value now result e self.new.state × Befalls L.tells e self.old self.new }
     {
+        let expires = inserts::expires_at_creation(&self.expiration_policy, &key, &value, now);
         if let Err(error) = self.inner.reserve_record() {
             return Err(InsertRefused { error, key, value });
         }
@@ -362,7 +363,7 @@ impl<
         let update = Update {
             value,
             now,
-            expires: None,
+            expires,
             weight,
         };
         Ok((self.inner.insert(key, kept, hash, update), now))
