@@ -3,3 +3,4 @@ pub mod Interior
 pub mod Inner
 pub mod BaseCache
 pub mod Config
+pub mod Looks

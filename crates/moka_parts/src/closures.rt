@@ -191,6 +191,22 @@ impl<K, V> PredicateFn<K, V> for NoPredicate {
     ghost one_answer = { λ _ _ _ _ _ first second. first ∙ sym second };
 }
 
+/// A test that ignores no value.
+#[derive(Clone, Copy, Debug)]
+pub struct NoTest;
+
+impl<V> ValueTest<V> for NoTest {
+    ghost use Rattle.std.specs.Prelude.{◌≡◌, false, ⊤};
+
+    ghost can_ask = { λ _ _. ⊤ };
+
+    ghost asks = { λ _ _ answer _. answer ≡ false };
+
+    fn ignores(&mut self, _: &V) -> bool {
+        false
+    }
+}
+
 #[cfg(test)]
 mod tests {
     use super::*;
@@ -250,5 +266,6 @@ mod tests {
     fn answers_the_same_for_all(rt: HostRuntime) {
         assert_eq!(rt; NoWeigher.weigh(&1u8, &'a'), 1);
         assert!(rt; !NoPredicate.applies(&1u8, &'a'));
+        assert!(rt; !NoTest.ignores(&'a'));
     }
 }
