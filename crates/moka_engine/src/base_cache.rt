@@ -18,7 +18,7 @@ ghost use Rattle.moka_engine.specs.BaseCache.{IsLruWhereBounded};
 use crate::inner::Inner;
 use moka_parts::calls::{Entry, KvEntry, Ticket};
 use moka_parts::closures::{NoTest, PredicateFn, Weigher};
-use moka_parts::error::{InsertError, InsertRefused, OutOfMemory, SendError};
+use moka_parts::error::{InsertRefused, OutOfMemory, SendError};
 use moka_parts::housekeeper::{Clock, Housekeeper, HousekeeperConfig};
 use moka_parts::notification::{Listener, RemovalNotifier};
 use moka_parts::policy::{EvictionPolicy, ExpirationPolicy, Expiry, Instant, Policy};
@@ -295,8 +295,8 @@ impl<
     /// the old value, both of which it may keep.
     ///
     /// # Errors
-    /// `NumbersUsedUp` where too few tickets are left, and `OutOfMemory` where memory for the operation, for a new
-    /// record or for a clone of its key is refused. Key and value come back, and nothing has changed.
+    /// `NumbersUsedUp` where too few tickets are left, and `OutOfMemory` where memory for the operation or for a new
+    /// record is refused. Key and value come back, and nothing has changed.
     pub fn do_insert_with_hash(
         &mut self,
         key: K,
@@ -305,9 +305,8 @@ impl<
         now: Instant,
     ) -> Result<(Ticket, Instant), InsertRefused<K, V>>
     where
-        K: Clone,
+        K: Drop,
         V: Drop,
-        requires clones { ClonesAreEqual K.is_clone }
         requires enabled { is_disabled self.old.state.capacity ≡ false }
         ensures { (e : Events K V) × InsertStep X.created X.updated W.weighs K.eq self.old.state key hash value now result e self.new.state × Befalls L.tells e self.old self.new }
     {
@@ -332,7 +331,7 @@ impl<
         Ok((ticket, now))
     }
 
-    // A new record for a key that has none. All room is made, and the key cloned, before anything changes.
+    // A new record for a key that has none. All room is made before anything changes.
     fn insert_new(
         &mut self,
         key: K,
@@ -341,9 +340,6 @@ impl<
         now: Instant,
         weight: u32,
     ) -> Result<(Ticket, Instant), InsertRefused<K, V>>
-    where
-        K: Clone,
-        requires clones { ClonesAreEqual K.is_clone }
         requires enabled { is_disabled self.old.state.capacity ≡ false }
         requires fresh { record_of_key K.eq self.old.state.records key ≡ None }
         requires weighed { Weighs W.weighs self.old.state.settings.weigher key value weight }
@@ -353,17 +349,13 @@ impl<
         if let Err(error) = self.inner.reserve_record() {
             return Err(InsertRefused { error, key, value });
         }
-        let Ok(kept) = key.clone() else {
-            let error = InsertError::OutOfMemory;
-            return Err(InsertRefused { error, key, value });
-        };
         let update = Update {
             value,
             now,
             expires,
             weight,
         };
-        Ok((self.inner.insert(key, kept, hash, update), now))
+        Ok((self.inner.insert(key, hash, update), now))
     }
 
     /// Moves the operation of the ticket to the back of the queue of writes. No run starts.

@@ -157,16 +157,12 @@ impl<K: Eq + Hash, V, S: BuildHasher> Inner<K, V, S> {
         u64::MAX - self.last_ticket - self.store.record_count() as u64 > more
     }
 
-    /// Puts a new record into the map, and hands its upsert out under the next ticket; `kept` is the same key. It takes
-    /// no memory.
-    pub fn insert(&mut self, key: K, kept: K, hash: u64, update: Update<V>) -> Ticket
-    where
-        K: Drop,
+    /// Puts a new record into the map, and hands its upsert out under the next ticket. It takes no memory.
+    pub fn insert(&mut self, key: K, hash: u64, update: Update<V>) -> Ticket
         requires rows { 0 < self.old.kept.room }
         requires operations { 1 < self.old.operation_room }
         requires tickets { self.old.next_ticket + finite.len self.old.kept.records + 1 < 2 ^ 64 }
         requires fresh { record_of_key K.eq self.old.kept.records key ≡ None }
-        requires same { kept ≡ key }
         ensures ticket { result.0 ≡ self.old.next_ticket }
         ensures step { self.new ≡ record (handing_out_inside self.old
             (with_record self.old.kept.records (first_record self.old.next_number key hash update))
@@ -177,7 +173,7 @@ impl<K: Eq + Hash, V, S: BuildHasher> Inner<K, V, S> {
         let weight = update.weight;
         let handle = self
             .store
-            .insert_new(first_record(number, key, hash, update), kept);
+            .insert_new(first_record(number, key, hash, update));
         let place = handle.place;
         let operation = Operation::Upsert {
             number,

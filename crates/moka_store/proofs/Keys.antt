@@ -1,73 +1,61 @@
 -- How the index of keys follows a change at one place.
-use Rattle.std.proofs.Common.{◌≡◌, ◌≢◌, ℕ, Bool, true, false, cond, Option, Some, None, inl, inr, sym, ap, ◌∙◌}
-use Rattle.std.proofs.lemmas.Bool.{cases_eq, cases_Bool, cond-true, cond-false}
+use Rattle.std.proofs.Common.{◌≡◌, ◌≢◌, ℕ, Bool, true, false, Option, Some, None, inl, inr, sym, ap, ◌∙◌}
+use Rattle.std.proofs.lemmas.Bool.{cases_eq}
 use Rattle.std.specs.Cmp.{IsEquivalence}
-use Rattle.moka_store.specs.StoreTies.{HasKey, IsIndex}
+use Rattle.std.specs.FinMap.{get, insert, remove}
+use Rattle.std.specs.Option.{option_map}
+use Rattle.moka_store.proofs.Gets.{some_same, get-inserted, get-past_insert, get-removed, get-past_remove}
+use Rattle.moka_store.specs.StoreTies.{KeyIndex, IsIndex}
 
-module _ {K : Type 0} (eq : K → K → Bool) (a b : ℕ → Option K) (index after : K → Option ℕ) (i : IsIndex eq a index) where
+module _ {K : Type 0} (eq : K → K → Bool) (a b : ℕ → Option K) (index : KeyIndex K) (i : IsIndex eq a index) where
   -- nothing changes
-  pub index-same : ((p : ℕ) → b p ≡ a p) → ((q : K) → after q ≡ index q) → IsIndex eq b after
-  index-same same u = record {
-    to_key = λ q p h. let w = i.to_key q p (sym (u q) ∙ h) in record { found = w.found; at_is = same p ∙ w.at_is; same = w.same };
-    to_place = λ q p h. u q ∙ i.to_place q p (record { found = h.found; at_is = sym (same p) ∙ h.at_is; same = h.same });
+  pub index-same : ((p : ℕ) → b p ≡ a p) → IsIndex eq b index
+  index-same same = record {
+    at = λ p. i.at p ∙ ap (option_map index.hash_of) (sym (same p));
+    once = λ p q x y px qy e. i.once p q x y (sym (same p) ∙ px) (sym (same q) ∙ qy) e;
   }
 
-  module _ (laws : IsEquivalence eq) (place : ℕ) (key : K) (others : (p : ℕ) → p ≢ place → b p ≡ a p) where
-    -- a key comes to a place that had none
-    pub index-added : a place ≡ None → b place ≡ Some key → index key ≡ None → ((q : K) → after q ≡ cond (eq key q) (Some place) (index q)) → IsIndex eq b after
-    index-added was now fresh u = record {
-      to_key = λ q p h. elim (cases_Bool (eq key q)) as (λ _. HasKey eq b q p) [
-        | inl t ↦
-            let p_is : Some place ≡ Some p = sym (u q ∙ cond-true (eq key q) (Some place) (index q) t) ∙ h in
-            let e : place ≡ p = cc in
-            record { found = key; at_is = ap b (sym e) ∙ now; same = laws.symm q key ∙ t }
-        | inr f ↦
-            let w = i.to_key q p (sym (u q ∙ cond-false (eq key q) (Some place) (index q) f) ∙ h) in
-            let away : p ≢ place = (λ e. let bad : None ≡ Some w.found = sym was ∙ ap a (sym e) ∙ w.at_is in cc) in
-            record { found = w.found; at_is = others p away ∙ w.at_is; same = w.same }
-      ];
-      to_place = λ q p h. elim (cases_eq p place) as (λ _. after q ≡ Some p) [
+  module _ (place : ℕ) (others : (p : ℕ) → p ≢ place → b p ≡ a p) where
+    -- a key that no place has comes to a place
+    pub index-added : IsEquivalence eq → (key : K) → b place ≡ Some key → ((p : ℕ) (x : K) → a p ≡ Some x → eq key x ≡ false) → IsIndex eq b (record index { entries = insert index.entries place (index.hash_of key) })
+    index-added laws key now fresh = record {
+      at = λ p. elim (cases_eq p place) as (λ _. get (insert index.entries place (index.hash_of key)) p ≡ option_map index.hash_of (b p)) [
         | inl e ↦
-            let k : Some h.found ≡ Some key = sym h.at_is ∙ ap b e ∙ now in
-            let same : h.found ≡ key = cc in
-            let t : eq key q ≡ true = laws.symm key q ∙ ap (eq q) (sym same) ∙ h.same in
-            u q ∙ cond-true (eq key q) (Some place) (index q) t ∙ ap Some (sym e)
-        | inr ne ↦
-            let old : HasKey eq a q p = record { found = h.found; at_is = sym (others p ne) ∙ h.at_is; same = h.same } in
-            let there : index q ≡ Some p = i.to_place q p old in
-            elim (cases_Bool (eq key q)) as (λ _. after q ≡ Some p) [
-              | inl t ↦
-                  let k : index key ≡ Some p = i.to_place key p (record { found = old.found; at_is = old.at_is; same = laws.congr key q old.found t ∙ old.same }) in
-                  let bad : None ≡ Some p = sym fresh ∙ k in cc
-              | inr f ↦ u q ∙ cond-false (eq key q) (Some place) (index q) f ∙ there
-            ]
+            ap (get (insert index.entries place (index.hash_of key))) e ∙ get-inserted index.entries place (index.hash_of key)
+            ∙ ap (option_map index.hash_of) (sym now ∙ ap b (sym e))
+        | inr ne ↦ get-past_insert index.entries place (index.hash_of key) p ne ∙ i.at p ∙ ap (option_map index.hash_of) (sym (others p ne))
+      ];
+      once = λ p q x y px qy e. elim (cases_eq p place) as (λ _. p ≡ q) [
+        | inl pe ↦ elim (cases_eq q place) as (λ _. p ≡ q) [
+          | inl qe ↦ pe ∙ sym qe
+          | inr qn ↦
+              let same : key ≡ x = some_same (sym now ∙ ap b (sym pe) ∙ px) in
+              let apart = fresh q y (sym (others q qn) ∙ qy) in
+              let bad : true ≡ false = sym e ∙ ap (λ k. eq k y) (sym same) ∙ apart in
+              cc
+        ]
+        | inr pn ↦ elim (cases_eq q place) as (λ _. p ≡ q) [
+          | inl qe ↦
+              let same : key ≡ y = some_same (sym now ∙ ap b (sym qe) ∙ qy) in
+              let apart = fresh p x (sym (others p pn) ∙ px) in
+              let bad : true ≡ false = sym e ∙ laws.symm x y ∙ ap (λ k. eq k x) (sym same) ∙ apart in
+              cc
+          | inr qn ↦ i.once p q x y (sym (others p pn) ∙ px) (sym (others q qn) ∙ qy) e
+        ]
       ];
     }
 
     -- the key of a place leaves
-    pub index-removed : a place ≡ Some key → b place ≡ None → ((q : K) → after q ≡ cond (eq key q) None (index q)) → IsIndex eq b after
-    index-removed was now u = record {
-      to_key = λ q p h. elim (cases_Bool (eq key q)) as (λ _. HasKey eq b q p) [
-        | inl t ↦ let bad : None ≡ Some p = sym (u q ∙ cond-true (eq key q) None (index q) t) ∙ h in cc
-        | inr f ↦
-            let w = i.to_key q p (sym (u q ∙ cond-false (eq key q) None (index q) f) ∙ h) in
-            let away : p ≢ place = (λ e.
-            let k : Some w.found ≡ Some key = sym w.at_is ∙ ap a e ∙ was in
-            let same : w.found ≡ key = cc in
-            let t : eq key q ≡ true = laws.symm key q ∙ ap (eq q) (sym same) ∙ w.same in
-            let bad : true ≡ false = sym t ∙ f in cc) in
-            record { found = w.found; at_is = others p away ∙ w.at_is; same = w.same }
-      ];
-      to_place = λ q p h. elim (cases_eq p place) as (λ _. after q ≡ Some p) [
-        | inl e ↦ let bad : None ≡ Some h.found = sym now ∙ ap b (sym e) ∙ h.at_is in cc
-        | inr ne ↦
-            let old : HasKey eq a q p = record { found = h.found; at_is = sym (others p ne) ∙ h.at_is; same = h.same } in
-            elim (cases_Bool (eq key q)) as (λ _. after q ≡ Some p) [
-              | inl t ↦
-                  let there : index q ≡ Some place = i.to_place q place (record { found = key; at_is = was; same = laws.symm q key ∙ t }) in
-                  let both : Some p ≡ Some place = sym (i.to_place q p old) ∙ there in
-                  absurd (ne (cc))
-              | inr f ↦ u q ∙ cond-false (eq key q) None (index q) f ∙ i.to_place q p old
-            ]
-      ];
-    }
+    pub index-removed : b place ≡ None → IsIndex eq b (record index { entries = remove index.entries place })
+    index-removed now =
+        let was : (p : ℕ) (x : K) → b p ≡ Some x → a p ≡ Some x = λ p x h. elim (cases_eq p place) as (λ _. a p ≡ Some x) [
+          | inl e ↦ let bad : None ≡ Some x = sym now ∙ ap b (sym e) ∙ h in cc
+          | inr ne ↦ sym (others p ne) ∙ h
+        ] in
+        record {
+          at = λ p. elim (cases_eq p place) as (λ _. get (remove index.entries place) p ≡ option_map index.hash_of (b p)) [
+            | inl e ↦ ap (get (remove index.entries place)) e ∙ get-removed index.entries place ∙ ap (option_map index.hash_of) (sym now ∙ ap b (sym e))
+            | inr ne ↦ get-past_remove index.entries place p ne ∙ i.at p ∙ ap (option_map index.hash_of) (sym (others p ne))
+          ];
+          once = λ p q x y px qy e. i.once p q x y (was p x px) (was q y qy) e;
+        }

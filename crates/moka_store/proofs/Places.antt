@@ -10,7 +10,7 @@ use Rattle.moka_parts.specs.declared.records.Member.{Member}
 use Rattle.moka_parts.specs.Records.{counted_of}
 use Rattle.moka_parts.proofs.Maps.{same_by_test}
 use Rattle.moka_store.specs.StoreRows.{member_at}
-use Rattle.moka_store.specs.StoreTies.{IsTied}
+use Rattle.moka_store.specs.StoreTies.{KeyIndex, IsTied}
 use Rattle.moka_store.proofs.Gets.{some_is}
 use Rattle.moka_store.proofs.Nodes.{in-nodes}
 use Rattle.moka_store.proofs.Steps.{node-member}
@@ -24,7 +24,7 @@ counted-node {M} g n w (m ∷ nodes) h =
       | false ↦ λ _ there. (let r = counted-node g n w nodes there in (r.0, Contains-append_right (m ∷ []) nodes r.0 r.1, r.2))
     ] refl h
 
-module _ {K V : Type 0} (eq : K → K → Bool) (rows : List (Option (Row (Record K V)))) (index : K → Option ℕ) (nodes : List (ℕ × ℕ)) (t : IsTied eq rows index nodes) where
+module _ {K V : Type 0} (eq : K → K → Bool) (rows : List (Option (Row (Record K V)))) (index : KeyIndex K) (nodes : List (ℕ × ℕ)) (t : IsTied eq rows index nodes) where
   pub record-placed : (n : ℕ) → IsSome (get (records_of rows) n) → IsSome (get (places_of rows) n)
   record-placed n h =
       let r = some_is (get (records_of rows) n) h in

@@ -4,9 +4,10 @@ use Rattle.std.proofs.lemmas.Bool.{eqb-true, cases_eq, cases_Bool, eq-eqb, ne_eq
 use Rattle.std.proofs.lemmas.List.{map-append}
 use Rattle.std.proofs.lemmas.Map.{lookup-remove_entry}
 use Rattle.std.specs.Cmp.{IsEquivalence, nat_eq_equiv}
-use Rattle.std.specs.FinMap.{get, insert, len}
+use Rattle.std.specs.FinMap.{get, insert, remove, len, empty, get-empty}
 use Rattle.std.specs.List.{IsDistinct}
 use Rattle.std.specs.Map.{lookup, remove_entry, keys_of}
+use Rattle.std.specs.Ordering.{nat_cmp}
 use Rattle.std.specs.Option.{option_map, option_and_then, option_map_or}
 use Rattle.std.specs.Prelude.{option_to_list}
 use Rattle.moka_structures.proofs.Linked.{linked-same, linked-added, linked-removed}
@@ -22,15 +23,15 @@ use Rattle.moka_store.proofs.Ties.{read-other, read-same, named-changed, named-g
 use Rattle.moka_parts.proofs.Lookup.{record_of_key_found, absent_key, present_key}
 use Rattle.moka_store.specs.declared.store.Handle.{Handle}
 use Rattle.moka_store.specs.Store.{IsOneEach, IsHandle, ChangesRecord}
-use Rattle.moka_store.specs.StoreRows.{key_in, key_at, access_in, access_at, timer_at, member_in, member_at}
-use Rattle.moka_store.specs.StoreTies.{IsIndex, IsNamed, IsTied, IsStore, kept_of}
+use Rattle.moka_store.specs.StoreRows.{key_in, key_at, has_key_at, access_in, access_at, timer_at, member_in, member_at}
+use Rattle.moka_store.specs.StoreTies.{KeyIndex, IsIndex, IsNamed, IsTied, IsStore, kept_of}
 use Rattle.moka_store.specs.Weights.{IsWeighed}
 use Rattle.moka_parts.specs.declared.records.Member.{Member}
 use Rattle.moka_parts.specs.declared.records.Record.{Record}
 use Rattle.moka_parts.specs.Records.{member, counted_of, record_of_key, without_member, to_back}
 
 -- the parts belong together, and the list stands for these members
-pub record Sees {K V : Type 0} (eq : K → K → Bool) (rows : List (Option (Row (Record K V)))) (index : K → Option ℕ) (nodes : List (ℕ × ℕ)) (members : List Member) : Type 0 where
+pub record Sees {K V : Type 0} (eq : K → K → Bool) (rows : List (Option (Row (Record K V)))) (index : KeyIndex K) (nodes : List (ℕ × ℕ)) (members : List Member) : Type 0 where
   pub tied : IsTied eq rows index nodes
   pub access : map (member_at rows) nodes ≡ members
 
@@ -79,7 +80,17 @@ lookup-remove slot other nodes d = lookup-remove_entry nat_eq_equiv (nat_eq slot
 lookup-removed : (slot : ℕ) (nodes : List (ℕ × ℕ)) → IsDistinct nat_eq (keys_of nodes) → lookup (nat_eq slot) (remove_entry (nat_eq slot) nodes) ≡ None
 lookup-removed slot nodes d = lookup-remove_entry nat_eq_equiv (nat_eq slot) (λ x y e. ap (λ s. nat_eq s y) (eqb-true slot x e)) slot nodes d ∙ cond-true (nat_eq slot slot) None (lookup (nat_eq slot) nodes) (eq-eqb slot slot refl)
 
-module _ {K V : Type 0} (eq : K → K → Bool) (rows : List (Option (Row (Record K V)))) (index : K → Option ℕ) (nodes : List (ℕ × ℕ)) (t : IsTied eq rows index nodes) where
+module _ {K V : Type 0} (eq : K → K → Bool) (rows : List (Option (Row (Record K V)))) (index : KeyIndex K) (nodes : List (ℕ × ℕ)) (t : IsTied eq rows index nodes) where
+  -- the test of a record's key is one of the place's key
+  key-test : (key : K) (place : ℕ) → option_map_or (eq key) (key_at rows place) false ≡ has_key_at eq rows key place
+  key-test key place = elim (row_at rows place) as (λ o. option_map_or (eq key) (option_and_then key_in o) false ≡ option_map_or (λ r. eq key r.key) (option_and_then (λ row. row.stored) o) false) [
+    | None ↦ refl
+    | Some row ↦ elim row.stored as (λ s. option_map_or (eq key) (option_map (λ r. r.key) s) false ≡ option_map_or (λ r. eq key r.key) s false) [
+      | None ↦ refl
+      | Some r ↦ refl
+    ]
+  ]
+
   pub placed : (place number : ℕ) → get (places_of rows) number ≡ Some place → Placed rows place number
   placed place number h = let w = placed_row rows t.numbered place number h in record { row = w.0; at_is = w.1; number_is = w.2; number_at_is = ap (λ o. option_map_or (λ (row : Row (Record K V)). row.number) o 0) w.1 ∙ w.2 }
 
@@ -91,48 +102,9 @@ module _ {K V : Type 0} (eq : K → K → Bool) (rows : List (Option (Row (Recor
       let is : w.row.stored ≡ Some r.0 = sym there ∙ r.1 in
       record { row = w.row; stored = r.0; at_is = w.at_is; number_is = w.number_is; number_at_is = w.number_at_is; stored_is = is; stored_at_is = ap (option_and_then (λ (row : Row (Record K V)). row.stored)) w.at_is ∙ is; record_is = r.1 }
 
-  pub tied-same : (after : K → Option ℕ) → ((q : K) → after q ≡ index q) → IsTied eq rows after nodes
-  tied-same after u = record {
-    numbered = t.numbered;
-    named = t.named;
-    indexed = index-same eq (key_at rows) (key_at rows) index after t.indexed (λ p. refl) u;
-    linked = t.linked;
-    distinct = t.distinct;
-    untimed = t.untimed;
-  }
-
-  -- no record has a key that the index lacks
-  pub key-absent : (key : K) → index key ≡ None → (n : ℕ) (r : Record K V) → get (records_of rows) n ≡ Some r → eq key r.key ≡ false
-  key-absent key none n r h = elim (cases_Bool (eq key r.key)) as (λ _. eq key r.key ≡ false) [
-    | inl y ↦
-        let w = record_row rows t.numbered n r h in
-        let i = t.indexed.to_place key w.0 (record { found = r.key; at_is = ap (option_and_then key_in) w.2 ∙ ap (option_map (λ (r : Record K V). r.key)) w.4; same = y }) in
-        let bad : None ≡ Some w.0 = sym none ∙ i in cc
-    | inr f ↦ f
-  ]
-
-  -- the record that the index leads to
-  pub key-present : (key : K) (place : ℕ) → index key ≡ Some place → KeyRow eq rows key place
-  key-present key place h =
-      let w = t.indexed.to_key key place h in
-      let r = key-row (row_at rows place) w.found w.at_is in
-      record { row = r.0; stored = r.1; at_is = r.2; stored_is = r.3; same = ap (eq key) r.4 ∙ w.same; record_is = get-records rows t.numbered place r.0 r.2 ∙ r.3; place_is = get-places rows t.numbered place r.0 r.2 }
-
-  -- the index lacks a key that no record has
-  pub key-fresh : (key : K) → ((n : ℕ) (r : Record K V) → get (records_of rows) n ≡ Some r → eq key r.key ≡ false) → index key ≡ None
-  key-fresh key h = elim (option-cases (index key)) as (λ _. index key ≡ None) [
-    | inl none ↦ none
-    | inr p ↦
-        let w = key-present key p.0 p.1 in
-        let f = h w.row.number w.stored w.record_is in
-        let bad : true ≡ false = sym w.same ∙ f in cc
-  ]
-
-  same-key-place : (p q : ℕ) (key : K) (a b : Row (Record K V)) (r s : Record K V) → row_at rows p ≡ Some a → a.stored ≡ Some r → row_at rows q ≡ Some b → b.stored ≡ Some s → eq key r.key ≡ true → eq key s.key ≡ true → p ≡ q
-  same-key-place p q key a b r s ae re be se kr ks =
-      let x = t.indexed.to_place key p (record { found = r.key; at_is = ap (option_and_then key_in) ae ∙ ap (option_map (λ (r : Record K V). r.key)) re; same = kr }) in
-      let y = t.indexed.to_place key q (record { found = s.key; at_is = ap (option_and_then key_in) be ∙ ap (option_map (λ (r : Record K V). r.key)) se; same = ks }) in
-      cc
+  -- a place of a record
+  key-there : (place : ℕ) (row : Row (Record K V)) (r : Record K V) → row_at rows place ≡ Some row → row.stored ≡ Some r → key_at rows place ≡ Some r.key
+  key-there place row r at_is is = ap (option_and_then key_in) at_is ∙ ap (option_map (λ (r : Record K V). r.key)) is
 
   -- each record is under its own number, and a key has one record
   pub one-each : IsEquivalence eq → IsOneEach eq (records_of rows)
@@ -141,28 +113,49 @@ module _ {K V : Type 0} (eq : K → K → Bool) (rows : List (Option (Row (Recor
     one_each = λ n m p q a b e.
         let v = record_row rows t.numbered n p a in
         let w = record_row rows t.numbered m q b in
-        let place = same-key-place v.0 w.0 p.key v.1 w.1 p q v.2 v.4 w.2 w.4 (laws.refl p.key) e in
+        let place = t.indexed.once v.0 w.0 p.key q.key (key-there v.0 v.1 p v.2 v.4) (key-there w.0 w.1 q w.2 w.4) e in
         let both : Some v.1 ≡ Some w.1 = sym v.2 ∙ ap (row_at rows) place ∙ w.2 in
         let same : v.1 ≡ w.1 = cc in
         sym v.3 ∙ ap (λ (row : Row (Record K V)). row.number) same ∙ w.3;
   }
 
-  -- the record that the index leads to is the key's
-  pub record-of-present : IsEquivalence eq → (key : K) (place : ℕ) → index key ≡ Some place → (w : KeyRow eq rows key place) → record_of_key eq (records_of rows) key ≡ Some w.stored
-  record-of-present laws key place h w = present_key eq (records_of rows) key laws (one-each laws).one_each w.row.number w.stored w.record_is w.same
+  -- the record at a place that has the key
+  pub key-present : (key : K) (place : ℕ) → has_key_at eq rows key place ≡ true → KeyRow eq rows key place
+  key-present key place h = elim (option-cases (key_at rows place)) as (λ _. KeyRow eq rows key place) [
+    | inl none ↦ let bad : false ≡ true = sym (ap (λ o. option_map_or (eq key) o false) none) ∙ key-test key place ∙ h in cc
+    | inr k ↦
+        let r = key-row (row_at rows place) k.0 k.1 in
+        let test : eq key k.0 ≡ true = sym (ap (λ o. option_map_or (eq key) o false) k.1) ∙ key-test key place ∙ h in
+        record { row = r.0; stored = r.1; at_is = r.2; stored_is = r.3; same = ap (eq key) r.4 ∙ test; record_is = get-records rows t.numbered place r.0 r.2 ∙ r.3; place_is = get-places rows t.numbered place r.0 r.2 }
+  ]
 
-  -- a key that the index lacks has no record
-  pub record-of-absent : (key : K) → index key ≡ None → record_of_key eq (records_of rows) key ≡ None
-  record-of-absent key none = elim (option-cases (record_of_key eq (records_of rows) key)) as (λ _. record_of_key eq (records_of rows) key ≡ None) [
+  -- it is the key's record
+  pub record-of-present : IsEquivalence eq → (key : K) (place : ℕ) → (w : KeyRow eq rows key place) → record_of_key eq (records_of rows) key ≡ Some w.stored
+  record-of-present laws key place w = present_key eq (records_of rows) key laws (one-each laws).one_each w.row.number w.stored w.record_is w.same
+
+  -- a key that is at no place under its hash has no record
+  pub record-of-absent : (key : K) → ((x : K) → eq key x ≡ true → index.hash_of x ≡ index.hash_of key) → ((p : ℕ) → get index.entries p ≡ Some (index.hash_of key) → has_key_at eq rows key p ≡ false) → record_of_key eq (records_of rows) key ≡ None
+  record-of-absent key alike none = elim (option-cases (record_of_key eq (records_of rows) key)) as (λ _. record_of_key eq (records_of rows) key ≡ None) [
     | inl e ↦ e
     | inr r ↦
         let w = record_of_key_found eq (records_of rows) key r.0 r.1 in
-        let bad : true ≡ false = sym w.2 ∙ key-absent key none w.0 r.0 w.1 in cc
+        let v = record_row rows t.numbered w.0 r.0 w.1 in
+        let there = key-there v.0 v.1 r.0 v.2 v.4 in
+        let hashed : get index.entries v.0 ≡ Some (index.hash_of key) = t.indexed.at v.0 ∙ ap (option_map index.hash_of) there ∙ ap Some (alike r.0.key w.2) in
+        let bad : true ≡ false = sym w.2 ∙ ap (λ o. option_map_or (eq key) o false) (sym there) ∙ key-test key v.0 ∙ none v.0 hashed in
+        cc
   ]
 
-  -- and the other way round
-  pub record-fresh : (key : K) → record_of_key eq (records_of rows) key ≡ None → index key ≡ None
-  record-fresh key none = key-fresh key (absent_key eq (records_of rows) key none)
+  -- where a key has no record, no place has it
+  pub key-fresh : (key : K) → record_of_key eq (records_of rows) key ≡ None → (p : ℕ) (x : K) → key_at rows p ≡ Some x → eq key x ≡ false
+  key-fresh key none p x h = elim (cases_Bool (eq key x)) as (λ _. eq key x ≡ false) [
+    | inl y ↦
+        let r = key-row (row_at rows p) x h in
+        let f = absent_key eq (records_of rows) key none r.0.number r.1 (get-records rows t.numbered p r.0 r.2 ∙ r.3) in
+        let bad : true ≡ false = sym y ∙ ap (eq key) (sym r.4) ∙ f in
+        cc
+    | inr f ↦ f
+  ]
 
 -- the row of a member
 pub record MemberRow {K V : Type 0} (rows : List (Option (Row (Record K V)))) (nodes : List (ℕ × ℕ)) (place number : ℕ) (m : Membership) : Type 0 where
@@ -182,7 +175,7 @@ pub record NodeMember {K V : Type 0} (rows : List (Option (Row (Record K V)))) (
   pub member_is : member_at rows (slot, place) ≡ member_in row
   pub counted_is : IsSome (counted_of row.number (map (member_at rows) nodes))
 
-module _ {K V : Type 0} (eq : K → K → Bool) (rows : List (Option (Row (Record K V)))) (index : K → Option ℕ) (nodes : List (ℕ × ℕ)) (t : IsTied eq rows index nodes) where
+module _ {K V : Type 0} (eq : K → K → Bool) (rows : List (Option (Row (Record K V)))) (index : KeyIndex K) (nodes : List (ℕ × ℕ)) (t : IsTied eq rows index nodes) where
   pub node-member : (slot place : ℕ) → lookup (nat_eq slot) nodes ≡ Some place → NodeMember rows nodes slot place
   node-member slot place h =
       let w = node_row eq rows index nodes t (slot, place) (node-in nodes slot place h) in
@@ -240,19 +233,18 @@ module _ {K V : Type 0} (eq : K → K → Bool) (rows : List (Option (Row (Recor
 
 -- ---- one lemma for each call
 
-module _ {K V : Type 0} (eq : K → K → Bool) (laws : IsEquivalence eq) (rows new : List (Option (Row (Record K V)))) (index : K → Option ℕ) (nodes : List (ℕ × ℕ)) (place : ℕ) (t : IsTied eq rows index nodes) where
+module _ {K V : Type 0} (eq : K → K → Bool) (laws : IsEquivalence eq) (rows new : List (Option (Row (Record K V)))) (index : KeyIndex K) (nodes : List (ℕ × ℕ)) (place : ℕ) (t : IsTied eq rows index nodes) where
   -- a new record
-  pub inserted : (after : K → Option ℕ) (r : Record K V) (key : K) → r.key ≡ key → row_at rows place ≡ None → get (places_of rows) r.number ≡ None → index key ≡ None
+  pub inserted : (r : Record K V) → row_at rows place ≡ None → get (places_of rows) r.number ≡ None → ((p : ℕ) (x : K) → key_at rows p ≡ Some x → eq r.key x ≡ false)
       → ChangesAt (row_at rows) (row_at new) place (Some (record { number = r.number; stored = Some r; membership = None; timer = None }))
-      → ((q : K) → after q ≡ cond (eq key q) (Some place) (index q))
-      → Sees eq new after nodes (map (member_at rows) nodes)
-  inserted after r key own vacant fresh unknown c u =
+      → Sees eq new (record index { entries = insert index.entries place (index.hash_of r.key) }) nodes (map (member_at rows) nodes)
+  inserted r vacant fresh unknown c =
       let row : Row (Record K V) = record { number = r.number; stored = Some r; membership = None; timer = None } in
       record {
         tied = record {
           numbered = (shows-inserted rows new place t.numbered r.number r vacant fresh c).numbered;
           named = named-changed (row_at rows) (row_at new) place t.named row c (λ s e. let same : r ≡ s = cc in ap (λ (r : Record K V). r.number) (sym same));
-          indexed = index-added eq (key_at rows) (key_at new) index after t.indexed laws place key (read-other key_in (row_at rows) (row_at new) place (Some row) c) (ap (option_and_then key_in) vacant) (ap (option_and_then key_in) c.changed ∙ ap Some own) unknown u;
+          indexed = index-added eq (key_at rows) (key_at new) index t.indexed place (read-other key_in (row_at rows) (row_at new) place (Some row) c) laws r.key (ap (option_and_then key_in) c.changed) unknown;
           linked = linked-same (access_at rows) (access_at new) (λ s. lookup (nat_eq s) nodes) (λ s. lookup (nat_eq s) nodes) t.linked (read-same access_in (row_at rows) (row_at new) place (Some row) c (sym (ap (option_and_then access_in) vacant))) (λ s. refl);
           distinct = t.distinct;
           untimed = λ p. read-same (λ row. row.timer) (row_at rows) (row_at new) place (Some row) c (sym (t.untimed place)) p ∙ t.untimed p;
@@ -269,7 +261,7 @@ module _ {K V : Type 0} (eq : K → K → Bool) (laws : IsEquivalence eq) (rows 
         (read-same access_in (row_at rows) (row_at new) place (Some row) c (ap (option_map (λ (m : Membership). m.access)) e ∙ sym (ap (option_and_then access_in) at_is))) (λ s. refl)
 
     same-keys : (row : Row (Record K V)) → ChangesAt (row_at rows) (row_at new) place (Some row) → key_in row ≡ key_in was → IsIndex eq (key_at new) index
-    same-keys row c e = index-same eq (key_at rows) (key_at new) index index t.indexed (read-same key_in (row_at rows) (row_at new) place (Some row) c (e ∙ sym (ap (option_and_then key_in) at_is))) (λ q. refl)
+    same-keys row c e = index-same eq (key_at rows) (key_at new) index t.indexed (read-same key_in (row_at rows) (row_at new) place (Some row) c (e ∙ sym (ap (option_and_then key_in) at_is)))
 
     same-access : (row : Row (Record K V)) → ChangesAt (row_at rows) (row_at new) place (Some row) → row.number ≡ was.number → row.membership ≡ was.membership → map (member_at new) nodes ≡ map (member_at rows) nodes
     same-access row c n e = access-kept rows new place (Some row) c nodes
@@ -299,15 +291,14 @@ module _ {K V : Type 0} (eq : K → K → Bool) (laws : IsEquivalence eq) (rows 
         }
 
     -- the record leaves the map
-    pub taken : (after : K → Option ℕ) (old : Record K V) → was.stored ≡ Some old → ChangesAt (row_at rows) (row_at new) place (Some (record was { stored = None })) → ((q : K) → after q ≡ cond (eq old.key q) None (index q)) → Sees eq new after nodes (map (member_at rows) nodes)
-    taken after old is c u =
+    pub taken : ChangesAt (row_at rows) (row_at new) place (Some (record was { stored = None })) → Sees eq new (record index { entries = remove index.entries place }) nodes (map (member_at rows) nodes)
+    taken c =
         let row : Row (Record K V) = record was { stored = None } in
         record {
           tied = record {
             numbered = (shows-taken rows new place t.numbered was at_is c).numbered;
             named = named-changed (row_at rows) (row_at new) place t.named row c (λ s e. cc);
-            indexed = index-removed eq (key_at rows) (key_at new) index after t.indexed laws place old.key (read-other key_in (row_at rows) (row_at new) place (Some row) c)
-                (ap (option_and_then key_in) at_is ∙ ap (option_map (λ (r : Record K V). r.key)) is) (ap (option_and_then key_in) c.changed) u;
+            indexed = index-removed eq (key_at rows) (key_at new) index t.indexed place (read-other key_in (row_at rows) (row_at new) place (Some row) c) (ap (option_and_then key_in) c.changed);
             linked = same-members row c refl;
             distinct = t.distinct;
             untimed = same-timer row c refl;
@@ -403,7 +394,7 @@ module _ {K V : Type 0} (eq : K → K → Bool) (laws : IsEquivalence eq) (rows 
       tied = record {
         numbered = (shows-forgotten rows new place t.numbered was at_is bare alone c).numbered;
         named = named-gone (row_at rows) (row_at new) place t.named c;
-        indexed = index-same eq (key_at rows) (key_at new) index index t.indexed (read-same key_in (row_at rows) (row_at new) place None c (sym (ap (option_and_then key_in) at_is ∙ ap (option_map (λ (r : Record K V). r.key)) bare))) (λ q. refl);
+        indexed = index-same eq (key_at rows) (key_at new) index t.indexed (read-same key_in (row_at rows) (row_at new) place None c (sym (ap (option_and_then key_in) at_is ∙ ap (option_map (λ (r : Record K V). r.key)) bare)));
         linked = linked-same (access_at rows) (access_at new) (λ s. lookup (nat_eq s) nodes) (λ s. lookup (nat_eq s) nodes) t.linked
             (read-same access_in (row_at rows) (row_at new) place None c (sym (ap (option_and_then access_in) at_is ∙ ap (option_map (λ (m : Membership). m.access)) alone))) (λ s. refl);
         distinct = t.distinct;
@@ -412,7 +403,7 @@ module _ {K V : Type 0} (eq : K → K → Bool) (laws : IsEquivalence eq) (rows 
       access = access-off rows new place None c nodes (off-nodes eq rows index nodes t place was at_is alone);
     }
 
-module _ {K V : Type 0} (eq : K → K → Bool) (rows : List (Option (Row (Record K V)))) (index : K → Option ℕ) (nodes after : List (ℕ × ℕ)) (place : ℕ) (t : IsTied eq rows index nodes) (was : Row (Record K V)) (at_is : row_at rows place ≡ Some was) where
+module _ {K V : Type 0} (eq : K → K → Bool) (rows : List (Option (Row (Record K V)))) (index : KeyIndex K) (nodes after : List (ℕ × ℕ)) (place : ℕ) (t : IsTied eq rows index nodes) (was : Row (Record K V)) (at_is : row_at rows place ≡ Some was) where
   -- the member's node goes to the back
   pub moved : (m : Membership) → was.membership ≡ Some m → after ≡ remove_entry (nat_eq m.access) nodes ++ (m.access, place) ∷ [] → ((s : ℕ) → lookup (nat_eq s) after ≡ lookup (nat_eq s) nodes)
       → Sees eq rows index after (to_back was.number (map (member_at rows) nodes))
@@ -435,14 +426,14 @@ module _ {K V : Type 0} (eq : K → K → Bool) (rows : List (Option (Row (Recor
       }
 
 -- a store after a write into a record
-pub record Changed {K V : Type 0} (eq : K → K → Bool) (old new : Table (Record K V)) (index : K → Option ℕ) (nodes : List (ℕ × ℕ)) (keys spare most weight number : ℕ) (f : Record K V → Record K V) : Type 0 where
+pub record Changed {K V : Type 0} (eq : K → K → Bool) (old new : Table (Record K V)) (index : KeyIndex K) (nodes : List (ℕ × ℕ)) (keys spare most weight number : ℕ) (f : Record K V → Record K V) : Type 0 where
   pub store : IsStore eq new.rows index keys nodes most weight
   pub step : ChangesRecord number f (kept_of old.rows nodes spare old.room most) (kept_of new.rows nodes spare new.room most)
   pub stored : IsSome (get (records_of new.rows) number)
   pub places : places_of new.rows ≡ places_of old.rows
   pub access : map (member_at new.rows) nodes ≡ map (member_at old.rows) nodes
 
-module _ {K V : Type 0} (eq : K → K → Bool) (laws : IsEquivalence eq) (old new : Table (Record K V)) (index : K → Option ℕ) (nodes : List (ℕ × ℕ)) (keys spare most weight : ℕ) (s : IsStore eq old.rows index keys nodes most weight) (handle : Handle) (h : IsHandle (kept_of old.rows nodes spare old.room most) handle) where
+module _ {K V : Type 0} (eq : K → K → Bool) (laws : IsEquivalence eq) (old new : Table (Record K V)) (index : KeyIndex K) (nodes : List (ℕ × ℕ)) (keys spare most weight : ℕ) (s : IsStore eq old.rows index keys nodes most weight) (handle : Handle) (h : IsHandle (kept_of old.rows nodes spare old.room most) handle) where
   -- the record that a handle leads to
   pub handled_at : Handled old.rows handle.place handle.number
   handled_at = handled eq old.rows index nodes s.tied handle.place handle.number h.placed h.stored
@@ -478,15 +469,15 @@ module _ {K V : Type 0} (eq : K → K → Bool) (laws : IsEquivalence eq) (old n
       }
 
 -- the empty store
-pub tied-empty : {K V : Type 0} (eq : K → K → Bool) (rows : List (Option (Row (Record K V)))) (index : K → Option ℕ) (nodes : List (ℕ × ℕ)) → rows ≡ [] → ((q : K) → index q ≡ None) → nodes ≡ [] → IsTied eq rows index nodes
+pub tied-empty : {K V : Type 0} (eq : K → K → Bool) (rows : List (Option (Row (Record K V)))) (index : KeyIndex K) (nodes : List (ℕ × ℕ)) → rows ≡ [] → index.entries ≡ empty → nodes ≡ [] → IsTied eq rows index nodes
 tied-empty eq rows index nodes re ie ne =
     let no_row : (p : ℕ) → row_at rows p ≡ None = λ p. ap (λ r. row_at r p) re in
     record {
       numbered = record { same = λ p q a b pe qe s. let bad : None ≡ Some a = sym (no_row p) ∙ pe in cc };
       named = record { same = λ p row r e s. let bad : None ≡ Some row = sym (no_row p) ∙ e in cc };
       indexed = record {
-        to_key = λ q p h. (let bad : None ≡ Some p = sym (ie q) ∙ h in cc);
-        to_place = λ q p h. (let bad : None ≡ Some h.found = sym (ap (option_and_then key_in) (no_row p)) ∙ h.at_is in cc);
+        at = λ p. ap (λ m. get m p) ie ∙ get-empty nat_cmp p ∙ ap (λ o. option_map index.hash_of (option_and_then key_in o)) (sym (no_row p));
+        once = λ p q x y h _ _. (let bad : None ≡ Some x = sym (ap (option_and_then key_in) (no_row p)) ∙ h in cc);
       };
       linked = record {
         to_slot = λ s p h. (let bad : None ≡ Some p = ap (lookup (nat_eq s)) (sym ne) ∙ h in cc);
@@ -496,10 +487,14 @@ tied-empty eq rows index nodes re ie ne =
       untimed = λ p. ap (option_and_then (λ (row : Row (Record _ _)). row.timer)) (no_row p);
     }
 
-module _ {K V : Type 0} (eq : K → K → Bool) (laws : IsEquivalence eq) (rows : List (Option (Row (Record K V)))) (index : K → Option ℕ) (nodes : List (ℕ × ℕ)) (t : IsTied eq rows index nodes) where
-  -- the index leads from a record's key to its place
-  pub index-of : (place number : ℕ) → (h : Handled rows place number) → index h.stored.key ≡ Some place
-  index-of place number h = t.indexed.to_place h.stored.key place (record { found = h.stored.key; at_is = ap (option_and_then key_in) h.at_is ∙ ap (option_map (λ (r : Record K V). r.key)) h.stored_is; same = laws.refl h.stored.key })
+module _ {K V : Type 0} (eq : K → K → Bool) (laws : IsEquivalence eq) (rows : List (Option (Row (Record K V)))) (index : KeyIndex K) (nodes : List (ℕ × ℕ)) (t : IsTied eq rows index nodes) where
+  -- the index has a record's place under the hash of its key
+  pub index-of : (place number : ℕ) → (h : Handled rows place number) → get index.entries place ≡ Some (index.hash_of h.stored.key)
+  index-of place number h = t.indexed.at place ∙ ap (option_map index.hash_of) (ap (option_and_then key_in) h.at_is ∙ ap (option_map (λ (r : Record K V). r.key)) h.stored_is)
+
+  -- and none for a place without a row
+  pub index-vacant : (place : ℕ) → row_at rows place ≡ None → get index.entries place ≡ None
+  index-vacant place vacant = t.indexed.at place ∙ ap (λ o. option_map index.hash_of (option_and_then key_in o)) vacant
 
   -- a number without a row has no record
   pub unrecorded : (number : ℕ) → get (places_of rows) number ≡ None → get (records_of rows) number ≡ None

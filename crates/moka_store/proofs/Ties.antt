@@ -13,7 +13,7 @@ use Rattle.moka_structures.specs.RecordTable.{row_at, ChangesAt, places_of}
 use Rattle.moka_store.proofs.Nodes.{in-nodes, map-agree, counted-none, counted-found, after-found, without-found, LeadsTo, length-nodes, length-nodes_below}
 use Rattle.moka_store.specs.Store.{member_after}
 use Rattle.moka_store.specs.StoreRows.{access_in, access_at, member_in, member_at}
-use Rattle.moka_store.specs.StoreTies.{IsNamed, IsTied}
+use Rattle.moka_store.specs.StoreTies.{KeyIndex, IsNamed, IsTied}
 use Rattle.moka_parts.specs.declared.records.Record.{Record}
 use Rattle.moka_parts.specs.Records.{counted_of, without_member}
 
@@ -94,7 +94,7 @@ module _ {K V : Type 0} (rows : List (Option (Row (Record K V)))) where
         ]
   ]
 
-module _ {K V : Type 0} (eq : K → K → Bool) (rows : List (Option (Row (Record K V)))) (index : K → Option ℕ) (nodes : List (ℕ × ℕ)) (t : IsTied eq rows index nodes) where
+module _ {K V : Type 0} (eq : K → K → Bool) (rows : List (Option (Row (Record K V)))) (index : KeyIndex K) (nodes : List (ℕ × ℕ)) (t : IsTied eq rows index nodes) where
   pub node_row : (m : ℕ × ℕ) → Contains nodes m → NodeRow rows m
   node_row m h = access_at-row rows m.0 m.1 (t.linked.to_slot m.0 m.1 (in-nodes nodes m t.distinct h))
 

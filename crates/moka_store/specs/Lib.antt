@@ -1,3 +1,4 @@
+pub mod Hashing
 pub mod Store
 pub mod StoreRows
 pub mod StoreTies

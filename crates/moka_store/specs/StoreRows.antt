@@ -1,8 +1,8 @@
 -- What a store reads from its rows. No public clause cites this module.
-use Rattle.std.specs.Prelude.{ℕ, Option, List}
+use Rattle.std.specs.Prelude.{ℕ, ◌+◌, ◌^◌, Bool, false, cond, nat_le, count_by, is_some, Option, List}
 use Rattle.std.specs.Option.{option_map, option_and_then, option_map_or}
 use Rattle.moka_structures.specs.declared.record_table.Row.{Row}
-use Rattle.moka_structures.specs.RecordTable.{row_at}
+use Rattle.moka_structures.specs.RecordTable.{row_at, stored_at}
 use Rattle.moka_parts.specs.declared.records.Record.{Record}
 use Rattle.moka_parts.specs.declared.records.Member.{Member}
 
@@ -14,6 +14,10 @@ module _ {K V : Type 0} where
   -- the key of the record at a place
   abbrev pub key_at : List (Option (Row (Record K V))) → ℕ → Option K
   key_at rows place = option_and_then key_in (row_at rows place)
+
+  -- whether the record at a place has an equal key
+  abbrev pub has_key_at : (K → K → Bool) → List (Option (Row (Record K V))) → K → ℕ → Bool
+  has_key_at eq rows key place = option_map_or (λ r. eq key r.key) (stored_at rows place) false
 
   -- the slot in the access list of a row
   abbrev pub access_in : Row (Record K V) → Option ℕ
@@ -34,3 +38,7 @@ module _ {K V : Type 0} where
   -- what a node of the access list stands for: the member at the place that it holds
   abbrev pub member_at : List (Option (Row (Record K V))) → (ℕ × ℕ) → Member
   member_at rows node = option_map_or member_in (row_at rows node.1) (record { number = 0; counted = 0 })
+
+-- how many more rows fit, where so many fit with no memory: none where a place may need more than 32 bits
+abbrev pub row_room : {R : Type 0} → List (Option (Row R)) → ℕ → ℕ
+row_room rows room = cond (nat_le (count_by is_some rows + room) (2 ^ 32)) room 0

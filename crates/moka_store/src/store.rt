@@ -10,15 +10,16 @@ ghost use Rattle.moka_parts.specs.declared.records.Record.{Record};
 ghost use Rattle.moka_store.specs.Updates.{updated};
 ghost use Rattle.moka_parts.specs.Records.{member, counted_of, record_of_key, with_record, without_member, is_member, is_settled, numbers_of, to_back, total_weight};
 
+use moka_index::PlaceIndex;
 use moka_parts::policy::Instant;
 use moka_parts::records::Record;
 use moka_structures::{Membership, OrderList, RecordTable};
 use std::alloc::{AllocError, Global};
-use std::collections::HashMap;
 use std::hash::{BuildHasher, Hash};
 use std::marker::Model;
 
 mod changes;
+mod hashing;
 
 /// A number that has a row, with the row's place.
 #[derive(Clone, Copy, Debug, PartialEq, Eq)]
@@ -40,7 +41,9 @@ pub struct Update<V> {
 /// The records of a cache, found by key or by handle, with their order of access and the sum of its weights.
 #[derive(Drop)]
 pub struct Store<K: Eq + Hash, V, S: BuildHasher> {
-    index: HashMap<K, usize, S>,
+    hasher: S,
+    // The place of each record, under the hash of its key.
+    index: PlaceIndex,
     table: RecordTable<Record<K, V>>,
     access: OrderList,
     // The sum of the weights that are counted for the members.
@@ -49,7 +52,8 @@ pub struct Store<K: Eq + Hash, V, S: BuildHasher> {
 
 impl<K: Eq + Hash, V, S: BuildHasher> Model for Store<K, V, S> {
     ghost use Rattle.std.specs.Prelude.{◌+◌, length};
-    ghost use Rattle.std.specs.HashMap.{spare, get, hash_map_len};
+    ghost use Rattle.std.specs.FinMap as finite;
+    ghost use Rattle.moka_store.specs.Hashing.{hash_by};
     ghost use Rattle.moka_store.specs.Store.{Kept, kept_code};
 
     ghost Value = { Kept K V };
@@ -58,9 +62,9 @@ impl<K: Eq + Hash, V, S: BuildHasher> Model for Store<K, V, S> {
 
     ghost use Rattle.moka_store.specs.StoreTies.{IsStore, kept_of};
 
-    ghost view = { λ a. kept_of a.table.rows a.access.members (spare a.index) a.table.room (length a.access.members + a.access.room) };
+    ghost view = { λ a. kept_of a.table.rows a.access.members a.index.room a.table.room (length a.access.members + a.access.room) };
 
-    ghost invariant = { λ a. IsStore K.eq a.table.rows (get K.eq a.index) (hash_map_len a.index) a.access.members (length a.access.members + a.access.room) a.weight };
+    ghost invariant = { λ a. IsStore K.eq a.table.rows (record { hash_of = λ k. hash_by S.Hasher.finish S.Hasher.write (S.build_hasher a.hasher) (K.hash_input k); entries = a.index.entries }) (finite.len a.index.entries) a.access.members (length a.access.members + a.access.room) a.weight };
 }
 
 impl<K: Eq + Hash, V, S: BuildHasher> Store<K, V, S> {
@@ -74,37 +78,43 @@ impl<K: Eq + Hash, V, S: BuildHasher> Store<K, V, S> {
     {
         let access = OrderList::new(alloc)?;
         Ok(Store {
-            index: HashMap::with_hasher(alloc, hasher),
+            hasher,
+            index: PlaceIndex::new(alloc),
             table: RecordTable::new(alloc),
             access,
             weight: 0,
         })
     }
 
-    /// Makes room for `additional` more records: for their keys, their rows and their members.
+    /// Makes room for `additional` more records: in the index, for their rows and for their members. An error leaves what
+    /// is kept as it was: there is no memory, or a place would need more than 32 bits.
     pub fn reserve(&mut self, additional: usize) -> Result<(), AllocError>
         ensures room { OnOk result (additional ≤ self.new.room) }
         ensures succeeds { additional ≤ self.old.room → IsOk result }
         ensures rest { self.new ≡ record self.old { room = self.new.room } }
-        ensures kept { self.old.room ≤ self.new.room }
+        ensures kept { OnOk result (self.old.room ≤ self.new.room) }
     {
-        self.table.reserve(additional)?;
+        changes::reserve_rows(&mut self.table, additional)?;
         self.index.reserve(additional)?;
         let rows = self.table.len() + additional;
         self.access.reserve(rows - self.access.len())
     }
 
     /// The record whose key is equal, with its handle.
+    #[inline(always)]
     pub fn find_by_key(&self, key: &K) -> Option<(Handle, &Record<K, V>)>
         ensures handle { IfSome result (λ f. IsHandle self.now f.0) }
         ensures found { IfSome result (λ f. finite.get self.now.records f.0.number ≡ Some f.1.now) }
         ensures value { option_map (λ f. f.1.now) result ≡ record_of_key K.eq self.now.records key.now }
         ensures one_each { IsOneEach K.eq self.now.records }
     {
-        let Some(&place) = self.index.get(key) else {
+        let hash = hashing::key_hash(&self.hasher, key);
+        let table = &self.table;
+        let is_match = |place| changes::has_key(table, place, key);
+        let Some(place) = self.index.find(hash, is_match) else {
             return None;
         };
-        let Some(row) = self.table.row(place) else {
+        let Some(row) = table.row(place) else {
             unreachable!()
         };
         let Some(stored) = &row.stored else {
@@ -139,28 +149,25 @@ impl<K: Eq + Hash, V, S: BuildHasher> Store<K, V, S> {
         }
     }
 
-    /// A new record of a key that has none; `kept` is the same key. It takes no memory.
-    pub fn insert_new(&mut self, stored: Record<K, V>, kept: K) -> Handle
-    where
-        K: Drop,
+    /// A new record of a key that has none. It takes no memory.
+    pub fn insert_new(&mut self, stored: Record<K, V>) -> Handle
         requires room { 0 < self.old.room }
         requires fresh { finite.get self.old.places stored.number ≡ None }
         requires unknown { record_of_key K.eq self.old.records stored.key ≡ None }
-        requires same { kept ≡ stored.key }
         ensures number { result.number ≡ stored.number }
         ensures step { self.new ≡ record self.old { records = with_record self.old.records stored; places = finite.insert self.old.places stored.number result.place; room = self.new.room } }
-        ensures room { self.old.room ≤ self.new.room + 1 }
+        ensures room { self.old.room ≡ self.new.room + 1 }
         ensures apart { counted_of stored.number self.new.access ≡ None }
         ensures handle { IsHandle self.new result }
         ensures kept { (other : Handle) → IsPlaced self.old other → IsPlaced self.new other }
         ensures access { self.new.access ≡ self.old.access }
     {
         let number = stored.number;
+        let hash = hashing::key_hash(&self.hasher, &stored.key);
         let place = self.table.insert(number, stored);
-        match self.index.insert(kept, place) {
-            Ok(_) => {}
-            Err(_) => unreachable!(),
-        }
+        // A place is below the table's capacity, so it has 32 bits.
+        let _capacity = self.table.capacity();
+        self.index.insert(hash, place);
         Handle { number, place }
     }
 
@@ -202,8 +209,6 @@ impl<K: Eq + Hash, V, S: BuildHasher> Store<K, V, S> {
 
     /// The record at this handle leaves the map, and its number stays.
     pub fn take_record(&mut self, handle: Handle) -> Record<K, V>
-    where
-        K: Drop,
         requires { IsHandle self.old handle }
         ensures taken { finite.get self.old.records handle.number ≡ Some result }
         ensures step { self.new ≡ record self.old { records = finite.remove self.old.records handle.number; room = self.new.room } }
@@ -213,7 +218,8 @@ impl<K: Eq + Hash, V, S: BuildHasher> Store<K, V, S> {
         ensures access { self.new.access ≡ self.old.access }
     {
         let taken = self.table.take(handle.place);
-        let _place = self.index.remove(&taken.key);
+        let hash = hashing::key_hash(&self.hasher, &taken.key);
+        self.index.remove(hash, handle.place);
         taken
     }
 
@@ -388,8 +394,6 @@ impl<K: Eq + Hash, V, S: BuildHasher> Store<K, V, S> {
 
     /// The record at this handle leaves the map and, if it is a member, the access list. Its number stays.
     pub fn take_out(&mut self, handle: Handle) -> Record<K, V>
-    where
-        K: Drop,
         requires { IsHandle self.old handle }
         ensures taken { finite.get self.old.records handle.number ≡ Some result }
         ensures step { self.new ≡ record self.old { records = finite.remove self.old.records handle.number; access = without_member handle.number self.old.access; room = self.new.room } }
@@ -456,9 +460,9 @@ mod tests {
         let mut store: TestStore = Store::new(rt.alloc(), BuildHasherDefault::new())?;
         store.reserve(2)?;
         assert!(rt; store.find_by_key(&10).is_none());
-        let first = store.insert_new(record(1, 10, 100), 10);
+        let first = store.insert_new(record(1, 10, 100));
         assert!(rt; store.find_by_key(&20).is_none());
-        let second = store.insert_new(record(2, 20, 200), 20);
+        let second = store.insert_new(record(2, 20, 200));
         store.admit(first, 7);
         store.admit(second, 8);
         assert_eq!(rt; store.front(), Some((first, 7)));
@@ -482,7 +486,7 @@ mod tests {
         let mut store: TestStore = Store::new(rt.alloc(), BuildHasherDefault::new())?;
         store.reserve(1)?;
         assert!(rt; store.find_by_key(&10).is_none());
-        let handle = store.insert_new(record(1, 10, 100), 10);
+        let handle = store.insert_new(record(1, 10, 100));
         store.admit(handle, 7);
         let old = store.update(
             handle,
@@ -518,9 +522,9 @@ mod tests {
         let mut store: TestStore = Store::new(rt.alloc(), BuildHasherDefault::new())?;
         store.reserve(2)?;
         assert!(rt; store.find_by_key(&10).is_none());
-        let _first = store.insert_new(record(1, 10, 100), 10);
+        let _first = store.insert_new(record(1, 10, 100));
         assert!(rt; store.find_by_key(&20).is_none());
-        let second = store.insert_new(record(2, 20, 200), 20);
+        let second = store.insert_new(record(2, 20, 200));
         let mut keys = store.keys(rt.alloc())?;
         keys.sort()?;
         assert_eq!(rt; keys.as_slice(), [10, 20].as_slice());

@@ -1,6 +1,6 @@
 //! Changes and reads at one place of the table.
-ghost use Rattle.std.specs.Prelude.{◌≡◌, ◌+◌, ◌^◌, ◌<◌, IsSome, Some};
-ghost use Rattle.moka_store.specs.StoreRows.{member_in};
+ghost use Rattle.std.specs.Prelude.{◌≡◌, ◌+◌, ◌^◌, ◌<◌, ◌≤◌, IsOk, IsSome, OnOk, Some};
+ghost use Rattle.moka_store.specs.StoreRows.{has_key_at, member_in, row_room};
 ghost use Rattle.moka_store.specs.Updates.{updated};
 ghost use Rattle.moka_parts.specs.declared.records.Record.{Record};
 ghost use Rattle.moka_parts.specs.Records.{member};
@@ -11,7 +11,54 @@ use super::{Handle, Update};
 use moka_parts::policy::Instant;
 use moka_parts::records::Record;
 use moka_structures::RecordTable;
+use std::alloc::AllocError;
 use std::mem;
+
+// A place in the index has 32 bits.
+const MOST_PLACES: usize = 1 << 32;
+
+// How many more rows fit with no memory, at places of 32 bits.
+fn row_room<R>(table: &RecordTable<R>) -> usize
+    ensures { result ≡ row_room table.now.rows table.now.room }
+{
+    let (capacity, rows) = (table.capacity(), table.len());
+    if capacity <= MOST_PLACES {
+        capacity - rows
+    } else {
+        0
+    }
+}
+
+// Makes room for `additional` more rows at places of 32 bits.
+pub(crate) fn reserve_rows<R>(
+    table: &mut RecordTable<R>,
+    additional: usize,
+) -> Result<(), AllocError>
+    ensures room { OnOk result (additional ≤ row_room table.new.rows table.new.room) }
+    ensures succeeds { additional ≤ row_room table.old.rows table.old.room → IsOk result }
+    ensures rows { table.new.rows ≡ table.old.rows }
+    ensures kept { OnOk result (row_room table.old.rows table.old.room ≤ row_room table.new.rows table.new.room) }
+{
+    if row_room(table) >= additional {
+        return Ok(());
+    }
+    table.reserve(additional)?;
+    if row_room(table) < additional {
+        return Err(AllocError);
+    }
+    Ok(())
+}
+
+// Whether the record at this place has an equal key.
+#[inline(always)]
+pub(crate) fn has_key<K: Eq, V>(table: &RecordTable<Record<K, V>>, place: usize, key: &K) -> bool
+    ensures { result ≡ has_key_at K.eq table.now.rows key.now place }
+{
+    match table.record(place) {
+        Some(stored) => *key == stored.key,
+        None => false,
+    }
+}
 
 // Writes what an update brings into a record. The answer is the old value.
 fn write_update<K, V>(stored: &mut Record<K, V>, update: Update<V>) -> V

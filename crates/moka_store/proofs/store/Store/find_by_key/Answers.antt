@@ -1,25 +1,19 @@
-use Rattle.std.proofs.Common.{◌≡◌, Some, refl, sym, ◌∙◌}
+use Rattle.std.proofs.Common.{◌≡◌, ℕ, true, false, Some, rules, refl, sym, ap, ◌∙◌}
+use Rattle.std.specs.FinMap.{get}
 use Rattle.moka_structures.proofs.TableCalls.{get-records, get-places}
+use Rattle.moka_store.specs.StoreRows.{has_key_at}
 use Rattle.moka_store.proofs.Steps.{key-present, record-of-present, record-of-absent, one-each}
 use Rattle.moka_store.proofs.store.Store.find_by_key.Goals as goal
 
 pub returns-in_default-clause-value : goal.returns-in_default-clause-value
 returns-in_default-clause-value g c =
-    rw (← c.self.view_is) (sym (record-of-absent _ _ _ _ c.self.invariant.tied _ (sym c.in_default.ensures.value)))
+    let hash = c.key_hash-hash.ensures in
+    let none : (p : ℕ) → get c.self.inside.index.entries p ≡ Some c.key_hash-hash.result → has_key_at g.K.PartialEq.eq c.self.inside.table.rows c.args.key.now p ≡ false = λ p h. (let e = c.in_default.ensures.absent p h in search (rules, e)) in
+    rw (← c.self.view_is) (sym (record-of-absent _ _ _ _ c.self.invariant.tied c.args.key.now (λ x e. rw (g.met.K.Hash.respects_eq c.args.key.now x e) refl) (λ p h. none p (h ∙ ap Some (sym hash)))))
 
 pub returns-in_default-clause-one_each : goal.returns-in_default-clause-one_each
 returns-in_default-clause-one_each g c =
     rw (← c.self.view_is) (one-each _ _ _ _ c.self.invariant.tied g.met.K.Eq.laws)
-
-pub unreachable-requires : goal.unreachable-requires
-unreachable-requires g c =
-    let w = key-present _ _ _ _ c.self.invariant.tied _ _ (sym c.in-Some.ensures.value) in
-    let x = w.at_is in let y = c.in_default-row.ensures in cc
-
-pub unreachable-requires-in_default-stored : goal.unreachable-requires-in_default-stored
-unreachable-requires-in_default-stored g c =
-    let w = key-present _ _ _ _ c.self.invariant.tied _ _ (sym c.in-Some.ensures.value) in
-    let x = w.at_is in let y = c.in-Some-row.ensures in let z = w.stored_is in let e = c.in_default-stored.is in cc
 
 pub returns-clause-handle : goal.returns-clause-handle
 returns-clause-handle g c =
@@ -35,9 +29,10 @@ returns-clause-found g c =
 
 pub returns-clause-value : goal.returns-clause-value
 returns-clause-value g c =
-    let w = key-present _ _ _ _ c.self.invariant.tied _ _ (sym c.in-Some.ensures.value) in
+    let test : has_key_at g.K.PartialEq.eq c.self.inside.table.rows c.args.key.now c.in-Some.place ≡ true = search (rules, c.in-Some.ensures.passes) in
+    let w = key-present _ _ _ _ c.self.invariant.tied c.args.key.now c.in-Some.place test in
     let same : Some w.stored ≡ Some c.in-Some-stored.stored = (let x = w.at_is in let y = c.in-Some-row.ensures in let z = w.stored_is in let e = c.in-Some-stored.is in cc) in
-    rw (← c.self.view_is) (sym same ∙ sym (record-of-present _ _ _ _ c.self.invariant.tied g.met.K.Eq.laws _ _ (sym c.in-Some.ensures.value) w))
+    rw (← c.self.view_is) (sym same ∙ sym (record-of-present _ _ _ _ c.self.invariant.tied g.met.K.Eq.laws _ _ w))
 
 pub returns-clause-one_each : goal.returns-clause-one_each
 returns-clause-one_each g c =

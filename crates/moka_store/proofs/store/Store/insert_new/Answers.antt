@@ -1,35 +1,30 @@
-use Rattle.moka_store.proofs.Gets.{len-fresh}
-use Rattle.moka_store.proofs.Steps.{unrecorded}
-use Rattle.std.specs.HashMap as hash
 use Rattle.std.specs.FinMap as finite
-use Rattle.std.proofs.Common.{◌≢◌, refl, sym, ap, ◌∙◌, arith, ◌≡◌, subst}
+use Rattle.std.proofs.Common.{◌≢◌, ◌+◌, refl, sym, ap, ◌∙◌, arith, subst}
 use Rattle.std.specs.FinMap.{get}
 use Rattle.moka_structures.specs.RecordTable.{records_of, places_of}
 use Rattle.moka_structures.proofs.TableMaps.{get-inserted, get-past_insert}
+use Rattle.moka_store.proofs.Gets.{len-fresh}
 use Rattle.moka_store.proofs.Ties.{counted-unplaced}
-use Rattle.moka_store.proofs.Steps.{record-fresh, inserted}
+use Rattle.moka_store.proofs.Steps.{key-fresh, index-vacant, inserted, unrecorded}
 use Rattle.moka_store.specs.Weights.{IsWeighed}
 use Rattle.moka_store.proofs.store.Store.insert_new.Goals as goal
 
 pub invariant_of-self : goal.invariant_of-self
 invariant_of-self g c =
     let fresh = rw (← c.self.view_is) at c.requires.fresh in
-    let unknown = rw (← c.self.view_is, ← c.requires.same) at c.requires.unknown in
-    let s = inserted _ g.met.K.Eq.laws _ _ _ _ _ c.self.invariant.tied _ c.args.stored c.args.kept (sym c.requires.same) c.insert-place.ensures.vacant fresh (record-fresh _ _ _ _ c.self.invariant.tied _ unknown) c.insert-place.ensures.changes c.in-Ok.ensures.updates.0 in
+    let unknown = rw (← c.self.view_is) at c.requires.unknown in
+    let s = inserted _ g.met.K.Eq.laws _ _ _ _ _ c.self.invariant.tied c.args.stored c.insert-place.ensures.vacant fresh (key-fresh _ _ _ _ c.self.invariant.tied _ unknown) c.insert-place.ensures.changes in
     let room = rw (← c.self.view_is) at c.requires.room in
     let len = c.insert-place.ensures.len in
-    let old = c.in-Ok.ensures.old ∙ record-fresh _ _ _ _ c.self.invariant.tied _ unknown in
-    let more = rw old at c.in-Ok.ensures.len in
     let longer = ap finite.len c.insert-place.ensures.records ∙ len-fresh _ _ c.args.stored (unrecorded _ g.met.K.Eq.laws _ _ _ c.self.invariant.tied _ fresh) in
-    let before = c.self.invariant.keyed in
-    let keyed : hash.hash_map_len c.insert.new.self ≡ finite.len (records_of c.insert-place.new.self.rows) = omega (arith, more, longer, before) in
-    record { tied = s.tied; keyed = keyed; fits = omega arith; few = c.self.invariant.few; weighed = subst (λ members. IsWeighed members c.self.inside.weight) (sym s.access) c.self.invariant.weighed }
+    let more = ap finite.len c.insert.ensures.entries ∙ len-fresh _ _ _ (index-vacant _ g.met.K.Eq.laws _ _ _ c.self.invariant.tied _ c.insert-place.ensures.vacant) in
+    record { tied = rw (c.insert.ensures.entries, c.key_hash-hash.ensures) s.tied; keyed = more ∙ ap (λ n. n + 1) c.self.invariant.keyed ∙ sym longer; fits = omega arith; few = c.self.invariant.few; weighed = subst (λ members. IsWeighed members c.self.inside.weight) (sym s.access) c.self.invariant.weighed }
 
 pub returns-clause-step : goal.returns-clause-step
 returns-clause-step g c =
     let fresh = rw (← c.self.view_is) at c.requires.fresh in
-    let unknown = rw (← c.self.view_is, ← c.requires.same) at c.requires.unknown in
-    let s = inserted _ g.met.K.Eq.laws _ _ _ _ _ c.self.invariant.tied _ c.args.stored c.args.kept (sym c.requires.same) c.insert-place.ensures.vacant fresh (record-fresh _ _ _ _ c.self.invariant.tied _ unknown) c.insert-place.ensures.changes c.in-Ok.ensures.updates.0 in
+    let unknown = rw (← c.self.view_is) at c.requires.unknown in
+    let s = inserted _ g.met.K.Eq.laws _ _ _ _ _ c.self.invariant.tied c.args.stored c.insert-place.ensures.vacant fresh (key-fresh _ _ _ _ c.self.invariant.tied _ unknown) c.insert-place.ensures.changes in
     rw (s.access, c.insert-place.ensures.records, c.insert-place.ensures.places, ← c.self.view_is) refl
 
 pub returns-clause-handle : goal.returns-clause-handle
@@ -49,13 +44,13 @@ returns-clause-kept g c other e =
 pub returns-clause-apart : goal.returns-clause-apart
 returns-clause-apart g c =
     let fresh = rw (← c.self.view_is) at c.requires.fresh in
-    let unknown = rw (← c.self.view_is, ← c.requires.same) at c.requires.unknown in
-    let s = inserted _ g.met.K.Eq.laws _ _ _ _ _ c.self.invariant.tied _ c.args.stored c.args.kept (sym c.requires.same) c.insert-place.ensures.vacant fresh (record-fresh _ _ _ _ c.self.invariant.tied _ unknown) c.insert-place.ensures.changes c.in-Ok.ensures.updates.0 in
+    let unknown = rw (← c.self.view_is) at c.requires.unknown in
+    let s = inserted _ g.met.K.Eq.laws _ _ _ _ _ c.self.invariant.tied c.args.stored c.insert-place.ensures.vacant fresh (key-fresh _ _ _ _ c.self.invariant.tied _ unknown) c.insert-place.ensures.changes in
     rw s.access (counted-unplaced _ _ _ _ c.self.invariant.tied _ fresh)
 
 pub returns-clause-access : goal.returns-clause-access
 returns-clause-access g c =
     let fresh = rw (← c.self.view_is) at c.requires.fresh in
-    let unknown = rw (← c.self.view_is, ← c.requires.same) at c.requires.unknown in
-    let s = inserted _ g.met.K.Eq.laws _ _ _ _ _ c.self.invariant.tied _ c.args.stored c.args.kept (sym c.requires.same) c.insert-place.ensures.vacant fresh (record-fresh _ _ _ _ c.self.invariant.tied _ unknown) c.insert-place.ensures.changes c.in-Ok.ensures.updates.0 in
+    let unknown = rw (← c.self.view_is) at c.requires.unknown in
+    let s = inserted _ g.met.K.Eq.laws _ _ _ _ _ c.self.invariant.tied c.args.stored c.insert-place.ensures.vacant fresh (key-fresh _ _ _ _ c.self.invariant.tied _ unknown) c.insert-place.ensures.changes in
     rw (s.access, ← c.self.view_is) refl

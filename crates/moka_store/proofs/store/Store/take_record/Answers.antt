@@ -1,13 +1,10 @@
-use Rattle.moka_parts.specs.declared.records.Record.{Record}
-use Rattle.moka_store.proofs.Gets.{len-removed}
-use Rattle.moka_store.proofs.Steps.{index-of}
-use Rattle.std.specs.HashMap as hash
 use Rattle.std.specs.FinMap as finite
-use Rattle.std.proofs.Common.{◌≡◌, Some, refl, sym, ap, ◌∙◌, arith, subst}
+use Rattle.std.proofs.Common.{◌≡◌, ◌-◌, Some, refl, sym, ap, ◌∙◌, arith, subst}
 use Rattle.std.specs.FinMap.{get, remove}
 use Rattle.moka_structures.specs.RecordTable.{records_of}
 use Rattle.moka_structures.proofs.TableMaps.{get-removed}
-use Rattle.moka_store.proofs.Steps.{handled, taken}
+use Rattle.moka_store.proofs.Gets.{len-removed}
+use Rattle.moka_store.proofs.Steps.{handled, index-of, taken}
 use Rattle.moka_store.specs.Weights.{IsWeighed}
 use Rattle.moka_store.proofs.store.Store.take_record.Goals as goal
 
@@ -16,20 +13,21 @@ take-taken-requires g c =
     let h = handled _ _ _ _ c.self.invariant.tied _ _ (rw (← c.self.view_is) at c.requires.placed) (rw (← c.self.view_is) at c.requires.stored) in
     rw h.stored_at_is refl
 
+pub remove-requires : goal.remove-requires
+remove-requires g c =
+    let h = handled _ _ _ _ c.self.invariant.tied _ _ (rw (← c.self.view_is) at c.requires.placed) (rw (← c.self.view_is) at c.requires.stored) in
+    let same : h.stored ≡ c.take-taken.result = (let x = sym h.stored_at_is ∙ c.take-taken.ensures.taken in cc) in
+    rw (c.key_hash-hash.ensures, ← same) (index-of _ g.met.K.Eq.laws _ _ _ c.self.invariant.tied _ _ h)
+
 pub invariant_of-self : goal.invariant_of-self
 invariant_of-self g c =
     let h = handled _ _ _ _ c.self.invariant.tied _ _ (rw (← c.self.view_is) at c.requires.placed) (rw (← c.self.view_is) at c.requires.stored) in
-    let is : h.row.stored ≡ Some c.take-taken.result = h.stored_is ∙ sym h.stored_at_is ∙ c.take-taken.ensures.taken in
-    let s = taken _ g.met.K.Eq.laws _ _ _ _ _ c.self.invariant.tied h.row h.at_is _ c.take-taken.result is (c.take-taken.ensures.changes _ h.at_is) c.remove-place.ensures.updates.0 in
+    let s = taken _ g.met.K.Eq.laws _ _ _ _ _ c.self.invariant.tied h.row h.at_is (c.take-taken.ensures.changes _ h.at_is) in
     let len = c.take-taken.ensures.len in
     let fits = c.self.invariant.fits in
-    let same : c.take-taken.result ≡ h.stored = (let x : Some c.take-taken.result ≡ Some h.stored = sym c.take-taken.ensures.taken ∙ h.stored_at_is in cc) in
-    let found = c.remove-place.ensures.value ∙ ap (λ (r : Record _ _). hash.get g.K.PartialEq.eq c.self.inside.index r.key) same ∙ index-of _ g.met.K.Eq.laws _ _ _ c.self.invariant.tied _ _ h in
-    let less = rw found at c.remove-place.ensures.len in
-    let shorter = ap finite.len c.take-taken.ensures.records ∙ ap (λ n. finite.len (finite.remove (records_of c.self.inside.table.rows) n)) h.number_at_is ∙ len-removed _ _ h.stored h.record_is in
-    let before = c.self.invariant.keyed in
-    let keyed : hash.hash_map_len c.remove-place.new.self ≡ finite.len (records_of c.take-taken.new.self.rows) = omega (arith, less, shorter, before) in
-    record { tied = s.tied; keyed = keyed; fits = omega arith; few = c.self.invariant.few; weighed = subst (λ members. IsWeighed members c.self.inside.weight) (sym s.access) c.self.invariant.weighed }
+    let shorter = ap finite.len c.take-taken.ensures.records ∙ ap (λ n. finite.len (remove (records_of c.self.inside.table.rows) n)) h.number_at_is ∙ len-removed _ _ h.stored h.record_is in
+    let fewer = ap finite.len c.remove.ensures.entries ∙ len-removed _ _ _ (index-of _ g.met.K.Eq.laws _ _ _ c.self.invariant.tied _ _ h) in
+    record { tied = rw c.remove.ensures.entries s.tied; keyed = fewer ∙ ap (λ n. n - 1) c.self.invariant.keyed ∙ sym shorter; fits = omega arith; few = c.self.invariant.few; weighed = subst (λ members. IsWeighed members c.self.inside.weight) (sym s.access) c.self.invariant.weighed }
 
 pub returns-clause-taken : goal.returns-clause-taken
 returns-clause-taken g c =
@@ -39,8 +37,7 @@ returns-clause-taken g c =
 pub returns-clause-step : goal.returns-clause-step
 returns-clause-step g c =
     let h = handled _ _ _ _ c.self.invariant.tied _ _ (rw (← c.self.view_is) at c.requires.placed) (rw (← c.self.view_is) at c.requires.stored) in
-    let is : h.row.stored ≡ Some c.take-taken.result = h.stored_is ∙ sym h.stored_at_is ∙ c.take-taken.ensures.taken in
-    let s = taken _ g.met.K.Eq.laws _ _ _ _ _ c.self.invariant.tied h.row h.at_is _ c.take-taken.result is (c.take-taken.ensures.changes _ h.at_is) c.remove-place.ensures.updates.0 in
+    let s = taken _ g.met.K.Eq.laws _ _ _ _ _ c.self.invariant.tied h.row h.at_is (c.take-taken.ensures.changes _ h.at_is) in
     rw (s.access, c.take-taken.ensures.records, c.take-taken.ensures.places, h.number_at_is, ← c.self.view_is) refl
 
 pub returns-clause-gone : goal.returns-clause-gone
