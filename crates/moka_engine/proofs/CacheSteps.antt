@@ -61,8 +61,8 @@ module _ {K V : Type 0} (records : Records K V) (none : NoneExpires records) whe
 -- ---- what always holds
 
 module _ {K V X L P W : Type 0} {eq : K → K → Bool} {l : Option L} {s : State K V X P W} (h : IsCache eq l s) where
-  -- another inner part, whose records do not expire either, and whoever listens
-  pub cache-inner : (m : Option L) (j : Interior K V) → is_some m ≡ is_some l → IsValid eq (with_inner s j) → NoneExpires j.kept.records → IsCache eq m (with_inner s j)
+  -- another inner part, whose records do not expire either without an expiry, and whoever listens
+  pub cache-inner : (m : Option L) (j : Interior K V) → is_some m ≡ is_some l → IsValid eq (with_inner s j) → (s.settings.expiry ≡ None → NoneExpires j.kept.records) → IsCache eq m (with_inner s j)
   cache-inner m j same valid none = record {
     valid = valid;
     served = record {
@@ -79,9 +79,9 @@ module _ {K V X L P W : Type 0} {eq : K → K → Bool} {l : Option L} {s : Stat
   }
 
   module _ (i : Interior K V) (inside : with_inner s i ≡ s) where
-    -- none of the inner part's records expires
-    pub unexpiring-inside : NoneExpires i.kept.records
-    unexpiring-inside = subst (λ (t : State K V X P W). NoneExpires t.records) (sym inside) h.served.unexpiring
+    -- without an expiry none of the inner part's records expires
+    pub unexpiring-inside : s.settings.expiry ≡ None → NoneExpires i.kept.records
+    unexpiring-inside none = subst (λ (t : State K V X P W). NoneExpires t.records) (sym inside) (h.served.unexpiring none)
 
     -- and each stands at its own number, which was given out
     pub number-inside : (n : ℕ) (r : Record K V) → get i.kept.records n ≡ Some r → (r.number ≡ n) × (n < s.next_number)

@@ -1,7 +1,6 @@
 -- Look-ups as steps of the reference cache, and what always holds after them.
-use Rattle.std.proofs.Common.{◌≡◌, refl, ℕ, Bool, true, false, List, [], ◌∷◌, ◌++◌, length, inl, inr, Option, Some, None, Result, Ok, Err, ap, sym, subst, ◌∙◌, arith, if◌then◌else◌}
+use Rattle.std.proofs.Common.{◌≡◌, refl, ℕ, Bool, true, false, List, [], ◌∷◌, ◌++◌, length, ◌⊎◌, inl, inr, Option, Some, None, Result, Ok, Err, ap, sym, subst, ◌∙◌, arith, if◌then◌else◌}
 use Rattle.std.specs.Prelude.{nat_lt}
-use Rattle.std.specs.Cmp.{IsEquivalence}
 use Rattle.std.specs.FinMap.{get, insert}
 use Rattle.moka_parts.specs.declared.calls.Entry.{Entry}
 use Rattle.moka_parts.specs.declared.error.OutOfMemory.{OutOfMemory}
@@ -10,65 +9,95 @@ use Rattle.moka_parts.specs.declared.policy.Instant.{Instant}
 use Rattle.moka_parts.specs.declared.records.ReadOperation.{ReadOperation}
 use Rattle.moka_parts.specs.declared.records.ReadOperation.TheVariants.{Hit, Miss}
 use Rattle.moka_parts.specs.declared.records.Record.{Record}
-use Rattle.moka_parts.specs.Calls.{no_events, queue_length, GetsAt, GetStep, RunsIfDue, queueing, after_hit, hit_at, hit_operation}
-use Rattle.moka_parts.specs.Maintenance.{Terms, Course, MaintenanceRun}
+use Rattle.moka_parts.specs.Calls.{no_events, queue_length, GetsAt, GetStep, RunsIfDue, queueing, IsMissed, answer_at, hit_record, after_hit, hit_at, hit_operation}
+use Rattle.moka_parts.specs.Expiry.{is_renewal, renewed, answer_to_hit}
+use Rattle.moka_parts.specs.Maintenance.{Terms, Course}
 use Rattle.moka_parts.specs.Records.{Notice, record_of_key, with_record}
 use Rattle.moka_parts.specs.Runs.{Cache, Befalls}
 use Rattle.moka_parts.specs.Settling.{IsValid}
-use Rattle.moka_parts.specs.State.{State, Events, is_disabled}
-use Rattle.moka_parts.specs.Surroundings.{Leads}
+use Rattle.moka_parts.specs.State.{State, Settings, Events, is_disabled}
+use Rattle.moka_parts.specs.Surroundings.{Leads, IsAskedOnce}
 use Rattle.moka_parts.specs.Time.{is_same_duration}
 use Rattle.moka_parts.specs.Visibility.{has_lapsed, NoneCovers}
+use Rattle.moka_parts.proofs.Lookup.{record_of_key_empty}
 use Rattle.moka_parts.proofs.Maps.{itself_tested}
-use Rattle.moka_parts.proofs.StepsKeep.{get_keeps}
+use Rattle.moka_parts.proofs.StepsKeep.{hit_valid, valid_with}
 use Rattle.moka_store.specs.Store.{Kept}
-use Rattle.moka_engine.specs.BaseCache.{IsCache, NoneExpires}
+use Rattle.moka_engine.specs.BaseCache.{IsCache, NoneExpires, expirations_of, expiring_by}
 use Rattle.moka_engine.specs.Interior.{Interior, IsLocated}
+use Rattle.moka_engine.specs.Looks.{Touches, value_of}
 use Rattle.moka_engine.proofs.CacheSteps.{with_inner, befalls-quietly, unexpiring-inserted, cache-inner, unexpiring-inside, number-inside, key-inside}
 
 same_duration : (d : Option ℕ) → is_same_duration d d ≡ true
 same_duration None = refl
 same_duration (Some d) = itself_tested d
 
+-- ---- what a hit makes of a record
+
+module _ {K V X W : Type 0} (read : X → K → V → ℕ → Option ℕ → ℕ → Option ℕ) (settings : Settings X W) (r : Record K V) where
+  -- no more of the settings counts than what lets records expire
+  answer_alike : (o : Option X) (at : ℕ) → answer_to_hit read (expiring_by (expirations_of settings)) o r at ≡ answer_to_hit read settings o r at
+  answer_alike None at = refl
+  answer_alike (Some x) at = refl
+
+  -- without an expiry nothing is renewed
+  pub unrenewed : (o : Option X) → o ≡ None → (at : ℕ) → is_renewal settings r at (answer_to_hit read settings o r at) ≡ false
+  unrenewed o none at = rw (none, same_duration) refl
+
+module _ {K V X P W : Type 0} (read : X → K → V → ℕ → Option ℕ → ℕ → Option ℕ) (s : State K V X P W) (r : Record K V) (now : ℕ) (at : Instant) (expires : Option Instant) (is_renewed : Bool) (t : Touches read (expirations_of s.settings) r now at.0 expires is_renewed) where
+  abbrev asked_at : ℕ → Option ℕ
+  asked_at n = answer_to_hit read (expiring_by (expirations_of s.settings)) s.settings.expiry r n
+
+  answered : asked_at at.0 ≡ answer_at read s r now
+  answered = ap asked_at t.moment ∙ answer_alike read s.settings r s.settings.expiry (hit_at read s r now)
+
+  moment_is : at ≡ record { 0 = hit_at read s r now }
+  moment_is = ap (λ (n : ℕ). record { 0 = n }) t.moment
+
+  expiry_is : expires ≡ renewed s.settings r (hit_at read s r now) (answer_at read s r now)
+  expiry_is = t.expiry ∙ (ap (λ n. renewed s.settings r n (asked_at at.0)) t.moment ∙ ap (renewed s.settings r (hit_at read s r now)) answered)
+
+  renewal_is : is_renewed ≡ is_renewal s.settings r (hit_at read s r now) (answer_at read s r now)
+  renewal_is = t.renewal ∙ (ap (λ n. is_renewal s.settings r n (asked_at at.0)) t.moment ∙ ap (is_renewal s.settings r (hit_at read s r now)) answered)
+
+  -- the record is that of a hit
+  pub record_is : record r { read = at; expires = expires } ≡ hit_record read s r now
+  record_is = ap (λ (i : Instant). record r { read = i; expires = expires }) moment_is ∙ ap (λ (x : Option Instant). record r { read = record { 0 = hit_at read s r now }; expires = x }) expiry_is
+
+  -- and so is the read that is queued
+  pub operation_is : (n : ℕ) → r.number ≡ n → Hit n r.hash is_renewed ≡ hit_operation read s r now
+  operation_is n number = ap (λ k. Hit k r.hash is_renewed) (sym number) ∙ ap (Hit r.number r.hash) renewal_is
+
+  -- without an expiry a record that does not expire goes on so
+  pub lasts_on : s.settings.expiry ≡ None → r.expires ≡ None → expires ≡ None
+  lasts_on none lasts = expiry_is ∙ rw (unrenewed read s.settings r s.settings.expiry none (hit_at read s r now)) lasts
+
 -- ---- steps of the state
 
-module _ {K V X L P W : Type 0} {eq : K → K → Bool} {l : Option L} {s : State K V X P W} (h : IsCache eq l s) (says : P → K → V → Bool → Type 0) (read : X → K → V → ℕ → Option ℕ → ℕ → Option ℕ)
-    (Runs : State K V X P W → Terms → Course → List (Notice K V) → State K V X P W → Type 0) (enabled : is_disabled s.capacity ≡ false) (key : K) (hash : ℕ) (need_key : Bool) (now : Instant) where
-  -- no run is due
-  not_due : (queued moment : ℕ) → RunsIfDue Runs s queued moment no_events s
-  not_due queued moment = rw (h.served.finished, h.served.asked) (refl, refl)
+-- what was ignored or is hidden by a moment is missed
+pub is_missed : {K V X P W : Type 0} (says : P → K → V → Bool → Type 0) (s : State K V X P W) (ignored : Bool) (now : ℕ) (r : Record K V) → (ignored ≡ true) ⊎ (has_lapsed s.settings s.invalid_before r now ≡ true) → IsMissed says s ignored r now
+is_missed says s ignored now r (inl i) = inl i
+is_missed says s ignored now r (inr lapsed) = inr (inl lapsed)
 
+module _ {K V X P W : Type 0} (says : P → K → V → Bool → Type 0) (read : X → K → V → ℕ → Option ℕ → ℕ → Option ℕ) (Runs : State K V X P W → Terms → Course → List (Notice K V) → State K V X P W → Type 0)
+    (eq : K → K → Bool) (s : State K V X P W) (enabled : is_disabled s.capacity ≡ false) (key : K) (hash : ℕ) (need_key ignored : Bool) (now : ℕ) where
   -- nothing is found that is visible
-  missed : ((r : Record K V) → record_of_key eq s.records key ≡ Some r → has_lapsed s.settings s.invalid_before r now.0 ≡ true) → GetStep says read Runs eq s key hash need_key false now.0 (Ok None) no_events (queueing s (Miss hash))
-  missed hidden = rw enabled (at (record_of_key eq s.records key) refl)
+  missed : ((r : Record K V) → record_of_key eq s.records key ≡ Some r → (ignored ≡ true) ⊎ (has_lapsed s.settings s.invalid_before r now ≡ true)) → (e : Events K V) (mid : State K V X P W) → RunsIfDue Runs s (length s.reads) now e mid → GetStep says read Runs eq s key hash need_key ignored now (Ok None) e (queueing mid (Miss hash))
+  missed hidden e mid due = rw enabled (at (record_of_key eq s.records key) refl)
     where
-      at : (o : Option (Record K V)) → record_of_key eq s.records key ≡ o → GetsAt says read Runs s o hash need_key false now.0 (Ok None) no_events (queueing s (Miss hash))
-      at None found = (refl, (s, not_due (length s.reads) now.0, refl))
-      at (Some r) found = (inr (inl (hidden r found)), (s, not_due (length s.reads) now.0, refl))
+      at : (o : Option (Record K V)) → record_of_key eq s.records key ≡ o → GetsAt says read Runs s o hash need_key ignored now (Ok None) e (queueing mid (Miss hash))
+      at None found = (refl, (mid, due, refl))
+      at (Some r) found = (is_missed says s ignored now r (hidden r found), (mid, due, refl))
 
-  module _ (r : Record K V) (found : record_of_key eq s.records key ≡ Some r) (shown : has_lapsed s.settings s.invalid_before r now.0 ≡ false) where
-    uncovered : NoneCovers says s.predicates r
-    uncovered = rw h.served.no_predicates tt
-
+  module _ (r : Record K V) (found : record_of_key eq s.records key ≡ Some r) (accepted : ignored ≡ false) (shown : has_lapsed s.settings s.invalid_before r now ≡ false) (uncovered : NoneCovers says s.predicates r) where
     -- memory for a clone is refused
-    refused : (e : OutOfMemory) → GetStep says read Runs eq s key hash need_key false now.0 (Err e) no_events s
-    refused e = rw (enabled, found) ((refl, (shown, uncovered)), (refl, refl))
-
-    -- no hit renews
-    hit_plainly : after_hit read s r now.0 ≡ record s { records = with_record s.records (record r { read = now }) }
-    hit_plainly = rw (h.served.no_expiry, same_duration) refl
-
-    operation_plainly : hit_operation read s r now.0 ≡ Hit r.number r.hash false
-    operation_plainly = rw (h.served.no_expiry, same_duration) refl
+    refused : (e : OutOfMemory) → GetStep says read Runs eq s key hash need_key ignored now (Err e) no_events s
+    refused e = rw (enabled, found) ((accepted, (shown, uncovered)), (refl, refl))
 
     -- a record is found that is visible
-    hit : (entry : Entry K V) → entry.value ≡ r.value → entry.key ≡ (if need_key then Some r.key else None)
-        → GetStep says read Runs eq s key hash need_key false now.0 (Ok (Some entry)) no_events (queueing (record s { records = with_record s.records (record r { read = now }) }) (Hit r.number r.hash false))
-    hit entry value own =
-        let due : RunsIfDue Runs (after_hit read s r now.0) (length s.reads) (hit_at read s r now.0) no_events (after_hit read s r now.0) = rw (h.served.finished, h.served.asked) (refl, refl) in
-        let queued : queueing (record s { records = with_record s.records (record r { read = now }) }) (Hit r.number r.hash false) ≡ queueing (after_hit read s r now.0) (hit_operation read s r now.0) =
-        sym (ap (λ t. queueing t (hit_operation read s r now.0)) hit_plainly ∙ ap (queueing (record s { records = with_record s.records (record r { read = now }) })) operation_plainly) in
-        rw (enabled, found) ((refl, (shown, uncovered)), value, own, (after_hit read s r now.0, due, queued))
+    hit : (entry : Entry K V) → entry.value ≡ r.value → entry.key ≡ (if need_key then Some r.key else None) → (e : Events K V) (mid : State K V X P W) → RunsIfDue Runs (after_hit read s r now) (length s.reads) (hit_at read s r now) e mid
+        → GetStep says read Runs eq s key hash need_key ignored now (Ok (Some entry)) e (queueing mid (hit_operation read s r now))
+    hit entry value own e mid due = rw (enabled, found) ((accepted, (shown, uncovered)), value, own, (mid, due, refl))
 
 -- ---- steps of the inner part
 
@@ -78,23 +107,18 @@ module _ {K V X P W : Type 0} (s : State K V X P W) (i : Interior K V) (inside :
   reads_queued j read step = ap (with_inner s) step ∙ ap (λ t. queueing t read) inside
 
   -- a record is read
-  pub record_read : (j : Interior K V) (n : ℕ) (r : Record K V) → r.number ≡ n → (now : Instant) → j ≡ record i { kept = j.kept } → j.kept ≡ record i.kept { records = insert i.kept.records n (record r { read = now; expires = r.expires }) }
-      → with_inner s j ≡ record s { records = with_record s.records (record r { read = now }) }
-  record_read j n r number now rest kept =
-      let here : with_inner s (record i { kept = record i.kept { records = insert i.kept.records n (record r { read = now; expires = r.expires }) } }) ≡ record (with_inner s i) { records = with_record (with_inner s i).records (record r { read = now }) } = rw number refl in
-      ap (with_inner s) (rest ∙ ap (λ (k : Kept K V). record i { kept = k }) kept) ∙ here ∙ ap (λ (t : State K V X P W). record t { records = with_record t.records (record r { read = now }) }) inside
-
-  -- and the hit is queued
-  pub hit_state : (mid j : Interior K V) (n : ℕ) (r : Record K V) → r.number ≡ n → (now : Instant) → mid ≡ record i { kept = mid.kept } → mid.kept ≡ record i.kept { records = insert i.kept.records n (record r { read = now; expires = r.expires }) }
-      → j ≡ record mid { reads = if nat_lt (length mid.reads) queue_length then mid.reads ++ Hit n r.hash false ∷ [] else mid.reads }
-      → with_inner s j ≡ queueing (record s { records = with_record s.records (record r { read = now }) }) (Hit r.number r.hash false)
-  hit_state mid j n r number now rest kept step =
-      ap (with_inner s) step ∙ ap (λ t. queueing t (Hit n r.hash false)) (record_read mid n r number now rest kept) ∙ ap (λ k. queueing (record s { records = with_record s.records (record r { read = now }) }) (Hit k r.hash false)) (sym number)
+  pub record_read : (read : X → K → V → ℕ → Option ℕ → ℕ → Option ℕ) (n : ℕ) (r : Record K V) → r.number ≡ n → (now : ℕ) (at : Instant) (expires : Option Instant) (is_renewed : Bool) → Touches read (expirations_of s.settings) r now at.0 expires is_renewed
+      → (j : Interior K V) → j ≡ record i { kept = j.kept } → j.kept ≡ record i.kept { records = insert i.kept.records n (record r { read = at; expires = expires }) } → with_inner s j ≡ after_hit read s r now
+  record_read read n r number now at expires is_renewed t j rest kept =
+      let here : with_inner s (record i { kept = record i.kept { records = insert i.kept.records n (record r { read = at; expires = expires }) } }) ≡ record (with_inner s i) { records = with_record (with_inner s i).records (record r { read = at; expires = expires }) } = rw number refl in
+      ap (with_inner s) (rest ∙ ap (λ (k : Kept K V). record i { kept = k }) kept) ∙ here
+      ∙ ap (λ (u : State K V X P W). record u { records = with_record u.records (record r { read = at; expires = expires }) }) inside
+      ∙ ap (λ (q : Record K V). record s { records = with_record s.records q }) (record_is read s r now at expires is_renewed t)
 
 -- a record that was found and read is located
 pub located-read : {K V X L P W : Type 0} {eq : K → K → Bool} {l : Option L} {s : State K V X P W} (h : IsCache eq l s) (i : Interior K V) (inside : with_inner s i ≡ s) (n place : ℕ) (r : Record K V) → get i.kept.records n ≡ Some r → get i.kept.places n ≡ Some place
-    → (now : Instant) (mid : Interior K V) → mid ≡ record i { kept = mid.kept } → mid.kept ≡ record i.kept { records = insert i.kept.records n (record r { read = now; expires = r.expires }) } → IsLocated mid.kept.places mid.next_number n place
-located-read {K} {V} h i inside n place r there placed now mid rest kept =
+    → (q : Record K V) (mid : Interior K V) → mid ≡ record i { kept = mid.kept } → mid.kept ≡ record i.kept { records = insert i.kept.records n q } → IsLocated mid.kept.places mid.next_number n place
+located-read {K} {V} h i inside n place r there placed q mid rest kept =
     let given = (number-inside h i inside n r there).1 in
     let next = ap (λ (t : State _ _ _ _ _). t.next_number) inside in
     let next_so = ap (λ (j : Interior K V). j.next_number) rest in
@@ -103,76 +127,94 @@ located-read {K} {V} h i inside n place r there placed now mid rest kept =
 
 -- ---- what always holds
 
-module _ {K V X L P W : Type 0} {eq : K → K → Bool} (laws : IsEquivalence eq) {l : Option L} {s : State K V X P W} (h : IsCache eq l s) (says : P → K → V → Bool → Type 0) (enabled : is_disabled s.capacity ≡ false) (key : K) (hash : ℕ) (now : Instant)
-    (i : Interior K V) (inside : with_inner s i ≡ s) where
-  never : X → K → V → ℕ → Option ℕ → ℕ → Option ℕ
-  never _ _ _ _ _ _ = None
+module _ {K V X L P W : Type 0} {eq : K → K → Bool} {l : Option L} {s : State K V X P W} (h : IsCache eq l s) (i : Interior K V) (inside : with_inner s i ≡ s) where
+  -- after a read was queued
+  pub cache-queued : (read : ReadOperation) (j : Interior K V) → j ≡ record i { reads = if nat_lt (length i.reads) queue_length then i.reads ++ read ∷ [] else i.reads } → IsCache eq l (with_inner s j)
+  cache-queued read j step =
+      cache-inner h l j refl (subst (IsValid eq) (sym (reads_queued s i inside j read step)) (valid_with eq s (queueing s read).reads s.invalid_before s.predicates s.housekeeping h.valid))
+      (λ none. subst (λ (x : Interior K V). NoneExpires x.kept.records) (sym step) (unexpiring-inside h i inside none))
 
-  -- after a look-up that found nothing visible
-  pub cache-missed : ((r : Record K V) → record_of_key eq s.records key ≡ Some r → has_lapsed s.settings s.invalid_before r now.0 ≡ true) → (j : Interior K V)
-      → j ≡ record i { reads = if nat_lt (length i.reads) queue_length then i.reads ++ Miss hash ∷ [] else i.reads } → IsCache eq l (with_inner s j)
-  cache-missed hidden j step =
-      let done = missed h says never (MaintenanceRun says) enabled key hash false now hidden in
-      let valid = get_keeps eq says never s (queueing s (Miss hash)) key hash false false now.0 (Ok None) no_events h.valid done in
-      let none = unexpiring-inside h i inside in
-      cache-inner h l j refl (subst (IsValid eq) (sym (reads_queued s i inside j (Miss hash) step)) valid) (subst (λ (x : Interior K V). NoneExpires x.kept.records) (sym step) none)
-
-  -- after a hit
-  pub cache-hit : (n : ℕ) (r : Record K V) → get i.kept.records n ≡ Some r → record_of_key eq i.kept.records key ≡ Some r → has_lapsed s.settings s.invalid_before r now.0 ≡ false → (mid j : Interior K V)
-      → mid ≡ record i { kept = mid.kept } → mid.kept ≡ record i.kept { records = insert i.kept.records n (record r { read = now; expires = r.expires }) }
-      → j ≡ record mid { reads = if nat_lt (length mid.reads) queue_length then mid.reads ++ Hit n r.hash false ∷ [] else mid.reads } → IsCache eq l (with_inner s j)
-  cache-hit n r there found shown mid j rest kept step =
+  -- after a record was read
+  pub cache-touched : (says : P → K → V → Bool → Type 0) (read : X → K → V → ℕ → Option ℕ → ℕ → Option ℕ) (key : K) (n : ℕ) (r : Record K V) → get i.kept.records n ≡ Some r → record_of_key eq i.kept.records key ≡ Some r
+      → (now : ℕ) (at : Instant) (expires : Option Instant) (is_renewed : Bool) → Touches read (expirations_of s.settings) r now at.0 expires is_renewed
+      → (j : Interior K V) → j ≡ record i { kept = j.kept } → j.kept ≡ record i.kept { records = insert i.kept.records n (record r { read = at; expires = expires }) } → IsCache eq l (with_inner s j)
+  cache-touched says read key n r there found now at expires is_renewed t j rest kept =
       let number = (number-inside h i inside n r there).0 in
-      let done = hit h says never (MaintenanceRun says) enabled key hash false now r (key-inside h i inside key (Some r) found) shown (record { key = None; value = r.value }) refl refl in
-      let valid = get_keeps eq says never s (queueing (record s { records = with_record s.records (record r { read = now }) }) (Hit r.number r.hash false)) key hash false false now.0 (Ok (Some (record { key = None; value = r.value }))) no_events h.valid done in
-      let none = unexpiring-inside h i inside in
-      let read_none : NoneExpires mid.kept.records = subst (λ (k : Kept K V). NoneExpires k.records) (sym kept) (unexpiring-inserted i.kept.records none n (record r { read = now; expires = r.expires }) (none n r there)) in
-      cache-inner h l j refl (subst (IsValid eq) (sym (hit_state s i inside mid j n r number now rest kept step)) valid) (subst (λ (x : Interior K V). NoneExpires x.kept.records) (sym step) read_none)
+      let valid = hit_valid eq says read s key r now (key-inside h i inside key (Some r) found) h.valid in
+      cache-inner h l j refl (subst (IsValid eq) (sym (record_read s i inside read n r number now at expires is_renewed t j rest kept)) valid)
+      (λ none.
+      let lasts = lasts_on read s r now at expires is_renewed t none (unexpiring-inside h i inside none n r there) in
+      subst (λ (k : Kept K V). NoneExpires k.records) (sym kept) (unexpiring-inserted i.kept.records (unexpiring-inside h i inside none) n (record r { read = at; expires = expires }) lasts))
 
 -- ---- what a look-up returns
 
+-- where the cache is disabled, the key has no record, and its value was not asked about
+pub nothing_asked : {K V X L P W I : Type 0} {eq : K → K → Bool} {l : Option L} {s : State K V X P W} (h : IsCache eq l s) → is_disabled s.capacity ≡ true → (key : K) (asks : I → V → Bool → I → Type 0) (test : I) → IsAskedOnce asks (Some test) (value_of (record_of_key eq s.records key)) false (Some test)
+nothing_asked {eq = eq} h disabled key asks test = rw ((h.valid.numbered.disabled disabled).no_records, record_of_key_empty eq key) (refl, refl)
+
+-- what is asked about the value inside is asked about the cache's
+pub asked_of_cache : {K V S X L P W I : Type 0} {old now : Cache K V S X L P W} → old ≡ now → (eq : K → K → Bool) (key : K) (asks : I → V → Bool → I → Type 0) (before after : I) (ignored : Bool)
+    → IsAskedOnce asks (Some before) (value_of (record_of_key eq old.state.records key)) ignored (Some after) → IsAskedOnce asks (Some before) (value_of (record_of_key eq now.state.records key)) ignored (Some after)
+asked_of_cache is eq key asks before after ignored asked = subst (λ (c : Cache _ _ _ _ _ _ _). IsAskedOnce asks (Some before) (value_of (record_of_key eq c.state.records key)) ignored (Some after)) is asked
+
 module _ {K V S X L P W C : Type 0} (says : P → K → V → Bool → Type 0) (read : X → K → V → ℕ → Option ℕ → ℕ → Option ℕ) (Runs : State K V X P W → Terms → Course → List (Notice K V) → State K V X P W → Type 0)
-    (tells : L → K → V → RemovalCause → L → Type 0) (reads : C → Instant → C → Type 0) (eq : K → K → Bool) {old now : Cache K V S X L P W} (is : old ≡ now) (key : K) (hash : ℕ) (need_key : Bool) (moment : Instant) (clock : C) where
+    (tells : L → K → V → RemovalCause → L → Type 0) (reads : C → Instant → C → Type 0) (eq : K → K → Bool) {old now : Cache K V S X L P W} (is : old ≡ now) (key : K) (hash : ℕ) (need_key ignored : Bool) (moment : Instant) (clock : C) where
   -- a look-up that answers so and reads no clock
   abbrev Gets : Result (Option (Entry K V)) OutOfMemory → State K V X P W → Cache K V S X L P W → Type 0
-  Gets a t before = (e : Events K V) × GetStep says read Runs eq before.state key hash need_key false moment.0 a e t × Befalls tells e before (record old { state = t }) × Leads reads clock e.readings clock
+  Gets a t before = (e : Events K V) × GetStep says read Runs eq before.state key hash need_key ignored moment.0 a e t × Befalls tells e before (record old { state = t }) × Leads reads clock e.readings clock
 
   -- in a disabled cache
   pub get_finds_nothing : is_disabled old.state.capacity ≡ true → Gets (Ok None) old.state now
   get_finds_nothing disabled = subst (Gets (Ok None) old.state) is (no_events, rw disabled (refl, (refl, refl)), befalls-quietly tells old old.state, refl)
 
   module _ {l : Option L} (h : IsCache eq l old.state) (enabled : is_disabled old.state.capacity ≡ false) (i : Interior K V) (inside : with_inner old.state i ≡ old.state) where
+    -- no run is due
+    not_due : (queued at : ℕ) → RunsIfDue Runs old.state queued at no_events old.state
+    not_due queued at = rw (h.served.finished, h.served.asked) (refl, refl)
+
     -- of nothing visible
-    pub get_misses : ((r : Record K V) → record_of_key eq i.kept.records key ≡ Some r → has_lapsed old.state.settings old.state.invalid_before r moment.0 ≡ true) → (j : Interior K V)
+    pub get_misses : ((r : Record K V) → record_of_key eq i.kept.records key ≡ Some r → (ignored ≡ true) ⊎ (has_lapsed old.state.settings old.state.invalid_before r moment.0 ≡ true)) → (j : Interior K V)
         → j ≡ record i { reads = if nat_lt (length i.reads) queue_length then i.reads ++ Miss hash ∷ [] else i.reads } → Gets (Ok None) (with_inner old.state j) now
     get_misses hidden j step =
-        let done = missed h says read Runs enabled key hash need_key moment (λ r found. hidden r (ap (λ (t : State K V X P W). record_of_key eq t.records key) inside ∙ found)) in
+        let hidden_so : (r : Record K V) → record_of_key eq old.state.records key ≡ Some r → (ignored ≡ true) ⊎ (has_lapsed old.state.settings old.state.invalid_before r moment.0 ≡ true) =
+        λ r found. hidden r (ap (λ (t : State K V X P W). record_of_key eq t.records key) inside ∙ found) in
+        let done = missed says read Runs eq old.state enabled key hash need_key ignored moment.0 hidden_so no_events old.state (not_due (length old.state.reads) moment.0) in
         subst (Gets (Ok None) (with_inner old.state j)) is (
           no_events,
-          subst (λ t. GetStep says read Runs eq old.state key hash need_key false moment.0 (Ok None) no_events t) (sym (reads_queued old.state i inside j (Miss hash) step)) done,
+          subst (λ t. GetStep says read Runs eq old.state key hash need_key ignored moment.0 (Ok None) no_events t) (sym (reads_queued old.state i inside j (Miss hash) step)) done,
           befalls-quietly tells old (with_inner old.state j),
           refl,
         )
 
-    module _ (n : ℕ) (r : Record K V) (there : get i.kept.records n ≡ Some r) (found : record_of_key eq i.kept.records key ≡ Some r) (shown : has_lapsed old.state.settings old.state.invalid_before r moment.0 ≡ false) where
+    module _ (n : ℕ) (r : Record K V) (there : get i.kept.records n ≡ Some r) (found : record_of_key eq i.kept.records key ≡ Some r) (accepted : ignored ≡ false) (shown : has_lapsed old.state.settings old.state.invalid_before r moment.0 ≡ false) where
       found_in_state : record_of_key eq old.state.records key ≡ Some r
       found_in_state = key-inside h i inside key (Some r) found
 
+      uncovered : NoneCovers says old.state.predicates r
+      uncovered = rw h.served.no_predicates tt
+
       -- of what is visible
-      pub get_hits : (mid j : Interior K V) → mid ≡ record i { kept = mid.kept } → mid.kept ≡ record i.kept { records = insert i.kept.records n (record r { read = moment; expires = r.expires }) }
-          → j ≡ record mid { reads = if nat_lt (length mid.reads) queue_length then mid.reads ++ Hit n r.hash false ∷ [] else mid.reads }
-          → (entry : Entry K V) → entry.value ≡ r.value → entry.key ≡ (if need_key then Some r.key else None) → Gets (Ok (Some entry)) (with_inner old.state j) now
-      get_hits mid j rest kept step entry value own =
-          let done = hit h says read Runs enabled key hash need_key moment r found_in_state shown entry value own in
-          subst (Gets (Ok (Some entry)) (with_inner old.state j)) is (
-            no_events,
-            subst (λ t. GetStep says read Runs eq old.state key hash need_key false moment.0 (Ok (Some entry)) no_events t) (sym (hit_state old.state i inside mid j n r (number-inside h i inside n r there).0 moment rest kept step)) done,
-            befalls-quietly tells old (with_inner old.state j),
-            refl,
-          )
+      module _ (at : Instant) (expires : Option Instant) (is_renewed : Bool) (t : Touches read (expirations_of old.state.settings) r moment.0 at.0 expires is_renewed)
+          (mid : Interior K V) (rest : mid ≡ record i { kept = mid.kept }) (kept : mid.kept ≡ record i.kept { records = insert i.kept.records n (record r { read = at; expires = expires }) }) where
+        touched : with_inner old.state mid ≡ after_hit read old.state r moment.0
+        touched = record_read old.state i inside read n r (number-inside h i inside n r there).0 moment.0 at expires is_renewed t mid rest kept
+
+        pub get_hits : (j : Interior K V) → j ≡ record mid { reads = if nat_lt (length mid.reads) queue_length then mid.reads ++ Hit n r.hash is_renewed ∷ [] else mid.reads }
+            → (entry : Entry K V) → entry.value ≡ r.value → entry.key ≡ (if need_key then Some r.key else None) → Gets (Ok (Some entry)) (with_inner old.state j) now
+        get_hits j step entry value own =
+            let due : RunsIfDue Runs (after_hit read old.state r moment.0) (length old.state.reads) (hit_at read old.state r moment.0) no_events (after_hit read old.state r moment.0) = rw (h.served.finished, h.served.asked) (refl, refl) in
+            let done = hit says read Runs eq old.state enabled key hash need_key ignored moment.0 r found_in_state accepted shown uncovered entry value own no_events (after_hit read old.state r moment.0) due in
+            let ends : with_inner old.state j ≡ queueing (after_hit read old.state r moment.0) (hit_operation read old.state r moment.0) =
+            ap (with_inner old.state) step ∙ ap (λ u. queueing u (Hit n r.hash is_renewed)) touched ∙ ap (queueing (after_hit read old.state r moment.0)) (operation_is read old.state r moment.0 at expires is_renewed t n (number-inside h i inside n r there).0) in
+            subst (Gets (Ok (Some entry)) (with_inner old.state j)) is (
+              no_events,
+              subst (λ u. GetStep says read Runs eq old.state key hash need_key ignored moment.0 (Ok (Some entry)) no_events u) (sym ends) done,
+              befalls-quietly tells old (with_inner old.state j),
+              refl,
+            )
 
       -- of what cannot be cloned
-      pub get_refused : (err : OutOfMemory) → (e : Events K V) × GetStep says read Runs eq now.state key hash need_key false moment.0 (Err err) e now.state × Befalls tells e now now × Leads reads clock e.readings clock
+      pub get_refused : (err : OutOfMemory) → (e : Events K V) × GetStep says read Runs eq now.state key hash need_key ignored moment.0 (Err err) e now.state × Befalls tells e now now × Leads reads clock e.readings clock
       get_refused err =
-          subst (λ c. (e : Events K V) × GetStep says read Runs eq c.state key hash need_key false moment.0 (Err err) e c.state × Befalls tells e c c × Leads reads clock e.readings clock) is
-          (no_events, refused h says read Runs enabled key hash need_key moment r found_in_state shown err, befalls-quietly tells old old.state, refl)
+          subst (λ c. (e : Events K V) × GetStep says read Runs eq c.state key hash need_key ignored moment.0 (Err err) e c.state × Befalls tells e c c × Leads reads clock e.readings clock) is
+          (no_events, refused says read Runs eq old.state enabled key hash need_key ignored moment.0 r found_in_state accepted shown uncovered err, befalls-quietly tells old old.state, refl)

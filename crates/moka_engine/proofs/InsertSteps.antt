@@ -11,16 +11,17 @@ use Rattle.moka_parts.specs.declared.notification.RemovalCause.{RemovalCause}
 use Rattle.moka_parts.specs.declared.policy.Instant.{Instant}
 use Rattle.moka_parts.specs.declared.records.Operation.TheVariants.{Upsert}
 use Rattle.moka_parts.specs.declared.records.Record.{Record}
-use Rattle.moka_parts.specs.Calls.{no_events, only_notices, Weighs, InsertStep, HasInsertError, inserted, replaced}
+use Rattle.moka_parts.specs.Calls.{no_events, only_notices, Weighs, InsertStep, HasInsertError, handing_out, inserted, replaced}
 use Rattle.moka_parts.specs.Causes.{cause_of_replacement}
+use Rattle.moka_parts.specs.Expiry.{expires_at_first, expires_updated}
 use Rattle.moka_parts.specs.Notification.{HearsOnce}
 use Rattle.moka_parts.specs.Records.{when_listening, record_of_key, with_record}
 use Rattle.moka_parts.specs.Runs.{Cache, Befalls}
 use Rattle.moka_parts.specs.Settling.{IsValid}
-use Rattle.moka_parts.specs.State.{State, Events, is_disabled}
+use Rattle.moka_parts.specs.State.{State, Settings, Events, is_disabled}
 use Rattle.moka_parts.proofs.CallsKeep.{inserted_valid, replaced_valid}
 use Rattle.moka_store.specs.Updates.{updated}
-use Rattle.moka_engine.specs.BaseCache.{IsCache, NoneExpires}
+use Rattle.moka_engine.specs.BaseCache.{IsCache, NoneExpires, expirations_of, expiring_by}
 use Rattle.moka_engine.specs.Interior.{Interior, first_record, handing_out_inside}
 use Rattle.moka_engine.proofs.CacheSteps.{with_inner, without_room, inside-roomier, befalls-quietly, unexpiring-inserted, cache-inner, unexpiring-inside, number-inside, key-inside}
 
@@ -43,14 +44,41 @@ has_error s more OutOfMemory h = not_at_least (2 ^ 64) (s.next_ticket + len s.re
 
 -- ---- a value of a key that is there
 
+module _ {K V X W : Type 0} (created : X → K → V → ℕ → Option ℕ) (updating : X → K → V → ℕ → Option ℕ → Option ℕ) (settings : Settings X W) where
+  -- no more of the settings counts than what lets records expire
+  updated_alike : (o : Option X) (key : K) (value : V) (r : Record K V) (now : ℕ) → expires_updated created updating (expiring_by (expirations_of settings)) o key value r now ≡ expires_updated created updating settings o key value r now
+  updated_alike None key value r now = refl
+  updated_alike (Some x) key value r now = refl
+
+  -- without an expiry the record expires as before
+  lasts_updated : (o : Option X) → o ≡ None → (key : K) (value : V) (r : Record K V) (now : ℕ) → expires_updated created updating (expiring_by (expirations_of settings)) o key value r now ≡ r.expires
+  lasts_updated o none key value r now = rw none refl
+
 module _ {K V X P W : Type 0} (created : X → K → V → ℕ → Option ℕ) (updating : X → K → V → ℕ → Option ℕ → Option ℕ) where
-  -- the state with the new value, which expires as the old one
-  replaces : (s : State K V X P W) (i j : Interior K V) (inside : with_inner s i ≡ s) (plain : s.settings.expiry ≡ None) (r : Record K V) (n : ℕ) → r.number ≡ n → (key : K) (hash : ℕ) (value : V) (now : Instant) (w : ℕ)
-      → j ≡ handing_out_inside i (insert i.kept.records n (updated (record { value = value; now = now; expires = r.expires; weight = w }) r)) (Upsert n (r.generation + 1) w hash) j
+  -- this is when the record expires after an insert of its key
+  abbrev pub ExpiresUpdated : State K V X P W → Record K V → K → V → Instant → Option Instant → Type 0
+  ExpiresUpdated s r key value now expires = expires ≡ expires_updated created updating (expiring_by (expirations_of s.settings)) s.settings.expiry key value (record r { written = now; read = now }) now.0
+
+  -- the state with the new value
+  replaces : (s : State K V X P W) (i j : Interior K V) (inside : with_inner s i ≡ s) (r : Record K V) (n : ℕ) → r.number ≡ n → (key : K) (hash : ℕ) (value : V) (now : Instant) (w : ℕ) (expires : Option Instant) → ExpiresUpdated s r key value now expires
+      → j ≡ handing_out_inside i (insert i.kept.records n (updated (record { value = value; now = now; expires = expires; weight = w }) r)) (Upsert n (r.generation + 1) w hash) j
       → with_inner s j ≡ replaced created updating s r key hash value now w
-  replaces s i j inside plain r n number key hash value now w step =
-      let here : with_inner s (handing_out_inside i (insert i.kept.records n (updated (record { value = value; now = now; expires = r.expires; weight = w }) r)) (Upsert n (r.generation + 1) w hash) j) ≡ replaced created updating (with_inner s i) r key hash value now w = rw (plain, number) refl in
-      ap (with_inner s) step ∙ here ∙ ap (λ t. replaced created updating t r key hash value now w) inside
+  replaces s i j inside r n number key hash value now w expires is step =
+      let q : Record K V = updated (record { value = value; now = now; expires = expires; weight = w }) r in
+      let here : with_inner s (handing_out_inside i (insert i.kept.records n q) (Upsert n (r.generation + 1) w hash) j) ≡ handing_out (record (with_inner s i) { records = with_record (with_inner s i).records q }) (Upsert r.number (r.generation + 1) w hash) = rw number refl in
+      let so = is ∙ updated_alike created updating s.settings s.settings.expiry key value (record r { written = now; read = now }) now.0 in
+      ap (with_inner s) step ∙ here
+      ∙ ap (λ (t : State K V X P W). handing_out (record t { records = with_record t.records q }) (Upsert r.number (r.generation + 1) w hash)) inside
+      ∙ ap (λ (e : Option Instant). handing_out (record s { records = with_record s.records (updated (record { value = value; now = now; expires = e; weight = w }) r) }) (Upsert r.number (r.generation + 1) w hash)) so
+
+  -- the state with a new record
+  inserts : (s : State K V X P W) (i j : Interior K V) (inside : with_inner s i ≡ s) (key : K) (hash : ℕ) (value : V) (now : Instant) (w : ℕ) (expires : Option Instant) → expires ≡ expires_at_first created s.settings.expiry key value now.0
+      → j ≡ record (handing_out_inside i (with_record i.kept.records (first_record i.next_number key hash (record { value = value; now = now; expires = expires; weight = w }))) (Upsert i.next_number 1 w hash) j) { next_number = i.next_number + 1 }
+      → with_inner s j ≡ inserted created updating s key hash value now w
+  inserts s i j inside key hash value now w expires is step =
+      ap (with_inner s) step
+      ∙ ap (λ (e : Option Instant). with_inner s (record (handing_out_inside i (with_record i.kept.records (first_record i.next_number key hash (record { value = value; now = now; expires = e; weight = w }))) (Upsert i.next_number 1 w hash) j) { next_number = i.next_number + 1 })) is
+      ∙ ap (λ t. inserted created updating t key hash value now w) inside
 
 module _ {K V X L P W : Type 0} {eq : K → K → Bool} {l : Option L} {s : State K V X P W} (h : IsCache eq l s) (before : Interior K V) (inside_before : with_inner s before ≡ s) (i j : Interior K V) (rooms : without_room i ≡ without_room before) where
   -- room was made
@@ -58,29 +86,28 @@ module _ {K V X L P W : Type 0} {eq : K → K → Bool} {l : Option L} {s : Stat
   inside = inside-roomier s before i inside_before rooms
 
   -- what always holds after an insert of a key that is there
-  pub cache-updated : (laws : IsEquivalence eq) (m : Option L) (same : is_some m ≡ is_some l) (key : K) (n : ℕ) (r : Record K V) → get before.kept.records n ≡ Some r → record_of_key eq before.kept.records key ≡ Some r → (hash : ℕ) (value : V) (now : Instant) (w : ℕ)
-      → j ≡ handing_out_inside i (insert i.kept.records n (updated (record { value = value; now = now; expires = r.expires; weight = w }) r)) (Upsert n (r.generation + 1) w hash) j → IsCache eq m (with_inner s j)
-  cache-updated laws m same key n r there found hash value now w step =
-      let created : X → K → V → ℕ → Option ℕ = λ _ _ _ _. None in
-      let updating : X → K → V → ℕ → Option ℕ → Option ℕ = λ _ _ _ _ _. None in
+  pub cache-updated : (created : X → K → V → ℕ → Option ℕ) (updating : X → K → V → ℕ → Option ℕ → Option ℕ) (m : Option L) (same : is_some m ≡ is_some l) (key : K) (n : ℕ) (r : Record K V) → get before.kept.records n ≡ Some r → record_of_key eq before.kept.records key ≡ Some r
+      → (hash : ℕ) (value : V) (now : Instant) (w : ℕ) (expires : Option Instant) → ExpiresUpdated created updating s r key value now expires
+      → j ≡ handing_out_inside i (insert i.kept.records n (updated (record { value = value; now = now; expires = expires; weight = w }) r)) (Upsert n (r.generation + 1) w hash) j → IsCache eq m (with_inner s j)
+  cache-updated created updating m same key n r there found hash value now w expires is step =
       let valid = replaced_valid eq created updating s r key hash value now w (key-inside h before inside_before key (Some r) found) h.valid in
-      let none = unexpiring-inside h i inside in
       cache-inner h m j same
-      (subst (IsValid eq) (sym (replaces created updating s i j inside h.served.no_expiry r n (number-inside h before inside_before n r there).0 key hash value now w step)) valid)
-      (subst (λ (x : Interior K V). NoneExpires x.kept.records) (sym step) (unexpiring-inserted i.kept.records none n (updated (record { value = value; now = now; expires = r.expires; weight = w }) r) (unexpiring-inside h before inside_before n r there)))
+      (subst (IsValid eq) (sym (replaces created updating s i j inside r n (number-inside h before inside_before n r there).0 key hash value now w expires is step)) valid)
+      (λ none.
+      let lasts = is ∙ lasts_updated created updating s.settings s.settings.expiry none key value (record r { written = now; read = now }) now.0 ∙ unexpiring-inside h before inside_before none n r there in
+      subst (λ (x : Interior K V). NoneExpires x.kept.records) (sym step) (unexpiring-inserted i.kept.records (unexpiring-inside h i inside none) n (updated (record { value = value; now = now; expires = expires; weight = w }) r) lasts))
 
   -- what always holds after an insert of a new key
-  pub cache-inserted : (laws : IsEquivalence eq) → is_disabled s.capacity ≡ false → (key : K) → record_of_key eq s.records key ≡ None → (hash : ℕ) (value : V) (now : Instant) (w : ℕ)
-      → j ≡ record (handing_out_inside i (with_record i.kept.records (first_record i.next_number key hash (record { value = value; now = now; expires = None; weight = w }))) (Upsert i.next_number 1 w hash) j) { next_number = i.next_number + 1 } → IsCache eq l (with_inner s j)
-  cache-inserted laws enabled key absent hash value now w step =
-      let created : X → K → V → ℕ → Option ℕ = λ _ _ _ _. None in
+  pub cache-inserted : (created : X → K → V → ℕ → Option ℕ) (laws : IsEquivalence eq) → is_disabled s.capacity ≡ false → (key : K) → record_of_key eq s.records key ≡ None → (hash : ℕ) (value : V) (now : Instant) (w : ℕ) (expires : Option Instant) → expires ≡ expires_at_first created s.settings.expiry key value now.0
+      → j ≡ record (handing_out_inside i (with_record i.kept.records (first_record i.next_number key hash (record { value = value; now = now; expires = expires; weight = w }))) (Upsert i.next_number 1 w hash) j) { next_number = i.next_number + 1 } → IsCache eq l (with_inner s j)
+  cache-inserted created laws enabled key absent hash value now w expires is step =
       let updating : X → K → V → ℕ → Option ℕ → Option ℕ = λ _ _ _ _ _. None in
-      let new : Record K V = first_record i.next_number key hash (record { value = value; now = now; expires = None; weight = w }) in
-      let here : with_inner s (record (handing_out_inside i (with_record i.kept.records new) (Upsert i.next_number 1 w hash) j) { next_number = i.next_number + 1 }) ≡ inserted created updating (with_inner s i) key hash value now w = rw h.served.no_expiry refl in
-      let none = unexpiring-inside h i inside in
+      let new : Record K V = first_record i.next_number key hash (record { value = value; now = now; expires = expires; weight = w }) in
       cache-inner h l j refl
-      (subst (IsValid eq) (sym (ap (with_inner s) step ∙ here ∙ ap (λ t. inserted created updating t key hash value now w) inside)) (inserted_valid eq created updating s key hash value now w laws enabled absent h.valid))
-      (subst (λ (x : Interior K V). NoneExpires x.kept.records) (sym step) (unexpiring-inserted i.kept.records none i.next_number new refl))
+      (subst (IsValid eq) (sym (inserts created updating s i j inside key hash value now w expires is step)) (inserted_valid eq created updating s key hash value now w laws enabled absent h.valid))
+      (λ none.
+      let lasts : expires ≡ None = is ∙ rw none refl in
+      subst (λ (x : Interior K V). NoneExpires x.kept.records) (sym step) (unexpiring-inserted i.kept.records (unexpiring-inside h i inside none) i.next_number new lasts))
 
 -- ---- what the calls return
 
@@ -110,13 +137,13 @@ module _ {K V S X L P W : Type 0} (created : X → K → V → ℕ → Option �
 
   -- a key that is there, with a new value
   pub update_returns : (l : Option L) (h : IsCache eq l old.state) (told : l ≡ old.listener) (m : Option L) (j : Interior K V) (n : ℕ) (r : Record K V) → get before.kept.records n ≡ Some r → record_of_key eq before.kept.records key ≡ Some r → (w : ℕ) → Weighs weighs old.state.settings.weigher key value w
-      → (2 ^ 64 ≤ before.next_ticket + len before.kept.records → ⊥) → (ticket : Ticket) → ticket.0 ≡ i.next_ticket
-      → j ≡ handing_out_inside i (insert i.kept.records n (updated (record { value = value; now = moment; expires = r.expires; weight = w }) r)) (Upsert n (r.generation + 1) w hash) j
+      → (2 ^ 64 ≤ before.next_ticket + len before.kept.records → ⊥) → (ticket : Ticket) → ticket.0 ≡ i.next_ticket → (expires : Option Instant) → ExpiresUpdated created updating old.state r key value moment expires
+      → j ≡ handing_out_inside i (insert i.kept.records n (updated (record { value = value; now = moment; expires = expires; weight = w }) r)) (Upsert n (r.generation + 1) w hash) j
       → (left : V) → left ≡ r.value → (cause : RemovalCause) → cause ≡ cause_of_replacement old.state.settings old.state.invalid_before r moment.0 → HearsOnce tells old.listener key left cause m
       → Inserts (Ok (ticket, moment)) (with_inner old.state j) m now
-  update_returns l h told m j n r there found w weighed enough ticket next step left same_value cause same_cause heard =
+  update_returns l h told m j n r there found w weighed enough ticket next expires expiring step left same_value cause same_cause heard =
       let numbers : nat_le (2 ^ 64) (before.next_ticket + len before.kept.records + 0) ≡ false = not_at_least (2 ^ 64) (before.next_ticket + len before.kept.records + 0) (λ p. enough (omega arith)) in
-      let step_so = replaces created updating old.state i j inside_still h.served.no_expiry r n (number-inside h before inside_before n r there).0 key hash value moment w step in
+      let step_so = replaces created updating old.state i j inside_still r n (number-inside h before inside_before n r there).0 key hash value moment w expires expiring step in
       subst (Inserts (Ok (ticket, moment)) (with_inner old.state j) m) is (
         only_notices (when_listening old.state.settings.listening ((key, r.value, cause_of_replacement old.state.settings old.state.invalid_before r moment.0) ∷ [])),
         rw (found_in_state (Some r) found) (w, weighed, subst (λ (t : State K V X P W). nat_le (2 ^ 64) (t.next_ticket + len t.records + 0) ≡ false) inside_before numbers, next ∙ ap (λ (t : State K V X P W). t.next_ticket) inside_still, refl, step_so, refl),

@@ -7,6 +7,8 @@ pub mod NewSteps
 pub mod SendSteps
 pub mod InsertSteps
 pub mod RemoveSteps
+pub mod FindSteps
 pub mod GetSteps
+pub mod PeekSteps
 pub mod RunSteps
 pub mod IdleRuns

@@ -33,7 +33,7 @@ cache-new {K} {V} {X} {L} {P} {W} eq listener i first_ticket empty predicates no
         no_invalidator = no_invalidator;
         finished = refl;
         asked = refl;
-        unexpiring = λ n r there. absurd (nothing_at n r there);
+        unexpiring = λ _ n r there. absurd (nothing_at n r there);
       };
       listens = heard;
     })

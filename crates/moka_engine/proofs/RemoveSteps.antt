@@ -32,7 +32,7 @@ module _ {K V X L P W : Type 0} {eq : K → K → Bool} {l : Option L} {s : Stat
   cache-removed =
       cache-inner h l j refl
       (remove_keeps eq s (with_inner s j) key (Some (entry_of r, record { 0 = i.next_ticket })) h.valid (removes (record { 0 = i.next_ticket }) refl))
-      (subst (λ (x : Interior K V). NoneExpires x.kept.records) (sym step) (unexpiring-removed i.kept.records (unexpiring-inside h i inside) n))
+      (λ none. subst (λ (x : Interior K V). NoneExpires x.kept.records) (sym step) (unexpiring-removed i.kept.records (unexpiring-inside h i inside none) n))
 
 -- the same of a cache
 pub remove_returns : {K V S X L P W : Type 0} {eq : K → K → Bool} {old now : Cache K V S X L P W} (is : old ≡ now) {l : Option L} (h : IsCache eq l old.state) (i j : Interior K V) (inside : with_inner old.state i ≡ old.state)

@@ -41,7 +41,7 @@ simple_of s h enabled = record {
   unregistered = h.served.no_predicates;
   unordered = ap (λ o. is_some o || s.settings.invalidator) h.served.no_live ∙ h.served.no_invalidator;
   consistent = h.valid.consistent;
-  lasting = h.served.unexpiring;
+  lasting = h.served.unexpiring h.served.no_expiry;
 }
 
 -- ---- a cache that is not disabled: its inner part at first, with its queues applied, and after the passes
@@ -84,7 +84,7 @@ module _ {K V X L P W C : Type 0} {tells : L → K → V → RemovalCause → L 
       no_invalidator = h.served.no_invalidator;
       finished = h.served.finished;
       asked = h.served.asked;
-      unexpiring = (run_leaves_simple s simple terms by_state refl applied limited refl ran).lasting;
+      unexpiring = λ _. (run_leaves_simple s simple terms by_state refl applied limited refl ran).lasting;
     };
     listens = h.listens ∙ sym (run_keeps_listening s simple terms by_state refl applied limited refl ran);
   })

@@ -1,5 +1,5 @@
 -- What always holds of a cache, and how its parts make the state that contracts see.
-use Rattle.std.specs.Prelude.{◌≡◌, ℕ, Bool, false, ◌||◌, List, [], Option, Some, None, is_some, ◌⊎◌, ⊤}
+use Rattle.std.specs.Prelude.{◌≡◌, ℕ, Bool, false, List, [], Option, Some, None, is_some, ◌⊎◌, ⊤}
 use Rattle.std.specs.FinMap.{get}
 use Rattle.moka_parts.specs.declared.policy.EvictionPolicy.{EvictionPolicy}
 use Rattle.moka_parts.specs.declared.policy.EvictionPolicy.TheVariants.{Lru}
@@ -11,7 +11,6 @@ use Rattle.moka_parts.specs.Policy.{Expirations}
 use Rattle.moka_parts.specs.Records.{Records}
 use Rattle.moka_parts.specs.Settling.{IsValid}
 use Rattle.moka_parts.specs.State.{State, Settings}
-use Rattle.moka_parts.specs.Time.{has_passed, is_before, deadline, moment_of}
 use Rattle.moka_engine.specs.Interior.{Interior}
 
 -- what never changes
@@ -49,9 +48,24 @@ state_of i invalid_before predicates count weight keeper capacity settings = rec
   settings = settings;
 }
 
--- one of the tests by moments hides the record
-abbrev pub lapses : {K V X : Type 0} → Expirations X → Option Instant → Record K V → ℕ → Bool
-lapses x bound r now = has_passed (moment_of r.expires) now || has_passed (deadline x.time_to_live r.written.0) now || has_passed (deadline x.time_to_idle r.read.0) now || is_before r.written.0 (moment_of bound) || is_before r.read.0 (moment_of bound)
+-- which of the settings let records expire
+abbrev pub expirations_of : {X W : Type 0} → Settings X W → Expirations X
+expirations_of settings = record { time_to_live = settings.time_to_live; time_to_idle = settings.time_to_idle; expiry = settings.expiry }
+
+-- settings of which only these are set
+abbrev pub expiring_by : {X : Type 0} → Expirations X → Settings X (Unit {0})
+expiring_by x = record {
+  policy = Lru;
+  time_to_live = x.time_to_live;
+  time_to_idle = x.time_to_idle;
+  expiry = x.expiry;
+  weigher = None;
+  listening = false;
+  invalidator = false;
+  run_limit = 0;
+  run_repeats = 0;
+  run_batch = 0;
+}
 
 -- where something is kept and bounded, the least recently used leaves
 abbrev pub IsLruWhereBounded : Option ℕ → EvictionPolicy → Type 0
@@ -62,7 +76,7 @@ IsLruWhereBounded (Some capacity) policy = (capacity ≡ 0) ⊎ (policy ≡ Lru)
 abbrev pub NoneExpires : {K V : Type 0} → Records K V → Type 0
 NoneExpires records = (n : ℕ) (r : Record _ _) → get records n ≡ Some r → r.expires ≡ None
 
--- the settings are such as a cache can have today, no run starts by itself, and no record has an expiry of its own
+-- the settings are such as a cache can have today, no run starts by itself, and without an expiry no record has one of its own
 pub record IsServed {K V X P W : Type 0} (s : State K V X P W) : Type 0 where
   pub bounded : IsLruWhereBounded s.capacity s.settings.policy
   pub no_live : s.settings.time_to_live ≡ None
@@ -71,7 +85,7 @@ pub record IsServed {K V X P W : Type 0} (s : State K V X P W) : Type 0 where
   pub no_invalidator : s.settings.invalidator ≡ false
   pub finished : s.housekeeping.more ≡ false
   pub asked : s.housekeeping.automatic ≡ false
-  pub unexpiring : NoneExpires s.records
+  pub unexpiring : s.settings.expiry ≡ None → NoneExpires s.records
 
 -- the state is a valid one, and the settings listen exactly where a listener is set
 pub record IsCache {K V X L P W : Type 0} (eq : K → K → Bool) (listener : Option L) (s : State K V X P W) : Type 0 where

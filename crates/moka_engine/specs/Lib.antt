@@ -2,3 +2,4 @@ pub mod Values
 pub mod Interior
 pub mod Inner
 pub mod BaseCache
+pub mod Looks

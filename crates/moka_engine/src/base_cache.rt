@@ -21,13 +21,13 @@ ghost use Rattle.moka_engine.specs.BaseCache.{IsLruWhereBounded};
 use crate::inner::Inner;
 use moka_maintenance::sweep::Tests;
 use moka_parts::calls::{Entry, KvEntry, Ticket};
-use moka_parts::closures::{PredicateFn, Weigher};
+use moka_parts::closures::{NoTest, PredicateFn, Weigher};
 use moka_parts::error::{InsertError, InsertRefused, OutOfMemory, SendError};
 use moka_parts::housekeeper::{Clock, Housekeeper, HousekeeperConfig};
 use moka_parts::notification::{Listener, RemovalNotifier};
 use moka_parts::policy::{EvictionPolicy, ExpirationPolicy, Expiry, Instant, Policy};
-use moka_parts::records::{ReadOperation, Registered};
-use moka_store::{Handle, Update};
+use moka_parts::records::Registered;
+use moka_store::Update;
 use std::alloc::Global;
 use std::hash::{BuildHasher, Hash};
 use std::marker::Model;
@@ -36,6 +36,7 @@ use std::time::Duration;
 mod causes;
 mod gets;
 mod inserts;
+mod looks;
 mod reports;
 #[cfg(test)]
 mod tests;
@@ -320,7 +321,7 @@ impl<
         };
         let (policy, valid_after) = (&self.expiration_policy, self.valid_after);
         let cause = causes::cause_of_replacement(found, policy, valid_after, now);
-        let expires = found.expires;
+        let expires = inserts::expires_at_update(found, policy, &key, &value, now);
         if let Err(error) = self.inner.reserve_operation() {
             return Err(InsertRefused { error, key, value });
         }
@@ -352,6 +353,7 @@ impl<
         requires weighed { Weighs W.weighs self.old.state.settings.weigher key value weight }
         ensures { (e : Events K V) × InsertsAt X.created X.updated W.weighs self.old.state None key hash value now result e self.new.state × Befalls L.tells e self.old self.new }
     {
+        let expires = inserts::expires_at_creation(&self.expiration_policy, &key, &value, now);
         if let Err(error) = self.inner.reserve_record() {
             return Err(InsertRefused { error, key, value });
         }
@@ -362,7 +364,7 @@ impl<
         let update = Update {
             value,
             now,
-            expires: None,
+            expires,
             weight,
         };
         Ok((self.inner.insert(key, kept, hash, update), now))
@@ -510,29 +512,7 @@ impl<
             × Befalls L.tells e self.old self.new
             × Leads C.reads clock.old e.readings clock.new }
     {
-        if self.is_map_disabled() {
-            return Ok(None);
-        }
-        let (policy, valid_after) = (&self.expiration_policy, self.valid_after);
-        let shown = gets::find_shown(&self.inner, policy, valid_after, key, now);
-        let Some((handle, found)) = shown else {
-            self.inner.queue_read(0, ReadOperation::Miss { hash });
-            return Ok(None);
-        };
-        let Ok(entry) = gets::entry_of(found, need_key) else {
-            return Err(OutOfMemory);
-        };
-        let (hash, expires) = (found.hash, found.expires);
-        let Handle { number, place } = handle;
-        let renewed = false;
-        self.inner.touch(handle, now, expires);
-        let read = ReadOperation::Hit {
-            number,
-            hash,
-            renewed,
-        };
-        self.inner.queue_read(place, read);
-        Ok(Some(entry))
+        self.do_get_with_hash(key, hash, &mut NoTest, need_key, now, clock)
     }
 
     /// Runs maintenance: applies the queued reads and then the queued writes, and removes, in passes, what has expired,

@@ -1,4 +1,5 @@
-//! What weighs entries and what tests them. moka: `common::concurrent` and `sync::invalidator`.
+//! What weighs entries and what tests them. moka: `common::concurrent`, `sync::invalidator` and
+//! `sync::base_cache`.
 ghost use Rattle.std.specs.Prelude.{◌≡◌};
 ghost use Rattle.moka_parts.specs.Closures.{CanAlwaysAsk, HasOneAnswer};
 
@@ -36,6 +37,35 @@ pub trait PredicateFn<K, V> {
         ensures { says self.now key.now value.now result };
 
     ghost one_answer: { (p : Self) → HasOneAnswer (says p) };
+}
+
+/// A caller's own test of the value that a look-up finds. Every `FnMut(&V) -> bool` is one.
+/// moka: the `ignore_if` of `sync::base_cache::BaseCache::get_with_hash_and_ignore_if`.
+pub trait ValueTest<V> {
+    ghost use Rattle.std.specs.Prelude.{Bool};
+
+    /// The test may be asked of the value.
+    ghost can_ask: { Self → V → Type 0 };
+
+    /// Asked of the value, the test may answer so, and leave this test.
+    ghost asks: { Self → V → Bool → Self → Type 0 };
+
+    /// Whether the look-up is to ignore the value.
+    fn ignores(&mut self, value: &V) -> bool
+        requires { can_ask self.old value.now }
+        ensures { asks self.old value.now result self.new };
+}
+
+impl<V, F: FnMut(&V) -> bool> ValueTest<V> for F {
+    ghost use Rattle.std.specs.Fn.{CalledAt, TakesAt};
+
+    ghost can_ask = { TakesAt F.FnMut };
+
+    ghost asks = { CalledAt F.FnMut };
+
+    fn ignores(&mut self, value: &V) -> bool {
+        self(value)
+    }
 }
 
 /// Answers for a key and a value. Every `Fn(&K, &V) -> R` does.
@@ -161,6 +191,22 @@ impl<K, V> PredicateFn<K, V> for NoPredicate {
     ghost one_answer = { λ _ _ _ _ _ first second. first ∙ sym second };
 }
 
+/// A test that ignores no value.
+#[derive(Clone, Copy, Debug)]
+pub struct NoTest;
+
+impl<V> ValueTest<V> for NoTest {
+    ghost use Rattle.std.specs.Prelude.{◌≡◌, false, ⊤};
+
+    ghost can_ask = { λ _ _. ⊤ };
+
+    ghost asks = { λ _ _ answer _. answer ≡ false };
+
+    fn ignores(&mut self, _: &V) -> bool {
+        false
+    }
+}
+
 #[cfg(test)]
 mod tests {
     use super::*;
@@ -177,6 +223,30 @@ mod tests {
         requires functional { HasOneAnswer (F.answers closure) }
     {
         ByClosure::new(closure).applies(&key, &value)
+    }
+
+    /// How many of the values a test ignores.
+    fn count_ignored<F: FnMut(&u64) -> bool>(mut test: F, values: &[u64]) -> u64
+        requires { (state : F) (x : _) → F.pre state x }
+    {
+        let mut count: u64 = 0;
+        for value in values {
+            if test.ignores(value) {
+                count = count.wrapping_add(1);
+            }
+        }
+        count
+    }
+
+    #[test]
+    fn asks_closures_that_change(rt: HostRuntime) {
+        let mut asked: u64 = 0;
+        let is_even = |value: &u64| {
+            asked = asked.wrapping_add(1);
+            value.is_multiple_of(2)
+        };
+        assert_eq!(rt; count_ignored(is_even, &[1, 2, 4]), 2);
+        assert_eq!(rt; asked, 3);
     }
 
     #[test]
@@ -196,5 +266,6 @@ mod tests {
     fn answers_the_same_for_all(rt: HostRuntime) {
         assert_eq!(rt; NoWeigher.weigh(&1u8, &'a'), 1);
         assert!(rt; !NoPredicate.applies(&1u8, &'a'));
+        assert!(rt; !NoTest.ignores(&'a'));
     }
 }

@@ -1,21 +1,43 @@
-//! Look-ups. moka: `sync::base_cache::BaseCache::get_with_hash`.
-ghost use Rattle.std.specs.Prelude.{◌≡◌, true, false, None, Some, IfNone, IfOk, IfSome, if◌then◌else◌};
-ghost use Rattle.std.specs.FinMap as finite;
+//! What look-ups find, and what a hit changes. moka: `sync::base_cache::BaseCache::do_get_with_hash`.
+ghost use Rattle.std.specs.Prelude.{◌≡◌, Bool, false, None, Some, IfOk, option_map, if◌then◌else◌};
 ghost use Rattle.moka_parts.specs.Records.{record_of_key};
-ghost use Rattle.moka_parts.specs.declared.records.Record.{Record};
-ghost use Rattle.moka_store.specs.Store.{ClonesAreEqual, IsHandle};
-ghost use Rattle.moka_engine.specs.BaseCache.{lapses};
+ghost use Rattle.moka_parts.specs.Surroundings.{IsAskedOnce};
+ghost use Rattle.moka_store.specs.Store.{ClonesAreEqual};
+ghost use Rattle.moka_engine.specs.Looks.{Finds, Touches, value_of};
 
 use crate::inner::Inner;
 use moka_parts::calls::Entry;
+use moka_parts::closures::{NoTest, ValueTest};
 use moka_parts::error::OutOfMemory;
-use moka_parts::expiry::has_lapsed;
-use moka_parts::policy::{ExpirationPolicy, Instant};
+use moka_parts::expiry::{has_lapsed, remaining, renewed};
+use moka_parts::policy::{ExpirationPolicy, Expiry, Instant};
 use moka_parts::records::Record;
 use moka_store::Handle;
 use std::hash::{BuildHasher, Hash};
 
-// The record whose key is equal, with its handle, where no test by moments hides it.
+// The record whose key is equal, with its handle, unless the caller's test, which is asked of its value first, ignores
+// it or a test by moments hides it.
+pub(super) fn find_unless<'a, K: Eq + Hash, V, S: BuildHasher, X, I: ValueTest<V>>(
+    inner: &'a Inner<K, V, S>,
+    policy: &ExpirationPolicy<X>,
+    valid_after: Option<Instant>,
+    key: &K,
+    test: &mut I,
+    now: Instant,
+) -> Option<(Handle, &'a Record<K, V>)>
+    requires askable { (v : V) → I.can_ask test.old v }
+    ensures { (ignored : Bool)
+        × IsAskedOnce I.asks (Some test.old) (value_of (record_of_key K.eq inner.now.kept.records key.now)) ignored (Some test.new)
+        × Finds K.eq inner.now.kept policy.now valid_after key.now ignored now.0 (option_map (λ f. (f.0, f.1.now)) result) }
+{
+    let (handle, found) = inner.find(key)?;
+    if test.ignores(&found.value) || has_lapsed(found, policy, valid_after, now) {
+        return None;
+    }
+    Some((handle, found))
+}
+
+// The same without a test of the caller's.
 pub(super) fn find_shown<'a, K: Eq + Hash, V, S: BuildHasher, X>(
     inner: &'a Inner<K, V, S>,
     policy: &ExpirationPolicy<X>,
@@ -23,17 +45,47 @@ pub(super) fn find_shown<'a, K: Eq + Hash, V, S: BuildHasher, X>(
     key: &K,
     now: Instant,
 ) -> Option<(Handle, &'a Record<K, V>)>
-    ensures handle { IfSome result (λ f. IsHandle inner.now.kept f.0) }
-    ensures numbered { IfSome result (λ f. finite.get inner.now.kept.records f.0.number ≡ Some f.1.now) }
-    ensures found { IfSome result (λ f. record_of_key K.eq inner.now.kept.records key.now ≡ Some f.1.now) }
-    ensures shown { IfSome result (λ f. lapses policy.now valid_after f.1.now now.0 ≡ false) }
-    ensures hidden { IfNone result ((r : Record K V) → record_of_key K.eq inner.now.kept.records key.now ≡ Some r → lapses policy.now valid_after r now.0 ≡ true) }
+    ensures { Finds K.eq inner.now.kept policy.now valid_after key.now false now.0 (option_map (λ f. (f.0, f.1.now)) result) }
 {
-    let (handle, found) = inner.find(key)?;
-    if has_lapsed(found, policy, valid_after, now) {
-        return None;
+    find_unless(inner, policy, valid_after, key, &mut NoTest, now)
+}
+
+// What a hit makes of a record.
+#[derive(Clone, Copy)]
+pub(super) struct Hit {
+    pub(super) read: Instant,
+    pub(super) expires: Option<Instant>,
+    // Whether the expiry's answer changed when the record expires.
+    pub(super) is_renewed: bool,
+}
+
+// What a hit at the moment `now` makes of a record: where an expiry is set, it is asked, and the hit counts no earlier
+// than the record was written.
+pub(super) fn hit_of<K, V, X: Expiry<K, V>>(
+    found: &Record<K, V>,
+    policy: &ExpirationPolicy<X>,
+    now: Instant,
+) -> Hit
+    ensures { Touches X.read policy.now found.now now.0 result.read.0 result.expires result.is_renewed }
+{
+    let (expires, written) = (found.expires, found.written);
+    let Some(expiry) = policy.expiry() else {
+        return Hit {
+            read: now,
+            expires,
+            is_renewed: false,
+        };
+    };
+    let read = now.max(written);
+    let (live, idle) = (policy.time_to_live(), policy.time_to_idle());
+    let left = remaining(expires, written, found.read, live, idle, read);
+    let answer = expiry.expire_after_read(&found.key, &found.value, read, left, written);
+    let (expires, is_renewed) = renewed(expires, left, answer, read);
+    Hit {
+        read,
+        expires,
+        is_renewed,
     }
-    Some((handle, found))
 }
 
 // A clone of the record's value, with one of its key where that is asked for.

@@ -1,0 +1,36 @@
+-- What a look-up finds, and what a hit makes of a record.
+use Rattle.std.specs.Prelude.{◌≡◌, ℕ, Bool, true, false, Option, Some, None, option_map, ◌⊎◌}
+use Rattle.std.specs.FinMap.{get}
+use Rattle.moka_parts.specs.declared.policy.Instant.{Instant}
+use Rattle.moka_parts.specs.declared.records.Record.{Record}
+use Rattle.moka_parts.specs.Expiry.{is_renewal, renewed, moment_of_hit, answer_to_hit}
+use Rattle.moka_parts.specs.Policy.{Expirations}
+use Rattle.moka_parts.specs.Records.{record_of_key}
+use Rattle.moka_parts.specs.Visibility.{has_lapsed}
+use Rattle.moka_store.specs.declared.store.Handle.{Handle}
+use Rattle.moka_store.specs.Store.{Kept, IsHandle}
+use Rattle.moka_engine.specs.BaseCache.{expiring_by}
+
+-- the value of a record, if there is one
+abbrev pub value_of : {K V : Type 0} → Option (Record K V) → Option V
+value_of found = option_map (λ r. r.value) found
+
+module _ {K V X : Type 0} (eq : K → K → Bool) (kept : Kept K V) (expirations : Expirations X) (bound : Option Instant) (key : K) where
+  -- this record, at this handle, is the key's; no test of the caller's ignored it, and no moment hides it
+  pub record IsFound (ignored : Bool) (now : ℕ) (handle : Handle) (r : Record K V) : Type 0 where
+    pub placed : IsHandle kept handle
+    pub numbered : get kept.records handle.number ≡ Some r
+    pub found : record_of_key eq kept.records key ≡ Some r
+    pub accepted : ignored ≡ false
+    pub shown : has_lapsed (expiring_by expirations) bound r now ≡ false
+
+  -- where nothing is found, the key's record, if it has one, was ignored or is hidden
+  abbrev pub Finds : Bool → ℕ → Option (Handle × Record K V) → Type 0
+  Finds ignored now None = (r : Record K V) → record_of_key eq kept.records key ≡ Some r → (ignored ≡ true) ⊎ (has_lapsed (expiring_by expirations) bound r now ≡ true)
+  Finds ignored now (Some found) = IsFound ignored now found.0 found.1
+
+-- a hit reads the record at this moment and leaves it this expiry, which is a renewal or not
+pub record Touches {K V X : Type 0} (read : X → K → V → ℕ → Option ℕ → ℕ → Option ℕ) (x : Expirations X) (r : Record K V) (now at : ℕ) (expires : Option Instant) (is_renewed : Bool) : Type 0 where
+  pub moment : at ≡ moment_of_hit x.expiry r now
+  pub expiry : expires ≡ renewed (expiring_by x) r at (answer_to_hit read (expiring_by x) x.expiry r at)
+  pub renewal : is_renewed ≡ is_renewal (expiring_by x) r at (answer_to_hit read (expiring_by x) x.expiry r at)

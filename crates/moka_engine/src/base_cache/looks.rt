@@ -1,0 +1,196 @@
+//! Look-ups that ask a test of the caller's, and such as record nothing.
+//! moka: `sync::base_cache::BaseCache`, `common::concurrent::ScanningGet`.
+ghost use Rattle.std.specs.Prelude.{Bool, Some};
+ghost use Rattle.moka_parts.specs.Calls.{GetStep, PeekStep, ScanStep, no_events};
+ghost use Rattle.moka_parts.specs.Closures.{CanAskIfGiven, test_given, test_left};
+ghost use Rattle.moka_parts.specs.Listed.{ListedRun};
+ghost use Rattle.moka_parts.specs.Records.{record_of_key};
+ghost use Rattle.moka_parts.specs.Runs.{Befalls};
+ghost use Rattle.moka_parts.specs.State.{Events};
+ghost use Rattle.moka_parts.specs.Surroundings.{IsAskedOnce, Leads};
+ghost use Rattle.moka_store.specs.Store.{ClonesAreEqual};
+ghost use Rattle.moka_engine.specs.Looks.{value_of};
+
+use super::{BaseCache, gets};
+use moka_parts::calls::Entry;
+use moka_parts::closures::{NoTest, PredicateFn, ValueTest, Weigher};
+use moka_parts::error::OutOfMemory;
+use moka_parts::housekeeper::Clock;
+use moka_parts::notification::Listener;
+use moka_parts::policy::{Expiry, Instant};
+use moka_parts::records::ReadOperation;
+use moka_store::Handle;
+use std::hash::{BuildHasher, Hash};
+
+impl<
+    K: Eq + Hash,
+    V,
+    S: BuildHasher,
+    X: Expiry<K, V>,
+    L: Listener<K, V>,
+    P: PredicateFn<K, V>,
+    W: Weigher<K, V>,
+> BaseCache<K, V, S, X, L, P, W> {
+    /// Looks up a key as `get_with_hash` does, unless the caller's test, if one is given, ignores the value that is
+    /// found: then it is as if the key were not there. The test is asked once of the value of the key's record, visible
+    /// or not, and never where there is none.
+    ///
+    /// # Errors
+    /// `OutOfMemory` where memory for a clone is refused. Nothing has changed but what the test keeps itself.
+    pub fn get_with_hash_and_ignore_if<I: ValueTest<V>, C: Clock>(
+        &mut self,
+        key: &K,
+        hash: u64,
+        ignore_if: Option<&mut I>,
+        need_key: bool,
+        now: Instant,
+        clock: &mut C,
+    ) -> Result<Option<Entry<K, V>>, OutOfMemory>
+    where
+        K: Clone,
+        V: Clone,
+        requires keys { ClonesAreEqual K.is_clone }
+        requires values { ClonesAreEqual V.is_clone }
+        requires askable { CanAskIfGiven I.can_ask (test_given ignore_if) }
+        ensures { (ignored : Bool) × (e : Events K V)
+            × IsAskedOnce I.asks (test_given ignore_if.entry) (value_of (record_of_key K.eq self.old.state.records key.now)) ignored (test_left ignore_if.exit)
+            × GetStep P.says X.read (ListedRun P.says X.read self.old.write_list self.new.write_list) K.eq self.old.state key.now hash need_key ignored now.0 result e self.new.state
+            × Befalls L.tells e self.old self.new
+            × Leads C.reads clock.old e.readings clock.new }
+    {
+        match ignore_if {
+            Some(test) => self.do_get_with_hash(key, hash, test, need_key, now, clock),
+            None => self.get_with_hash(key, hash, need_key, now, clock),
+        }
+    }
+
+    // A look-up that is recorded, where the test does not ignore what it finds.
+    pub(super) fn do_get_with_hash<I: ValueTest<V>, C: Clock>(
+        &mut self,
+        key: &K,
+        hash: u64,
+        test: &mut I,
+        need_key: bool,
+        now: Instant,
+        clock: &mut C,
+    ) -> Result<Option<Entry<K, V>>, OutOfMemory>
+    where
+        K: Clone,
+        V: Clone,
+        requires keys { ClonesAreEqual K.is_clone }
+        requires values { ClonesAreEqual V.is_clone }
+        requires askable { (v : V) → I.can_ask test.old v }
+        ensures { (ignored : Bool) × (e : Events K V)
+            × IsAskedOnce I.asks (Some test.old) (value_of (record_of_key K.eq self.old.state.records key.now)) ignored (Some test.new)
+            × GetStep P.says X.read (ListedRun P.says X.read self.old.write_list self.new.write_list) K.eq self.old.state key.now hash need_key ignored now.0 result e self.new.state
+            × Befalls L.tells e self.old self.new
+            × Leads C.reads clock.old e.readings clock.new }
+    {
+        let valid_after = self.valid_after;
+        if self.is_map_disabled() {
+            return Ok(None);
+        }
+        let policy = &self.expiration_policy;
+        let shown = gets::find_unless(&self.inner, policy, valid_after, key, test, now);
+        let Some((handle, found)) = shown else {
+            self.inner.queue_read(0, ReadOperation::Miss { hash });
+            return Ok(None);
+        };
+        let Ok(entry) = gets::entry_of(found, need_key) else {
+            return Err(OutOfMemory);
+        };
+        let (hash, hit) = (found.hash, gets::hit_of(found, policy, now));
+        let Handle { number, place } = handle;
+        let read = ReadOperation::Hit {
+            number,
+            hash,
+            renewed: hit.is_renewed,
+        };
+        self.inner.touch(handle, hit.read, hit.expires);
+        self.inner.queue_read(place, read);
+        Ok(Some(entry))
+    }
+
+    /// Looks up a key at the moment `now` as `get_with_hash_and_ignore_if` does, but queues no read and starts no run.
+    /// That the record was read is noted in it, and its expiry asked.
+    ///
+    /// # Errors
+    /// `OutOfMemory` where memory for a clone of the value is refused. Nothing has changed but what the test keeps
+    /// itself.
+    pub fn get_with_hash_without_recording<I: ValueTest<V>>(
+        &mut self,
+        key: &K,
+        _hash: u64,
+        ignore_if: Option<&mut I>,
+        now: Instant,
+    ) -> Result<Option<V>, OutOfMemory>
+    where
+        V: Clone,
+        requires values { ClonesAreEqual V.is_clone }
+        requires askable { CanAskIfGiven I.can_ask (test_given ignore_if) }
+        ensures { (ignored : Bool)
+            × IsAskedOnce I.asks (test_given ignore_if.entry) (value_of (record_of_key K.eq self.old.state.records key.now)) ignored (test_left ignore_if.exit)
+            × PeekStep P.says X.read K.eq self.old.state key.now ignored now.0 result self.new.state
+            × Befalls L.tells no_events self.old self.new }
+    {
+        match ignore_if {
+            Some(test) => self.do_get_without_recording(key, test, now),
+            None => self.do_get_without_recording(key, &mut NoTest, now),
+        }
+    }
+
+    // The same with a test.
+    fn do_get_without_recording<I: ValueTest<V>>(
+        &mut self,
+        key: &K,
+        test: &mut I,
+        now: Instant,
+    ) -> Result<Option<V>, OutOfMemory>
+    where
+        V: Clone,
+        requires values { ClonesAreEqual V.is_clone }
+        requires askable { (v : V) → I.can_ask test.old v }
+        ensures { (ignored : Bool)
+            × IsAskedOnce I.asks (Some test.old) (value_of (record_of_key K.eq self.old.state.records key.now)) ignored (Some test.new)
+            × PeekStep P.says X.read K.eq self.old.state key.now ignored now.0 result self.new.state
+            × Befalls L.tells no_events self.old self.new }
+    {
+        let valid_after = self.valid_after;
+        if self.is_map_disabled() {
+            return Ok(None);
+        }
+        let policy = &self.expiration_policy;
+        let shown = gets::find_unless(&self.inner, policy, valid_after, key, test, now);
+        let Some((handle, found)) = shown else {
+            return Ok(None);
+        };
+        let Ok(value) = found.value.clone() else {
+            return Err(OutOfMemory);
+        };
+        let hit = gets::hit_of(found, policy, now);
+        self.inner.touch(handle, hit.read, hit.expires);
+        Ok(Some(value))
+    }
+
+    /// A clone of a key's value, if the key is there and visible at the moment `now`. Nothing is recorded, not even
+    /// that the record was read.
+    ///
+    /// # Errors
+    /// `OutOfMemory` where memory for the clone is refused.
+    pub fn scanning_get(&self, key: &K, now: Instant) -> Result<Option<V>, OutOfMemory>
+    where
+        V: Clone,
+        requires values { ClonesAreEqual V.is_clone }
+        ensures { ScanStep P.says K.eq self.now.state key.now now.0 result }
+    {
+        let (policy, valid_after) = (&self.expiration_policy, self.valid_after);
+        let shown = gets::find_shown(&self.inner, policy, valid_after, key, now);
+        let Some((_, found)) = shown else {
+            return Ok(None);
+        };
+        match found.value.clone() {
+            Ok(value) => Ok(Some(value)),
+            Err(_) => Err(OutOfMemory),
+        }
+    }
+}
