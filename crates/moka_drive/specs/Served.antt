@@ -18,8 +18,10 @@ abbrev pub IsServed : {K V P : Type 0} → Call K V P → Type 0
 IsServed (call.Insert key hash value now) = ⊤
 IsServed (call.Send ticket) = ⊤
 IsServed (call.Get key hash need_key now) = ⊤
+IsServed (call.GetUnrecorded key hash now) = ⊤
 IsServed (call.Contains key hash now) = ⊤
 IsServed (call.Key key hash) = ⊤
+IsServed (call.Scan key now) = ⊤
 IsServed (call.Remove key hash now) = ⊤
 IsServed (call.InvalidateAll now) = ⊤
 IsServed (call.Keys segment) = ⊤

@@ -14,7 +14,7 @@ ghost use Rattle.moka_drive.specs.Served.{IsServed, RemovesAndNotifies, Notifies
 
 use moka_engine::base_cache::BaseCache;
 use moka_parts::calls::{Call, DriveRefused, KvEntry, Reply};
-use moka_parts::closures::{PredicateFn, Weigher};
+use moka_parts::closures::{NoTest, PredicateFn, Weigher};
 use moka_parts::error::OutOfMemory;
 use moka_parts::housekeeper::Clock;
 use moka_parts::invalidator::IdSource;
@@ -24,8 +24,8 @@ use std::alloc::Global;
 use std::hash::{BuildHasher, Hash};
 
 /// Makes the calls one after the other, and answers each with the reply of the same name. So far these are inserts,
-/// sends, gets, look-ups that change nothing, removals, invalidations of all, runs, lists of keys, reports and what waits.
-/// A removal that carries a moment and finds its key is followed by `notify_invalidate` at that moment.
+/// sends, gets, look-ups that are not recorded, removals, invalidations of all, runs, lists of keys, reports and what
+/// waits. A removal that carries a moment and finds its key is followed by `notify_invalidate` at that moment.
 ///
 /// Replies, records and notices are a run of the reference cache, in which each run of maintenance keeps all that is
 /// promised of it: one with a batch of at least one that begins with every operation sent, and is not cut short, ends with
@@ -123,6 +123,10 @@ fn make<
             need_key,
             now,
         } => Reply::Get(cache.get_with_hash(&key, hash, need_key, now, clock)),
+        Call::GetUnrecorded { key, hash, now } => Reply::GetUnrecorded(
+            cache.get_with_hash_without_recording(&key, hash, None::<&mut NoTest>, now),
+        ),
+        Call::Scan { key, now } => Reply::Scan(cache.scanning_get(&key, now)),
         Call::Contains { key, hash, now } => {
             Reply::Contains(cache.contains_key_with_hash(&key, hash, now))
         }

@@ -1,16 +1,16 @@
 -- Each call of a script is one that the driver makes.
-use Rattle.std.proofs.Common.{◌≡◌, ℕ, ◌+◌, Bool, true, false, List, [], ◌∷◌, ◌++◌, Option, Some, None, Result, Ok, Err, subst, codes, if◌then◌else◌}
+use Rattle.std.proofs.Common.{◌≡◌, ℕ, ◌+◌, Bool, true, false, List, [], ◌∷◌, ◌++◌, map, Option, Some, None, Result, Ok, Err, subst, codes, if◌then◌else◌}
 use Rattle.std.specs.List.{AllByRecursion, list_all}
 use Rattle.std.specs.Option.{option_and_then, option_map, option_map_or, option_or}
 use Rattle.std.specs.Str.{bytes_eq}
-use Rattle.moka_parts.specs.declared.calls.Call.TheVariants.{Keys, Report, Pending}
+use Rattle.moka_parts.specs.declared.calls.Call.TheVariants.{Run, Keys, Report, Pending}
 use Rattle.moka_drive.specs.Served.{IsServed}
 use Rattle.moka_replay.specs.declared.script.settings.Settings.{Settings}
 use Rattle.moka_replay.specs.declared.script.settings.Setting.{Setting}
 use Rattle.moka_replay.specs.declared.script.Line.TheVariants as line
 use Rattle.moka_replay.specs.Lex.{number_of, lone_number, alone, is_printable, words_of}
 use Rattle.moka_replay.specs.Settings.{setting_of, put_in}
-use Rattle.moka_replay.specs.Calls.{CallText, key_and_moment, insert_of, send_of, get_of, contains_of, key_of, remove_of, invall_of, run_of, call_of}
+use Rattle.moka_replay.specs.Calls.{CallText, told_call, key_and_moment, insert_of, send_of, get_of, contains_of, key_of, remove_of, invall_of, run_of, call_of}
 use Rattle.moka_replay.specs.Script.{LineText, ScriptText, asked_by_name, asked_by, asked_in, is_comment, has_lru, joined, with_line, lines_read, lines_of, no_text, script_of}
 
 -- ---- calls
@@ -62,7 +62,8 @@ serves_run : (arguments : List (List ℕ)) → Serves (run_of arguments)
 serves_run [] = tt
 serves_run (now ∷ []) = tt
 serves_run (now ∷ batch ∷ []) = serves_then (number_of 64 now) _ (λ n. serves_then (number_of 32 batch) _ (λ b. tt))
-serves_run (now ∷ batch ∷ more ∷ rest) = tt
+serves_run (now ∷ batch ∷ limit ∷ []) = serves_then (number_of 64 limit) _ (λ l. serves_then (number_of 64 now) _ (λ n. serves_then (number_of 32 batch) _ (λ b. tt)))
+serves_run (now ∷ batch ∷ limit ∷ more ∷ rest) = tt
 
 serves_alone : (call : CallText) (arguments : List (List ℕ)) → IsServed call → Serves (alone call arguments)
 serves_alone call [] p = p
@@ -71,13 +72,13 @@ serves_alone call (more ∷ rest) p = tt
 serves_call : (name : List ℕ) (arguments : List (List ℕ)) → Serves (call_of name arguments)
 serves_call name arguments =
     serves_if (bytes_eq name (codes "insert")) _ _ (serves_insert arguments)
+    (serves_if (bytes_eq name (codes "run")) _ _ (serves_run arguments)
     (serves_if (bytes_eq name (codes "send")) _ _ (serves_send arguments)
     (serves_if (bytes_eq name (codes "get")) _ _ (serves_get arguments)
     (serves_if (bytes_eq name (codes "contains")) _ _ (serves_contains arguments)
     (serves_if (bytes_eq name (codes "key")) _ _ (serves_key arguments)
     (serves_if (bytes_eq name (codes "remove")) _ _ (serves_remove arguments)
     (serves_if (bytes_eq name (codes "invall")) _ _ (serves_invall arguments)
-    (serves_if (bytes_eq name (codes "run")) _ _ (serves_run arguments)
     (serves_if (bytes_eq name (codes "keys")) _ _ (serves_alone (Keys 0) arguments tt)
     (serves_if (bytes_eq name (codes "report")) _ _ (serves_alone Report arguments tt)
     (serves_if (bytes_eq name (codes "pending")) (alone Pending arguments) None (serves_alone Pending arguments tt) tt))))))))))
@@ -118,6 +119,19 @@ served_push : (calls : List CallText) (call : CallText) → AllByRecursion IsSer
 served_push [] call all one = (one, tt)
 served_push (first ∷ calls) call all one = (all.0, served_push calls call all.1 one)
 
+-- as a script tells it, a call is served, and so it is itself
+served_told : (call : CallText) → IsServed call → IsServed (told_call call)
+served_told (Run now limit repeats batch) p = tt
+served_told call p = p
+
+served_itself : (call : CallText) → IsServed (told_call call) → IsServed call
+served_itself (Run now limit repeats batch) p = tt
+served_itself call p = p
+
+served_all : (calls : List CallText) → AllByRecursion IsServed (map told_call calls) → AllByRecursion IsServed calls
+served_all [] all = tt
+served_all (call ∷ calls) all = (served_itself call all.0, served_all calls all.1)
+
 serves_set : (b : Bool) (set : Option Settings) (calls : List CallText) → AllByRecursion IsServed calls → ServesAll (if b then option_map (λ settings. (settings, calls)) set else None)
 serves_set true None calls all = tt
 serves_set true (Some settings) calls all = all
@@ -127,7 +141,7 @@ serves_joined : (with_lru : Bool) (script : ScriptText) (asked : Option LineText
 serves_joined with_lru script None all asks = tt
 serves_joined with_lru script (Some line.Nothing) all asks = all
 serves_joined with_lru script (Some (line.Setting setting)) all asks = serves_set _ (put_in script.0 setting) script.1 all
-serves_joined with_lru script (Some (line.Call call)) all asks = served_push script.1 call all asks
+serves_joined with_lru script (Some (line.Call call)) all asks = served_push script.1 (told_call call) all (served_told call asks)
 
 -- each call of what was read is served
 abbrev ServesRead : Result ScriptText ℕ → Type 0
@@ -143,6 +157,6 @@ serves_lines with_lru number script [] all = all
 serves_lines with_lru number script (text ∷ lines) all =
     serves_next (with_line with_lru script text) number _ (serves_joined with_lru script (asked_in text) all (serves_in text)) (λ more each. serves_lines with_lru (number + 1) more lines each)
 
--- each call of a script that is right is served
-pub served_of_script : (text : List ℕ) (script : ScriptText) → script_of text ≡ Ok script → AllByRecursion IsServed script.1
-served_of_script text script read = subst ServesRead read (serves_lines (has_lru (lines_of text)) 1 no_text (lines_of text) tt)
+-- each call that a script tells, if it is right, is served
+pub served_of_script : (text : List ℕ) (script : ScriptText) (calls : List CallText) → script.1 ≡ map told_call calls → script_of text ≡ Ok script → AllByRecursion IsServed calls
+served_of_script text script calls told read = served_all calls (subst (AllByRecursion IsServed) told (subst ServesRead read (serves_lines (has_lru (lines_of text)) 1 no_text (lines_of text) tt)))

@@ -1,5 +1,7 @@
 -- What the calls of a script ask for.
-use Rattle.std.specs.Prelude.{ℕ, false, List, [], ◌∷◌, Option, Some, None, codes, if◌then◌else◌}
+use Rattle.std.specs.Prelude.{ℕ, ◌/◌, ◌%◌, false, List, [], ◌∷◌, Option, Some, None, option_map, codes, if◌then◌else◌}
+use Rattle.std.specs.Duration.{as_nanos}
+use Rattle.std.specs.declared.time.Duration.{Duration}
 use Rattle.std.specs.Str.{bytes_eq}
 use Rattle.moka_parts.specs.declared.calls.Call.{Call}
 use Rattle.moka_parts.specs.declared.calls.Call.TheVariants.{Insert, Send, Get, Contains, Key, Remove, InvalidateAll, Run, Keys, Report, Pending}
@@ -13,9 +15,19 @@ use Rattle.moka_replay.specs.Lex.{number_of, lone_number, alone, ◌>>=◌}
 abbrev pub CallText : Type 0
 CallText = Call ℕ (List ℕ) KeyRange
 
+-- so many nanoseconds
+abbrev pub duration_of : ℕ → Duration
+duration_of n = record { secs = n / 1_000_000_000; nanos = n % 1_000_000_000 }
+
+-- the call as a script tells it: of its time limit the nanoseconds alone
+abbrev pub told_call : CallText → CallText
+told_call (Run now limit repeats batch) = Run now (option_map (λ d. duration_of (as_nanos d)) limit) repeats batch
+told_call call = call
+
 -- the call of a line, whose hash is its key
 abbrev pub call_text : LineCall → CallText
 call_text (line_call.Insert key value now) = Insert key key value.now now
+call_text (line_call.Run now limit batch) = Run now (option_map duration_of limit) 4 batch
 call_text (line_call.Other call) = call
 
 -- `insert KEY VALUE NOW`; the hash is the key
@@ -76,25 +88,30 @@ invall_of arguments = do
   n ← lone_number arguments
   Some (InvalidateAll (record { 0 = n }))
 
--- `run NOW BATCH`: no time limit, four passes
+-- `run NOW BATCH`, or `run NOW BATCH LIMIT`: four passes
 abbrev pub run_of : List (List ℕ) → Option CallText
 run_of (now ∷ batch ∷ []) = do
   n ← number_of 64 now
   b ← number_of 32 batch
   Some (Run (record { 0 = n }) None 4 b)
+run_of (now ∷ batch ∷ limit ∷ []) = do
+  l ← number_of 64 limit
+  n ← number_of 64 now
+  b ← number_of 32 batch
+  Some (Run (record { 0 = n }) (Some (duration_of l)) 4 b)
 run_of _ = None
 
 -- the call of that name; `keys` asks for those of the one segment
 abbrev pub call_of : List ℕ → List (List ℕ) → Option CallText
 call_of name arguments =
     if bytes_eq name (codes "insert") then insert_of arguments
+    else (if bytes_eq name (codes "run") then run_of arguments
     else (if bytes_eq name (codes "send") then send_of arguments
     else (if bytes_eq name (codes "get") then get_of arguments
     else (if bytes_eq name (codes "contains") then contains_of arguments
     else (if bytes_eq name (codes "key") then key_of arguments
     else (if bytes_eq name (codes "remove") then remove_of arguments
     else (if bytes_eq name (codes "invall") then invall_of arguments
-    else (if bytes_eq name (codes "run") then run_of arguments
     else (if bytes_eq name (codes "keys") then alone (Keys 0) arguments
     else (if bytes_eq name (codes "report") then alone Report arguments
     else (if bytes_eq name (codes "pending") then alone Pending arguments

@@ -1,5 +1,5 @@
 -- What comes of the calls of a script: a run of the reference cache.
-use Rattle.std.specs.Prelude.{◌≡◌, ℕ, ◌+◌, ◌-◌, ◌^◌, min, ◌&&◌, nat_eq, nat_le, false, List, Option, None, unwrap_or}
+use Rattle.std.specs.Prelude.{◌≡◌, ℕ, ◌+◌, ◌-◌, ◌^◌, min, ◌&&◌, nat_eq, nat_le, false, List, map, Option, None, unwrap_or}
 use Rattle.std.specs.Int.{w128, to_be_bytes}
 use Rattle.moka_parts.specs.declared.calls.Reply.{Reply}
 use Rattle.moka_parts.specs.declared.policy.EvictionPolicy.{EvictionPolicy}
@@ -17,6 +17,7 @@ use Rattle.moka_replay.specs.declared.sources.CountedIds.{CountedIds}
 use Rattle.moka_replay.specs.declared.sources.StoppedClock.{StoppedClock}
 use Rattle.moka_replay.specs.declared.weigher.NumberWeigher.{NumberWeigher}
 use Rattle.moka_replay.specs.Notices.{ScriptNotice, Kept, Keeps}
+use Rattle.moka_replay.specs.Calls.{told_call}
 use Rattle.moka_replay.specs.Script.{ScriptText}
 use Rattle.moka_replay.specs.Lex.{weight_of}
 
@@ -78,4 +79,4 @@ total_of state = record { count = state.count; weight = state.weight }
 
 -- the calls, made one after the other on a new reference cache, give the replies, tell the notices and leave that total
 abbrev pub AreReplies : ScriptText → List (Reply ℕ (List ℕ) KeyRange) → List ScriptNotice → Total → Type 0
-AreReplies script replies notices total = (steps : List ScriptStep) × (calls_of steps ≡ script.1) × (replies_of steps ≡ replies) × (notices_of steps ≡ notices) × AreSteps script_meaning (PromisedRun script_meaning.says script_meaning.read) (first_state script.0) steps × (total ≡ total_of (last_state (first_state script.0) steps))
+AreReplies script replies notices total = (steps : List ScriptStep) × (map told_call (calls_of steps) ≡ script.1) × (replies_of steps ≡ replies) × (notices_of steps ≡ notices) × AreSteps script_meaning (PromisedRun script_meaning.says script_meaning.read) (first_state script.0) steps × (total ≡ total_of (last_state (first_state script.0) steps))

@@ -1,5 +1,5 @@
 -- What the lines of a script ask for.
-use Rattle.std.specs.Prelude.{◌≡◌, ℕ, ◌+◌, ◌==◌, Bool, true, false, ◌&&◌, ◌||◌, List, [], ◌∷◌, ◌++◌, length, Option, Some, None, Result, Ok, Err, option_map, unwrap_or, slice_index, if◌then◌else◌}
+use Rattle.std.specs.Prelude.{◌≡◌, ℕ, ◌+◌, ◌==◌, Bool, true, false, ◌&&◌, ◌||◌, List, [], ◌∷◌, ◌++◌, length, map, Option, Some, None, Result, Ok, Err, option_map, unwrap_or, slice_index, if◌then◌else◌}
 use Rattle.std.specs.List.{slice_split, list_all}
 use Rattle.std.specs.Option.{option_or, option_map_or}
 use Rattle.moka_parts.specs.declared.policy.EvictionPolicy.TheVariants.{Lru}
@@ -13,7 +13,7 @@ use Rattle.moka_replay.specs.declared.failure.Failure.{Failure}
 use Rattle.moka_replay.specs.declared.failure.Failure.TheVariants as failure
 use Rattle.moka_replay.specs.Lex.{is_printable, words_of, ◌>>=◌}
 use Rattle.moka_replay.specs.Settings.{setting_of, no_settings, is_allowed, put_in}
-use Rattle.moka_replay.specs.Calls.{CallText, call_text, call_of}
+use Rattle.moka_replay.specs.Calls.{CallText, call_text, told_call, call_of}
 
 -- ---- lines
 
@@ -56,7 +56,7 @@ no_text = (no_settings, [])
 
 -- what a script sets, and its calls
 abbrev pub text_of : Script → ScriptText
-text_of script = (script.settings, script.calls.items)
+text_of script = (script.settings, map told_call script.calls.items)
 
 -- whether a line tells that `policy lru` stands among the settings: it does itself, or a call ends them
 abbrev pub lru_in : Option LineText → Option Bool
@@ -73,7 +73,7 @@ has_lru (text ∷ lines) = unwrap_or (lru_in (asked_in text)) (has_lru lines)
 abbrev pub joined : Bool → ScriptText → LineText → Option ScriptText
 joined with_lru script line.Nothing = Some script
 joined with_lru script (line.Setting setting) = if length script.1 == 0 && is_allowed with_lru setting then option_map (λ settings. (settings, script.1)) (put_in script.0 setting) else None
-joined with_lru script (line.Call call) = Some (script.0, script.1 ++ call ∷ [])
+joined with_lru script (line.Call call) = Some (script.0, script.1 ++ told_call call ∷ [])
 
 -- the script, and what one more line asks for
 abbrev pub with_line : Bool → ScriptText → List ℕ → Option ScriptText

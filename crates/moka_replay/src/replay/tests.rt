@@ -261,6 +261,12 @@ fn replays_scripts(rt: HostRuntime) -> Result<(), Fail> {
             insert 2 b 0\nsend 1\nsend 2\nrun 0 10\nreport\n",
             "ticket 1\nticket 2\nsent\nsent\ndone\ncount 1 weight 1 predicates 0\ncount 1 weight 1\n",
         ),
+        (
+            "capacity 1\npolicy lru\nlistener\ninsert 1 a 0\ninsert 2 b 0\ninsert 3 c 0\nsend 1\nsend 2\n\
+            send 3\nrun 0 1 0\nreport\nrun 0 1 1\nreport\n",
+            "ticket 1\nticket 2\nticket 3\nsent\nsent\nsent\nmore\ncount 2 weight 2 predicates 0\n\
+            done\ncount 1 weight 1 predicates 0\nnotice 1 a Size\nnotice 2 b Size\ncount 1 weight 1\n",
+        ),
         ("", "count 0 weight 0\n"),
         ("  \n# report", "count 0 weight 0\n"),
         (
@@ -377,7 +383,7 @@ fn names_the_first_faulty_line(rt: HostRuntime) -> Result<(), Fail> {
         ("send -1\n", 1),
         ("send 1a\n", 1),
         ("run 0 4294967296\n", 1),
-        ("run 0 1\nrun 0 1 5\n", 2),
+        ("run 0 1 5\nrun 0 1 5 6\n", 2),
         ("get 1 000000000000000000001\n", 1),
         ("get 4294967295 18446744073709551615\nget 4294967296 0\n", 2),
         ("get 1 18446744073709551616\n", 1),
@@ -447,6 +453,9 @@ fn finds_each_fault(rt: HostRuntime) -> Result<(), Fail> {
         "run x 1",
         "run 0 x",
         "run 0 4294967296",
+        "run 0 1 x",
+        "run 0 1 18446744073709551616",
+        "run 0 1 0 0",
         "keys 0",
         "report 0",
         "pending 0",

@@ -9,6 +9,7 @@ use crate::word::Word;
 use moka_parts::calls::{Call, Reply, Ticket};
 use moka_parts::policy::Instant;
 use std::alloc::{AllocError, Global};
+use std::time::Duration;
 
 /// A call of a script.
 pub type ScriptCall = Call<u32, Word, KeyRange>;
@@ -16,7 +17,8 @@ pub type ScriptCall = Call<u32, Word, KeyRange>;
 /// The reply to a call of a script.
 pub type ScriptReply = Reply<u32, Word, KeyRange>;
 
-/// A call as a line asks for it. The value of an insert still stands in the line, so reading needs no memory.
+/// A call as a line asks for it. The value of an insert still stands in the line, so reading needs no memory, and the
+/// time limit of a run is a number.
 #[derive(Drop)]
 pub enum LineCall<'a> {
     Insert {
@@ -24,16 +26,22 @@ pub enum LineCall<'a> {
         value: &'a str,
         now: Instant,
     },
+    Run {
+        now: Instant,
+        /// In nanoseconds.
+        limit: Option<u64>,
+        batch: u32,
+    },
     Other(ScriptCall),
 }
 
 impl LineCall<'_> {
     ghost use Rattle.std.specs.Prelude.{◌≡◌, IfOk};
-    ghost use Rattle.moka_replay.specs.Calls.{call_text};
+    ghost use Rattle.moka_replay.specs.Calls.{call_text, told_call};
 
-    /// The call, with a copy of its value. The hash is the key.
+    /// The call, with a copy of its value. The hash is the key, and a run may repeat four times.
     pub fn into_call(self, alloc: Global) -> Result<ScriptCall, AllocError>
-        ensures { IfOk result (λ call. call ≡ call_text self.entry) }
+        ensures { IfOk result (λ call. told_call call ≡ told_call (call_text self.entry)) }
     {
         match self {
             LineCall::Insert { key, value, now } => Ok(Call::Insert {
@@ -41,6 +49,12 @@ impl LineCall<'_> {
                 hash: u64::from(key),
                 value: Word::new(alloc, value)?,
                 now,
+            }),
+            LineCall::Run { now, limit, batch } => Ok(Call::Run {
+                now,
+                limit: limit.map(Duration::from_nanos),
+                repeats: 4,
+                batch,
             }),
             LineCall::Other(call) => Ok(call),
         }
@@ -143,21 +157,18 @@ fn invall(arguments: &[&str]) -> Option<ScriptCall>
     Some(Call::InvalidateAll { now })
 }
 
-/// `run NOW BATCH`, which may repeat four times
-fn run(arguments: &[&str]) -> Option<ScriptCall>
-    ensures { result ≡ run_of (texts arguments.now) }
+/// `run NOW BATCH`, or `run NOW BATCH LIMIT`
+fn run<'a>(arguments: &[&'a str]) -> Option<LineCall<'a>>
+    ensures { option_map call_text result ≡ run_of (texts arguments.now) }
 {
-    let [now, batch] = arguments else {
-        return None;
+    let (now, batch, limit) = match arguments {
+        [now, batch] => (now, batch, None),
+        [now, batch, limit] => (now, batch, Some(number(limit)?)),
+        _ => return None,
     };
     let now = Instant(number(now)?);
     let batch = small_number(batch)?;
-    Some(Call::Run {
-        now,
-        limit: None,
-        repeats: 4,
-        batch,
-    })
+    Some(LineCall::Run { now, limit, batch })
 }
 
 /// The call of that name, if there is one.
@@ -166,13 +177,13 @@ pub fn parse_call<'a>(name: &str, arguments: &[&'a str]) -> Option<LineCall<'a>>
 {
     let call = match name {
         "insert" => return insert(arguments),
+        "run" => return run(arguments),
         "send" => send(arguments)?,
         "get" => get(arguments)?,
         "contains" => contains(arguments)?,
         "key" => key(arguments)?,
         "remove" => remove(arguments)?,
         "invall" => invall(arguments)?,
-        "run" => run(arguments)?,
         "keys" => alone(Call::Keys { segment: 0 }, arguments)?,
         "report" => alone(Call::Report, arguments)?,
         "pending" => alone(Call::Pending, arguments)?,

@@ -1,5 +1,5 @@
-use Rattle.std.proofs.Common.{refl, sym, ◌∙◌}
-use Rattle.moka_parts.specs.Calls.{no_events}
+use Rattle.std.proofs.Common.{refl, sym, subst, ◌∙◌}
+use Rattle.moka_parts.specs.Calls.{no_events, PeekStep}
 use Rattle.moka_parts.specs.Listed.{ListedRun}
 use Rattle.moka_drive.specs.Meanings.{meaning_of}
 use Rattle.moka_drive.proofs.Quiet.{nothing_befalls, keys_step, pending_step}
@@ -8,6 +8,16 @@ use Rattle.moka_drive.proofs.driver.make.Goals as goal
 pub returns-in-Insert : goal.returns-in-Insert
 returns-in-Insert g c =
     rw c.in-Insert.is (no_events, (sym c.is_map_disabled.ensures ∙ c.if-is_map_disabled.true, refl, refl, (refl, refl)), nothing_befalls g.L.Listener.tells c.args.cache.now, refl, refl)
+
+pub returns-in-GetUnrecorded : goal.returns-in-GetUnrecorded
+returns-in-GetUnrecorded g c =
+    let looked = c.get_with_hash_without_recording.ensures in
+    let step = subst (λ ignored. PeekStep g.P.PredicateFn.says g.X.Expiry.read g.K.PartialEq.eq c.args.cache.now.state c.in-GetUnrecorded.key ignored c.in-GetUnrecorded.now.0 c.get_with_hash_without_recording.result c.get_with_hash_without_recording.new.self.state) looked.1.0 looked.2 in
+    rw c.in-GetUnrecorded.is (no_events, (step, refl), looked.3, refl, refl)
+
+pub returns-in-Scan : goal.returns-in-Scan
+returns-in-Scan g c =
+    rw c.in-Scan.is (no_events, (c.scanning_get.ensures, (refl, refl)), nothing_befalls g.L.Listener.tells c.args.cache.now, refl, refl)
 
 pub returns-in-Contains : goal.returns-in-Contains
 returns-in-Contains g c =
