@@ -29,7 +29,7 @@ settings_of policy expirations weigher invalidator keeper = record {
   run_batch = keeper.run_batch;
 }
 
--- the state of the reference cache; the sketch is off
+-- the state of the reference cache
 abbrev pub state_of : {K V X P W : Type 0} → Interior K V → Option Instant → List (Registered P) → (count weight : ℕ) → Keeper → Option ℕ → Settings X W → State K V X P W
 state_of i invalid_before predicates count weight keeper capacity settings = record {
   records = i.kept.records;
@@ -39,7 +39,7 @@ state_of i invalid_before predicates count weight keeper capacity settings = rec
   access = i.kept.access;
   invalid_before = invalid_before;
   predicates = predicates;
-  sketch = None;
+  sketch = i.sketch;
   next_ticket = i.next_ticket;
   next_number = i.next_number;
   count = count;
@@ -64,7 +64,6 @@ NoneExpires records = (n : ℕ) (r : Record _ _) → get records n ≡ Some r �
 
 -- the settings are such as a cache can have today, no run starts by itself, and no record has an expiry of its own
 pub record IsServed {K V X P W : Type 0} (s : State K V X P W) : Type 0 where
-  pub bounded : IsLruWhereBounded s.capacity s.settings.policy
   pub no_live : s.settings.time_to_live ≡ None
   pub no_expiry : s.settings.expiry ≡ None
   pub no_predicates : s.predicates ≡ []

@@ -16,7 +16,6 @@ ghost use Rattle.moka_parts.specs.State.{Events, is_disabled, keeps_write_list, 
 ghost use Rattle.moka_parts.specs.Surroundings.{Leads};
 ghost use Rattle.moka_parts.specs.Time.{greatest};
 ghost use Rattle.moka_store.specs.Store.{ClonesAreEqual};
-ghost use Rattle.moka_engine.specs.BaseCache.{IsLruWhereBounded};
 
 use crate::inner::Inner;
 use moka_maintenance::sweep::Tests;
@@ -120,7 +119,7 @@ impl<
     ///
     /// - `name`: for the caller alone.
     /// - `max_capacity`: the greatest sum of weights that runs of maintenance leave; `None` is no bound, and with 0 the
-    ///   cache keeps nothing and takes no inserts. So far any other bound asks for the policy LRU.
+    ///   cache keeps nothing and takes no inserts.
     /// - `initial_capacity`: for how many records room is made at once.
     /// - `build_hasher`: hashes keys, for `hash` and for the map.
     /// - `weigher`: weighs entries as they are inserted; without one each weighs 1.
@@ -159,7 +158,6 @@ impl<
         P: Drop,
         W: Drop,
         requires first { 1 ≤ first_ticket }
-        requires bounded { IsLruWhereBounded max_capacity eviction_policy }
         requires no_live { expiration_policy.time_to_live ≡ None }
         requires no_expiry { expiration_policy.expiry ≡ None }
         requires no_predicates { invalidator_enabled ≡ false }
@@ -583,8 +581,10 @@ impl<
             capacity: self.max_capacity,
         };
         let notifier = &mut self.notifier;
+        let (capacity, policy) = (self.max_capacity, self.eviction_policy);
+        let has_weigher = self.weigher.is_some();
         self.inner
-            .apply_queues(notifier, self.max_capacity, self.eviction_policy);
+            .apply_queues(notifier, capacity, policy, has_weigher);
         let ran = self.inner.make_passes(notifier, clock, tests, limit, batch);
         self.entry_count = self.inner.member_count() as u64;
         self.weighted_size = saturated(self.inner.total_weight());
