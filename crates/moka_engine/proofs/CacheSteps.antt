@@ -15,7 +15,7 @@ use Rattle.moka_engine.specs.Interior.{Interior}
 
 -- the state with this inner part
 abbrev pub with_inner : {K V X P W : Type 0} → State K V X P W → Interior K V → State K V X P W
-with_inner s i = record s { records = i.kept.records; outstanding = i.outstanding; writes = i.writes; reads = i.reads; access = i.kept.access; next_ticket = i.next_ticket; next_number = i.next_number }
+with_inner s i = record s { records = i.kept.records; outstanding = i.outstanding; writes = i.writes; reads = i.reads; access = i.kept.access; sketch = i.sketch; next_ticket = i.next_ticket; next_number = i.next_number }
 
 -- the inner part with no room
 abbrev pub without_room : {K V : Type 0} → Interior K V → Interior K V
@@ -66,7 +66,6 @@ module _ {K V X L P W : Type 0} {eq : K → K → Bool} {l : Option L} {s : Stat
   cache-inner m j same valid none = record {
     valid = valid;
     served = record {
-      bounded = h.served.bounded;
       no_live = h.served.no_live;
       no_expiry = h.served.no_expiry;
       no_predicates = h.served.no_predicates;

@@ -17,8 +17,9 @@ use Rattle.moka_maintenance.specs.declared.queued.PlacedWrite.{PlacedWrite}
 use Rattle.moka_maintenance.specs.declared.queued.QueuedWrite.{QueuedWrite}
 use Rattle.moka_maintenance.specs.declared.queued.QueuedRead.{QueuedRead}
 use Rattle.moka_maintenance.specs.Queued.{writes_of}
+use Rattle.moka_sketch.specs.Frequency.{Table}
 use Rattle.moka_maintenance.specs.Queues.{AreApplied, LeavesNoRowBy}
-use Rattle.moka_maintenance.specs.Steps.{AddsNoPlace, LeavesNoRow, IsStepped, contents_in}
+use Rattle.moka_maintenance.specs.Steps.{AddsNoPlace, LeavesNoRow, IsStepped, contents_in, contents_with}
 use Rattle.moka_engine.specs.Inner.{IsInner}
 use Rattle.moka_engine.specs.Interior.{operations_of}
 use Rattle.moka_engine.proofs.InnerLemmas.{inner-left}
@@ -28,10 +29,10 @@ nothing_in q h = (let lt = h.1 in omega arith)
 
 module _ {K V L : Type 0} (tells : L → K → V → RemovalCause → L → Type 0) (kept after : Kept K V) (out : Pending PlacedWrite) (writes : Buffer QueuedWrite) (reads : Buffer QueuedRead) (t n : ℕ) (h : IsInner kept out writes reads t n) (l m : Option L) where
   -- both queues were applied
-  pub inner-applied : (capacity : Option ℕ) (policy : EvictionPolicy) (mid : Kept K V) → mid.records ≡ kept.records → mid.places ≡ kept.places → AreApplied tells capacity policy (contents_in mid) (contents_in after) (writes_of writes.items) l m
+  pub inner-applied : (capacity : Option ℕ) (policy : EvictionPolicy) (sketch : Option Table) (mid : Kept K V) → mid.records ≡ kept.records → mid.places ≡ kept.places → AreApplied tells capacity policy (contents_with sketch mid) (contents_with sketch after) (writes_of writes.items) l m
       → AddsNoPlace mid after → LeavesNoRowBy (writes_of writes.items) mid after → IsInner after out (buffer [] writes.capacity) (buffer [] reads.capacity) t n
-  inner-applied capacity policy mid records places applied fewer rows =
-      let keeps : Keeps mid.records after.records = subst (λ (c : Contents K V). Keeps mid.records c.records) (sym applied.led) (keeps_writes capacity policy (contents_in mid) (writes_of writes.items) applied.moves) in
+  inner-applied capacity policy sketch mid records places applied fewer rows =
+      let keeps : Keeps mid.records after.records = subst (λ (c : Contents K V). Keeps mid.records c.records) (sym applied.led) (keeps_writes capacity policy (contents_with sketch mid) (writes_of writes.items) applied.moves) in
       let less : (k p : ℕ) → get after.places k ≡ Some p → get kept.places k ≡ Some p = λ k p there. subst (λ ps. get ps k ≡ Some p) places (fewer k p there) in
       inner-left kept after out out writes reads t n h [] [] (λ q there. absurd (nothing_in q there)) (λ q there. absurd (nothing_in q there)) (omega arith) (omega arith) less
       (subst (λ (rs : Records K V). Keeps rs after.records) records keeps)

@@ -10,7 +10,7 @@ use Rattle.moka_parts.specs.State.{Settings, new_state}
 use Rattle.moka_parts.proofs.Maps.{nothing_at}
 use Rattle.moka_parts.proofs.NewCache.{new_is_valid}
 use Rattle.moka_parts.proofs.StepsKeep.{valid_with}
-use Rattle.moka_engine.specs.BaseCache.{IsCache, IsLruWhereBounded, settings_of, state_of}
+use Rattle.moka_engine.specs.BaseCache.{IsCache, settings_of, state_of}
 use Rattle.moka_engine.specs.Interior.{Interior, nothing_inside}
 
 -- a housekeeper that starts no run by itself
@@ -20,13 +20,12 @@ idle_keeper listening config now = record (new_keeper listening config now) { ho
 -- it keeps nothing and listens where a listener is set
 pub cache-new : {K V X L P W : Type 0} (eq : K → K → Bool) (listener : Option L) (i : Interior K V) (first_ticket : ℕ) → i ≡ nothing_inside first_ticket i → (predicates : List (Registered P)) → predicates ≡ []
     → (keeper : Keeper) (listening : Bool) (config : HousekeeperConfig) (now : ℕ) → keeper ≡ idle_keeper listening config now → listening ≡ is_some listener
-    → (capacity : Option ℕ) (policy : EvictionPolicy) (expirations : Expirations X) (weigher : Option W) (invalidator : Bool) → IsLruWhereBounded capacity policy → expirations.time_to_live ≡ None → expirations.expiry ≡ None → invalidator ≡ false
+    → (capacity : Option ℕ) (policy : EvictionPolicy) (expirations : Expirations X) (weigher : Option W) (invalidator : Bool) → expirations.time_to_live ≡ None → expirations.expiry ≡ None → invalidator ≡ false
     → IsCache eq listener (state_of i None predicates 0 0 keeper capacity (settings_of policy expirations weigher invalidator keeper))
-cache-new {K} {V} {X} {L} {P} {W} eq listener i first_ticket empty predicates none keeper listening config now kept heard capacity policy expirations weigher invalidator bounded no_live no_expiry no_invalidator =
+cache-new {K} {V} {X} {L} {P} {W} eq listener i first_ticket empty predicates none keeper listening config now kept heard capacity policy expirations weigher invalidator no_live no_expiry no_invalidator =
     subst (IsCache eq listener) (sym is) (record {
       valid = valid_with eq (new_state settings capacity now first_ticket) [] None [] (without_automatic (new_housekeeping now)) (new_is_valid K V P settings capacity now first_ticket eq);
       served = record {
-        bounded = bounded;
         no_live = no_live;
         no_expiry = no_expiry;
         no_predicates = refl;

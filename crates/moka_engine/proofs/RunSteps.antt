@@ -2,7 +2,6 @@
 use Rattle.std.proofs.Common.{◌≡◌, refl, ℕ, Bool, true, false, true≢false, ◌||◌, ◌==◌, ◌⊎◌, inl, inr, List, [], length, min, Option, Some, None, is_some, ap, sym, subst, ◌∙◌, if◌then◌else◌}
 use Rattle.moka_parts.specs.declared.notification.RemovalCause.{RemovalCause}
 use Rattle.moka_parts.specs.declared.policy.EvictionPolicy.{EvictionPolicy}
-use Rattle.moka_parts.specs.declared.policy.EvictionPolicy.TheVariants.{Lru}
 use Rattle.moka_parts.specs.declared.policy.Instant.{Instant}
 use Rattle.moka_parts.specs.declared.records.Registered.{Registered}
 use Rattle.moka_parts.specs.Records.{total_weight}
@@ -20,24 +19,18 @@ use Rattle.moka_parts.specs.Listed.{ListedRun}
 use Rattle.moka_parts.proofs.AtEnd.{bare_is_exact}
 use Rattle.moka_parts.proofs.RunReturns.{run_returns, disabled_promised}
 use Rattle.moka_maintenance.specs.declared.sweep.Tests.{Tests}
-use Rattle.moka_maintenance.specs.Steps.{contents_in}
+use Rattle.moka_maintenance.specs.Steps.{contents_in, contents_with}
 use Rattle.moka_maintenance.specs.Sweeps.{tests_in}
-use Rattle.moka_maintenance.specs.Queues.{AreApplied}
+use Rattle.moka_maintenance.specs.Queues.{ArePrepared}
 use Rattle.moka_maintenance.specs.Passes.{IsRan}
 use Rattle.moka_maintenance.proofs.Promises.{IsSimple, run_promised, run_keeps_listening, run_leaves_simple, run_leaves_valid, run_leaves_exact}
 use Rattle.moka_engine.specs.Interior.{Interior}
-use Rattle.moka_engine.specs.BaseCache.{IsLruWhereBounded, state_of, IsCache}
-
-lru_or_unbounded : (capacity : Option ℕ) (policy : EvictionPolicy) → is_disabled capacity ≡ false → IsLruWhereBounded capacity policy → (policy ≡ Lru) ⊎ (capacity ≡ None)
-lru_or_unbounded None policy enabled h = inr refl
-lru_or_unbounded (Some capacity) policy enabled (inl zero_is) = absurd (true≢false (sym (ap (λ n. n == 0) zero_is) ∙ enabled))
-lru_or_unbounded (Some capacity) policy enabled (inr lru) = inl lru
+use Rattle.moka_engine.specs.BaseCache.{state_of, IsCache}
 
 -- what a run asks to know of a state
 pub simple_of : {K V X L P W : Type 0} {eq : K → K → Bool} {l : Option L} (s : State K V X P W) → IsCache eq l s → is_disabled s.capacity ≡ false → IsSimple s
 simple_of s h enabled = record {
   enabled = enabled;
-  policy = lru_or_unbounded s.capacity s.settings.policy enabled h.served.bounded;
   unregistered = h.served.no_predicates;
   unordered = ap (λ o. is_some o || s.settings.invalidator) h.served.no_live ∙ h.served.no_invalidator;
   consistent = h.valid.consistent;
@@ -49,8 +42,8 @@ simple_of s h enabled = record {
 module _ {K V X L P W C : Type 0} {tells : L → K → V → RemovalCause → L → Type 0} {reads : C → Instant → C → Type 0} {eq : K → K → Bool} {l m n : Option L}
     (i a j : Interior K V) (invalid_before : Option Instant) (predicates : List (Registered P)) (count weight : ℕ) (keeper : Keeper) (capacity : Option ℕ) (settings : Settings X W)
     (h : IsCache eq l (state_of i invalid_before predicates count weight keeper capacity settings)) (enabled : is_disabled capacity ≡ false)
-    (applied : AreApplied tells capacity settings.policy (after_reads (contents_in i.kept) i.reads) (contents_in a.kept) i.writes l m)
-    (applied_rest : a ≡ record i { kept = a.kept; writes = []; reads = []; operation_room = a.operation_room })
+    {has_weigher : Bool} (weighs : has_weigher ≡ is_some settings.weigher) (applied_with : ArePrepared tells capacity settings.policy has_weigher (after_reads (contents_with i.sketch i.kept) i.reads) (contents_with a.sketch a.kept) i.writes l m)
+    (applied_rest : a ≡ record i { kept = a.kept; sketch = a.sketch; writes = []; reads = []; operation_room = a.operation_room })
     {q : Tests} (terms : Terms) (by_state : tests_in q ≡ tests_of (state_of i invalid_before predicates count weight keeper capacity settings) terms.now)
     {limit : Option ℕ} (limited : limit ≡ (if settings.listening then terms.limit else None))
     {clock clock_after : C} {passes : ℕ} {left : Bool} (ran : IsRan tells q reads limit terms.batch (contents_in a.kept) (contents_in j.kept) m n clock clock_after passes left)
@@ -62,12 +55,18 @@ module _ {K V X L P W C : Type 0} {tells : L → K → V → RemovalCause → L 
   abbrev t : State K V X P W
   t = state_of j invalid_before predicates count_after weight_after keeper capacity settings
 
-  ends : t ≡ with_contents s (contents_in j.kept) predicates
+  applied : ArePrepared tells capacity settings.policy (is_some settings.weigher) (after_reads (contents_with i.sketch i.kept) i.reads) (contents_with a.sketch a.kept) i.writes l m
+  applied = subst (λ b. ArePrepared tells capacity settings.policy b (after_reads (contents_with i.sketch i.kept) i.reads) (contents_with a.sketch a.kept) i.writes l m) weighs applied_with
+
+  sketched : j.sketch ≡ a.sketch
+  sketched = ap (λ (x : Interior K V). x.sketch) ran_rest
+
+  ends : t ≡ with_contents s (contents_with j.sketch j.kept) predicates
   ends =
       ap (λ n. state_of j invalid_before predicates n weight_after keeper capacity settings) counted
       ∙ ap (λ n. state_of j invalid_before predicates (length j.kept.access) n keeper capacity settings) weighed
-      ∙ ap (λ (x : Interior K V). state_of (record x { kept = j.kept }) invalid_before predicates (length j.kept.access) (min (total_weight j.kept.access) greatest) keeper capacity settings) ran_rest
-      ∙ ap (λ (x : Interior K V). state_of (record x { kept = j.kept }) invalid_before predicates (length j.kept.access) (min (total_weight j.kept.access) greatest) keeper capacity settings) applied_rest
+      ∙ ap (λ (x : Interior K V). state_of (record x { kept = j.kept; sketch = j.sketch }) invalid_before predicates (length j.kept.access) (min (total_weight j.kept.access) greatest) keeper capacity settings) ran_rest
+      ∙ ap (λ (x : Interior K V). state_of (record x { kept = j.kept; sketch = j.sketch }) invalid_before predicates (length j.kept.access) (min (total_weight j.kept.access) greatest) keeper capacity settings) applied_rest
 
   simple : IsSimple s
   simple = simple_of s h enabled
@@ -75,30 +74,29 @@ module _ {K V X L P W C : Type 0} {tells : L → K → V → RemovalCause → L 
   -- what always holds of the cache holds again
   pub run_keeps_cache : IsCache eq n t
   run_keeps_cache = subst (IsCache eq n) (sym ends) (record {
-    valid = run_leaves_valid s simple terms by_state refl applied limited refl ran eq h.valid;
+    valid = run_leaves_valid s simple terms by_state refl applied limited refl sketched ran eq h.valid;
     served = record {
-      bounded = h.served.bounded;
       no_live = h.served.no_live;
       no_expiry = h.served.no_expiry;
       no_predicates = h.served.no_predicates;
       no_invalidator = h.served.no_invalidator;
       finished = h.served.finished;
       asked = h.served.asked;
-      unexpiring = λ _. (run_leaves_simple s simple terms by_state refl applied limited refl ran).lasting;
+      unexpiring = λ _. (run_leaves_simple s simple terms by_state refl applied limited refl sketched ran).lasting;
     };
-    listens = h.listens ∙ sym (run_keeps_listening s simple terms by_state refl applied limited refl ran);
+    listens = h.listens ∙ sym (run_keeps_listening s simple terms by_state refl applied limited refl sketched ran);
   })
 
   -- once every operation was sent, the report is exact
   pub run_ends_exact : IsAllSent s → IsExact t
-  run_ends_exact all = subst IsExact (sym ends) (run_leaves_exact s simple terms by_state refl applied limited refl ran all)
+  run_ends_exact all = subst IsExact (sym ends) (run_leaves_exact s simple terms by_state refl applied limited refl sketched ran all)
 
   -- the run keeps its promises
   pub cache_runs : {S : Type 0} (says : P → K → V → Bool → Type 0) (read : X → K → V → ℕ → Option ℕ → ℕ → Option ℕ) (name : Option (List ℕ)) (hasher : S) (passes_before : ℕ) {now : Cache K V S X L P W} →
       record { name = name; hasher = hasher; state = s; listener = l; write_list = []; passes = passes_before } ≡ now →
       (e : Events K V) × RunStep (ListedRun says read now.write_list []) now.state terms left e t × Befalls tells e now (record { name = name; hasher = hasher; state = t; listener = n; write_list = []; passes = passes }) × Leads reads clock e.readings clock_after
   cache_runs says read name hasher passes_before is =
-      run_returns is [] (run_promised s simple terms by_state refl applied limited refl ran says read [] h.listens) (ap (λ t. record { name = name; hasher = hasher; state = t; listener = n; write_list = []; passes = passes }) ends)
+      run_returns is [] (run_promised s simple terms by_state refl applied limited refl sketched ran says read [] h.listens) (ap (λ t. record { name = name; hasher = hasher; state = t; listener = n; write_list = []; passes = passes }) ends)
 
 -- ---- a disabled cache
 

@@ -1,5 +1,5 @@
 -- What always holds of a cache, and how its parts make the state that contracts see.
-use Rattle.std.specs.Prelude.{◌≡◌, ℕ, Bool, false, List, [], Option, Some, None, is_some, ◌⊎◌, ⊤}
+use Rattle.std.specs.Prelude.{◌≡◌, ℕ, Bool, false, List, [], Option, Some, None, is_some}
 use Rattle.std.specs.FinMap.{get}
 use Rattle.moka_parts.specs.declared.policy.EvictionPolicy.{EvictionPolicy}
 use Rattle.moka_parts.specs.declared.policy.EvictionPolicy.TheVariants.{Lru}
@@ -28,7 +28,7 @@ settings_of policy expirations weigher invalidator keeper = record {
   run_batch = keeper.run_batch;
 }
 
--- the state of the reference cache; the sketch is off
+-- the state of the reference cache
 abbrev pub state_of : {K V X P W : Type 0} → Interior K V → Option Instant → List (Registered P) → (count weight : ℕ) → Keeper → Option ℕ → Settings X W → State K V X P W
 state_of i invalid_before predicates count weight keeper capacity settings = record {
   records = i.kept.records;
@@ -38,7 +38,7 @@ state_of i invalid_before predicates count weight keeper capacity settings = rec
   access = i.kept.access;
   invalid_before = invalid_before;
   predicates = predicates;
-  sketch = None;
+  sketch = i.sketch;
   next_ticket = i.next_ticket;
   next_number = i.next_number;
   count = count;
@@ -67,18 +67,12 @@ expiring_by x = record {
   run_batch = 0;
 }
 
--- where something is kept and bounded, the least recently used leaves
-abbrev pub IsLruWhereBounded : Option ℕ → EvictionPolicy → Type 0
-IsLruWhereBounded None policy = ⊤
-IsLruWhereBounded (Some capacity) policy = (capacity ≡ 0) ⊎ (policy ≡ Lru)
-
 -- no record has an expiry of its own
 abbrev pub NoneExpires : {K V : Type 0} → Records K V → Type 0
 NoneExpires records = (n : ℕ) (r : Record _ _) → get records n ≡ Some r → r.expires ≡ None
 
 -- the settings are such as a cache can have today, no run starts by itself, and without an expiry no record has one of its own
 pub record IsServed {K V X P W : Type 0} (s : State K V X P W) : Type 0 where
-  pub bounded : IsLruWhereBounded s.capacity s.settings.policy
   pub no_live : s.settings.time_to_live ≡ None
   pub no_expiry : s.settings.expiry ≡ None
   pub no_predicates : s.predicates ≡ []

@@ -5,7 +5,6 @@ use Rattle.moka_parts.specs.declared.policy.EvictionPolicy.TheVariants.{TinyLfu}
 use Rattle.moka_parts.specs.Housekeeping.{new_housekeeping, without_automatic}
 use Rattle.moka_parts.specs.Runs.{Cache}
 use Rattle.moka_parts.specs.State.{Settings, new_state}
-use Rattle.moka_engine.specs.BaseCache.{IsLruWhereBounded}
 
 -- what was chosen; durations are in nanoseconds, the name is in bytes
 pub record Config (X L W : Type 0) : Type 0 where
@@ -129,9 +128,8 @@ module _ {X L W : Type 0} where
     passes = 0;
   }
 
-  -- so far a cache can be made with this: a bound asks for LRU, and neither a time to live nor an expiry nor predicates are served
+  -- so far a cache can be made with this: neither a time to live nor an expiry nor predicates are served
   pub record IsServedConfig (c : Config X L W) : Type 0 where
-    pub bounded : IsLruWhereBounded c.max_capacity c.policy
     pub no_live : c.time_to_live ≡ None
     pub no_expiry : c.expiry ≡ None
     pub no_predicates : c.invalidator ≡ false

@@ -1,5 +1,5 @@
 -- What contracts see of the inner part of the cache.
-use Rattle.std.specs.Prelude.{ℕ, ◌+◌, ◌<◌, List, []}
+use Rattle.std.specs.Prelude.{ℕ, ◌+◌, ◌<◌, List, [], Option, None}
 use Rattle.std.specs.FinMap.{FinMap, empty, insert}
 use Rattle.std.specs.Ordering.{nat_cmp}
 use Rattle.moka_parts.specs.declared.records.Operation.{Operation}
@@ -8,15 +8,17 @@ use Rattle.moka_parts.specs.declared.records.ReadOperation.TheVariants.{Hit, Mis
 use Rattle.moka_parts.specs.declared.records.Record.{Record}
 use Rattle.moka_parts.specs.declared.records.Ticketed.{Ticketed}
 use Rattle.moka_parts.specs.Records.{Records, Operations}
+use Rattle.moka_sketch.specs.Frequency.{Table}
 use Rattle.moka_store.specs.declared.store.Update.{Update}
 use Rattle.moka_store.specs.Store.{Kept}
 use Rattle.moka_maintenance.specs.declared.queued.PlacedWrite.{PlacedWrite}
 use Rattle.moka_maintenance.specs.Queued.{IsAt}
 use Rattle.moka_engine.specs.Values.{map_values}
 
--- the store, the operations that wait, and the numbers that come next
+-- the store, the sketch, the operations that wait, and the numbers that come next
 pub record Interior (K V : Type 0) : Type 0 where
   pub kept : Kept K V
+  pub sketch : Option Table
   pub outstanding : Operations
   pub writes : List Ticketed
   pub reads : List ReadOperation
@@ -44,6 +46,7 @@ module _ {K V : Type 0} where
   abbrev pub nothing_inside : ℕ → Interior K V → Interior K V
   nothing_inside first_ticket i = record {
     kept = record { records = empty; access = []; places = empty; room = i.kept.room };
+    sketch = None;
     outstanding = empty;
     writes = [];
     reads = [];

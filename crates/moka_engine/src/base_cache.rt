@@ -13,7 +13,6 @@ ghost use Rattle.moka_parts.specs.Settling.{IsValid};
 ghost use Rattle.moka_parts.specs.State.{Events, is_disabled, keeps_write_list, limits_of, new_state};
 ghost use Rattle.moka_parts.specs.Surroundings.{Leads};
 ghost use Rattle.moka_store.specs.Store.{ClonesAreEqual};
-ghost use Rattle.moka_engine.specs.BaseCache.{IsLruWhereBounded};
 
 use crate::inner::Inner;
 use moka_parts::calls::{Entry, KvEntry, Ticket};
@@ -118,7 +117,7 @@ impl<
     ///
     /// - `name`: for the caller alone.
     /// - `max_capacity`: the greatest sum of weights that runs of maintenance leave; `None` is no bound, and with 0 the
-    ///   cache keeps nothing and takes no inserts. So far any other bound asks for the policy LRU.
+    ///   cache keeps nothing and takes no inserts.
     /// - `initial_capacity`: for how many records room is made at once.
     /// - `build_hasher`: hashes keys, for `hash` and for the map.
     /// - `weigher`: weighs entries as they are inserted; without one each weighs 1.
@@ -157,7 +156,6 @@ impl<
         P: Drop,
         W: Drop,
         requires first { 1 ≤ first_ticket }
-        requires bounded { IsLruWhereBounded max_capacity eviction_policy }
         requires no_live { expiration_policy.time_to_live ≡ None }
         requires no_expiry { expiration_policy.expiry ≡ None }
         requires no_predicates { invalidator_enabled ≡ false }

@@ -1,26 +1,26 @@
 //! The map, the operations that wait, and both queues.
-ghost use Rattle.std.specs.Prelude.{◌≡◌, ◌+◌, ◌^◌, ◌<◌, ◌≤◌, ◌↔◌, ◌⊎◌, ℕ, [], ◌∷◌, ◌++◌, None, Some, Ok, Err, OnOk, OnErr, IfOk, IfSome, if◌then◌else◌, length, map, nat_lt, option_map, slice_get, IsPermutation};
+ghost use Rattle.std.specs.Prelude.{◌≡◌, ◌+◌, ◌^◌, ◌<◌, ◌≤◌, ◌↔◌, ℕ, [], ◌∷◌, ◌++◌, None, Some, Ok, Err, OnOk, OnErr, IfOk, IfSome, if◌then◌else◌, length, map, nat_lt, option_map, slice_get, IsPermutation};
 ghost use Rattle.std.specs.Duration.{as_nanos};
 ghost use Rattle.std.specs.FinMap as finite;
 ghost use Rattle.moka_parts.specs.Calls.{queue_length};
 ghost use Rattle.moka_parts.specs.Reads.{after_reads};
 ghost use Rattle.moka_parts.specs.Records.{record_of_key, total_weight, with_record};
 ghost use Rattle.moka_parts.specs.declared.error.InsertError.TheVariants.{NumbersUsedUp};
-ghost use Rattle.moka_parts.specs.declared.policy.EvictionPolicy.TheVariants.{Lru};
 ghost use Rattle.moka_parts.specs.declared.records.Operation.{Operation};
 ghost use Rattle.moka_parts.specs.declared.records.Operation.TheVariants.{Upsert, Removal};
 ghost use Rattle.moka_parts.specs.declared.records.Record.{Record};
 ghost use Rattle.moka_store.specs.Store.{ChangesRecord, ClonesAreEqual, IsHandle};
 ghost use Rattle.moka_store.specs.Updates.{updated};
 ghost use Rattle.moka_maintenance.specs.Passes.{IsRan};
-ghost use Rattle.moka_maintenance.specs.Queues.{AreApplied};
-ghost use Rattle.moka_maintenance.specs.Steps.{contents_in};
+ghost use Rattle.moka_maintenance.specs.Queues.{ArePrepared};
+ghost use Rattle.moka_maintenance.specs.Steps.{contents_in, contents_with};
 ghost use Rattle.moka_engine.specs.Interior.{IsReadLocated, first_record, handing_out_inside, nothing_inside};
 
 use circular_buffer::HeapCircularBuffer;
 use moka_maintenance::admission::{apply_reads, apply_writes};
 use moka_maintenance::passes::{Ran, make_passes};
 use moka_maintenance::queued::{PlacedWrite, QueuedRead, QueuedWrite};
+use moka_maintenance::sketch::enable_frequency_sketch;
 use moka_maintenance::sweep::Tests;
 use moka_parts::calls::Ticket;
 use moka_parts::error::{InsertError, SendError};
@@ -28,6 +28,7 @@ use moka_parts::housekeeper::Clock;
 use moka_parts::notification::{Listener, RemovalNotifier};
 use moka_parts::policy::{EvictionPolicy, Instant};
 use moka_parts::records::{Operation, ReadOperation, Record};
+use moka_sketch::frequency_sketch::FrequencySketch;
 use moka_store::{Handle, Store, Update};
 use moka_structures::outstanding::Outstanding;
 use std::alloc::{AllocError, Global};
@@ -42,6 +43,8 @@ const QUEUE_SIZE: usize = 384;
 #[derive(Drop)]
 pub struct Inner<K: Eq + Hash, V, S: BuildHasher> {
     store: Store<K, V, S>,
+    // How often hashes were seen lately, once it is on.
+    sketch: FrequencySketch,
     outstanding: Outstanding<PlacedWrite>,
     writes: HeapCircularBuffer<QueuedWrite>,
     reads: HeapCircularBuffer<QueuedRead>,
@@ -66,6 +69,7 @@ impl<K: Eq + Hash, V, S: BuildHasher> Model for Inner<K, V, S> {
 
     ghost view = { λ a. record {
       kept = a.store;
+      sketch = a.sketch;
       outstanding = operations_of a.outstanding.items;
       writes = writes_of a.writes.items;
       reads = reads_of a.reads.items;
@@ -95,11 +99,13 @@ impl<K: Eq + Hash, V, S: BuildHasher> Inner<K, V, S> {
     {
         let mut store = Store::new(alloc, hasher)?;
         store.reserve(initial_capacity)?;
+        let sketch = FrequencySketch::new(alloc)?;
         let outstanding = Outstanding::new(alloc)?;
         let writes = HeapCircularBuffer::with_capacity(alloc, QUEUE_SIZE)?;
         let reads = HeapCircularBuffer::with_capacity(alloc, QUEUE_SIZE)?;
         Ok(Inner {
             store,
+            sketch,
             outstanding,
             writes,
             reads,
@@ -288,28 +294,24 @@ impl<K: Eq + Hash, V, S: BuildHasher> Inner<K, V, S> {
         let _full = self.reads.try_push_back(QueuedRead { place, read });
     }
 
-    /// Applies all queued reads, and then all queued writes in order.
+    /// Applies all queued reads, and then all queued writes in order. Then the sketch comes on where it is due.
     pub fn apply_queues<L: Listener<K, V>>(
         &mut self,
         notifier: &mut RemovalNotifier<L>,
         capacity: Option<u64>,
         policy: EvictionPolicy,
+        has_weigher: bool,
     )
     where
         K: Drop,
         V: Drop,
-        requires { (policy ≡ Lru) ⊎ (capacity ≡ None) }
-        ensures applied { AreApplied L.tells capacity policy (after_reads (contents_in self.old.kept) self.old.reads) (contents_in self.new.kept) self.old.writes notifier.old notifier.new }
-        ensures rest { self.new ≡ record self.old { kept = self.new.kept; writes = []; reads = []; operation_room = self.new.operation_room } }
+        ensures prepared { ArePrepared L.tells capacity policy has_weigher (after_reads (contents_with self.old.sketch self.old.kept) self.old.reads) (contents_with self.new.sketch self.new.kept) self.old.writes notifier.old notifier.new }
+        ensures rest { self.new ≡ record self.old { kept = self.new.kept; sketch = self.new.sketch; writes = []; reads = []; operation_room = self.new.operation_room } }
     {
-        apply_reads(&mut self.store, &mut self.reads);
-        apply_writes(
-            &mut self.store,
-            notifier,
-            capacity,
-            policy,
-            &mut self.writes,
-        );
+        let (store, sketch) = (&mut self.store, &mut self.sketch);
+        apply_reads(store, sketch, &mut self.reads);
+        apply_writes(store, sketch, notifier, capacity, policy, &mut self.writes);
+        enable_frequency_sketch(store, sketch, capacity, policy, has_weigher);
     }
 
     /// Removes what the tests find, in passes of at most `batch` turns a step, until the limit is up.

@@ -1,13 +1,14 @@
 -- Operations applied one after the other.
-use Rattle.std.proofs.Common.{refl, ℕ, List, [], ◌∷◌, ◌++◌, Option, ap, subst, ◌∙◌}
+use Rattle.std.proofs.Common.{◌≡◌, refl, ℕ, Bool, List, [], ◌∷◌, ◌++◌, Option, ap, subst, ◌∙◌}
 use Rattle.moka_parts.specs.declared.notification.RemovalCause.{RemovalCause}
 use Rattle.moka_parts.specs.declared.policy.EvictionPolicy.{EvictionPolicy}
 use Rattle.moka_parts.specs.declared.records.Operation.{Operation}
 use Rattle.moka_parts.specs.declared.records.Ticketed.{Ticketed}
 use Rattle.moka_parts.specs.State.{Contents}
 use Rattle.moka_parts.specs.Writes.{after_writes, left_by_write, left_by_writes, AreAllMoves}
+use Rattle.moka_parts.specs.Maintenance.{with_sketch}
 use Rattle.moka_maintenance.specs.Steps.{Told}
-use Rattle.moka_maintenance.specs.Queues.{IsApplied, AreApplied}
+use Rattle.moka_maintenance.specs.Queues.{IsApplied, AreApplied, ArePrepared}
 use Rattle.moka_maintenance.proofs.Told.{told-none, told-on}
 
 module _ {K V L : Type 0} (tells : L → K → V → RemovalCause → L → Type 0) (capacity : Option ℕ) (policy : EvictionPolicy) where
@@ -23,3 +24,13 @@ module _ {K V L : Type 0} (tells : L → K → V → RemovalCause → L → Type
     led = j.led ∙ ap (λ x. after_writes capacity policy x os j.moves) h.led;
     told = subst (λ x. Told tells l (left_by_write capacity policy a o ++ left_by_writes capacity policy x os j.moves) k) h.led (told-on tells l m k (left_by_write capacity policy a o) (left_by_writes capacity policy b os j.moves) h.told j.told);
   }
+
+-- and then the sketch is enabled
+pub prepared : {K V L : Type 0} (tells : L → K → V → RemovalCause → L → Type 0) (capacity : Option ℕ) (policy : EvictionPolicy) (has_weigher is_short : Bool) (a b c : Contents K V) (os : List Ticketed) (l m : Option L) → AreApplied tells capacity policy a b os l m → c ≡ with_sketch capacity policy has_weigher is_short b → ArePrepared tells capacity policy has_weigher a c os l m
+prepared tells capacity policy has_weigher is_short a b c os l m h on = record {
+  moves = h.moves;
+  is_short = is_short;
+  may = h.may;
+  led = on ∙ ap (with_sketch capacity policy has_weigher is_short) h.led;
+  told = h.told;
+}

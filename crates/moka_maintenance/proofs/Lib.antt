@@ -3,8 +3,11 @@ pub mod Placed
 pub mod Told
 pub mod Fates
 pub mod Entered
+pub mod Compared
 pub mod AllApplied
 pub mod Stepped
+pub mod Unseen
+pub mod Enabled
 pub mod Fronts
 pub mod Walk
 pub mod Walking

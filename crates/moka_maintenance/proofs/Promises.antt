@@ -6,8 +6,6 @@ use Rattle.std.specs.List.{list_any}
 use Rattle.std.specs.Duration.{as_nanos}
 use Rattle.std.specs.FinMap.{get}
 use Rattle.moka_parts.specs.declared.notification.RemovalCause.{RemovalCause}
-use Rattle.moka_parts.specs.declared.policy.EvictionPolicy.{EvictionPolicy}
-use Rattle.moka_parts.specs.declared.policy.EvictionPolicy.TheVariants.{Lru}
 use Rattle.moka_parts.specs.declared.policy.Instant.{Instant}
 use Rattle.moka_parts.specs.declared.records.Record.{Record}
 use Rattle.moka_parts.specs.declared.records.Member.{Member}
@@ -18,7 +16,7 @@ use Rattle.moka_parts.specs.Surroundings.{Heard}
 use Rattle.moka_parts.specs.Writes.{left_by_writes}
 use Rattle.moka_parts.specs.Candidates.{prefix}
 use Rattle.moka_parts.specs.Maintenance as parts
-use Rattle.moka_parts.specs.Maintenance.{Terms, Course, Freedom, after_choices, left_by_choices, after_queued_reads, before_steps, at_end, after_run, left_in_run, with_sketch, is_over, is_cut, is_late, is_timed, tests_of, AreJustified, AreFree}
+use Rattle.moka_parts.specs.Maintenance.{Terms, Course, Freedom, after_choices, left_by_choices, after_queued_reads, before_steps, at_end, after_run, left_in_run, is_over, is_cut, is_late, is_timed, tests_of, AreJustified, AreFree}
 use Rattle.moka_parts.specs.Bounds.{removed_by, IsPlainSurplus, IsBounded}
 use Rattle.moka_parts.specs.Exact.{IsExact, IsWithin}
 use Rattle.moka_parts.specs.Settling.{IsAllSent, IsWaitingIn, IsWhole, IsConsistentState, IsValid, LeavesBehind, Settles, leaves_more_idle}
@@ -30,12 +28,13 @@ use Rattle.moka_parts.proofs.AtEnd.{nothing_waits, all_settled, count_is_near, r
 use Rattle.moka_parts.proofs.RunReturns.{IsPromised, promised_is_listed}
 use Rattle.moka_parts.proofs.Surplus.{removes_enough, removes_first, removes_for_size_alone, leaves_settled}
 use Rattle.moka_maintenance.specs.declared.sweep.Tests.{Tests}
-use Rattle.moka_maintenance.specs.Steps.{HasUnsettled, Told, makes_room}
-use Rattle.moka_maintenance.specs.Queues.{AreApplied}
+use Rattle.moka_maintenance.specs.Steps.{HasUnsettled, Told, makes_room, unseen}
+use Rattle.moka_maintenance.specs.Queues.{ArePrepared}
 use Rattle.moka_maintenance.specs.Sweeps.{tests_in}
 use Rattle.moka_maintenance.specs.Passes.{IsRan, sweeps_reads}
 use Rattle.moka_maintenance.proofs.Told.{told_same, told-on}
 use Rattle.moka_maintenance.proofs.Stepped.{steps_justified, steps_keep_predicates}
+use Rattle.moka_maintenance.proofs.Unseen.{may-seen, led-seen, left-seen}
 
 -- ---- small facts
 
@@ -57,12 +56,6 @@ some_unsettled records (a ∷ access) n there waiting = at (λ later. some_unset
     at : (is_member n access ≡ true → list_any (λ a. not (is_settled records a.number)) access ≡ true) → (b : Bool) → (a.number == n) ≡ b → is_some (if b then Some a.counted else counted_of n access) ≡ true → (not (is_settled records a.number) || list_any (λ a. not (is_settled records a.number)) access) ≡ true
     at later true same there = ap (λ k. not (is_settled records k) || list_any (λ a. not (is_settled records a.number)) access) (eqb→eq a.number n (passes _ same)) ∙ ap (λ b. not b || list_any (λ a. not (is_settled records a.number)) access) waiting
     at later false same there = behind (not (is_settled records a.number)) (list_any (λ a. not (is_settled records a.number)) access) (later there)
-
--- where TinyLFU never has to compare, the sketch is not enabled
-stays_off : {K V : Type 0} (capacity : Option ℕ) (policy : EvictionPolicy) → (policy ≡ Lru) ⊎ (capacity ≡ None) → (weighing : Bool) (c : Contents K V) → with_sketch capacity policy weighing false c ≡ c
-stays_off None policy plain weighing c = refl
-stays_off (Some capacity) policy (inl lru) weighing c = ap (λ p. with_sketch (Some capacity) p weighing false c) lru
-stays_off (Some capacity) policy (inr none) weighing c = cc
 
 -- where no order of writing is kept there is no time to live
 no_time_to_live : (a b : Bool) → (a || b) ≡ false → a ≡ false
@@ -94,8 +87,6 @@ limited_where_listening false limit = refl
 -- what a run asks to know of a state
 pub record IsSimple {K V X P W : Type 0} (s : State K V X P W) : Type 0 where
   pub enabled : is_disabled s.capacity ≡ false
-  -- TinyLFU never has to compare
-  pub policy : (s.settings.policy ≡ Lru) ⊎ (s.capacity ≡ None)
   pub unregistered : s.predicates ≡ []
   -- no order of writing is kept
   pub unordered : keeps_write_list s.settings ≡ false
@@ -104,11 +95,11 @@ pub record IsSimple {K V X P W : Type 0} (s : State K V X P W) : Type 0 where
   pub lasting : (n : ℕ) (r : Record K V) → get s.records n ≡ Some r → r.expires ≡ None
 
 module _ {K V X P W L C : Type 0} {tells : L → K → V → RemovalCause → L → Type 0} {reads : C → Instant → C → Type 0} (s : State K V X P W) (simple : IsSimple s) (terms : Terms) (q : Tests) (by_state : tests_in q ≡ tests_of s terms.now)
-    {c d : Contents K V} {l m n : Option L} (applied : AreApplied tells s.capacity s.settings.policy (after_queued_reads s) c s.writes l m)
-    {clock clock_after : C} {passes : ℕ} {left : Bool} (ran : IsRan tells q reads (if s.settings.listening then terms.limit else None) terms.batch c d m n clock clock_after passes left) where
+    {c d : Contents K V} {l m n : Option L} (applied : ArePrepared tells s.capacity s.settings.policy (is_some s.settings.weigher) (after_queued_reads s) c s.writes l m)
+    {clock clock_after : C} {passes : ℕ} {left : Bool} (sketched : d.sketch ≡ c.sketch) (ran : IsRan tells q reads (if s.settings.listening then terms.limit else None) terms.batch (unseen c) (unseen d) m n clock clock_after passes left) where
   -- what the run chose
   abbrev pub choices : Freedom
-  choices = record { moves = applied.moves; is_short = false; steps = ran.by.steps }
+  choices = record { moves = applied.moves; is_short = applied.is_short; steps = ran.by.steps }
 
   -- how it went
   abbrev pub course : Course
@@ -119,14 +110,14 @@ module _ {K V X P W L C : Type 0} {tells : L → K → V → RemovalCause → L 
   left_state = with_contents s d s.predicates
 
   before_same : before_steps s choices ≡ c
-  before_same = ap (with_sketch s.capacity s.settings.policy (is_some s.settings.weigher) false) (sym applied.led) ∙ stays_off s.capacity s.settings.policy simple.policy (is_some s.settings.weigher) c
+  before_same = sym applied.led
 
   end_same : at_end s choices ≡ d
-  end_same = ap (λ c. after_choices c ran.by.steps) before_same ∙ sym ran.by.led
+  end_same = ap (λ c. after_choices c ran.by.steps) before_same ∙ sym (led-seen c d ran.by.steps sketched ran.by.led)
 
   -- it is the reference cache's
   pub run_same : after_run s choices ≡ left_state
-  run_same = ap (with_contents s (at_end s choices)) (steps_keep_predicates (tests_in q) (λ (p : P) (k : K) (v : V) (b : Bool). Unit {0}) s.predicates c ran.by.steps ran.by.may) ∙ ap (λ c. with_contents s c s.predicates) end_same
+  run_same = ap (with_contents s (at_end s choices)) (steps_keep_predicates (tests_in q) (λ (p : P) (k : K) (v : V) (b : Bool). Unit {0}) s.predicates c ran.by.steps (may-seen (tests_in q) c ran.by.steps ran.by.may)) ∙ ap (λ c. with_contents s c s.predicates) end_same
 
   -- afterwards only what was not sent waits
   pub end_consistent : IsConsistentState left_state
@@ -159,7 +150,7 @@ module _ {K V X P W L C : Type 0} {tells : L → K → V → RemovalCause → L 
   same_capacity : q.capacity ≡ s.capacity
   same_capacity = ap (λ (t : parts.Tests). t.capacity) by_state
 
-  at_rest : IsWhole s terms course → HasUnsettled d ⊎ IsWithin s.capacity d.access
+  at_rest : IsWhole s terms course → HasUnsettled (unseen d) ⊎ IsWithin s.capacity d.access
   at_rest whole = elim (ran.rest (finished whole)) [
     | inl some ↦ inl some
     | inr within ↦ inr (subst (λ o. IsWithin o d.access) same_capacity within)
@@ -189,7 +180,7 @@ module _ {K V X P W L C : Type 0} {tells : L → K → V → RemovalCause → L 
       }
 
   -- once everything was sent, no member is unsettled
-  none_unsettled : IsAllSent s → HasUnsettled d → ⊥
+  none_unsettled : IsAllSent s → HasUnsettled (unseen d) → ⊥
   none_unsettled all some = true≢false (sym (all_settled (IsWaitingIn s.outstanding []) d.records d.access end_consistent (nothing_waits s.outstanding all) some.number some.is_in) ∙ some.unsettled)
 
   module _ (says : P → K → V → Bool → Type 0) (read : X → K → V → ℕ → Option ℕ → ℕ → Option ℕ) where
@@ -205,7 +196,7 @@ module _ {K V X P W L C : Type 0} {tells : L → K → V → RemovalCause → L 
     justified : AreJustified says (tests_of s terms.now) (before_steps s choices) s.predicates ran.by.steps
     justified =
         subst (λ t. AreJustified says t (before_steps s choices) s.predicates ran.by.steps) by_state
-        (subst (λ b. AreJustified says (tests_in q) b s.predicates ran.by.steps) (sym before_same) (steps_justified (tests_in q) says s.predicates c ran.by.steps ran.by.may))
+        (subst (λ b. AreJustified says (tests_in q) b s.predicates ran.by.steps) (sym before_same) (steps_justified (tests_in q) says s.predicates c ran.by.steps (may-seen (tests_in q) c ran.by.steps ran.by.may)))
 
     is_free : AreFree says s terms.now choices
     is_free = (applied.may, justified)
@@ -248,50 +239,49 @@ module _ {K V X P W L C : Type 0} {tells : L → K → V → RemovalCause → L 
   promised_told listening =
       subst (λ b. Heard tells l (when_listening b (left_in_run s choices)) n) (sym listening)
       (told-on tells l m n (left_by_writes s.capacity s.settings.policy (after_queued_reads s) s.writes applied.moves) (left_by_choices (before_steps s choices) ran.by.steps) applied.told
-      (subst (λ b. Told tells m (left_by_choices b ran.by.steps) n) (sym before_same) ran.by.told))
+      (subst (λ b. Told tells m (left_by_choices b ran.by.steps) n) (sym before_same) (subst (λ ns. Told tells m ns n) (left-seen c ran.by.steps) ran.by.told)))
 
 -- ---- the run, with the premises as they come
 
 module _ {K V X P W L C : Type 0} {tells : L → K → V → RemovalCause → L → Type 0} {reads : C → Instant → C → Type 0} (s : State K V X P W) (simple : IsSimple s) (terms : Terms) {q : Tests} (by_state : tests_in q ≡ tests_of s terms.now)
-    {b c d : Contents K V} {l m n : Option L} (begun : b ≡ after_queued_reads s) (applied : AreApplied tells s.capacity s.settings.policy b c s.writes l m)
-    {limit : Option ℕ} {batch : ℕ} {clock clock_after : C} {passes : ℕ} {left : Bool} (limited : limit ≡ (if s.settings.listening then terms.limit else None)) (batched : batch ≡ terms.batch) (ran : IsRan tells q reads limit batch c d m n clock clock_after passes left) where
-  applied_to_state : AreApplied tells s.capacity s.settings.policy (after_queued_reads s) c s.writes l m
-  applied_to_state = subst (λ b. AreApplied tells s.capacity s.settings.policy b c s.writes l m) begun applied
+    {b c d : Contents K V} {l m n : Option L} (begun : b ≡ after_queued_reads s) (applied : ArePrepared tells s.capacity s.settings.policy (is_some s.settings.weigher) b c s.writes l m)
+    {limit : Option ℕ} {batch : ℕ} {clock clock_after : C} {passes : ℕ} {left : Bool} (limited : limit ≡ (if s.settings.listening then terms.limit else None)) (batched : batch ≡ terms.batch) (sketched : d.sketch ≡ c.sketch) (ran : IsRan tells q reads limit batch (unseen c) (unseen d) m n clock clock_after passes left) where
+  applied_to_state : ArePrepared tells s.capacity s.settings.policy (is_some s.settings.weigher) (after_queued_reads s) c s.writes l m
+  applied_to_state = subst (λ b. ArePrepared tells s.capacity s.settings.policy (is_some s.settings.weigher) b c s.writes l m) begun applied
 
-  ran_by_terms : IsRan tells q reads (if s.settings.listening then terms.limit else None) terms.batch c d m n clock clock_after passes left
-  ran_by_terms = subst (λ o. IsRan tells q reads o terms.batch c d m n clock clock_after passes left) limited (subst (λ k. IsRan tells q reads limit k c d m n clock clock_after passes left) batched ran)
+  ran_by_terms : IsRan tells q reads (if s.settings.listening then terms.limit else None) terms.batch (unseen c) (unseen d) m n clock clock_after passes left
+  ran_by_terms = subst (λ o. IsRan tells q reads o terms.batch (unseen c) (unseen d) m n clock clock_after passes left) limited (subst (λ k. IsRan tells q reads limit k (unseen c) (unseen d) m n clock clock_after passes left) batched ran)
 
   -- it keeps all promises, and any write list, as none is kept
   pub run_promised : (says : P → K → V → Bool → Type 0) (read : X → K → V → ℕ → Option ℕ → ℕ → Option ℕ) (ns : List ℕ) → s.settings.listening ≡ is_some l → IsPromised says read tells reads ns ns s terms left passes (with_contents s d s.predicates) l n clock clock_after
   run_promised says read ns listening = record {
     readings = ran_by_terms.readings;
-    notices = when_listening s.settings.listening (left_in_run s (choices s simple terms q by_state applied_to_state ran_by_terms));
+    notices = when_listening s.settings.listening (left_in_run s (choices s simple terms q by_state applied_to_state sketched ran_by_terms));
     run =
         promised_is_listed says read ns s terms _ _ (with_contents s d s.predicates) simple.unordered
-        (promised s simple terms q by_state applied_to_state ran_by_terms says read);
-    heard = promised_told s simple terms q by_state applied_to_state ran_by_terms listening;
+        (promised s simple terms q by_state applied_to_state sketched ran_by_terms says read);
+    heard = promised_told s simple terms q by_state applied_to_state sketched ran_by_terms listening;
     led = ran_by_terms.read;
   }
 
   -- a listener stays set
   pub run_keeps_listening : is_some n ≡ is_some l
-  run_keeps_listening = told_same tells m n (left_by_choices c ran.by.steps) ran.by.told ∙ told_same tells l m (left_by_writes s.capacity s.settings.policy b s.writes applied.moves) applied.told
+  run_keeps_listening = told_same tells m n (left_by_choices (unseen c) ran.by.steps) ran.by.told ∙ told_same tells l m (left_by_writes s.capacity s.settings.policy b s.writes applied.moves) applied.told
 
   -- it leaves a state from which the next may start
   pub run_leaves_simple : IsSimple (with_contents s d s.predicates)
   run_leaves_simple = record {
     enabled = simple.enabled;
-    policy = simple.policy;
     unregistered = simple.unregistered;
     unordered = simple.unordered;
-    consistent = end_consistent s simple terms q by_state applied_to_state ran_by_terms;
-    lasting = end_lasting s simple terms q by_state applied_to_state ran_by_terms;
+    consistent = end_consistent s simple terms q by_state applied_to_state sketched ran_by_terms;
+    lasting = end_lasting s simple terms q by_state applied_to_state sketched ran_by_terms;
   }
 
   -- the state is as valid as before
   pub run_leaves_valid : (eq : K → K → Bool) → IsValid eq s → IsValid eq (with_contents s d s.predicates)
-  run_leaves_valid eq valid = end_valid s simple terms q by_state applied_to_state ran_by_terms eq valid
+  run_leaves_valid eq valid = end_valid s simple terms q by_state applied_to_state sketched ran_by_terms eq valid
 
   -- once everything was sent, the report is exact, whatever the batch
   pub run_leaves_exact : IsAllSent s → IsExact (with_contents s d s.predicates)
-  run_leaves_exact = end_exact s simple terms q by_state applied_to_state ran_by_terms
+  run_leaves_exact = end_exact s simple terms q by_state applied_to_state sketched ran_by_terms

@@ -1,15 +1,26 @@
 -- What applying the queued operations makes of a store, and what the listener is told.
-use Rattle.std.specs.Prelude.{◌≡◌, ◌≢◌, ℕ, List, Option, Contains, Some, None}
+use Rattle.std.specs.Prelude.{◌≡◌, ◌≢◌, ℕ, Bool, true, List, Option, Contains, Some, None}
 use Rattle.std.specs.FinMap.{get}
 use Rattle.moka_parts.specs.declared.notification.RemovalCause.{RemovalCause}
 use Rattle.moka_parts.specs.declared.policy.EvictionPolicy.{EvictionPolicy}
+use Rattle.moka_parts.specs.declared.records.Record.{Record}
 use Rattle.moka_parts.specs.declared.records.Operation.{Operation}
 use Rattle.moka_parts.specs.declared.records.Operation.TheVariants.{Removal}
 use Rattle.moka_parts.specs.declared.records.Ticketed.{Ticketed}
 use Rattle.moka_parts.specs.State.{Contents}
-use Rattle.moka_parts.specs.Writes.{after_write, after_writes, left_by_write, left_by_writes, AreMoves, AreAllMoves}
+use Rattle.moka_parts.specs.Candidates.{are_unsettled, victims_for}
+use Rattle.moka_parts.specs.Writes.{after_fate, left_by_fate, fate_by_frequency, after_write, after_writes, left_by_write, left_by_writes, AreMoves, AreAllMoves}
+use Rattle.moka_parts.specs.Maintenance.{with_sketch}
 use Rattle.moka_store.specs.Store.{Kept}
 use Rattle.moka_maintenance.specs.Steps.{Told}
+
+module _ {K V L : Type 0} (tells : L → K → V → RemovalCause → L → Type 0) where
+  -- a candidate of this number was compared, as one for which there is no room, and has the fate that its frequency decides
+  pub record IsCompared (before after : Contents K V) (number generation weight hash : ℕ) (r : Record K V) (l m : Option L) : Type 0 where
+    pub moved : List ℕ
+    pub unsettled : are_unsettled before.records moved ≡ true
+    pub led : after ≡ after_fate before number generation weight moved r (fate_by_frequency before hash (victims_for before weight))
+    pub told : Told tells l (left_by_fate before generation r (fate_by_frequency before hash (victims_for before weight))) m
 
 module _ {K V L : Type 0} (tells : L → K → V → RemovalCause → L → Type 0) (capacity : Option ℕ) (policy : EvictionPolicy) where
   -- one operation is applied
@@ -24,6 +35,16 @@ module _ {K V L : Type 0} (tells : L → K → V → RemovalCause → L → Type
     pub moves : List (List ℕ)
     pub may : AreAllMoves capacity policy before os moves
     pub led : after ≡ after_writes capacity policy before os moves
+    pub told : Told tells l (left_by_writes capacity policy before os moves) m
+
+module _ {K V L : Type 0} (tells : L → K → V → RemovalCause → L → Type 0) (capacity : Option ℕ) (policy : EvictionPolicy) (has_weigher : Bool) where
+  -- the operations are applied in order, and then the sketch is enabled where it is due
+  pub record ArePrepared (before after : Contents K V) (os : List Ticketed) (l m : Option L) : Type 0 where
+    pub moves : List (List ℕ)
+    -- memory for a longer table of the sketch was refused
+    pub is_short : Bool
+    pub may : AreAllMoves capacity policy before os moves
+    pub led : after ≡ with_sketch capacity policy has_weigher is_short (after_writes capacity policy before os moves)
     pub told : Told tells l (left_by_writes capacity policy before os moves) m
 
 -- a number that has kept its row without a record had no record before, and the operation is no removal of it

@@ -20,6 +20,10 @@ module _ {K V : Type 0} where
   abbrev pub contents_in : Kept K V → Contents K V
   contents_in k = contents_with None k
 
+  -- the contents with the sketch unseen
+  abbrev pub unseen : Contents K V → Contents K V
+  unseen c = record c { sketch = None }
+
   -- no number gains a row, and none moves
   abbrev pub AddsNoPlace : Kept K V → Kept K V → Type 0
   AddsNoPlace old new = (n p : ℕ) → get new.places n ≡ Some p → get old.places n ≡ Some p

@@ -1,94 +1,113 @@
 //! What queued reads and writes make of the records and their order.
 //!
 //! moka: `sync::base_cache::Inner::apply_reads`, `Inner::apply_writes`, `Inner::handle_upsert`.
-ghost use Rattle.std.specs.Prelude.{◌≡◌, ◌⊎◌, ◌≤◌, ℕ, [], None, Some, Contains};
+ghost use Rattle.std.specs.Prelude.{◌≡◌, ◌<◌, ◌≤◌, ℕ, [], None, Some, Contains};
 ghost use Rattle.std.specs.FinMap as finite;
 ghost use Rattle.circular_buffer.specs.Buffer.{buffer};
-ghost use Rattle.moka_parts.specs.declared.policy.EvictionPolicy.TheVariants.{Lru};
 ghost use Rattle.moka_parts.specs.declared.records.Operation.TheVariants.{Upsert, Removal};
 ghost use Rattle.moka_parts.specs.declared.records.Record.{Record};
 ghost use Rattle.moka_parts.specs.Records.{counted_of, has_room, to_back, without_member};
 ghost use Rattle.moka_parts.specs.Reads.{after_read, after_reads};
 ghost use Rattle.moka_parts.specs.Settling.{number_of};
-ghost use Rattle.moka_parts.specs.Writes.{rejected, left_by_rejection};
+ghost use Rattle.moka_parts.specs.Writes.{entered, rejected, left_by_rejection};
 ghost use Rattle.moka_store.specs.Store.{IsPlaced, IsHandle};
 ghost use Rattle.moka_maintenance.specs.declared.queued.QueuedRead.{QueuedRead};
 ghost use Rattle.moka_maintenance.specs.declared.queued.QueuedWrite.{QueuedWrite};
 ghost use Rattle.moka_maintenance.specs.Queued.{IsAt, IsReadAt, reads_of, writes_of};
-ghost use Rattle.moka_maintenance.specs.Queues.{IsApplied, AreApplied, LeavesNoRowAfter, LeavesNoRowBy};
-ghost use Rattle.moka_maintenance.specs.Steps.{contents_in, AddsNoPlace, LeavesNoRow, Told};
+ghost use Rattle.moka_maintenance.specs.Queues.{IsApplied, AreApplied, IsCompared, LeavesNoRowAfter, LeavesNoRowBy};
+ghost use Rattle.moka_maintenance.specs.Steps.{contents_in, contents_with, AddsNoPlace, LeavesNoRow, Told};
 
+use crate::choice::{choose, expel_front};
 use crate::expel::expel;
 use crate::queued::{PlacedWrite, QueuedRead, QueuedWrite};
 use circular_buffer::HeapCircularBuffer;
 use moka_parts::notification::{Listener, RemovalCause, RemovalNotifier};
 use moka_parts::policy::EvictionPolicy;
 use moka_parts::records::{Operation, ReadOperation};
+use moka_sketch::frequency_sketch::FrequencySketch;
 use moka_store::{Handle, Store};
 use std::hash::{BuildHasher, Hash};
+
+// An upsert, with the row of its record.
+#[derive(Clone, Copy)]
+struct PlacedUpsert {
+    handle: Handle,
+    generation: u64,
+    weight: u32,
+    hash: u64,
+}
 
 /// Applies all queued reads, in order. moka: `sync::base_cache::Inner::apply_reads`.
 pub fn apply_reads<K: Eq + Hash, V, S: BuildHasher>(
     store: &mut Store<K, V, S>,
+    sketch: &mut FrequencySketch,
     reads: &mut HeapCircularBuffer<QueuedRead>,
 )
     requires { (q : QueuedRead) → Contains reads.old.items q → IsReadAt store.old.places q.place q.read }
-    ensures applied { contents_in store.new ≡ after_reads (contents_in store.old) (reads_of reads.old.items) }
+    ensures applied { contents_with sketch.new store.new ≡ after_reads (contents_with sketch.old store.old) (reads_of reads.old.items) }
     ensures rest { store.new ≡ record store.old { access = store.new.access } }
     ensures reads { reads.new ≡ buffer [] reads.old.capacity }
 {
     while let Some(queued) = reads.pop_front() {
-        apply_read(store, queued);
+        apply_read(store, sketch, queued);
     }
 }
 
-// Applies a read: the member of a record in the map comes to the back.
-fn apply_read<K: Eq + Hash, V, S: BuildHasher>(store: &mut Store<K, V, S>, queued: QueuedRead)
+// Applies a read: its hash is counted, and the member of a record in the map comes to the back.
+fn apply_read<K: Eq + Hash, V, S: BuildHasher>(
+    store: &mut Store<K, V, S>,
+    sketch: &mut FrequencySketch,
+    queued: QueuedRead,
+)
     requires { IsReadAt store.old.places queued.place queued.read }
-    ensures applied { contents_in store.new ≡ after_read (contents_in store.old) queued.read }
+    ensures applied { contents_with sketch.new store.new ≡ after_read (contents_with sketch.old store.old) queued.read }
     ensures rest { store.new ≡ record store.old { access = store.new.access } }
 {
-    if let ReadOperation::Hit { number, .. } = queued.read {
-        let place = queued.place;
-        let handle = Handle { number, place };
-        if store.has_row(handle) && store.find(handle).is_some() {
-            pass(store, handle);
+    match queued.read {
+        ReadOperation::Hit { number, hash, .. } => {
+            sketch.increment(hash);
+            let place = queued.place;
+            let handle = Handle { number, place };
+            if store.has_row(handle) && store.find(handle).is_some() {
+                pass(store, handle);
+            }
         }
+        ReadOperation::Miss { hash } => sketch.increment(hash),
     }
 }
 
 /// Applies all queued writes, in order. moka: `sync::base_cache::Inner::apply_writes`.
 pub fn apply_writes<K: Eq + Hash + Drop, V: Drop, S: BuildHasher, L: Listener<K, V>>(
     store: &mut Store<K, V, S>,
+    sketch: &FrequencySketch,
     notifier: &mut RemovalNotifier<L>,
     capacity: Option<u64>,
     policy: EvictionPolicy,
     writes: &mut HeapCircularBuffer<QueuedWrite>,
 )
-    requires policy { (policy ≡ Lru) ⊎ (capacity ≡ None) }
     requires at { (q : QueuedWrite) → Contains writes.old.items q → IsAt store.old.places (number_of q.write.operation) q.write.place }
-    ensures applied { AreApplied L.tells capacity policy (contents_in store.old) (contents_in store.new) (writes_of writes.old.items) notifier.old notifier.new }
+    ensures applied { AreApplied L.tells capacity policy (contents_with sketch.now store.old) (contents_with sketch.now store.new) (writes_of writes.old.items) notifier.old notifier.new }
     ensures places { AddsNoPlace store.old store.new }
     ensures rows { LeavesNoRowBy (writes_of writes.old.items) store.old store.new }
     ensures room { store.old.room ≤ store.new.room }
     ensures writes { writes.new ≡ buffer [] writes.old.capacity }
 {
     while let Some(queued) = writes.pop_front() {
-        apply_write(store, notifier, capacity, policy, queued.write);
+        apply_write(store, sketch, notifier, capacity, policy, queued.write);
     }
 }
 
 // Applies a queued write.
 fn apply_write<K: Eq + Hash + Drop, V: Drop, S: BuildHasher, L: Listener<K, V>>(
     store: &mut Store<K, V, S>,
+    sketch: &FrequencySketch,
     notifier: &mut RemovalNotifier<L>,
     capacity: Option<u64>,
     policy: EvictionPolicy,
     write: PlacedWrite,
 )
-    requires policy { (policy ≡ Lru) ⊎ (capacity ≡ None) }
     requires at { IsAt store.old.places (number_of write.operation) write.place }
-    ensures applied { IsApplied L.tells capacity policy (contents_in store.old) (contents_in store.new) write.operation notifier.old notifier.new }
+    ensures applied { IsApplied L.tells capacity policy (contents_with sketch.now store.old) (contents_with sketch.now store.new) write.operation notifier.old notifier.new }
     ensures places { AddsNoPlace store.old store.new }
     ensures rows { LeavesNoRowAfter write.operation store.old store.new }
     ensures room { store.old.room ≤ store.new.room }
@@ -99,16 +118,16 @@ fn apply_write<K: Eq + Hash + Drop, V: Drop, S: BuildHasher, L: Listener<K, V>>(
             number,
             generation,
             weight,
-            ..
-        } => apply_upsert(
-            store,
-            notifier,
-            capacity,
-            policy,
-            Handle { number, place },
-            generation,
-            weight,
-        ),
+            hash,
+        } => {
+            let upsert = PlacedUpsert {
+                handle: Handle { number, place },
+                generation,
+                weight,
+                hash,
+            };
+            apply_upsert(store, sketch, notifier, capacity, policy, upsert);
+        }
         Operation::Removal { number, .. } => apply_removal(store, Handle { number, place }),
     }
 }
@@ -117,60 +136,113 @@ fn apply_write<K: Eq + Hash + Drop, V: Drop, S: BuildHasher, L: Listener<K, V>>(
 // the back.
 fn apply_upsert<K: Eq + Hash + Drop, V: Drop, S: BuildHasher, L: Listener<K, V>>(
     store: &mut Store<K, V, S>,
+    sketch: &FrequencySketch,
     notifier: &mut RemovalNotifier<L>,
     capacity: Option<u64>,
     policy: EvictionPolicy,
-    handle: Handle,
-    generation: u64,
-    weight: u32,
+    upsert: PlacedUpsert,
 )
-    requires policy { (policy ≡ Lru) ⊎ (capacity ≡ None) }
-    requires at { IsAt store.old.places handle.number handle.place }
-    ensures applied { (hash : ℕ) → IsApplied L.tells capacity policy (contents_in store.old) (contents_in store.new) (Upsert handle.number generation weight hash) notifier.old notifier.new }
+    requires at { IsAt store.old.places upsert.handle.number upsert.handle.place }
+    ensures applied { IsApplied L.tells capacity policy (contents_with sketch.now store.old) (contents_with sketch.now store.new) (Upsert upsert.handle.number upsert.generation upsert.weight upsert.hash) notifier.old notifier.new }
     ensures places { AddsNoPlace store.old store.new }
     ensures rows { LeavesNoRow store.old store.new }
     ensures room { store.old.room ≤ store.new.room }
 {
+    let handle = upsert.handle;
     if !store.has_row(handle) {
         return;
     }
     let Some(found) = store.find(handle) else {
         return;
     };
-    if found.applied >= generation {
+    if found.applied >= upsert.generation {
         pass(store, handle);
     } else if store.is_member(handle) {
-        store.set_applied(handle, generation);
-        store.recount(handle, weight);
-    } else if is_admitted(capacity, policy, weight) {
-        store.set_applied(handle, generation);
-        store.admit(handle, weight);
+        store.set_applied(handle, upsert.generation);
+        store.recount(handle, upsert.weight);
     } else {
-        reject(store, notifier, handle, generation);
+        admit_or_reject(store, sketch, notifier, capacity, policy, upsert);
     }
 }
 
-// Whether a record of this weight enters the access list.
-fn is_admitted(capacity: Option<u64>, policy: EvictionPolicy, weight: u32) -> bool
-    requires { (policy ≡ Lru) ⊎ (capacity ≡ None) }
-    ensures { result ≡ has_room capacity 0 weight }
+// A record outside the access list enters it or is rejected. Without room for it the policy decides, unless it alone is
+// heavier than the capacity.
+fn admit_or_reject<K: Eq + Hash + Drop, V: Drop, S: BuildHasher, L: Listener<K, V>>(
+    store: &mut Store<K, V, S>,
+    sketch: &FrequencySketch,
+    notifier: &mut RemovalNotifier<L>,
+    capacity: Option<u64>,
+    policy: EvictionPolicy,
+    upsert: PlacedUpsert,
+)
+    requires handle { IsHandle store.old upsert.handle }
+    requires apart { counted_of upsert.handle.number store.old.access ≡ None }
+    requires newer { (r : Record K V) → finite.get store.old.records upsert.handle.number ≡ Some r → r.applied < upsert.generation }
+    ensures applied { IsApplied L.tells capacity policy (contents_with sketch.now store.old) (contents_with sketch.now store.new) (Upsert upsert.handle.number upsert.generation upsert.weight upsert.hash) notifier.old notifier.new }
+    ensures places { AddsNoPlace store.old store.new }
+    ensures rows { LeavesNoRow store.old store.new }
+    ensures room { store.old.room ≤ store.new.room }
 {
-    match policy {
-        // The least recently used will leave for it.
-        EvictionPolicy::Lru => fits_alone(capacity, weight),
-        // There is room, since there is no capacity.
-        EvictionPolicy::TinyLfu => true,
+    if has_room(capacity, store.total_weight(), upsert.weight) {
+        enter(store, upsert);
+    } else if !has_room(capacity, 0, upsert.weight) {
+        reject(store, notifier, upsert.handle, upsert.generation);
+    } else {
+        match policy {
+            // The least recently used will leave for it.
+            EvictionPolicy::Lru => enter(store, upsert),
+            EvictionPolicy::TinyLfu => compare(store, sketch, notifier, upsert),
+        }
     }
 }
 
-// Whether an entry of this weight, alone, is within the capacity.
-fn fits_alone(capacity: Option<u64>, weight: u32) -> bool
-    ensures { result ≡ has_room capacity 0 weight }
+// TinyLFU admits a candidate that was seen more often than its victims, which leave, and rejects another.
+fn compare<K: Eq + Hash + Drop, V: Drop, S: BuildHasher, L: Listener<K, V>>(
+    store: &mut Store<K, V, S>,
+    sketch: &FrequencySketch,
+    notifier: &mut RemovalNotifier<L>,
+    candidate: PlacedUpsert,
+)
+    requires handle { IsHandle store.old candidate.handle }
+    requires apart { counted_of candidate.handle.number store.old.access ≡ None }
+    ensures compared { (r : Record K V) → finite.get store.old.records candidate.handle.number ≡ Some r → IsCompared L.tells (contents_with sketch.now store.old) (contents_with sketch.now store.new) candidate.handle.number candidate.generation candidate.weight candidate.hash r notifier.old notifier.new }
+    ensures places { AddsNoPlace store.old store.new }
+    ensures rows { LeavesNoRow store.old store.new }
+    ensures room { store.old.room ≤ store.new.room }
+{
+    let chosen = choose(store, sketch, candidate.weight, candidate.hash);
+    if chosen.is_preferred {
+        expel_front(store, notifier, chosen.victims);
+        enter(store, candidate);
+    } else {
+        reject(store, notifier, candidate.handle, candidate.generation);
+    }
+}
+
+// Whether so much more weight stays within the capacity, if there is one.
+fn has_room(capacity: Option<u64>, total: u128, weight: u32) -> bool
+    ensures { result ≡ has_room capacity total weight }
 {
     match capacity {
-        Some(capacity) => u64::from(weight) <= capacity,
+        Some(capacity) => {
+            let capacity = u128::from(capacity);
+            total <= capacity && u128::from(weight) <= capacity - total
+        }
         None => true,
     }
+}
+
+// The record has seen the operation, and enters the access list.
+fn enter<K: Eq + Hash, V, S: BuildHasher>(store: &mut Store<K, V, S>, upsert: PlacedUpsert)
+    requires handle { IsHandle store.old upsert.handle }
+    requires apart { counted_of upsert.handle.number store.old.access ≡ None }
+    ensures step { (r : Record K V) → finite.get store.old.records upsert.handle.number ≡ Some r → contents_in store.new ≡ entered upsert.handle.number upsert.generation upsert.weight r (contents_in store.old) }
+    ensures places { store.new.places ≡ store.old.places }
+    ensures rows { LeavesNoRow store.old store.new }
+    ensures room { store.old.room ≤ store.new.room }
+{
+    store.set_applied(upsert.handle, upsert.generation);
+    store.admit(upsert.handle, upsert.weight);
 }
 
 // The record is not kept: it leaves the map, unless it was updated since.

@@ -6,4 +6,5 @@ mod choice;
 mod expel;
 pub mod passes;
 pub mod queued;
+pub mod sketch;
 pub mod sweep;

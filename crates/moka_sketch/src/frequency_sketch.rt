@@ -108,7 +108,8 @@ impl FrequencySketch {
 
     /// The length of the table in words of sixteen counters, and 0 while the sketch is off.
     pub fn table_len(&self) -> usize
-        ensures { result ≡ length_of self.now }
+        ensures length { result ≡ length_of self.now }
+        ensures off { result ≡ 0 → self.now ≡ None }
     {
         self.words.len()
     }

@@ -1,6 +1,4 @@
 ghost use Rattle.std.specs.List.{AllByRecursion};
-ghost use Rattle.moka_parts.specs.declared.policy.EvictionPolicy.TheVariants.{Lru};
-ghost use Rattle.moka_engine.specs.BaseCache.{IsLruWhereBounded};
 ghost use Rattle.moka_drive.specs.Served.{IsServed};
 
 use super::*;
@@ -98,9 +96,7 @@ type NumberCall = Call<u64, u64, Below>;
 type NumberReply = Reply<u64, u64, Below>;
 
 /// An empty cache that evicts by recency.
-fn numbers(alloc: Global, max_capacity: Option<u64>) -> Result<Numbers, Fail>
-    requires { IsLruWhereBounded max_capacity Lru }
-{
+fn numbers(alloc: Global, max_capacity: Option<u64>) -> Result<Numbers, Fail> {
     let cache = Numbers::new(
         alloc,
         None,

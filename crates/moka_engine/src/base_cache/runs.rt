@@ -78,8 +78,10 @@ impl<
             capacity: self.max_capacity,
         };
         let notifier = &mut self.notifier;
+        let (capacity, policy) = (self.max_capacity, self.eviction_policy);
+        let has_weigher = self.weigher.is_some();
         self.inner
-            .apply_queues(notifier, self.max_capacity, self.eviction_policy);
+            .apply_queues(notifier, capacity, policy, has_weigher);
         let ran = self.inner.make_passes(notifier, clock, tests, limit, batch);
         self.entry_count = self.inner.member_count() as u64;
         self.weighted_size = saturated(self.inner.total_weight());

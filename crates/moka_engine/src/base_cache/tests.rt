@@ -1,7 +1,5 @@
 ghost use Rattle.std.specs.Prelude.{None};
 ghost use Rattle.moka_parts.specs.Closures.{CanAlwaysAsk, HasOneAnswer};
-ghost use Rattle.moka_parts.specs.declared.policy.EvictionPolicy.TheVariants.{Lru};
-ghost use Rattle.moka_engine.specs.BaseCache.{IsLruWhereBounded};
 
 use super::*;
 use moka_parts::closures::{ByClosure, NoPredicate, PairFn};

@@ -4,7 +4,7 @@ use Rattle.moka_parts.specs.Reads.{after_reads}
 use Rattle.moka_store.specs.Store.{Kept}
 use Rattle.moka_maintenance.specs.declared.queued.QueuedRead.{QueuedRead}
 use Rattle.moka_maintenance.specs.Queued.{IsReadAt, reads_of}
-use Rattle.moka_maintenance.specs.Steps.{contents_in}
+use Rattle.moka_maintenance.specs.Steps.{contents_with}
 use Rattle.moka_maintenance.proofs.Popped.{popped, first_in, rest_in}
 use Rattle.moka_maintenance.proofs.admission.apply_reads.Goals as goal
 
@@ -18,7 +18,7 @@ loop-queued-preserved g c =
     let value = sym c.in-Some.ensures.value in
     let split = popped c.loop-queued.reads.items c.in-Some.queued value in
     record {
-      left = rw (c.apply_read.ensures.applied, c.in-Some.ensures.items) (sym (ap (λ qs. after_reads (contents_in c.loop-queued.store) (reads_of qs)) split) ∙ inv.left);
+      left = rw (c.apply_read.ensures.applied, c.in-Some.ensures.items) (sym (ap (λ qs. after_reads (contents_with c.loop-queued.sketch c.loop-queued.store) (reads_of qs)) split) ∙ inv.left);
       rest = c.apply_read.ensures.rest ∙ ap (λ (k : Kept g.row.K.Denot g.row.V.Denot). record k { access = c.apply_read.new.store.access }) inv.rest;
       located = λ q there.
           subst (λ (k : Kept g.row.K.Denot g.row.V.Denot). IsReadAt k.places q.place q.read) (sym c.apply_read.ensures.rest)

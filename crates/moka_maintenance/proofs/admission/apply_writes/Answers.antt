@@ -3,8 +3,8 @@ use Rattle.circular_buffer.specs.Buffer.{Buffer}
 use Rattle.moka_maintenance.specs.declared.queued.QueuedWrite.{QueuedWrite}
 use Rattle.moka_maintenance.specs.Queued.{writes_of}
 use Rattle.moka_maintenance.specs.Queues.{AreApplied, LeavesNoRowBy}
-use Rattle.moka_maintenance.specs.Steps.{contents_in}
-use Rattle.moka_maintenance.proofs.AllApplied.{applied-then}
+use Rattle.moka_maintenance.specs.Steps.{contents_with}
+use Rattle.moka_maintenance.proofs.AllApplied.{applied-none, applied-then}
 use Rattle.moka_maintenance.proofs.Placed.{places-on, rows-none, rows-then}
 use Rattle.moka_maintenance.proofs.Popped.{popped, none_first, rest_in}
 use Rattle.moka_maintenance.proofs.admission.apply_writes.Goals as goal
@@ -21,9 +21,9 @@ loop-queued-preserved g c =
     record {
       applied = λ d m are.
           inv.applied d m
-          (subst (λ (qs : List QueuedWrite). AreApplied g.L.Listener.tells c.args.capacity c.args.policy (contents_in store) d (writes_of qs) c.loop-queued.notifier m) (sym split)
-          (applied-then g.L.Listener.tells c.args.capacity c.args.policy (contents_in store) (contents_in next) d c.in-Some.queued.write.operation c.in-Some.queued.ticket _ c.loop-queued.notifier c.apply_write.new.notifier m made.applied
-          (subst (λ (qs : List QueuedWrite). AreApplied g.L.Listener.tells c.args.capacity c.args.policy (contents_in next) d (writes_of qs) c.apply_write.new.notifier m) items are)));
+          (subst (λ (qs : List QueuedWrite). AreApplied g.L.Listener.tells c.args.capacity c.args.policy (contents_with c.args.sketch.now store) d (writes_of qs) c.loop-queued.notifier m) (sym split)
+          (applied-then g.L.Listener.tells c.args.capacity c.args.policy (contents_with c.args.sketch.now store) (contents_with c.args.sketch.now next) d c.in-Some.queued.write.operation c.in-Some.queued.ticket _ c.loop-queued.notifier c.apply_write.new.notifier m made.applied
+          (subst (λ (qs : List QueuedWrite). AreApplied g.L.Listener.tells c.args.capacity c.args.policy (contents_with c.args.sketch.now next) d (writes_of qs) c.apply_write.new.notifier m) items are)));
       rows = λ k kept are.
           inv.rows k (places-on store next k made.places kept)
           (subst (λ (qs : List QueuedWrite). LeavesNoRowBy (writes_of qs) store k) (sym split)
@@ -34,6 +34,13 @@ loop-queued-preserved g c =
           inv.located q (rest_in c.loop-queued.writes.items c.in-Some.queued q value (subst (λ (b : Buffer QueuedWrite). Contains b.items q) c.in-Some.ensures.items there)) p (made.places _ p at);
       capacity = ap (λ (b : Buffer QueuedWrite). b.capacity) c.in-Some.ensures.items ∙ inv.capacity;
     }
+
+pub returns-clause-applied : goal.returns-clause-applied
+returns-clause-applied g c =
+    let empty = none_first c.loop-queued.writes.items c.in_default.ensures.value in
+    let k = contents_with c.args.sketch.now c.loop-queued.store in
+    c.loop-queued.invariant.applied k c.loop-queued.notifier
+    (subst (λ (qs : List QueuedWrite). AreApplied g.L.Listener.tells c.args.capacity c.args.policy k k (writes_of qs) c.loop-queued.notifier c.loop-queued.notifier) (sym empty) (applied-none g.L.Listener.tells c.args.capacity c.args.policy k c.loop-queued.notifier))
 
 pub returns-clause-rows : goal.returns-clause-rows
 returns-clause-rows g c =

@@ -1,0 +1,58 @@
+//! When the frequency sketch comes on, and how long its table is.
+//!
+//! moka: `sync::base_cache::Inner::should_enable_frequency_sketch`, `Inner::enable_frequency_sketch`.
+ghost use Rattle.std.specs.Prelude.{◌≡◌, ◌<◌, Bool, Some};
+ghost use Rattle.moka_sketch.specs.Frequency.{size_asked};
+ghost use Rattle.moka_parts.specs.Maintenance.{is_sketch_due, with_sketch};
+ghost use Rattle.moka_maintenance.specs.Steps.{contents_with};
+
+use moka_parts::policy::EvictionPolicy;
+use moka_sketch::frequency_sketch::{FrequencySketch, sketch_capacity};
+use moka_store::Store;
+use std::hash::{BuildHasher, Hash};
+
+/// Makes the sketch's table under TinyLFU, once half of a capacity other than 0 is taken. It has about a word for each
+/// entry that finds room: with a weigher, as many as find room at the mean weight of today's. Where memory for so long
+/// a table is refused, it has 128 words.
+pub fn enable_frequency_sketch<K: Eq + Hash, V, S: BuildHasher>(
+    store: &Store<K, V, S>,
+    sketch: &mut FrequencySketch,
+    capacity: Option<u64>,
+    policy: EvictionPolicy,
+    has_weigher: bool,
+)
+    ensures { (is_short : Bool) × (contents_with sketch.new store.now ≡ with_sketch capacity policy has_weigher is_short (contents_with sketch.old store.now)) }
+{
+    let Some(capacity) = capacity else {
+        return;
+    };
+    let weight = store.total_weight();
+    if !is_due(sketch, capacity, policy, weight) {
+        return;
+    }
+    let size = size_asked(has_weigher, capacity, store.member_count(), weight);
+    let _refused = sketch.ensure_capacity(u64::from(sketch_capacity(size)));
+}
+
+// Whether the sketch is to come on.
+fn is_due(sketch: &FrequencySketch, capacity: u64, policy: EvictionPolicy, weight: u128) -> bool
+    ensures { result ≡ is_sketch_due (Some capacity) policy sketch.now weight }
+{
+    let is_tiny_lfu = match policy {
+        EvictionPolicy::TinyLfu => true,
+        EvictionPolicy::Lru => false,
+    };
+    is_tiny_lfu && sketch.table_len() == 0 && capacity != 0 && u128::from(capacity / 2) <= weight
+}
+
+// The size that is asked for: as many entries as find room at their mean weight, which is 1 without a weigher.
+fn size_asked(has_weigher: bool, capacity: u64, members: usize, weight: u128) -> u64
+    requires { 0 < capacity }
+    ensures { result ≡ size_asked has_weigher capacity members weight }
+{
+    if !has_weigher {
+        return capacity;
+    }
+    let held = (members as u128).saturating_mul(weight) / u128::from(capacity);
+    held.min(u128::from(u64::MAX)) as u64
+}
