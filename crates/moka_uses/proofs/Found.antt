@@ -1,0 +1,88 @@
+-- What was put into an empty cache is found.
+use Rattle.std.proofs.Common.{◌≡◌, refl, ℕ, Bool, true, false, List, [], Option, Some, None, Ok, option_map, ap, sym, subst, ◌∙◌, inl, inr, true≢false}
+use Rattle.std.specs.Cmp.{IsEquivalence}
+use Rattle.std.specs.FinMap.{get, insert, empty}
+use Rattle.moka_parts.specs.declared.calls.Entry.{Entry}
+use Rattle.moka_parts.specs.declared.calls.Ticket.{Ticket}
+use Rattle.moka_parts.specs.declared.policy.Instant.{Instant}
+use Rattle.moka_parts.specs.declared.records.Operation.{Operation}
+use Rattle.moka_parts.specs.declared.records.Record.{Record}
+use Rattle.moka_parts.specs.Calls.{InsertsAt, InsertStep, new_record, SendsAt, SendStep, GetsAt, GetStep}
+use Rattle.moka_parts.specs.Housekeeping.{Housekeeping}
+use Rattle.moka_parts.specs.Maintenance.{Terms, Course}
+use Rattle.moka_parts.specs.Records.{Notice, Records, record_of_key}
+use Rattle.moka_parts.specs.State.{State, Settings, Events, new_state, is_disabled}
+use Rattle.moka_parts.proofs.Lookup.{record_of_key_empty, present_key}
+use Rattle.moka_parts.proofs.Maps.{get_inserted, get_past_insert, nothing_at, same_or_apart}
+
+-- a map with one record has it at its key
+pub one_record : {K V : Type 0} (eq : K → K → Bool) → IsEquivalence eq → (key : K) (n : ℕ) (r : Record K V) → eq key r.key ≡ true → record_of_key eq (insert empty n r) key ≡ Some r
+one_record {K} {V} eq laws key n r same = present_key eq one key laws (λ a b p q at bt alike. only a p at ∙ sym (only b q bt)) n r (get_inserted empty n r) same
+  where
+    one : Records K V
+    one = insert empty n r
+
+    only : (a : ℕ) (p : Record K V) → get one a ≡ Some p → a ≡ n
+    only a p at = elim (same_or_apart a n) [ inl e ↦ e | inr apart ↦ absurd (nothing_at a p (sym (get_past_insert empty n r a apart) ∙ at)) ]
+
+-- a send changes neither records, nor predicates, nor what hides them
+pub record HidesAlike {K V X P W : Type 0} (s t : State K V X P W) : Type 0 where
+  pub records : t.records ≡ s.records
+  pub predicates : t.predicates ≡ s.predicates
+  pub bound : t.invalid_before ≡ s.invalid_before
+  pub capacity : t.capacity ≡ s.capacity
+  pub settings : t.settings ≡ s.settings
+
+sent_hides_alike : {K V X P W : Type 0} (s : State K V X P W) (ticket : ℕ) (u : Unit {0}) (t : State K V X P W) → SendStep s ticket (Ok u) t → HidesAlike s t
+sent_hides_alike {K} {V} {X} {P} {W} s ticket u t step = go (get s.outstanding ticket) step
+  where
+    go : (o : Option Operation) → SendsAt s ticket o (Ok u) t → HidesAlike s t
+    go (Some o) h = subst (HidesAlike s) (sym h.1) (record { records = refl; predicates = refl; bound = refl; capacity = refl; settings = refl })
+    go None h = absurd h
+
+module _ {K V X P W : Type 0} (eq : K → K → Bool) (says : P → K → V → Bool → Type 0) (read : X → K → V → ℕ → Option ℕ → ℕ → Option ℕ) (Runs : State K V X P W → Terms → Course → List (Notice K V) → State K V X P W → Type 0) where
+  -- the record is the key's, and nothing hides it
+  pub record IsOpen (s : State K V X P W) (key : K) (r : Record K V) : Type 0 where
+    pub here : record_of_key eq s.records key ≡ Some r
+    pub unhidden : s.predicates ≡ []
+    pub valid : s.invalid_before ≡ None
+    pub live : s.settings.time_to_live ≡ None
+    pub idle : s.settings.time_to_idle ≡ None
+    pub unexpiring : r.expires ≡ None
+    pub enabled : is_disabled s.capacity ≡ false
+
+  -- a get finds it
+  got : (s : State K V X P W) (key : K) (r : Record K V) → IsOpen s key r → (hash : ℕ) (need_key : Bool) (now : ℕ) (found : Option (Entry K V)) (e : Events K V) (t : State K V X P W) → GetStep says read Runs eq s key hash need_key false now (Ok found) e t → option_map (λ x. x.value) found ≡ Some r.value
+  got s key r shown hash need_key now found e t step = at found (rw (shown.enabled, shown.here) at step)
+    where
+      at : (found : Option (Entry K V)) → GetsAt says read Runs s (Some r) hash need_key false now (Ok found) e t → option_map (λ x. x.value) found ≡ Some r.value
+      at None h = elim (h.0) [
+        | inl ignored ↦ absurd (true≢false (sym ignored))
+        | inr hidden ↦ absurd (elim (rw (shown.unhidden, shown.valid, shown.live, shown.idle, shown.unexpiring) at hidden) [ inl b ↦ true≢false (sym b) | inr none ↦ none ])
+      ]
+      at (Some entry) h = ap Some h.1
+
+  module _ (created : X → K → V → ℕ → Option ℕ) (updated : X → K → V → ℕ → Option ℕ → Option ℕ) (weighs : W → K → V → ℕ → Type 0) where
+    -- what was put into a new cache without times, and sent, is found
+    pub finds_what_was_put : IsEquivalence eq → (settings : Settings X W) (capacity : Option ℕ) (first_ticket : ℕ) (h : Housekeeping) (old : State K V X P W) → old ≡ record (new_state settings capacity 0 first_ticket) { housekeeping = h }
+        → settings.time_to_live ≡ None → settings.time_to_idle ≡ None → settings.expiry ≡ None → is_disabled capacity ≡ false
+        → (key : K) (hash : ℕ) (value : V) (now : Instant) (a : Ticket × Instant) (e : Events K V) (s : State K V X P W) → InsertStep created updated weighs eq old key hash value now (Ok a) e s
+        → (ticket : ℕ) (u : Unit {0}) (t : State K V X P W) → SendStep s ticket (Ok u) t
+        → (get_hash : ℕ) (need_key : Bool) (at : ℕ) (found : Option (Entry K V)) (f : Events K V) (v : State K V X P W) → GetStep says read Runs eq t key get_hash need_key false at (Ok found) f v
+        → option_map (λ x. x.value) found ≡ Some value
+    finds_what_was_put laws settings capacity first_ticket h old is live idle expiry enabled key hash value now a e s put ticket u t sent get_hash need_key at found f v gets =
+        let step : InsertsAt created updated weighs new None key hash value now (Ok a) e s = subst (λ o. InsertsAt created updated weighs new o key hash value now (Ok a) e s) (record_of_key_empty eq key) (subst (λ x. InsertStep created updated weighs eq x key hash value now (Ok a) e s) is put) in
+        let alike = sent_hides_alike s ticket u t sent in
+        let r = new_record created updated new key hash value now step.0 in
+        got t key r (record {
+          here = ap (λ m. record_of_key eq m key) (alike.records ∙ ap (λ x. x.records) step.5) ∙ one_record eq laws key 1 r (laws.refl key);
+          unhidden = alike.predicates ∙ ap (λ x. x.predicates) step.5;
+          valid = alike.bound ∙ ap (λ x. x.invalid_before) step.5;
+          live = ap (λ x. x.time_to_live) (alike.settings ∙ ap (λ x. x.settings) step.5) ∙ live;
+          idle = ap (λ x. x.time_to_idle) (alike.settings ∙ ap (λ x. x.settings) step.5) ∙ idle;
+          unexpiring = rw expiry refl;
+          enabled = ap is_disabled (alike.capacity ∙ ap (λ x. x.capacity) step.5) ∙ enabled;
+        }) get_hash need_key at found f v gets
+      where
+        new : State K V X P W
+        new = record (new_state settings capacity 0 first_ticket) { housekeeping = h }

@@ -1,0 +1,4 @@
+pub mod Numbers
+pub mod Found
+pub mod Sent
+pub mod Told

@@ -1,0 +1,35 @@
+//! A cache whose operations are sent late, and not in the order in which they were handed out.
+ghost use Rattle.std.specs.Prelude.{IfOk};
+ghost use Rattle.moka_parts.specs.Exact.{IsExact};
+
+use anyhow::Result;
+use moka_engine::{Cache, CacheConfig, FixedClock, Instant};
+use std::alloc::Global;
+
+/// Inserts two entries, sends the second one's operation before the first one's, and makes a run. The count and the
+/// weight that the cache reports are exactly its records'.
+pub fn send_in_other_order(alloc: Global) -> Result<Cache<u64, u64>>
+    ensures { IfOk result (λ cache. IsExact cache.state) }
+{
+    let now = Instant(0);
+    let mut cache: Cache<u64, u64> = CacheConfig::default().build(alloc, now)?;
+    let (one, other) = (cache.hash(&1), cache.hash(&2));
+    let (first, _) = cache.do_insert_with_hash(1, one, 10, now)?;
+    let (second, _) = cache.do_insert_with_hash(2, other, 20, now)?;
+    cache.send(second)?;
+    cache.send(first)?;
+    cache.run_pending_tasks(now, &mut FixedClock(now), None, 1, 384);
+    Ok(cache)
+}
+
+#[cfg(test)]
+mod tests {
+    use super::*;
+
+    #[test]
+    fn counts_both(rt: HostRuntime) -> Result<()> {
+        let cache = send_in_other_order(rt.alloc())?;
+        assert_eq!(rt; (cache.entry_count(), cache.weighted_size()), (2, 2));
+        Ok(())
+    }
+}

@@ -1,0 +1,55 @@
+//! A cache with a listener that counts what leaves.
+ghost use Rattle.std.specs.Prelude.{◌≡◌, Some, IfOk};
+
+use anyhow::Result;
+use moka_engine::{Cache, CacheConfig, Instant, Listener, NoExpiry, RemovalCause};
+use std::alloc::Global;
+
+/// Counts the values that leave.
+#[derive(Clone, Copy, Debug, PartialEq, Eq)]
+pub struct Counter {
+    pub count: u64,
+}
+
+impl<K: Drop, V: Drop> Listener<K, V> for Counter {
+    ghost use Rattle.std.specs.Prelude.{◌≡◌, ◌+◌, min};
+    ghost use Rattle.moka_parts.specs.Time.{greatest};
+
+    ghost tells = { λ before _ _ _ after. after ≡ record { count = min (before.count + 1) greatest } };
+
+    fn notify(&mut self, _: K, _: V, _: RemovalCause) {
+        self.count = self.count.saturating_add(1);
+    }
+}
+
+/// Puts two values under one key, of which the first leaves: the listener has counted one.
+pub fn replace(
+    alloc: Global,
+    key: u64,
+    first: u64,
+    second: u64,
+) -> Result<Cache<u64, u64, NoExpiry, Counter>>
+    ensures { IfOk result (λ cache. cache.listener ≡ Some (record { count = 1 })) }
+{
+    let now = Instant(0);
+    let config = CacheConfig::default().eviction_listener(Counter { count: 0 });
+    let mut cache: Cache<u64, u64, NoExpiry, Counter> = config.build(alloc, now)?;
+    let hash = cache.hash(&key);
+    let (put, _) = cache.do_insert_with_hash(key, hash, first, now)?;
+    cache.send(put)?;
+    let (replaced, _) = cache.do_insert_with_hash(key, hash, second, now)?;
+    cache.send(replaced)?;
+    Ok(cache)
+}
+
+#[cfg(test)]
+mod tests {
+    use super::*;
+
+    #[test]
+    fn counts_the_replaced_value(rt: HostRuntime) -> Result<()> {
+        let cache = replace(rt.alloc(), 1, 10, 20)?;
+        assert_eq!(rt; cache.listener(), Some(&Counter { count: 1 }));
+        Ok(())
+    }
+}
