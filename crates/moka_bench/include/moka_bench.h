@@ -1,0 +1,50 @@
+/* Drives a cache of the engine through a whole stream of operations, and counts what it answers.
+
+   The cache is made inside and given up again: no handle crosses the border, no state is kept between calls, and all
+   that crosses are bytes. A stream's timed part is the difference of two calls: its set-up alone, and both parts.
+
+   Words have 64 bits, the least byte first. Keys and values are numbers of 64 bits.
+
+   config: 16 words.
+     0  capacity            2^64-1: none
+     1  time to live        2^64-1: none; no other is served
+     2  time to idle        2^64-1: none; no other is served
+     3  policy              1: LRU; no other is served
+     4  expiry              0: none; no other is served
+     5  automatic runs      1: the driver makes a run of maintenance before a get where 64 reads were made since the
+                            last one, and before a send where 64 operations were sent since; else: none
+     6  initial capacity    for how many entries room is made at once
+     7  hasher              0: one folded multiplication, 1: SipHash-1-3
+     8  strings             0: none; no other is served
+     9  step                how far the clock goes on before each operation, in nanoseconds
+     10 to 15               not read
+
+   stream: phases, one after the other; each has a header of 4 words (operation, number of words n, argument, any) and n
+   words. The clock begins at 0. A put of k inserts k + 1, modulo 2^64, under k, and sends the operation; if the queue is
+   full, a run is made and the operation sent again. A run has no limit, 4 repeats and a batch of 384.
+     1  get                 words: keys
+     2  put                 words: keys
+     3  read through        words: keys; a get, and a put at the same moment where nothing was found
+     5  run                 no words; argument: the batch
+     6  tick                no words; argument: how far the clock goes on, in nanoseconds
+     7  gets and runs       words: keys, argument g: gets, with a run after each g of them and one at the end
+     8  puts and runs       words: keys, argument g: puts, with a run after each g of them and one at the end; no run is
+                            made by the driver but where the queue is full
+
+   counts: 8 words: hits, misses, inserts, the sum of the values that were found modulo 2^64, the entry count of the last
+   run, 0, 0, 0. They are written where the answer is 0.
+
+   The answer: 0; 1 where the configuration is not served, or config or counts have another length; 2 where memory was
+   refused; 3 where the stream is malformed: an operation that is not listed, or a phase that is cut short. */
+
+#ifndef MOKA_BENCH_H
+#define MOKA_BENCH_H
+
+#include <stddef.h>
+#include <stdint.h>
+
+uint64_t moka_bench_run(const uint8_t *config, size_t config_len,
+                        const uint8_t *stream, size_t stream_len,
+                        uint8_t *counts, size_t counts_len);
+
+#endif

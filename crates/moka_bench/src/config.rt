@@ -1,0 +1,65 @@
+//! What a caller sets, as 16 words.
+ghost use Rattle.std.specs.Prelude.{◌≡◌, ◌<◌, length};
+ghost use Rattle.moka_bench.specs.Config.{is_served, word_at};
+
+// The number that stands for no capacity, no time to live and no time to idle.
+const NONE: u64 = u64::MAX;
+
+// How many bytes the configuration and the counts have.
+const CONFIG_LENGTH: usize = 128;
+
+const COUNTS_LENGTH: usize = 64;
+
+/// How a cache is made and driven.
+#[derive(Clone, Copy)]
+pub struct Config {
+    pub max_capacity: Option<u64>,
+    pub initial_capacity: usize,
+    /// Whether the driver makes runs by itself.
+    pub is_automatic: bool,
+    /// Whether keys are hashed by SipHash, and else by folding.
+    pub is_sip: bool,
+    /// How far the clock goes on before each operation, in nanoseconds.
+    pub step: u64,
+}
+
+impl Config {
+    /// The settings that these bytes say.
+    pub fn read(bytes: &[u8]) -> Config {
+        Config {
+            max_capacity: match word(bytes, 0) {
+                NONE => None,
+                capacity => Some(capacity),
+            },
+            initial_capacity: word(bytes, 6) as usize,
+            is_automatic: word(bytes, 5) == 1,
+            is_sip: word(bytes, 7) == 1,
+            step: word(bytes, 9),
+        }
+    }
+}
+
+/// Whether lengths and settings are served: LRU and numbers, with no expiry and no times.
+pub fn is_served(bytes: &[u8], counts: usize) -> bool
+    ensures { result ≡ is_served bytes.now counts }
+{
+    bytes.len() == CONFIG_LENGTH
+        && counts == COUNTS_LENGTH
+        && word(bytes, 1) == NONE
+        && word(bytes, 2) == NONE
+        && word(bytes, 3) == 1
+        && word(bytes, 4) == 0
+        && word(bytes, 7) <= 1
+        && word(bytes, 8) == 0
+}
+
+// The word at an index, 0 past the end.
+fn word(bytes: &[u8], index: usize) -> u64
+    ensures { result ≡ word_at bytes.now index }
+{
+    let (words, _) = bytes.as_chunks::<8>();
+    match words.get(index) {
+        Some(word) => u64::from_le_bytes(*word),
+        None => 0,
+    }
+}

@@ -1,0 +1,169 @@
+//! The engine behind one function on bytes, for programs that time it: `include/moka_bench.h`.
+#![tactic(auto)]
+
+ghost use Rattle.std.specs.Prelude.{◌≡◌, ◌≢◌, ◌≤◌, ◌↔◌, true, false, length, Err, OnOk};
+ghost use Rattle.moka_bench.specs.Config.{is_served};
+ghost use Rattle.moka_bench.specs.Phases.{is_well_formed};
+ghost use Rattle.moka_bench.specs.declared.driver.Failure.TheVariants.{Malformed};
+
+mod config;
+mod driver;
+mod phases;
+
+use crate::config::{Config, is_served};
+use crate::driver::{Counts, Driver, Failure};
+use crate::phases::drive;
+use std::alloc::Global;
+use std::hash::{BuildHasher, BuildHasherDefault, DefaultHasher, FoldHasher};
+
+// What the exported function answers.
+const DONE: u64 = 0;
+
+const NOT_SERVED: u64 = 1;
+
+const OUT_OF_MEMORY: u64 = 2;
+
+const MALFORMED: u64 = 3;
+
+/// Makes a cache, drives it through a stream of operations, and writes what it counted into `counts`.
+///
+/// The answer is 0, 1 if the configuration is not served, 2 if memory was refused, and 3 if the stream is malformed;
+/// `counts` is written at 0 alone.
+#[unsafe(no_mangle)]
+pub extern "C" fn moka_bench_run(
+    alloc: Global,
+    config: &[u8],
+    stream: &[u8],
+    counts: &mut [u8],
+) -> u64
+    ensures answers { result ≤ 3 }
+    ensures not_served { (result ≡ 1) ↔ (is_served config.now (length counts.old) ≡ false) }
+    ensures length { length counts.new ≡ length counts.old }
+    ensures kept { result ≢ 0 → counts.new ≡ counts.old }
+    ensures done { result ≡ 0 → is_well_formed stream.now ≡ true }
+    ensures malformed { result ≡ 3 → is_well_formed stream.now ≡ false }
+{
+    if !is_served(config, counts.len()) {
+        return NOT_SERVED;
+    }
+    let config = Config::read(config);
+    let counted = if config.is_sip {
+        let hasher: BuildHasherDefault<DefaultHasher> = BuildHasherDefault::default();
+        run(alloc, hasher, config, stream)
+    } else {
+        let hasher: BuildHasherDefault<FoldHasher> = BuildHasherDefault::default();
+        run(alloc, hasher, config, stream)
+    };
+    match counted {
+        Ok(counted) => {
+            counts.copy_from_slice(counted.words().as_flattened());
+            DONE
+        }
+        Err(Failure::OutOfMemory) => OUT_OF_MEMORY,
+        Err(Failure::Malformed) => MALFORMED,
+    }
+}
+
+// Drives a new cache through the stream.
+fn run<S: BuildHasher + Clone + Drop>(
+    alloc: Global,
+    hasher: S,
+    config: Config,
+    stream: &[u8],
+) -> Result<Counts, Failure>
+    ensures done { OnOk result (is_well_formed stream.now ≡ true) }
+    ensures malformed { result ≡ Err Malformed → is_well_formed stream.now ≡ false }
+{
+    let Ok(mut driver) = Driver::new(alloc, hasher, config) else {
+        return Err(Failure::OutOfMemory);
+    };
+    let (words, _) = stream.as_chunks::<8>();
+    if !drive(&mut driver, words) {
+        return Err(Failure::Malformed);
+    }
+    match driver.counts() {
+        Some(counts) => Ok(counts),
+        None => Err(Failure::OutOfMemory),
+    }
+}
+
+#[cfg(test)]
+mod tests {
+    use super::*;
+    use std::alloc::AllocError;
+    use std::test::Fail;
+
+    const NONE: u64 = u64::MAX;
+
+    fn bytes(alloc: Global, words: &[u64]) -> Result<Vec<u8>, AllocError> {
+        let mut bytes = Vec::new(alloc);
+        for word in words {
+            bytes.extend_from_slice(&word.to_le_bytes())?;
+        }
+        Ok(bytes)
+    }
+
+    /// The answer for a capacity and a stream, with the first five counts.
+    fn counted(
+        alloc: Global,
+        capacity: u64,
+        hasher: u64,
+        stream: &[u64],
+    ) -> Result<(u64, [u64; 5]), AllocError> {
+        let config = [
+            capacity, NONE, NONE, 1, 0, 1, 0, hasher, 0, 1, 0, 0, 0, 0, 0, 0,
+        ];
+        let config = bytes(alloc, &config)?;
+        let stream = bytes(alloc, stream)?;
+        let mut counts = [7; 64];
+        let answer = moka_bench_run(alloc, &config, &stream, &mut counts);
+        let (words, _) = counts.as_chunks::<8>();
+        let mut first = [0; 5];
+        for (to, word) in first.iter_mut().zip(words) {
+            *to = u64::from_le_bytes(*word);
+        }
+        Ok((answer, first))
+    }
+
+    #[test]
+    fn counts_what_a_stream_finds(rt: HostRuntime) -> Result<(), Fail> {
+        // Three keys are read through, a run evicts the oldest, and the two that are left are found.
+        let stream = [
+            3, 4, 0, 0, 10, 20, 10, 30, 5, 0, 384, 0, 7, 3, 2, 0, 20, 10, 30, 6, 0, 5, 0,
+        ];
+        for hasher in [0, 1] {
+            let (answer, counts) = counted(rt.alloc(), 2, hasher, &stream)?;
+            assert_eq!(rt; answer, 0);
+            assert_eq!(rt; counts, [3, 4, 3, 63, 2]);
+        }
+        Ok(())
+    }
+
+    #[test]
+    fn writes_nothing_where_it_fails(rt: HostRuntime) -> Result<(), Fail> {
+        let sevens = u64::from_le_bytes([7; 8]);
+        let malformed: [&[u64]; 3] = [&[4, 0, 0, 0], &[1, 2, 0, 0, 5], &[1, 0, 0]];
+        for stream in malformed {
+            let (answer, counts) = counted(rt.alloc(), NONE, 0, stream)?;
+            assert_eq!(rt; (answer, counts), (3, [sevens; 5]));
+        }
+        let (answer, counts) = counted(rt.alloc(), NONE, 2, &[])?;
+        assert_eq!(rt; (answer, counts), (1, [sevens; 5]));
+        Ok(())
+    }
+
+    #[test]
+    fn puts_with_a_full_queue(rt: HostRuntime) -> Result<(), Fail> {
+        let mut stream = Vec::new(rt.alloc());
+        for word in [8, 1000, 900, 0] {
+            stream.push(word)?;
+        }
+        for key in 0..1000 {
+            stream.push(key)?;
+        }
+        let (answer, counts) = counted(rt.alloc(), NONE, 0, &stream)?;
+        assert_eq!(rt; answer, 0);
+        assert_eq!(rt; counts, [0, 0, 1000, 0, 1000]);
+        Ok(())
+    }
+}

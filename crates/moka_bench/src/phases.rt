@@ -1,0 +1,107 @@
+//! Streams of operations, in phases.
+ghost use Rattle.std.specs.Prelude.{◌≡◌, ◌<◌, length};
+ghost use Rattle.moka_bench.specs.Phases.{is_known, is_stream, number_at};
+
+use crate::driver::{BATCH, Driver};
+use std::hash::BuildHasher;
+
+// How many words a phase begins with.
+const HEADER: usize = 4;
+
+/// Drives a cache through the phases of a stream. Whether the stream is well formed.
+pub fn drive<S: BuildHasher>(driver: &mut Driver<S>, stream: &[[u8; 8]]) -> bool
+    ensures { result ≡ is_stream (length stream.now) stream.now }
+{
+    let mut rest = stream;
+    for _ in 0..stream.len() {
+        if rest.len() < HEADER {
+            return rest.is_empty();
+        }
+        let (_, body) = rest.split_at(HEADER);
+        let n = number(rest, 1);
+        if n > body.len() as u64 {
+            return false;
+        }
+        let (words, behind) = body.split_at(n as usize);
+        let operation = number(rest, 0);
+        let argument = number(rest, 2);
+        if !make(driver, operation, argument, words) {
+            return false;
+        }
+        rest = behind;
+    }
+    rest.is_empty()
+}
+
+// The number that a word says.
+fn number(words: &[[u8; 8]], index: usize) -> u64
+    requires { index < length words.now }
+    ensures { result ≡ number_at words.now index }
+{
+    u64::from_le_bytes(words[index])
+}
+
+// Makes the operations of one phase. Whether it is a known one.
+fn make<S: BuildHasher>(
+    driver: &mut Driver<S>,
+    operation: u64,
+    argument: u64,
+    words: &[[u8; 8]],
+) -> bool
+    ensures { result ≡ is_known operation }
+{
+    match operation {
+        1 => get_all(driver, words),
+        2 => put_all(driver, words, true),
+        3 => read_through(driver, words),
+        5 => driver.run(u32::try_from(argument).unwrap_or(u32::MAX)),
+        6 => driver.tick(argument),
+        7 => get_and_run(driver, words, argument),
+        8 => put_and_run(driver, words, argument),
+        _ => return false,
+    }
+    true
+}
+
+fn get_all<S: BuildHasher>(driver: &mut Driver<S>, keys: &[[u8; 8]]) {
+    for key in keys {
+        driver.step();
+        driver.get(u64::from_le_bytes(*key));
+    }
+}
+
+fn put_all<S: BuildHasher>(driver: &mut Driver<S>, keys: &[[u8; 8]], may_run: bool) {
+    for key in keys {
+        driver.step();
+        driver.put(u64::from_le_bytes(*key), may_run);
+    }
+}
+
+// Gets each key, and puts what is missing at the same moment.
+fn read_through<S: BuildHasher>(driver: &mut Driver<S>, keys: &[[u8; 8]]) {
+    for key in keys {
+        driver.step();
+        let key = u64::from_le_bytes(*key);
+        if !driver.get(key) {
+            driver.put(key, true);
+        }
+    }
+}
+
+// Gets all keys, with a run after each `count` of them and at the end.
+fn get_and_run<S: BuildHasher>(driver: &mut Driver<S>, keys: &[[u8; 8]], count: u64) {
+    for some in keys.chunks((count as usize).max(1)) {
+        get_all(driver, some);
+        driver.run(BATCH);
+    }
+    driver.run(BATCH);
+}
+
+// Puts all keys, with a run after each `count` of them and at the end.
+fn put_and_run<S: BuildHasher>(driver: &mut Driver<S>, keys: &[[u8; 8]], count: u64) {
+    for some in keys.chunks((count as usize).max(1)) {
+        put_all(driver, some, false);
+        driver.run(BATCH);
+    }
+    driver.run(BATCH);
+}
