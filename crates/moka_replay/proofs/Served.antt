@@ -10,7 +10,7 @@ use Rattle.moka_replay.specs.declared.script.settings.Setting.{Setting}
 use Rattle.moka_replay.specs.declared.script.Line.TheVariants as line
 use Rattle.moka_replay.specs.Lex.{number_of, lone_number, alone, is_printable, words_of}
 use Rattle.moka_replay.specs.Settings.{setting_of, put_in}
-use Rattle.moka_replay.specs.Calls.{CallText, told_call, key_and_moment, insert_of, send_of, get_of, contains_of, key_of, remove_of, invall_of, run_of, call_of}
+use Rattle.moka_replay.specs.Calls.{CallText, told_call, key_and_moment, insert_of, send_of, get_of, peek_of, scan_of, contains_of, key_of, remove_of, invall_of, run_of, call_of}
 use Rattle.moka_replay.specs.Script.{LineText, ScriptText, asked_by_name, asked_by, asked_in, is_comment, has_lru, joined, with_line, lines_read, lines_of, no_text, script_of}
 
 -- ---- calls
@@ -40,6 +40,12 @@ serves_send arguments = serves_then (lone_number arguments) _ (λ n. tt)
 
 serves_get : (arguments : List (List ℕ)) → Serves (get_of arguments)
 serves_get arguments = serves_then (key_and_moment arguments) _ (λ asked. tt)
+
+serves_peek : (arguments : List (List ℕ)) → Serves (peek_of arguments)
+serves_peek arguments = serves_then (key_and_moment arguments) _ (λ asked. tt)
+
+serves_scan : (arguments : List (List ℕ)) → Serves (scan_of arguments)
+serves_scan arguments = serves_then (key_and_moment arguments) _ (λ asked. tt)
 
 serves_contains : (arguments : List (List ℕ)) → Serves (contains_of arguments)
 serves_contains arguments = serves_then (key_and_moment arguments) _ (λ asked. tt)
@@ -75,13 +81,15 @@ serves_call name arguments =
     (serves_if (bytes_eq name (codes "run")) _ _ (serves_run arguments)
     (serves_if (bytes_eq name (codes "send")) _ _ (serves_send arguments)
     (serves_if (bytes_eq name (codes "get")) _ _ (serves_get arguments)
+    (serves_if (bytes_eq name (codes "peek")) _ _ (serves_peek arguments)
+    (serves_if (bytes_eq name (codes "scan")) _ _ (serves_scan arguments)
     (serves_if (bytes_eq name (codes "contains")) _ _ (serves_contains arguments)
     (serves_if (bytes_eq name (codes "key")) _ _ (serves_key arguments)
     (serves_if (bytes_eq name (codes "remove")) _ _ (serves_remove arguments)
     (serves_if (bytes_eq name (codes "invall")) _ _ (serves_invall arguments)
     (serves_if (bytes_eq name (codes "keys")) _ _ (serves_alone (Keys 0) arguments tt)
     (serves_if (bytes_eq name (codes "report")) _ _ (serves_alone Report arguments tt)
-    (serves_if (bytes_eq name (codes "pending")) (alone Pending arguments) None (serves_alone Pending arguments tt) tt))))))))))
+    (serves_if (bytes_eq name (codes "pending")) (alone Pending arguments) None (serves_alone Pending arguments tt) tt))))))))))))
 
 -- ---- lines
 

@@ -4,7 +4,7 @@ use Rattle.std.specs.Duration.{as_nanos}
 use Rattle.std.specs.declared.time.Duration.{Duration}
 use Rattle.std.specs.Str.{bytes_eq}
 use Rattle.moka_parts.specs.declared.calls.Call.{Call}
-use Rattle.moka_parts.specs.declared.calls.Call.TheVariants.{Insert, Send, Get, Contains, Key, Remove, InvalidateAll, Run, Keys, Report, Pending}
+use Rattle.moka_parts.specs.declared.calls.Call.TheVariants.{Insert, Send, Get, GetUnrecorded, Scan, Contains, Key, Remove, InvalidateAll, Run, Keys, Report, Pending}
 use Rattle.moka_parts.specs.declared.policy.Instant.{Instant}
 use Rattle.moka_replay.specs.declared.key_range.KeyRange.{KeyRange}
 use Rattle.moka_replay.specs.declared.script.calls.LineCall.{LineCall}
@@ -58,6 +58,18 @@ get_of arguments = do
   asked ← key_and_moment arguments
   Some (Get asked.0 asked.0 false asked.1)
 
+-- `peek KEY NOW`
+abbrev pub peek_of : List (List ℕ) → Option CallText
+peek_of arguments = do
+  asked ← key_and_moment arguments
+  Some (GetUnrecorded asked.0 asked.0 asked.1)
+
+-- `scan KEY NOW`
+abbrev pub scan_of : List (List ℕ) → Option CallText
+scan_of arguments = do
+  asked ← key_and_moment arguments
+  Some (Scan asked.0 asked.1)
+
 -- `contains KEY NOW`
 abbrev pub contains_of : List (List ℕ) → Option CallText
 contains_of arguments = do
@@ -108,6 +120,8 @@ call_of name arguments =
     else (if bytes_eq name (codes "run") then run_of arguments
     else (if bytes_eq name (codes "send") then send_of arguments
     else (if bytes_eq name (codes "get") then get_of arguments
+    else (if bytes_eq name (codes "peek") then peek_of arguments
+    else (if bytes_eq name (codes "scan") then scan_of arguments
     else (if bytes_eq name (codes "contains") then contains_of arguments
     else (if bytes_eq name (codes "key") then key_of arguments
     else (if bytes_eq name (codes "remove") then remove_of arguments
@@ -115,4 +129,4 @@ call_of name arguments =
     else (if bytes_eq name (codes "keys") then alone (Keys 0) arguments
     else (if bytes_eq name (codes "report") then alone Report arguments
     else (if bytes_eq name (codes "pending") then alone Pending arguments
-    else None))))))))))
+    else None))))))))))))

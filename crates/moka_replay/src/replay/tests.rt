@@ -267,6 +267,16 @@ fn replays_scripts(rt: HostRuntime) -> Result<(), Fail> {
             "ticket 1\nticket 2\nticket 3\nsent\nsent\nsent\nmore\ncount 2 weight 2 predicates 0\n\
             done\ncount 1 weight 1 predicates 0\nnotice 1 a Size\nnotice 2 b Size\ncount 1 weight 1\n",
         ),
+        (
+            "tti 10\ninsert 1 a 0\nscan 1 9\nscan 1 10\nscan 2 0\npeek 1 5\npeek 1 14\npeek 1 24\n\
+            peek 2 5\ncontains 1 23\ncontains 1 24\npending\n",
+            "ticket 1\nvalue a\nnone\nnone\nvalue a\nvalue a\nnone\nnone\nyes\nno\n\
+            handed 1 oldest 1 writes 0 reads 0\ncount 0 weight 0\n",
+        ),
+        (
+            "capacity 0\npeek 1 0\nscan 1 0\n",
+            "none\nnone\ncount 0 weight 0\n",
+        ),
         ("", "count 0 weight 0\n"),
         ("  \n# report", "count 0 weight 0\n"),
         (
@@ -436,6 +446,12 @@ fn finds_each_fault(rt: HostRuntime) -> Result<(), Fail> {
         "get x 0",
         "get 4294967296 0",
         "get 1 x",
+        "peek 1",
+        "peek x 0",
+        "peek 1 x",
+        "scan 1",
+        "scan x 0",
+        "scan 1 0 0",
         "contains 1",
         "contains 1 0 0",
         "contains x 0",

@@ -1,7 +1,7 @@
 //! The calls of a script.
 ghost use Rattle.std.specs.Prelude.{◌≡◌, option_map};
 ghost use Rattle.moka_replay.specs.Lex.{texts};
-ghost use Rattle.moka_replay.specs.Calls.{call_of, call_text, key_and_moment, insert_of, send_of, get_of, contains_of, key_of, remove_of, invall_of, run_of};
+ghost use Rattle.moka_replay.specs.Calls.{call_of, call_text, key_and_moment, insert_of, send_of, get_of, peek_of, scan_of, contains_of, key_of, remove_of, invall_of, run_of};
 
 use crate::key_range::KeyRange;
 use crate::lex::{alone, lone_number, number, small_number};
@@ -106,6 +106,26 @@ fn get(arguments: &[&str]) -> Option<ScriptCall>
     })
 }
 
+/// `peek KEY NOW`
+fn peek(arguments: &[&str]) -> Option<ScriptCall>
+    ensures { result ≡ peek_of (texts arguments.now) }
+{
+    let (key, now) = key_and_moment(arguments)?;
+    Some(Call::GetUnrecorded {
+        key,
+        hash: u64::from(key),
+        now,
+    })
+}
+
+/// `scan KEY NOW`
+fn scan(arguments: &[&str]) -> Option<ScriptCall>
+    ensures { result ≡ scan_of (texts arguments.now) }
+{
+    let (key, now) = key_and_moment(arguments)?;
+    Some(Call::Scan { key, now })
+}
+
 /// `contains KEY NOW`
 fn contains(arguments: &[&str]) -> Option<ScriptCall>
     ensures { result ≡ contains_of (texts arguments.now) }
@@ -180,6 +200,8 @@ pub fn parse_call<'a>(name: &str, arguments: &[&'a str]) -> Option<LineCall<'a>>
         "run" => return run(arguments),
         "send" => send(arguments)?,
         "get" => get(arguments)?,
+        "peek" => peek(arguments)?,
+        "scan" => scan(arguments)?,
         "contains" => contains(arguments)?,
         "key" => key(arguments)?,
         "remove" => remove(arguments)?,
