@@ -8,7 +8,7 @@ use Rattle.moka_parts.specs.declared.policy.NoExpiry.{NoExpiry}
 use Rattle.moka_parts.specs.Policy.{Expirations}
 use Rattle.moka_parts.specs.State.{State, Meaning, new_state}
 use Rattle.moka_parts.specs.Housekeeping.{new_housekeeping, without_automatic}
-use Rattle.moka_parts.specs.Runs.{Step, calls_of, replies_of, notices_of, last_state, AreSteps, PromisedRun}
+use Rattle.moka_parts.specs.Runs.{Step, calls_of, replies_of, notices_of, readings_of, last_state, AreSteps, Leads, PromisedRun}
 use Rattle.moka_replay.specs.declared.key_range.KeyRange.{KeyRange}
 use Rattle.moka_replay.specs.declared.print.Total.{Total}
 use Rattle.moka_replay.specs.declared.script.settings.KeeperTerms.{KeeperTerms}
@@ -77,6 +77,10 @@ first_state settings = record (new_state (record {
 abbrev pub total_of : ScriptState → Total
 total_of state = record { count = state.count; weight = state.weight }
 
--- the calls, made one after the other on a new reference cache, give the replies, tell the notices and leave that total
+-- the calls, made one after the other on a new reference cache by a clock that stands at 0, give the replies, tell the notices and leave that total
 abbrev pub AreReplies : ScriptText → List (Reply ℕ (List ℕ) KeyRange) → List ScriptNotice → Total → Type 0
-AreReplies script replies notices total = (steps : List ScriptStep) × (map told_call (calls_of steps) ≡ script.1) × (replies_of steps ≡ replies) × (notices_of steps ≡ notices) × AreSteps script_meaning (PromisedRun script_meaning.says script_meaning.read) (first_state script.0) steps × (total ≡ total_of (last_state (first_state script.0) steps))
+AreReplies script replies notices total =
+    (steps : List ScriptStep) × (map told_call (calls_of steps) ≡ script.1) × (replies_of steps ≡ replies) × (notices_of steps ≡ notices)
+    × AreSteps script_meaning (PromisedRun script_meaning.says script_meaning.read) (first_state script.0) steps
+    × Leads script_meaning.observes (record {}) (readings_of steps) (record {})
+    × (total ≡ total_of (last_state (first_state script.0) steps))

@@ -4,4 +4,5 @@
 pub mod bounded;
 pub mod late;
 pub mod notified;
+pub mod refused;
 pub mod weighed;

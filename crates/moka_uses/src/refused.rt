@@ -1,0 +1,76 @@
+//! A caller that handles each refusal.
+ghost use Rattle.std.specs.Prelude.{◌≡◌, ◌↔◌, false, IfErr, IsTrue, OnErr};
+ghost use Rattle.moka_parts.specs.State.{is_disabled};
+
+use moka_engine::{Cache, FixedClock, InsertError, InsertRefused, Instant, SendError};
+
+/// Puts a value under a key, and sends the operation. A full queue is emptied by a run, and the operation sent again.
+///
+/// # Errors
+/// The insert that was refused, with key and value; the cache is as it was.
+pub fn put(
+    cache: &mut Cache<u64, u64>,
+    key: u64,
+    value: u64,
+    now: Instant,
+) -> Result<(), InsertRefused<u64, u64>>
+    requires { is_disabled cache.old.state.capacity ≡ false }
+    ensures back { IfErr result (λ refused. (refused.key ≡ key) × (refused.value ≡ value)) }
+    ensures unchanged { OnErr result (cache.new.state ≡ cache.old.state) }
+{
+    let hash = cache.hash(&key);
+    let ticket = match cache.do_insert_with_hash(key, hash, value, now) {
+        Ok((ticket, _)) => ticket,
+        Err(refused) => return Err(refused),
+    };
+    match cache.send(ticket) {
+        // The ticket was handed out just now, so it is known.
+        Ok(()) | Err(SendError::UnknownTicket) => {}
+        Err(SendError::QueueFull) => {
+            cache.run_pending_tasks(now, &mut FixedClock(now), None, 1, 384);
+            let _sent = cache.send(ticket);
+        }
+    }
+    Ok(())
+}
+
+/// Whether it helps to put the value again later: memory may be given back, tickets are not.
+pub fn may_put_again(refused: &InsertRefused<u64, u64>) -> bool
+    ensures { IsTrue result ↔ (refused.now.error ≡ InsertError.OutOfMemory) }
+{
+    match refused.error {
+        InsertError::OutOfMemory => true,
+        InsertError::NumbersUsedUp => false,
+    }
+}
+
+#[cfg(test)]
+mod tests {
+    use super::*;
+    use anyhow::Result;
+    use moka_engine::CacheConfig;
+
+    #[test]
+    fn puts_more_than_the_queue_holds(rt: HostRuntime) -> Result<()> {
+        let mut cache: Cache<u64, u64> = CacheConfig::default().build(rt.alloc(), Instant(0))?;
+        for key in 0..1_000 {
+            if cache.is_map_disabled() {
+                break;
+            }
+            assert!(rt; put(&mut cache, key, key, Instant(0)).is_ok());
+        }
+        cache.run_pending_tasks(Instant(0), &mut FixedClock(Instant(0)), None, 1, 384);
+        assert_eq!(rt; cache.entry_count(), 1_000);
+        Ok(())
+    }
+
+    #[test]
+    fn hands_back_what_is_refused(rt: HostRuntime) -> Result<()> {
+        let config = CacheConfig::default().first_ticket(u64::MAX);
+        let mut cache: Cache<u64, u64> = config.build(rt.alloc(), Instant(0))?;
+        let refused = put(&mut cache, 1, 10, Instant(0)).err();
+        let back = refused.map(|refused| (refused.key, refused.value, may_put_again(&refused)));
+        assert_eq!(rt; back, Some((1, 10, false)));
+        Ok(())
+    }
+}
