@@ -6,7 +6,9 @@ mod inner;
 
 pub use base_cache::BaseCache;
 pub use moka_parts::calls::{Entry, KvEntry, Ticket};
-pub use moka_parts::closures::{ByClosure, NoPredicate, NoWeigher, PredicateFn, Weigher};
+pub use moka_parts::closures::{
+    ByClosure, NoPredicate, NoTest, NoWeigher, PredicateFn, ValueTest, Weigher,
+};
 pub use moka_parts::error::{InsertError, InsertRefused, OutOfMemory, SendError};
 pub use moka_parts::housekeeper::{Clock, FixedClock, HousekeeperConfig};
 pub use moka_parts::notification::{Listener, NoListener, RemovalCause};
