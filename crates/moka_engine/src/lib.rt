@@ -9,7 +9,9 @@ mod inner;
 pub use base_cache::BaseCache;
 pub use config::{Cache, CacheConfig, DefaultHasher};
 pub use moka_parts::calls::{Entry, KvEntry, Ticket};
-pub use moka_parts::closures::{ByClosure, NoPredicate, NoWeigher, PairFn, PredicateFn, Weigher};
+pub use moka_parts::closures::{
+    ByClosure, NoPredicate, NoTest, NoWeigher, PairFn, PredicateFn, ValueTest, Weigher,
+};
 pub use moka_parts::error::{InsertError, InsertRefused, OutOfMemory, SendError};
 pub use moka_parts::housekeeper::{Clock, FixedClock, HousekeeperConfig};
 pub use moka_parts::notification::{Listener, NoListener, RemovalCause};
