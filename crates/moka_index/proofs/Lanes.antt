@@ -33,12 +33,6 @@ entry-is g lane p h e =
     let t = some-same (lane_place g lane, lane_hash g lane) (p, h) s in
     (l, (ap (λ (e : ℕ × ℕ). e.0) t, ap (λ (e : ℕ × ℕ). e.1) t))
 
-pub entry-same_count : (g h : Group) (lane : ℕ) → g.count ≡ h.count → (lane < g.count → (lane_place g lane ≡ lane_place h lane) × (lane_hash g lane ≡ lane_hash h lane)) → entry_in g lane ≡ entry_in h lane
-entry-same_count g h lane c same = elim (cases_lt lane g.count) as (λ _. entry_in g lane ≡ entry_in h lane) [
-  | inl l ↦ entry-here g lane l ∙ (λ i. Some ((same l).0 i, (same l).1 i)) ∙ sym (entry-here h lane (omega arith))
-  | inr l ↦ entry-free g lane l ∙ sym (entry-free h lane (omega arith))
-]
-
 module _ (g : Group) (lanes : HasLanes g) (hash place : ℕ) (room : g.count < 7) where
   pub with-here : entry_in (with_entry g hash place) g.count ≡ Some (place, hash)
   with-here =

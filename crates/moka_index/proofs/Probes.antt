@@ -11,12 +11,6 @@ home-lt n hash h =
     let below : hash % 2 ^ 32 < 2 ^ 32 = omega arith in
     (div-lt_iff_lt-mul {k = 2 ^ 32} {x = hash % 2 ^ 32 * n} {y = n} (omega arith)).1 (subst (λ x. hash % 2 ^ 32 * n < x) (mul_comm (2 ^ 32) n) (mul-lt-mul_of_pos_right below h))
 
-pub probe-lt : (n first k : ℕ) → first < n → k < n → probe n first k < n
-probe-lt n first k h l = elim (cases_lt (first + k) n) as (λ _. probe n first k < n) [
-  | inl lt ↦ subst (λ x. x < n) (sym (cond-true (nat_lt (first + k) n) (first + k) (first + k - n) (lt-ltb (first + k) n lt))) lt
-  | inr le ↦ subst (λ x. x < n) (sym (cond-false (nat_lt (first + k) n) (first + k) (first + k - n) (le-ltb (first + k) n le))) (omega arith)
-]
-
 distance-up : (n first at : ℕ) → first ≤ at → distance n first at ≡ at - first
 distance-up n first at le = cond-true (nat_le first at) (at - first) (at + n - first) (le-leb first at le)
 

@@ -1,8 +1,8 @@
 //! The groups of an index as one table, in which a hash is searched from its home on.
-ghost use Rattle.std.specs.Prelude.{◌≡◌, ◌≢◌, ℕ, ◌+◌, ◌*◌, ◌^◌, ◌<◌, ◌≤◌, true, false, IfSome, IfNone, IfOk, None, Some, length, replicate, vec_len};
+ghost use Rattle.std.specs.Prelude.{◌≡◌, ℕ, ◌+◌, ◌*◌, ◌^◌, ◌<◌, ◌≤◌, true, false, IfSome, IfNone, IfOk, None, Some, length, replicate};
 ghost use Rattle.std.specs.FinMap as finite;
 ghost use Rattle.moka_index.specs.Group.{home, empty_group, entry_in, HasLanes};
-ghost use Rattle.moka_index.specs.Groups.{probe, distance, group_at, entry_at, entries_of, pushed, with_reach, IsGroups};
+ghost use Rattle.moka_index.specs.Groups.{probe, group_at, entry_at, entries_of, pushed, with_reach, IsGroups};
 
 use crate::group::{Group, LANES, home, lowest_set_bit, without_lowest_bit};
 use std::alloc::{AllocError, Global};
@@ -142,6 +142,20 @@ fn push_at(groups: &mut Vec<Group>, first: usize, step: u32, at: usize, hash: u3
     group.reach = group.reach.max(step);
 }
 
+// Removes a place, which is in this lane.
+#[inline(always)]
+fn remove_found(groups: &mut Vec<Group>, found: Found)
+    requires groups { IsGroups groups.old.items }
+    requires group { found.group < length groups.old.items }
+    requires lane { found.lane < 7 }
+    requires there { (hash : ℕ) × (entry_at groups.old.items (7 * found.group + found.lane) ≡ Some (found.place, hash)) }
+    ensures groups { IsGroups groups.new.items }
+    ensures entries { entries_of groups.new.items ≡ finite.remove (entries_of groups.old.items) found.place }
+    ensures len { length groups.new.items ≡ length groups.old.items }
+{
+    groups[found.group].swap_remove(found.lane);
+}
+
 /// Removes a place, which has this hash.
 pub(crate) fn remove_entry(groups: &mut Vec<Group>, hash: u32, place: usize)
     requires groups { IsGroups groups.old.items }
@@ -153,7 +167,7 @@ pub(crate) fn remove_entry(groups: &mut Vec<Group>, hash: u32, place: usize)
     let Some(found) = find_entry(groups, hash, |p| p == place) else {
         unreachable!()
     };
-    groups[found.group].swap_remove(found.lane);
+    remove_found(groups, found);
     let count = groups.len();
     let first = home(hash, count);
     let reach = groups[first].reach;
