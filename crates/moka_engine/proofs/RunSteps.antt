@@ -1,7 +1,6 @@
 -- A run of maintenance of the cache, from what applying the queues and the passes make of its inner part.
-use Rattle.std.proofs.Common.{◌≡◌, refl, ℕ, Bool, true, false, true≢false, ◌||◌, ◌==◌, ◌⊎◌, inl, inr, List, [], length, min, Option, Some, None, is_some, ap, sym, subst, ◌∙◌, if◌then◌else◌}
+use Rattle.std.proofs.Common.{◌≡◌, refl, ℕ, Bool, true, false, ◌||◌, List, [], length, min, Option, None, is_some, ap, sym, subst, ◌∙◌, if◌then◌else◌}
 use Rattle.moka_parts.specs.declared.notification.RemovalCause.{RemovalCause}
-use Rattle.moka_parts.specs.declared.policy.EvictionPolicy.{EvictionPolicy}
 use Rattle.moka_parts.specs.declared.policy.Instant.{Instant}
 use Rattle.moka_parts.specs.declared.records.Registered.{Registered}
 use Rattle.moka_parts.specs.Records.{total_weight}

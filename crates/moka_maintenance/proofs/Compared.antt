@@ -1,10 +1,8 @@
 -- A candidate that was compared enters in its victims' place, or is rejected.
-use Rattle.std.proofs.Common.{◌≡◌, refl, ℕ, Bool, true, false, Option, Some, None, IsSome, take, ap, sym, subst, ◌∙◌, if◌then◌else◌}
-use Rattle.std.specs.FinMap.{get}
+use Rattle.std.proofs.Common.{◌≡◌, ℕ, Bool, true, false, Option, None, take, ap, sym, subst, ◌∙◌, if◌then◌else◌}
 use Rattle.moka_sketch.specs.Frequency.{Table}
 use Rattle.moka_parts.specs.declared.notification.RemovalCause.{RemovalCause}
 use Rattle.moka_parts.specs.declared.records.Record.{Record}
-use Rattle.moka_parts.specs.declared.records.Member.{Member}
 use Rattle.moka_parts.specs.Records.{counted_of}
 use Rattle.moka_parts.specs.State.{Contents}
 use Rattle.moka_parts.specs.Candidates.{victims_for}

@@ -1,5 +1,5 @@
 -- The sketch comes on where it is due.
-use Rattle.std.proofs.Common.{◌≡◌, refl, ℕ, Bool, true, false, length, Option, Some, Result, Ok, Err, OnOk, OnErr, ap, sym, ◌∙◌, if◌then◌else◌}
+use Rattle.std.proofs.Common.{◌≡◌, ℕ, Bool, true, false, length, Option, Some, Result, Ok, Err, OnOk, OnErr, ap, sym, ◌∙◌, if◌then◌else◌}
 use Rattle.moka_sketch.specs.Frequency.{Table, no_counts, size_asked, table_length_for}
 use Rattle.moka_parts.specs.declared.policy.EvictionPolicy.{EvictionPolicy}
 use Rattle.moka_parts.specs.Records.{total_weight}

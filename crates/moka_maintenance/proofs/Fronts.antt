@@ -1,6 +1,6 @@
 -- The front of the access list, and what it is once the front went to the back.
-use Rattle.std.proofs.Common.{◌≡◌, refl, ℕ, Bool, true, false, cond, not, ◌==◌, List, [], ◌∷◌, ◌++◌, length, slice_get, Option, Some, None, IsSome, is_some, option_map, option_to_list, ◌&&◌, ap, sym, subst, ◌∙◌, arith}
-use Rattle.std.proofs.lemmas.Bool.{eq-eqb, cond-true, cond-false}
+use Rattle.std.proofs.Common.{◌≡◌, refl, ℕ, Bool, true, false, cond, not, ◌==◌, List, [], ◌∷◌, ◌++◌, length, Option, Some, None, IsSome, is_some, option_map, option_to_list, ◌&&◌, ap, sym, subst, ◌∙◌, arith}
+use Rattle.std.proofs.lemmas.Bool.{cond-true, cond-false}
 use Rattle.std.proofs.lemmas.List.Elements.{filter-append}
 use Rattle.std.specs.List.{IsDistinct}
 use Rattle.moka_parts.specs.declared.records.Member.{Member}
@@ -10,7 +10,6 @@ use Rattle.moka_parts.specs.Exact.{IsWithin}
 use Rattle.moka_parts.proofs.AccessList.{absent_taken_out}
 use Rattle.moka_parts.proofs.Counting.{front_once}
 use Rattle.moka_parts.proofs.Maps.{same_by_test}
-use Rattle.moka_store.proofs.Gets.{some_same}
 use Rattle.moka_maintenance.proofs.Stepped.{length-on}
 
 -- where the capacity is not exceeded, the list is within it

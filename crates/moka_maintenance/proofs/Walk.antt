@@ -1,5 +1,5 @@
 -- Lists of members as the choice walks over them: what was met and what is ahead decide the victims together.
-use Rattle.std.proofs.Common.{◌≡◌, refl, ℕ, ◌+◌, ◌-◌, ◌<◌, ◌≤◌, Bool, true, false, cond, not, ◌==◌, ◌||◌, nat_le, List, [], ◌∷◌, ◌++◌, Option, Some, None, is_some, option_map, option_to_list, slice_get, inl, inr, ap, sym, subst, ◌∙◌, arith, append_assoc, append-nil, if◌then◌else◌, take}
+use Rattle.std.proofs.Common.{◌≡◌, refl, ℕ, ◌+◌, ◌-◌, ◌<◌, ◌≤◌, Bool, true, false, cond, not, ◌==◌, ◌||◌, nat_le, List, [], ◌∷◌, ◌++◌, Option, Some, None, is_some, option_map, option_to_list, slice_get, ap, sym, subst, ◌∙◌, arith, append_assoc, append-nil, if◌then◌else◌, take}
 use Rattle.std.proofs.Math.Numerals.{one-add}
 use Rattle.std.specs.List.{IsDistinct, before_first, last_or, position_or_len}
 use Rattle.std.proofs.lemmas.List.Elements.{filter-append}

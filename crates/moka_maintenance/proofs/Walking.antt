@@ -8,10 +8,10 @@ use Rattle.std.proofs.lemmas.List.Folds.{list_all-append}
 use Rattle.std.proofs.lemmas.List.Sums.{sum_by-append, sum_by_push}
 use Rattle.moka_sketch.specs.Frequency.{frequency}
 use Rattle.moka_parts.specs.declared.records.Member.{Member}
-use Rattle.moka_parts.specs.Records.{Records, all_to_back, counted_of, is_member, is_settled, numbers_of, settled_members, to_back, total_weight}
+use Rattle.moka_parts.specs.Records.{all_to_back, is_settled, numbers_of, settled_members, to_back, total_weight}
 use Rattle.moka_parts.specs.State.{Contents}
 use Rattle.moka_parts.specs.Candidates.{prefix, before_last_of, has_six_unsettled, are_unsettled, hash_of, frequency_of_all, victims_for, is_preferred}
-use Rattle.moka_parts.specs.Writes.{Fate, Preferred, Refused, fate_by_frequency}
+use Rattle.moka_parts.specs.Writes.{Preferred, Refused, fate_by_frequency}
 use Rattle.moka_parts.proofs.AccessList.{distinct-all_to_back}
 use Rattle.moka_parts.proofs.Maps.{itself_tested}
 use Rattle.moka_store.specs.Store.{member_after}

@@ -1,4 +1,4 @@
-use Rattle.std.proofs.Common.{◌≡◌, ap, sym, subst, ◌∙◌, arith, ◌==◌}
+use Rattle.std.proofs.Common.{ap, sym, subst, ◌∙◌, arith, ◌==◌}
 use Rattle.std.specs.FinMap as finite
 use Rattle.std.specs.List.{IsDistinct}
 use Rattle.moka_parts.specs.State.{Contents}

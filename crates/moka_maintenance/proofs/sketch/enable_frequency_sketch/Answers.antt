@@ -1,4 +1,4 @@
-use Rattle.std.proofs.Common.{refl, false, Some, ap, sym, ◌∙◌}
+use Rattle.std.proofs.Common.{false, Some, ap, sym, ◌∙◌}
 use Rattle.moka_sketch.specs.Frequency.{size_asked, table_length_for}
 use Rattle.moka_parts.specs.Maintenance.{is_sketch_due, with_sketch}
 use Rattle.moka_maintenance.specs.Steps.{contents_with}

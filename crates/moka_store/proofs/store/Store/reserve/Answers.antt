@@ -1,4 +1,4 @@
-use Rattle.std.proofs.Common.{length, count_by, is_some, ap, arith, sym, ◌∙◌}
+use Rattle.std.proofs.Common.{count_by, is_some, ap, arith}
 use Rattle.moka_store.proofs.Ties.{nodes-within}
 use Rattle.moka_store.proofs.store.Store.reserve.Goals as goal
 
