@@ -4,7 +4,6 @@ use Rattle.std.specs.Option.{option_and_then, option_map, option_map_or}
 use Rattle.std.proofs.lemmas.Bool.Decides.{nat_tests}
 use Rattle.moka_parts.specs.declared.policy.EvictionPolicy.{EvictionPolicy}
 use Rattle.moka_parts.specs.declared.policy.EvictionPolicy.TheVariants.{TinyLfu, Lru}
-use Rattle.moka_engine.specs.BaseCache.{IsLruWhereBounded}
 use Rattle.moka_replay.specs.declared.script.settings.Settings.{Settings}
 use Rattle.moka_replay.specs.declared.script.settings.Setting.{Setting}
 use Rattle.moka_replay.specs.declared.script.settings.Setting.TheVariants.{First, Capacity, Policy, TimeToIdle, Weigh, Listener, Start, Keeper}
@@ -12,7 +11,7 @@ use Rattle.moka_replay.specs.declared.script.Line.TheVariants as line
 use Rattle.moka_replay.specs.Settings.{is_allowed, put_in, filled}
 use Rattle.moka_replay.specs.Calls.{CallText}
 use Rattle.moka_replay.specs.Script.{LineText, ScriptText, asked_in, lru_in, has_lru, joined, with_line, lines_read, lines_of, no_text, script_of}
-use Rattle.moka_replay.specs.Played.{chosen_policy}
+use Rattle.moka_replay.specs.Played.{IsLruWhereBounded, chosen_policy}
 
 -- where the policy stands among the settings, it is set or a later line sets it; else no capacity other than 0 is set
 abbrev Promises : Bool → Option EvictionPolicy → Option ℕ → Bool → Type 0

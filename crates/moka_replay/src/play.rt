@@ -5,8 +5,7 @@ ghost use Rattle.std.specs.List.{AllByRecursion};
 ghost use Rattle.moka_drive.specs.Served.{IsServed};
 ghost use Rattle.moka_replay.specs.Notices.{told_of, listener_for};
 ghost use Rattle.moka_replay.specs.Script.{text_of};
-ghost use Rattle.moka_replay.specs.Played.{AreReplies, chosen_policy, chosen_terms, expirations_of, first_state, total_of};
-ghost use Rattle.moka_engine.specs.BaseCache.{IsLruWhereBounded};
+ghost use Rattle.moka_replay.specs.Played.{AreReplies, IsLruWhereBounded, chosen_policy, chosen_terms, expirations_of, first_state, total_of};
 
 use crate::key_range::KeyRange;
 use crate::notices::{Notices, room_for};

@@ -2,10 +2,9 @@
 ghost use Rattle.std.specs.Prelude.{◌≡◌, option_copied, IfOk};
 ghost use Rattle.std.specs.List.{AllByRecursion};
 ghost use Rattle.moka_drive.specs.Served.{IsServed};
-ghost use Rattle.moka_engine.specs.BaseCache.{IsLruWhereBounded};
 ghost use Rattle.moka_replay.specs.Failure.{IsWritten};
 ghost use Rattle.moka_replay.specs.Notices.{told_of};
-ghost use Rattle.moka_replay.specs.Played.{chosen_policy};
+ghost use Rattle.moka_replay.specs.Played.{IsLruWhereBounded, chosen_policy};
 ghost use Rattle.moka_replay.specs.Replay.{Reading, Answers, Ends, IsReplayed, IsPlayed, IsScriptRead, played_text, status_of_replies};
 
 use crate::failure::{Failure, REFUSED, REPLAYED, tell, write_with_status};
