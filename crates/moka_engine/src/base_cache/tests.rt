@@ -220,46 +220,6 @@ fn tells_of_itself(rt: HostRuntime) -> Result<(), Fail> {
     Ok(())
 }
 
-/// The value that a look-up at the moment 99 finds of a key, unless it is 10, and how often the test was asked.
-fn get_unless_ten(
-    cache: &mut TestCache<u64, NoListener, ByKey>,
-    key: u64,
-) -> Result<(Option<u64>, u32), Fail> {
-    let (now, mut asked) = (Instant(99), 0u32);
-    let mut is_ten = |value: &u64| {
-        asked = asked.wrapping_add(1);
-        *value == 10
-    };
-    let test = Some(&mut is_ten);
-    let found = cache.get_with_hash_and_ignore_if(&key, key, test, true, now, &mut FixedClock(now));
-    let Ok(entry) = found else {
-        return Err("memory".into());
-    };
-    Ok((entry.map(|entry| entry.value), asked))
-}
-
-#[test]
-fn looks_up_what_a_test_lets_through(rt: HostRuntime) -> Result<(), Fail> {
-    let mut cache: TestCache<u64, NoListener, ByKey> = cache_of(rt.alloc(), None, None, None)?;
-    for (key, value) in [(1, 10), (2, 20)] {
-        settle(&mut cache, key, value)?;
-    }
-    assert_eq!(rt; cache.scanning_get(&1, Instant(99)), Ok(Some(10)));
-    assert_eq!(rt; cache.scanning_get(&1, Instant(100)), Ok(None));
-    assert_eq!(rt; get_unless_ten(&mut cache, 1)?, (None, 1));
-    assert_eq!(rt; get_unless_ten(&mut cache, 2)?, (Some(20), 1));
-    assert_eq!(rt; get_unless_ten(&mut cache, 3)?, (None, 0));
-    assert_eq!(rt; cache.scanning_get(&2, Instant(100)), Ok(Some(20)));
-
-    // What is ignored was not read, and an unrecorded look-up reads too.
-    assert_eq!(rt; cache.scanning_get(&1, Instant(100)), Ok(None));
-    let none: Option<&mut NoTest> = None;
-    let found = cache.get_with_hash_without_recording(&1, 1, none, Instant(99));
-    assert_eq!(rt; found, Ok(Some(10)));
-    assert_eq!(rt; cache.scanning_get(&1, Instant(100)), Ok(Some(10)));
-    Ok(())
-}
-
 /// The weight that is reported of one entry, which a closure weighs.
 fn weight_by<F: PairFn<u64, u64, u32> + Drop>(alloc: Global, closure: F) -> Result<u64, Fail>
     requires callable { CanAlwaysAsk (F.can_ask closure) }
