@@ -7,8 +7,8 @@ use Rattle.moka_uses.proofs.Told.{told_of_the_first, heard_of_the_second}
 use Rattle.moka_uses.specs.declared.notified.Counter.{Counter}
 use Rattle.moka_uses.proofs.notified.replace.Goals as goal
 
-pub do_insert_with_hash-requires-2-clause-enabled : goal.do_insert_with_hash-requires-2-clause-enabled
-do_insert_with_hash-requires-2-clause-enabled c =
+pub do_insert_with_hash-requires-2 : goal.do_insert_with_hash-requires-2
+do_insert_with_hash-requires-2 c =
     let s = c.in_ok-cache.cache.state in
     let t = c.do_insert_with_hash.new.self.state in
     let put = hands_out (λ _ _ _ _. None) (λ _ _ _ _ left. left) (λ _ _ _ weight. weight ≡ 1) (λ a b. a == b) s c.args.key c.hash-hash.result c.args.first (record { 0 = 0 }) (c.in_ok-put.put, c.in_ok-put.field-0-1) c.in_ok-put.ensures.0 t c.in_ok-put.ensures.1 in

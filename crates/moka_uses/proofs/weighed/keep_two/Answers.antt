@@ -4,8 +4,8 @@ use Rattle.moka_parts.specs.State.{is_disabled}
 use Rattle.moka_uses.proofs.Sent.{hands_out, sends, put_and_sent, alike_then, weight_within}
 use Rattle.moka_uses.proofs.weighed.keep_two.Goals as goal
 
-pub do_insert_with_hash-requires-2-clause-enabled : goal.do_insert_with_hash-requires-2-clause-enabled
-do_insert_with_hash-requires-2-clause-enabled c =
+pub do_insert_with_hash-requires-2 : goal.do_insert_with_hash-requires-2
+do_insert_with_hash-requires-2 c =
     let s = c.in_ok-cache.cache.state in
     let t = c.do_insert_with_hash.new.self.state in
     let put = hands_out (λ _ _ _ _. None) (λ _ _ _ _ left. left) (λ _ _ text weight. weight ≡ min (string_len text) 4294967295) (λ a b. a == b) s 1 c.hash-one_hash.result c.args.one (record { 0 = 0 }) (c.in_ok-first.first, c.in_ok-first.field-0-1) c.in_ok-first.ensures.0 t c.in_ok-first.ensures.1 in
