@@ -13,7 +13,7 @@ do_insert_with_hash-requires-2 c =
     let t = c.do_insert_with_hash.new.self.state in
     let put = hands_out (λ _ _ _ _. None) (λ _ _ _ _ left. left) (λ _ _ _ weight. weight ≡ 1) (λ a b. a == b) s c.args.key c.hash-hash.result c.args.first (record { 0 = 0 }) (c.in_ok-put.put, c.in_ok-put.field-0-1) c.in_ok-put.ensures.0 t c.in_ok-put.ensures.1 in
     let sent = sends t _ _ c.send.new.self.state c.in_ok-send.ensures.step in
-    ap is_disabled (sent.alike.capacity ∙ put.alike.capacity ∙ ap (λ x. x.state.capacity) c.in_ok-cache.ensures) ∙ search rules
+    record { enabled = ap is_disabled (sent.alike.capacity ∙ put.alike.capacity ∙ ap (λ x. x.state.capacity) c.in_ok-cache.ensures) ∙ search rules }
 
 pub returns : goal.returns
 returns c =

@@ -10,7 +10,7 @@ do_insert_with_hash-requires-2 c =
     let t = c.do_insert_with_hash.new.self.state in
     let put = hands_out (λ _ _ _ _. None) (λ _ _ _ _ left. left) (λ _ _ text weight. weight ≡ min (string_len text) 4294967295) (λ a b. a == b) s 1 c.hash-one_hash.result c.args.one (record { 0 = 0 }) (c.in_ok-first.first, c.in_ok-first.field-0-1) c.in_ok-first.ensures.0 t c.in_ok-first.ensures.1 in
     let sent = sends t _ _ c.send.new.self.state c.in_ok-send.ensures.step in
-    ap is_disabled (sent.alike.capacity ∙ put.alike.capacity ∙ ap (λ x. x.state.capacity) c.in_ok-cache.ensures) ∙ search rules
+    record { enabled = ap is_disabled (sent.alike.capacity ∙ put.alike.capacity ∙ ap (λ x. x.state.capacity) c.in_ok-cache.ensures) ∙ search rules }
 
 pub returns : goal.returns
 returns c =
