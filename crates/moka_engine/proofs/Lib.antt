@@ -10,3 +10,5 @@ pub mod RemoveSteps
 pub mod GetSteps
 pub mod RunSteps
 pub mod IdleRuns
+pub mod KeeperSteps
+pub mod HitSteps

@@ -62,15 +62,13 @@ IsLruWhereBounded (Some capacity) policy = (capacity ≡ 0) ⊎ (policy ≡ Lru)
 abbrev pub NoneExpires : {K V : Type 0} → Records K V → Type 0
 NoneExpires records = (n : ℕ) (r : Record _ _) → get records n ≡ Some r → r.expires ≡ None
 
--- the settings are such as a cache can have today, no run starts by itself, and no record has an expiry of its own
+-- the settings are such as a cache can have today, and no record has an expiry of its own
 pub record IsServed {K V X P W : Type 0} (s : State K V X P W) : Type 0 where
   pub bounded : IsLruWhereBounded s.capacity s.settings.policy
   pub no_live : s.settings.time_to_live ≡ None
   pub no_expiry : s.settings.expiry ≡ None
   pub no_predicates : s.predicates ≡ []
   pub no_invalidator : s.settings.invalidator ≡ false
-  pub finished : s.housekeeping.more ≡ false
-  pub asked : s.housekeeping.automatic ≡ false
   pub unexpiring : NoneExpires s.records
 
 -- the state is a valid one, and the settings listen exactly where a listener is set

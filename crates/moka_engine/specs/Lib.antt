@@ -2,3 +2,5 @@ pub mod Values
 pub mod Interior
 pub mod Inner
 pub mod BaseCache
+pub mod CacheRuns
+pub mod ReadNumber
