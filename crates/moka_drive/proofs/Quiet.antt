@@ -3,6 +3,7 @@ use Rattle.std.proofs.Common.{◌≡◌, refl, ap, subst, ◌∙◌, ℕ, Bool, 
 use Rattle.std.specs.declared.alloc.Global.{Global}
 use Rattle.std.specs.declared.vec.Vec.{Vec}
 use Rattle.moka_parts.specs.declared.calls.Call.TheVariants as call
+use Rattle.moka_parts.specs.declared.calls.Reply.{Reply}
 use Rattle.moka_parts.specs.declared.calls.Reply.TheVariants as reply
 use Rattle.moka_parts.specs.declared.error.OutOfMemory.{OutOfMemory}
 use Rattle.moka_parts.specs.declared.notification.RemovalCause.{RemovalCause}
@@ -15,6 +16,7 @@ use Rattle.moka_parts.specs.Maintenance.{Terms, Course}
 use Rattle.moka_parts.specs.Surroundings.{Heard}
 use Rattle.moka_parts.specs.Calls.{no_events, only_notices, KeysStep, RemoveStep, RemovesAt}
 use Rattle.moka_parts.specs.Runs.{Cache, Befalls, CallStep, MakesCalls}
+use Rattle.moka_drive.specs.Served.{TellsPending}
 
 -- a list of no length is empty
 pub empty_of_length : {A : Type 0} (xs : List A) → length xs ≡ 0 → xs ≡ []
@@ -39,6 +41,11 @@ pub keys_step : {K V X L P W C I : Type 0} (m : Meaning K V X L P W C I) (Runs :
 keys_step m Runs s segment (Ok (Some keys)) listed refused = (listed, (refl, refl))
 keys_step m Runs s segment (Ok None) listed refused = (listed, (refl, refl))
 keys_step m Runs s segment (Err e) listed refused = (refused, (refl, refl))
+
+-- what waits, as a call
+pub pending_step : {K V X L P W C I : Type 0} (m : Meaning K V X L P W C I) (Runs : State K V X P W → Terms → Course → List (Notice K V) → State K V X P W → Type 0) (s : State K V X P W) (r : Reply K V P) → TellsPending s r → CallStep m Runs s call.Pending r no_events s
+pending_step m Runs s (reply.Pending handed oldest writes reads) told = (told.0, told.1, told.2, told.3, (refl, refl))
+pending_step m Runs s r told = absurd told
 
 -- a removal changes no setting
 pub removal_keeps_settings : {K V X P W : Type 0} (eq : K → K → Bool) (s t : State K V X P W) (key : K) (a : Option (KvEntry K V × Ticket)) → RemoveStep eq s key a t → t.settings ≡ s.settings

@@ -1,14 +1,19 @@
 -- The calls that are there today, and what a removal makes of a cache with the notice after it.
-use Rattle.std.specs.Prelude.{◌≡◌, Bool, Option, ⊤}
+use Rattle.std.specs.Prelude.{◌≡◌, Bool, List, length, Option, Some, option_map, Result, ⊤}
+use Rattle.std.specs.FinMap.{len}
 use Rattle.moka_parts.specs.declared.policy.Instant.{Instant}
 use Rattle.moka_parts.specs.declared.calls.Call.{Call}
 use Rattle.moka_parts.specs.declared.calls.Call.TheVariants as call
 use Rattle.moka_parts.specs.declared.calls.Reply.{Reply}
 use Rattle.moka_parts.specs.declared.calls.Reply.TheVariants as reply
-use Rattle.moka_parts.specs.State.{State, Events}
-use Rattle.moka_parts.specs.Calls.{only_notices, RemoveStep, NotifiesAfter}
+use Rattle.moka_parts.specs.declared.calls.KvEntry.{KvEntry}
+use Rattle.moka_parts.specs.declared.calls.Ticket.{Ticket}
+use Rattle.moka_parts.specs.declared.error.OutOfMemory.{OutOfMemory}
+use Rattle.moka_parts.specs.Records.{Notice}
+use Rattle.moka_parts.specs.State.{State, Settings, Events}
+use Rattle.moka_parts.specs.Calls.{only_notices, RemoveStep, NotifiesAfter, oldest_ticket}
 
--- the call is an insert, a send, a removal, a look-up that changes nothing, a get, a run, or asks for the keys or a report
+-- the call is an insert, a send, a removal, an invalidation of all, a look-up that changes nothing, a get, a run, or asks for the keys, a report or what waits
 abbrev pub IsServed : {K V P : Type 0} → Call K V P → Type 0
 IsServed (call.Insert key hash value now) = ⊤
 IsServed (call.Send ticket) = ⊤
@@ -16,12 +21,23 @@ IsServed (call.Get key hash need_key now) = ⊤
 IsServed (call.Contains key hash now) = ⊤
 IsServed (call.Key key hash) = ⊤
 IsServed (call.Remove key hash now) = ⊤
+IsServed (call.InvalidateAll now) = ⊤
 IsServed (call.Keys segment) = ⊤
 IsServed (call.Run now limit repeats batch) = ⊤
 IsServed call.Report = ⊤
+IsServed call.Pending = ⊤
 IsServed c = ⊥
 
 -- the reply is that of a removal of the key with these events
 abbrev pub RemovesAndNotifies : {K V X P W : Type 0} → (K → K → Bool) → State K V X P W → K → Option Instant → Reply K V P → Events K V → State K V X P W → Type 0
 RemovesAndNotifies eq s key now (reply.Remove removed told) e t = RemoveStep eq s key removed t × NotifiesAfter s.settings removed now told e.notices × (e ≡ only_notices e.notices)
 RemovesAndNotifies eq s key now r e t = ⊥
+
+-- the notice of an entry that was removed, under whichever ticket, if the removal carried a moment
+abbrev pub NotifiesEntry : {K V X W : Type 0} → Settings X W → KvEntry K V → Option Instant → Option (Result (Unit {0}) OutOfMemory) → List (Notice K V) → Type 0
+NotifiesEntry settings entry now a notices = (ticket : Ticket) → NotifiesAfter settings (Some (entry, ticket)) now a notices
+
+-- the reply tells what waits
+abbrev pub TellsPending : {K V X P W : Type 0} → State K V X P W → Reply K V P → Type 0
+TellsPending s (reply.Pending handed oldest writes reads) = (handed ≡ len s.outstanding) × (option_map (λ ticket. ticket.0) oldest ≡ oldest_ticket s) × (writes ≡ length s.writes) × (reads ≡ length s.reads)
+TellsPending s r = ⊥

@@ -1,16 +1,16 @@
 //! Makes calls one after the other.
-ghost use Rattle.std.specs.Prelude.{◌≡◌, true, length, List, Some, IfOk, IfErr, OnErr};
+ghost use Rattle.std.specs.Prelude.{◌≡◌, length, List, IfOk, IfErr, OnErr};
 ghost use Rattle.std.specs.List.{AllByRecursion};
 ghost use Rattle.moka_parts.specs.State.{Events};
 ghost use Rattle.moka_parts.specs.Surroundings.{Leads};
-ghost use Rattle.moka_parts.specs.Calls.{only_notices, KeyStep, NotifiesAfter};
+ghost use Rattle.moka_parts.specs.Calls.{only_notices, KeyStep};
 ghost use Rattle.moka_parts.specs.Records.{Notice};
-ghost use Rattle.moka_parts.specs.declared.calls.Ticket.{Ticket};
 ghost use Rattle.moka_parts.specs.Drives.{Drives};
 ghost use Rattle.moka_parts.specs.Listed.{ListedRun};
 ghost use Rattle.moka_parts.specs.Runs.{Befalls, CallStep};
 ghost use Rattle.moka_parts.specs.declared.calls.Reply.TheVariants.{Report};
-ghost use Rattle.moka_drive.specs.Served.{IsServed, RemovesAndNotifies};
+ghost use Rattle.moka_drive.specs.Meanings.{meaning_of};
+ghost use Rattle.moka_drive.specs.Served.{IsServed, RemovesAndNotifies, NotifiesEntry, TellsPending};
 
 use moka_engine::base_cache::BaseCache;
 use moka_parts::calls::{Call, DriveRefused, KvEntry, Reply};
@@ -24,8 +24,8 @@ use std::alloc::Global;
 use std::hash::{BuildHasher, Hash};
 
 /// Makes the calls one after the other, and answers each with the reply of the same name. So far these are inserts,
-/// sends, gets, look-ups that change nothing, removals, runs, lists of keys and reports. A removal that carries a moment
-/// and finds its key is followed by `notify_invalidate` at that moment.
+/// sends, gets, look-ups that change nothing, removals, invalidations of all, runs, lists of keys, reports and what waits.
+/// A removal that carries a moment and finds its key is followed by `notify_invalidate` at that moment.
 ///
 /// Replies, records and notices are a run of the reference cache, in which each run of maintenance keeps all that is
 /// promised of it: one with a batch of at least one that begins with every operation sent, and is not cut short, ends with
@@ -61,17 +61,9 @@ pub fn drive<
     requires keys { (x y : K) → K.is_clone x y → y ≡ x }
     requires values { (x y : V) → V.is_clone x y → y ≡ x }
     requires served { AllByRecursion IsServed calls.items }
-    ensures run { IfOk result (λ replies. Drives (record {
-      eq = K.eq;
-      tells = L.tells;
-      says = P.says;
-      weighs = W.weighs;
-      observes = C.reads;
-      gives = I.gives;
-      created = X.created;
-      read = X.read;
-      updated = X.updated;
-    }) calls.items replies.items cache.old clock.old ids.old cache.new clock.new ids.new) }
+    ensures run { IfOk result (λ replies. Drives
+        (meaning_of K.eq L.tells P.says W.weighs C.reads I.gives X.created X.read X.updated)
+        calls.items replies.items cache.old clock.old ids.old cache.new clock.new ids.new) }
     ensures refused { IfErr result (λ e. e.calls ≡ calls) }
     ensures unchanged { OnErr result ((cache.new ≡ cache.old) × (clock.new ≡ clock.old) × (ids.new ≡ ids.old)) }
 {
@@ -108,17 +100,8 @@ fn make<
     requires values { (x y : V) → V.is_clone x y → y ≡ x }
     requires served { IsServed call }
     ensures { (e : Events K V)
-        × CallStep (record {
-          eq = K.eq;
-          tells = L.tells;
-          says = P.says;
-          weighs = W.weighs;
-          observes = C.reads;
-          gives = I.gives;
-          created = X.created;
-          read = X.read;
-          updated = X.updated;
-        }) (ListedRun P.says X.read cache.old.write_list cache.new.write_list) cache.old.state call result e cache.new.state
+        × CallStep (meaning_of K.eq L.tells P.says W.weighs C.reads I.gives X.created X.read X.updated)
+        (ListedRun P.says X.read cache.old.write_list cache.new.write_list) cache.old.state call result e cache.new.state
         × Befalls L.tells e cache.old cache.new
         × Leads C.reads clock.old e.readings clock.new
         × Leads I.gives ids.old e.ids ids.new }
@@ -145,6 +128,10 @@ fn make<
         }
         Call::Key { key, hash } => Reply::Key(key_of(cache, &key, hash)),
         Call::Remove { key, hash, now } => remove(cache, &key, hash, now),
+        Call::InvalidateAll { now } => {
+            cache.invalidate_all(now);
+            Reply::InvalidateAll
+        }
         Call::Keys { segment } => Reply::Keys(cache.keys(segment)),
         Call::Run {
             now,
@@ -153,6 +140,7 @@ fn make<
             batch,
         } => Reply::Run(cache.run_pending_tasks(now, clock, limit, repeats, batch)),
         Call::Report => report(cache),
+        Call::Pending => pending(cache),
         _ => unreachable!(),
     }
 }
@@ -203,7 +191,10 @@ fn notify<
 ) -> Option<Result<(), OutOfMemory>>
     requires keys { (x y : K) → K.is_clone x y → y ≡ x }
     requires values { (x y : V) → V.is_clone x y → y ≡ x }
-    ensures { (notices : List (Notice K V)) × ((ticket : Ticket) → NotifiesAfter cache.old.state.settings (Some (entry.now, ticket)) now result notices) × (cache.new.state ≡ cache.old.state) × Befalls L.tells (only_notices notices) cache.old cache.new }
+    ensures { (notices : List (Notice K V))
+        × NotifiesEntry cache.old.state.settings entry.now now result notices
+        × (cache.new.state ≡ cache.old.state)
+        × Befalls L.tells (only_notices notices) cache.old cache.new }
 {
     match now {
         Some(now) => Some(cache.notify_invalidate(entry, now)),
@@ -227,6 +218,26 @@ fn report<
         count: cache.entry_count(),
         weight: cache.weighted_size(),
         predicates: cache.invalidation_predicate_count(),
+    }
+}
+
+// What waits to be sent or applied.
+fn pending<
+    K: Eq + Hash,
+    V,
+    S: BuildHasher,
+    X: Expiry<K, V>,
+    L: Listener<K, V>,
+    P: PredicateFn<K, V>,
+    W: Weigher<K, V>,
+>(cache: &BaseCache<K, V, S, X, L, P, W>) -> Reply<K, V, P>
+    ensures { TellsPending cache.now.state result }
+{
+    Reply::Pending {
+        handed: cache.outstanding(),
+        oldest: cache.oldest_unsent(),
+        writes: cache.queued_writes(),
+        reads: cache.queued_reads(),
     }
 }
 

@@ -7,7 +7,7 @@ use Rattle.moka_parts.specs.declared.policy.EvictionPolicy.TheVariants.{TinyLfu,
 use Rattle.moka_engine.specs.BaseCache.{IsLruWhereBounded}
 use Rattle.moka_replay.specs.declared.script.settings.Settings.{Settings}
 use Rattle.moka_replay.specs.declared.script.settings.Setting.{Setting}
-use Rattle.moka_replay.specs.declared.script.settings.Setting.TheVariants.{First, Capacity, Policy, Weigh, Listener}
+use Rattle.moka_replay.specs.declared.script.settings.Setting.TheVariants.{First, Capacity, Policy, TimeToIdle, Weigh, Listener, Start, Keeper}
 use Rattle.moka_replay.specs.declared.script.Line.TheVariants as line
 use Rattle.moka_replay.specs.Settings.{is_allowed, put_in, filled}
 use Rattle.moka_replay.specs.Calls.{CallText}
@@ -58,8 +58,11 @@ promises_put : (with_lru : Bool) (settings : Settings) (setting : Setting) (call
 promises_put with_lru settings (First first) calls later p allowed = promises_filled with_lru settings.first first (λ place. record settings { first = place }) calls later (λ none. p)
 promises_put with_lru settings (Capacity capacity) calls later p allowed = promises_filled with_lru settings.capacity capacity (λ place. record settings { capacity = place }) calls later (λ none. promises_capacity with_lru settings.policy settings.capacity capacity later allowed p)
 promises_put with_lru settings (Policy policy) calls later p allowed = promises_filled with_lru settings.policy policy (λ place. record settings { policy = place }) calls later (λ none. promises_policy with_lru settings.policy policy settings.capacity later p none)
+promises_put with_lru settings (TimeToIdle nanos) calls later p allowed = promises_filled with_lru settings.time_to_idle nanos (λ place. record settings { time_to_idle = place }) calls later (λ none. p)
 promises_put with_lru settings (Weigh weigher) calls later p allowed = promises_filled with_lru settings.weigher weigher (λ place. record settings { weigher = place }) calls later (λ none. p)
 promises_put with_lru settings Listener calls later p allowed = promises_unless with_lru settings.listener (record settings { listener = true }) calls later p
+promises_put with_lru settings (Start now) calls later p allowed = promises_filled with_lru settings.start now (λ place. record settings { start = place }) calls later (λ none. p)
+promises_put with_lru settings (Keeper keeper) calls later p allowed = promises_filled with_lru settings.keeper keeper (λ place. record settings { keeper = place }) calls later (λ none. p)
 
 promises_if : (with_lru b c : Bool) (set : Option ScriptText) (later : Bool) → (c ≡ true → PromisesAll with_lru set later) → PromisesAll with_lru (if b && c then set else None) later
 promises_if with_lru true true set later p = p refl

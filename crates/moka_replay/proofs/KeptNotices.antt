@@ -32,7 +32,7 @@ use Rattle.moka_replay.specs.Calls.{CallText}
 use Rattle.moka_parts.proofs.RunsGoOn.{promised_is_run}
 use Rattle.moka_replay.specs.Notices.{ScriptNotice, Kept, Keeps, needs_room, room_of, listener_for, told_of}
 use Rattle.moka_replay.specs.declared.script.settings.Settings.{Settings}
-use Rattle.moka_replay.specs.Played.{ScriptStep, script_meaning, first_state}
+use Rattle.moka_replay.specs.Played.{ScriptStep, script_meaning, first_state, start_of}
 
 -- ---- the listener
 
@@ -109,7 +109,7 @@ module _ {X L W C I : Type 0} (m : Meaning ℕ (List ℕ) X L KeyRange W C I) wh
 -- what always holds of records and operations holds of the state that a script begins with
 first_is_valid : (settings : Settings) → IsValid nat_eq (first_state settings)
 first_is_valid settings =
-    let valid = new_is_valid ℕ (List ℕ) KeyRange (first_state settings).settings settings.capacity 0 (unwrap_or settings.first 1) nat_eq in
+    let valid = new_is_valid ℕ (List ℕ) KeyRange (first_state settings).settings settings.capacity (start_of settings) (unwrap_or settings.first 1) nat_eq in
     record {
       consistent = record { once = valid.consistent.once; sound = valid.consistent.sound };
       numbered = record {

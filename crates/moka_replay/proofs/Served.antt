@@ -1,16 +1,16 @@
 -- Each call of a script is one that the driver makes.
-use Rattle.std.proofs.Common.{◌≡◌, refl, ℕ, ◌+◌, Bool, true, false, List, [], ◌∷◌, ◌++◌, Option, Some, None, Result, Ok, Err, subst, codes, if◌then◌else◌}
+use Rattle.std.proofs.Common.{◌≡◌, ℕ, ◌+◌, Bool, true, false, List, [], ◌∷◌, ◌++◌, Option, Some, None, Result, Ok, Err, subst, codes, if◌then◌else◌}
 use Rattle.std.specs.List.{AllByRecursion, list_all}
 use Rattle.std.specs.Option.{option_and_then, option_map, option_map_or, option_or}
 use Rattle.std.specs.Str.{bytes_eq}
-use Rattle.moka_parts.specs.declared.calls.Call.TheVariants.{Remove, Keys, Report}
+use Rattle.moka_parts.specs.declared.calls.Call.TheVariants.{Keys, Report, Pending}
 use Rattle.moka_drive.specs.Served.{IsServed}
 use Rattle.moka_replay.specs.declared.script.settings.Settings.{Settings}
 use Rattle.moka_replay.specs.declared.script.settings.Setting.{Setting}
 use Rattle.moka_replay.specs.declared.script.Line.TheVariants as line
-use Rattle.moka_replay.specs.Lex.{number_of, alone, is_printable, words_of}
+use Rattle.moka_replay.specs.Lex.{number_of, lone_number, alone, is_printable, words_of}
 use Rattle.moka_replay.specs.Settings.{setting_of, put_in}
-use Rattle.moka_replay.specs.Calls.{CallText, insert_of, send_of, get_of, contains_of, key_of, remove_of, run_of, call_of}
+use Rattle.moka_replay.specs.Calls.{CallText, key_and_moment, insert_of, send_of, get_of, contains_of, key_of, remove_of, invall_of, run_of, call_of}
 use Rattle.moka_replay.specs.Script.{LineText, ScriptText, asked_by_name, asked_by, asked_in, is_comment, has_lru, joined, with_line, lines_read, lines_of, no_text, script_of}
 
 -- ---- calls
@@ -36,21 +36,13 @@ serves_insert (key ∷ value ∷ now ∷ []) = serves_then (number_of 32 key) _ 
 serves_insert (key ∷ value ∷ now ∷ more ∷ rest) = tt
 
 serves_send : (arguments : List (List ℕ)) → Serves (send_of arguments)
-serves_send [] = tt
-serves_send (ticket ∷ []) = serves_then (number_of 64 ticket) _ (λ n. tt)
-serves_send (ticket ∷ more ∷ rest) = tt
+serves_send arguments = serves_then (lone_number arguments) _ (λ n. tt)
 
 serves_get : (arguments : List (List ℕ)) → Serves (get_of arguments)
-serves_get [] = tt
-serves_get (key ∷ []) = tt
-serves_get (key ∷ now ∷ []) = serves_then (number_of 32 key) _ (λ k. serves_then (number_of 64 now) _ (λ n. tt))
-serves_get (key ∷ now ∷ more ∷ rest) = tt
+serves_get arguments = serves_then (key_and_moment arguments) _ (λ asked. tt)
 
 serves_contains : (arguments : List (List ℕ)) → Serves (contains_of arguments)
-serves_contains [] = tt
-serves_contains (key ∷ []) = tt
-serves_contains (key ∷ now ∷ []) = serves_then (number_of 32 key) _ (λ k. serves_then (number_of 64 now) _ (λ n. tt))
-serves_contains (key ∷ now ∷ more ∷ rest) = tt
+serves_contains arguments = serves_then (key_and_moment arguments) _ (λ asked. tt)
 
 serves_key : (arguments : List (List ℕ)) → Serves (key_of arguments)
 serves_key [] = tt
@@ -62,6 +54,9 @@ serves_remove [] = tt
 serves_remove (key ∷ []) = serves_then (number_of 32 key) _ (λ k. tt)
 serves_remove (key ∷ now ∷ []) = serves_then (number_of 64 now) _ (λ n. serves_then (number_of 32 key) _ (λ k. tt))
 serves_remove (key ∷ now ∷ more ∷ rest) = tt
+
+serves_invall : (arguments : List (List ℕ)) → Serves (invall_of arguments)
+serves_invall arguments = serves_then (lone_number arguments) _ (λ n. tt)
 
 serves_run : (arguments : List (List ℕ)) → Serves (run_of arguments)
 serves_run [] = tt
@@ -81,9 +76,11 @@ serves_call name arguments =
     (serves_if (bytes_eq name (codes "contains")) _ _ (serves_contains arguments)
     (serves_if (bytes_eq name (codes "key")) _ _ (serves_key arguments)
     (serves_if (bytes_eq name (codes "remove")) _ _ (serves_remove arguments)
+    (serves_if (bytes_eq name (codes "invall")) _ _ (serves_invall arguments)
     (serves_if (bytes_eq name (codes "run")) _ _ (serves_run arguments)
     (serves_if (bytes_eq name (codes "keys")) _ _ (serves_alone (Keys 0) arguments tt)
-    (serves_if (bytes_eq name (codes "report")) (alone Report arguments) None (serves_alone Report arguments tt) tt))))))))
+    (serves_if (bytes_eq name (codes "report")) _ _ (serves_alone Report arguments tt)
+    (serves_if (bytes_eq name (codes "pending")) (alone Pending arguments) None (serves_alone Pending arguments tt) tt))))))))))
 
 -- ---- lines
 

@@ -2,11 +2,12 @@
 use Rattle.std.specs.Prelude.{ℕ, false, List, [], ◌∷◌, Option, Some, None, codes, if◌then◌else◌}
 use Rattle.std.specs.Str.{bytes_eq}
 use Rattle.moka_parts.specs.declared.calls.Call.{Call}
-use Rattle.moka_parts.specs.declared.calls.Call.TheVariants.{Insert, Send, Get, Contains, Key, Remove, Run, Keys, Report}
+use Rattle.moka_parts.specs.declared.calls.Call.TheVariants.{Insert, Send, Get, Contains, Key, Remove, InvalidateAll, Run, Keys, Report, Pending}
+use Rattle.moka_parts.specs.declared.policy.Instant.{Instant}
 use Rattle.moka_replay.specs.declared.key_range.KeyRange.{KeyRange}
 use Rattle.moka_replay.specs.declared.script.calls.LineCall.{LineCall}
 use Rattle.moka_replay.specs.declared.script.calls.LineCall.TheVariants as line_call
-use Rattle.moka_replay.specs.Lex.{number_of, alone, ◌>>=◌}
+use Rattle.moka_replay.specs.Lex.{number_of, lone_number, alone, ◌>>=◌}
 
 -- a call whose value is its bytes
 abbrev pub CallText : Type 0
@@ -25,28 +26,31 @@ insert_of (key ∷ value ∷ now ∷ []) = do
   Some (Insert k k value (record { 0 = n }))
 insert_of _ = None
 
+-- `KEY NOW`
+abbrev pub key_and_moment : List (List ℕ) → Option (ℕ × Instant)
+key_and_moment (key ∷ now ∷ []) = do
+  k ← number_of 32 key
+  n ← number_of 64 now
+  Some (k, record { 0 = n })
+key_and_moment _ = None
+
 -- `send TICKET`
 abbrev pub send_of : List (List ℕ) → Option CallText
-send_of (ticket ∷ []) = do
-  n ← number_of 64 ticket
+send_of arguments = do
+  n ← lone_number arguments
   Some (Send (record { 0 = n }))
-send_of _ = None
 
 -- `get KEY NOW`
 abbrev pub get_of : List (List ℕ) → Option CallText
-get_of (key ∷ now ∷ []) = do
-  k ← number_of 32 key
-  n ← number_of 64 now
-  Some (Get k k false (record { 0 = n }))
-get_of _ = None
+get_of arguments = do
+  asked ← key_and_moment arguments
+  Some (Get asked.0 asked.0 false asked.1)
 
 -- `contains KEY NOW`
 abbrev pub contains_of : List (List ℕ) → Option CallText
-contains_of (key ∷ now ∷ []) = do
-  k ← number_of 32 key
-  n ← number_of 64 now
-  Some (Contains k k (record { 0 = n }))
-contains_of _ = None
+contains_of arguments = do
+  asked ← key_and_moment arguments
+  Some (Contains asked.0 asked.0 asked.1)
 
 -- `key KEY`
 abbrev pub key_of : List (List ℕ) → Option CallText
@@ -66,6 +70,12 @@ remove_of (key ∷ now ∷ []) = do
   Some (Remove k k (Some (record { 0 = n })))
 remove_of _ = None
 
+-- `invall NOW`
+abbrev pub invall_of : List (List ℕ) → Option CallText
+invall_of arguments = do
+  n ← lone_number arguments
+  Some (InvalidateAll (record { 0 = n }))
+
 -- `run NOW BATCH`: no time limit, four passes
 abbrev pub run_of : List (List ℕ) → Option CallText
 run_of (now ∷ batch ∷ []) = do
@@ -83,7 +93,9 @@ call_of name arguments =
     else (if bytes_eq name (codes "contains") then contains_of arguments
     else (if bytes_eq name (codes "key") then key_of arguments
     else (if bytes_eq name (codes "remove") then remove_of arguments
+    else (if bytes_eq name (codes "invall") then invall_of arguments
     else (if bytes_eq name (codes "run") then run_of arguments
     else (if bytes_eq name (codes "keys") then alone (Keys 0) arguments
     else (if bytes_eq name (codes "report") then alone Report arguments
-    else None))))))))
+    else (if bytes_eq name (codes "pending") then alone Pending arguments
+    else None))))))))))

@@ -1,5 +1,5 @@
 -- The words and the numbers of a line.
-use Rattle.std.specs.Prelude.{ℕ, ◌^◌, Bool, ◌&&◌, ◌==◌, nat_le, nat_lt, not, List, [], length, filter, map, Option, Some, None, option_and_then, unwrap_or, if◌then◌else◌}
+use Rattle.std.specs.Prelude.{ℕ, ◌^◌, Bool, ◌&&◌, ◌==◌, nat_le, nat_lt, not, List, [], ◌∷◌, length, filter, map, Option, Some, None, option_and_then, unwrap_or, if◌then◌else◌}
 use Rattle.std.specs.Borrow.{Bor}
 use Rattle.std.specs.List.{slice_split, list_all}
 use Rattle.std.specs.Char.{is_ascii_digit}
@@ -38,3 +38,8 @@ weight_of word = if nat_lt 10 (length word) then 1 else unwrap_or (number_of 32 
 abbrev pub alone : {A : Type 0} → A → List (List ℕ) → Option A
 alone asked [] = Some asked
 alone asked _ = None
+
+-- the number of a line that asks for one alone
+abbrev pub lone_number : List (List ℕ) → Option ℕ
+lone_number (word ∷ []) = number_of 64 word
+lone_number _ = None

@@ -1,15 +1,17 @@
 -- What comes of the calls of a script: a run of the reference cache.
-use Rattle.std.specs.Prelude.{◌≡◌, ℕ, ◌+◌, ◌-◌, ◌^◌, min, ◌&&◌, nat_eq, nat_le, false, List, None, unwrap_or}
+use Rattle.std.specs.Prelude.{◌≡◌, ℕ, ◌+◌, ◌-◌, ◌^◌, min, ◌&&◌, nat_eq, nat_le, false, List, Option, None, unwrap_or}
 use Rattle.std.specs.Int.{w128, to_be_bytes}
 use Rattle.moka_parts.specs.declared.calls.Reply.{Reply}
 use Rattle.moka_parts.specs.declared.policy.EvictionPolicy.{EvictionPolicy}
 use Rattle.moka_parts.specs.declared.policy.EvictionPolicy.TheVariants.{TinyLfu}
 use Rattle.moka_parts.specs.declared.policy.NoExpiry.{NoExpiry}
+use Rattle.moka_parts.specs.Policy.{Expirations}
 use Rattle.moka_parts.specs.State.{State, Meaning, new_state}
 use Rattle.moka_parts.specs.Housekeeping.{new_housekeeping, without_automatic}
 use Rattle.moka_parts.specs.Runs.{Step, calls_of, replies_of, notices_of, last_state, AreSteps, PromisedRun}
 use Rattle.moka_replay.specs.declared.key_range.KeyRange.{KeyRange}
 use Rattle.moka_replay.specs.declared.print.Total.{Total}
+use Rattle.moka_replay.specs.declared.script.settings.KeeperTerms.{KeeperTerms}
 use Rattle.moka_replay.specs.declared.script.settings.Settings.{Settings}
 use Rattle.moka_replay.specs.declared.sources.CountedIds.{CountedIds}
 use Rattle.moka_replay.specs.declared.sources.StoppedClock.{StoppedClock}
@@ -43,20 +45,32 @@ script_meaning = record {
 abbrev pub chosen_policy : Settings → EvictionPolicy
 chosen_policy settings = unwrap_or settings.policy TinyLfu
 
--- the cache that a script begins with: made at 0, and no run starts by itself
+-- when its entries expire, in nanoseconds
+abbrev pub expirations_of : Option ℕ → Expirations NoExpiry
+expirations_of time_to_idle = record { time_to_live = None; time_to_idle = time_to_idle; expiry = None }
+
+-- the moment at which it is made
+abbrev pub start_of : Settings → ℕ
+start_of settings = unwrap_or settings.start 0
+
+-- what the housekeeper gives to its runs
+abbrev pub chosen_terms : Option KeeperTerms → KeeperTerms
+chosen_terms keeper = unwrap_or keeper (record { limit = 100000000; repeats = 4; batch = 384 })
+
+-- the cache that a script begins with; no run starts by itself
 abbrev pub first_state : Settings → ScriptState
 first_state settings = record (new_state (record {
   policy = chosen_policy settings;
   time_to_live = None;
-  time_to_idle = None;
+  time_to_idle = settings.time_to_idle;
   expiry = None;
   weigher = settings.weigher;
   listening = settings.listener;
   invalidator = false;
-  run_limit = 100000000;
-  run_repeats = 4;
-  run_batch = 384;
-}) settings.capacity 0 (unwrap_or settings.first 1)) { housekeeping = without_automatic (new_housekeeping 0) }
+  run_limit = (chosen_terms settings.keeper).limit;
+  run_repeats = (chosen_terms settings.keeper).repeats;
+  run_batch = (chosen_terms settings.keeper).batch;
+}) settings.capacity (start_of settings) (unwrap_or settings.first 1)) { housekeeping = without_automatic (new_housekeeping (start_of settings)) }
 
 -- count and weight of the last run
 abbrev pub total_of : ScriptState → Total

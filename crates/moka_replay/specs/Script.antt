@@ -3,9 +3,8 @@ use Rattle.std.specs.Prelude.{◌≡◌, ℕ, ◌+◌, ◌==◌, Bool, true, fal
 use Rattle.std.specs.List.{slice_split, list_all}
 use Rattle.std.specs.Option.{option_or, option_map_or}
 use Rattle.moka_parts.specs.declared.policy.EvictionPolicy.TheVariants.{Lru}
-use Rattle.moka_parts.specs.declared.calls.Call.TheVariants.{Remove}
 use Rattle.moka_replay.specs.declared.script.settings.Settings.{Settings}
-use Rattle.moka_replay.specs.declared.script.settings.Setting.TheVariants.{Policy, Listener}
+use Rattle.moka_replay.specs.declared.script.settings.Setting.TheVariants.{Policy}
 use Rattle.moka_replay.specs.declared.script.Script.{Script}
 use Rattle.moka_replay.specs.declared.script.calls.LineCall.{LineCall}
 use Rattle.moka_replay.specs.declared.script.Line.{Line}

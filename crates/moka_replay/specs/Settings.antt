@@ -5,22 +5,21 @@ use Rattle.moka_parts.specs.declared.policy.EvictionPolicy.{EvictionPolicy}
 use Rattle.moka_parts.specs.declared.policy.EvictionPolicy.TheVariants.{Lru}
 use Rattle.moka_replay.specs.declared.script.settings.Settings.{Settings}
 use Rattle.moka_replay.specs.declared.script.settings.Setting.{Setting}
-use Rattle.moka_replay.specs.declared.script.settings.Setting.TheVariants.{First, Capacity, Policy, Weigh, Listener}
-use Rattle.moka_replay.specs.Lex.{number_of, alone, ◌>>=◌}
+use Rattle.moka_replay.specs.declared.script.settings.Setting.TheVariants.{First, Capacity, Policy, TimeToIdle, Weigh, Listener, Start, Keeper}
+use Rattle.moka_replay.specs.Lex.{number_of, lone_number, alone, ◌>>=◌}
 
--- `first N`, where N is not 0
-abbrev pub first_of : List (List ℕ) → Option Setting
-first_of (ticket ∷ []) = do
-  n ← number_of 64 ticket
-  if n == 0 then None else Some (First n)
-first_of _ = None
+-- the ticket of that number, which is not 0
+abbrev pub ticket_of : ℕ → Option ℕ
+ticket_of n = if n == 0 then None else Some n
 
--- `capacity N`
-abbrev pub capacity_of : List (List ℕ) → Option Setting
-capacity_of (capacity ∷ []) = do
-  n ← number_of 64 capacity
-  Some (Capacity n)
-capacity_of _ = None
+-- `keeper LIMIT REPEATS BATCH`
+abbrev pub keeper_of : List (List ℕ) → Option Setting
+keeper_of (limit ∷ repeats ∷ batch ∷ []) = do
+  l ← number_of 64 limit
+  r ← number_of 32 repeats
+  b ← number_of 32 batch
+  Some (Keeper (record { limit = l; repeats = r; batch = b }))
+keeper_of _ = None
 
 -- the policy of that name
 abbrev pub policy_named : List ℕ → Option EvictionPolicy
@@ -36,16 +35,19 @@ policy_of _ = None
 -- the setting of that name
 abbrev pub setting_of : List ℕ → List (List ℕ) → Option Setting
 setting_of name arguments =
-    if bytes_eq name (codes "first") then first_of arguments
-    else (if bytes_eq name (codes "capacity") then capacity_of arguments
+    if bytes_eq name (codes "first") then option_map First (lone_number arguments >>= ticket_of)
+    else (if bytes_eq name (codes "capacity") then option_map Capacity (lone_number arguments)
     else (if bytes_eq name (codes "policy") then policy_of arguments
+    else (if bytes_eq name (codes "tti") then option_map TimeToIdle (lone_number arguments)
     else (if bytes_eq name (codes "weigh") then alone (Weigh (record {})) arguments
     else (if bytes_eq name (codes "listener") then alone Listener arguments
-    else None))))
+    else (if bytes_eq name (codes "start") then option_map Start (lone_number arguments)
+    else (if bytes_eq name (codes "keeper") then keeper_of arguments
+    else None)))))))
 
 -- nothing is set
 abbrev pub no_settings : Settings
-no_settings = record { first = None; capacity = None; policy = None; weigher = None; listener = false }
+no_settings = record { first = None; capacity = None; policy = None; time_to_idle = None; weigher = None; listener = false; start = None; keeper = None }
 
 -- whether a setting may stand in a script: a capacity other than 0 needs `policy lru`
 abbrev pub is_allowed : Bool → Setting → Bool
@@ -62,5 +64,8 @@ abbrev pub put_in : Settings → Setting → Option Settings
 put_in settings (First first) = option_map (λ place. record settings { first = place }) (filled settings.first first)
 put_in settings (Capacity capacity) = option_map (λ place. record settings { capacity = place }) (filled settings.capacity capacity)
 put_in settings (Policy policy) = option_map (λ place. record settings { policy = place }) (filled settings.policy policy)
+put_in settings (TimeToIdle nanos) = option_map (λ place. record settings { time_to_idle = place }) (filled settings.time_to_idle nanos)
 put_in settings (Weigh weigher) = option_map (λ place. record settings { weigher = place }) (filled settings.weigher weigher)
 put_in settings Listener = if settings.listener then None else Some (record settings { listener = true })
+put_in settings (Start now) = option_map (λ place. record settings { start = place }) (filled settings.start now)
+put_in settings (Keeper keeper) = option_map (λ place. record settings { keeper = place }) (filled settings.keeper keeper)

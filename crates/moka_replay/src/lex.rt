@@ -2,7 +2,7 @@
 ghost use Rattle.std.specs.Prelude.{◌≡◌, ◌≤◌, take};
 ghost use Rattle.std.specs.List.{list_all};
 ghost use Rattle.std.specs.Char.{is_ascii_digit};
-ghost use Rattle.moka_replay.specs.Lex.{texts, alone, words_of, number_of, is_numeral, is_printable};
+ghost use Rattle.moka_replay.specs.Lex.{texts, alone, lone_number, words_of, number_of, is_numeral, is_printable};
 
 /// A number has at most twenty digits.
 const MOST_DIGITS: usize = 20;
@@ -76,5 +76,15 @@ pub fn alone<T: Drop>(asked: T, arguments: &[&str]) -> Option<T>
         Some(asked)
     } else {
         None
+    }
+}
+
+/// The number of a line that asks for one alone.
+pub fn lone_number(arguments: &[&str]) -> Option<u64>
+    ensures { result ≡ lone_number (texts arguments.now) }
+{
+    match arguments {
+        [word] => number(word),
+        _ => None,
     }
 }

@@ -1,15 +1,16 @@
 //! Makes the calls of a script on a cache.
 ghost use Rattle.std.specs.Prelude.{◌≡◌, is_some, IfOk};
+ghost use Rattle.std.specs.Duration.{as_nanos};
 ghost use Rattle.std.specs.List.{AllByRecursion};
 ghost use Rattle.moka_drive.specs.Served.{IsServed};
 ghost use Rattle.moka_replay.specs.Notices.{told_of, listener_for};
 ghost use Rattle.moka_replay.specs.Script.{text_of};
-ghost use Rattle.moka_replay.specs.Played.{AreReplies, chosen_policy, first_state, total_of};
+ghost use Rattle.moka_replay.specs.Played.{AreReplies, chosen_policy, chosen_terms, expirations_of, first_state, total_of};
 ghost use Rattle.moka_engine.specs.BaseCache.{IsLruWhereBounded};
 
 use crate::key_range::KeyRange;
 use crate::notices::{Notices, room_for};
-use crate::script::{Script, ScriptCall, ScriptReply, Settings};
+use crate::script::{KeeperTerms, Script, ScriptCall, ScriptReply, Settings};
 use crate::sources::{CountedIds, StoppedClock};
 use crate::weigher::NumberWeigher;
 use crate::word::Word;
@@ -20,6 +21,7 @@ use moka_parts::housekeeper::HousekeeperConfig;
 use moka_parts::policy::{EvictionPolicy, ExpirationPolicy, Instant, NoExpiry};
 use std::alloc::Global;
 use std::hash::{BuildHasherDefault, FoldHasher};
+use std::time::Duration;
 
 /// The first ticket where a script sets none.
 const FIRST_TICKET: u64 = 1;
@@ -81,7 +83,7 @@ fn listener_for(
     }
 }
 
-/// The cache that a script begins with, made at 0.
+/// The cache that a script begins with.
 fn new_cache(
     alloc: Global,
     settings: Settings,
@@ -105,10 +107,37 @@ fn new_cache(
         settings.weigher,
         settings.policy.unwrap_or(EvictionPolicy::tiny_lfu()),
         listener,
-        ExpirationPolicy::default(),
-        HousekeeperConfig::default(),
+        expirations_of(settings.time_to_idle),
+        config_of(settings.keeper),
         false,
-        Instant(0),
+        Instant(settings.start.unwrap_or(0)),
         first,
     )
+}
+
+/// What the housekeeper of a script's cache gives to its runs.
+fn config_of(keeper: Option<KeeperTerms>) -> HousekeeperConfig
+    ensures limit { as_nanos result.maintenance_task_timeout ≡ (chosen_terms keeper).limit }
+    ensures repeats { result.max_log_sync_repeats ≡ (chosen_terms keeper).repeats }
+    ensures batch { result.eviction_batch_size ≡ (chosen_terms keeper).batch }
+{
+    match keeper {
+        Some(keeper) => HousekeeperConfig {
+            maintenance_task_timeout: Duration::from_nanos(keeper.limit),
+            max_log_sync_repeats: keeper.repeats,
+            eviction_batch_size: keeper.batch,
+        },
+        None => HousekeeperConfig::default(),
+    }
+}
+
+/// When the entries of a script's cache expire.
+fn expirations_of(time_to_idle: Option<u64>) -> ExpirationPolicy<NoExpiry>
+    ensures { result ≡ expirations_of time_to_idle }
+{
+    let mut expirations = ExpirationPolicy::default();
+    if let Some(nanos) = time_to_idle {
+        expirations.set_time_to_idle(Duration::from_nanos(nanos));
+    }
+    expirations
 }

@@ -1,5 +1,5 @@
 //! Reads a script, makes its calls on a cache, and prints what comes of it.
-ghost use Rattle.std.specs.Prelude.{◌≡◌, false, option_copied, IfOk};
+ghost use Rattle.std.specs.Prelude.{◌≡◌, option_copied, IfOk};
 ghost use Rattle.std.specs.List.{AllByRecursion};
 ghost use Rattle.moka_drive.specs.Served.{IsServed};
 ghost use Rattle.moka_engine.specs.BaseCache.{IsLruWhereBounded};

@@ -15,7 +15,7 @@ mod calls;
 mod settings;
 
 pub use calls::{ScriptCall, ScriptReply};
-pub use settings::Settings;
+pub use settings::{KeeperTerms, Settings};
 
 /// A script: what it sets, and then its calls in order.
 #[derive(Drop)]

@@ -211,6 +211,56 @@ fn replays_scripts(rt: HostRuntime) -> Result<(), Fail> {
             "capacity 0\ninsert 1 a 0\nget 1 0\nrun 0 10\n",
             "disabled\nnone\ndone\ncount 0 weight 0\n",
         ),
+        (
+            "listener\ninsert 1 a 4\ninsert 2 b 5\nsend 1\nsend 2\ninvall 5\nget 1 5\nget 2 5\nkey 1\n\
+            run 5 10\nreport\n",
+            "ticket 1\nticket 2\nsent\nsent\nok\nnone\nvalue b\nkey 1\ndone\ncount 1 weight 1 predicates 0\n\
+            notice 1 a Explicit\ncount 1 weight 1\n",
+        ),
+        (
+            "invall 8\ninsert 1 a 7\nget 1 9\ninvall 3\nget 1 9\n",
+            "ok\nticket 1\nnone\nok\nvalue a\ncount 0 weight 0\n",
+        ),
+        (
+            "invall 18446744073709551615\ninsert 1 a 18446744073709551615\nget 1 18446744073709551615\n",
+            "ok\nticket 1\nvalue a\ncount 0 weight 0\n",
+        ),
+        (
+            "tti 7\ninsert 1 a 10\nget 1 4\ncontains 1 11\n",
+            "ticket 1\nvalue a\nno\ncount 0 weight 0\n",
+        ),
+        (
+            "tti 5\nlistener\ninsert 1 a 0\ninvall 8\ninsert 1 b 9\n",
+            "ticket 1\nok\nticket 2\nnotice 1 a Explicit\ncount 0 weight 0\n",
+        ),
+        (
+            "capacity 0\ninsert 1 a 0\nget 1 0\npending\nrun 0 10\n",
+            "disabled\nnone\nhanded 0 oldest none writes 0 reads 0\ndone\ncount 0 weight 0\n",
+        ),
+        (
+            "weigh\ninsert 1 3 0\ninsert 1 7 1\nremove 1\ninsert 1 2 2\npending\nsend 4\nsend 3\nsend 2\n\
+            send 1\nsend 4\npending\nrun 3 10\nreport\n",
+            "ticket 1\nticket 2\nremoved 7 ticket 3\nticket 4\nhanded 4 oldest 1 writes 0 reads 0\nsent\n\
+            sent\nsent\nsent\nunknown\nhanded 0 oldest none writes 4 reads 0\ndone\n\
+            count 1 weight 2 predicates 0\ncount 1 weight 2\n",
+        ),
+        (
+            "tti 10\nlistener\ninsert 1 a 0\nsend 1\nrun 0 10\nget 1 5\nrun 14 10\nreport\nrun 15 10\n\
+            report\n",
+            "ticket 1\nsent\ndone\nvalue a\ndone\ncount 1 weight 1 predicates 0\ndone\n\
+            count 0 weight 0 predicates 0\nnotice 1 a Expired\ncount 0 weight 0\n",
+        ),
+        (
+            "insert 1 a 0\nget 1 0\nget 2 0\npending\nsend 1\npending\nrun 0 10\npending\n",
+            "ticket 1\nvalue a\nnone\nhanded 1 oldest 1 writes 0 reads 2\nsent\n\
+            handed 0 oldest none writes 1 reads 2\ndone\nhanded 0 oldest none writes 0 reads 0\n\
+            count 1 weight 1\n",
+        ),
+        (
+            "keeper 18446744073709551615 4294967295 1\nstart 5\ncapacity 1\npolicy lru\ninsert 1 a 0\n\
+            insert 2 b 0\nsend 1\nsend 2\nrun 0 10\nreport\n",
+            "ticket 1\nticket 2\nsent\nsent\ndone\ncount 1 weight 1 predicates 0\ncount 1 weight 1\n",
+        ),
         ("", "count 0 weight 0\n"),
         ("  \n# report", "count 0 weight 0\n"),
         (
@@ -307,6 +357,11 @@ fn names_the_first_faulty_line(rt: HostRuntime) -> Result<(), Fail> {
         ("capacity 4\nfirst 0\npolicy lru\n", 2),
         ("capacity 4\nreport\npolicy lru\n", 1),
         ("remove 1 4\nremove 1 4 5\n", 2),
+        ("tti 1\ntti 2\n", 2),
+        ("start 1\nstart 1\n", 2),
+        ("keeper 1 2 3\n\nkeeper 1 2 3\n", 3),
+        ("report\nkeeper 1 2 3\n", 2),
+        ("report\ntti 1\n", 2),
         ("listener\nlistener\n", 2),
         ("listener 1\n", 1),
         ("report\nlistener\n", 2),
@@ -346,7 +401,20 @@ fn finds_each_fault(rt: HostRuntime) -> Result<(), Fail> {
         "capacity x",
         "capacity 1 1",
         "policy x",
+        "tti",
+        "tti x",
+        "tti 1 1",
         "weigh x",
+        "start",
+        "start x",
+        "start 0 0",
+        "keeper 1 2",
+        "keeper 1 2 3 4",
+        "keeper x 2 3",
+        "keeper 1 x 3",
+        "keeper 1 4294967296 3",
+        "keeper 1 2 x",
+        "keeper 1 2 4294967296",
         "insert",
         "insert 1 a",
         "insert 1 a 0 0",
@@ -372,12 +440,16 @@ fn finds_each_fault(rt: HostRuntime) -> Result<(), Fail> {
         "remove",
         "remove x",
         "remove 1 0 0",
+        "invall",
+        "invall x",
+        "invall 0 0",
         "run 0",
         "run x 1",
         "run 0 x",
         "run 0 4294967296",
         "keys 0",
         "report 0",
+        "pending 0",
         "a b c d e f g",
     ] {
         check_fault(&rt, fault, 1)?;

@@ -1,10 +1,10 @@
 //! The calls of a script.
 ghost use Rattle.std.specs.Prelude.{◌≡◌, option_map};
 ghost use Rattle.moka_replay.specs.Lex.{texts};
-ghost use Rattle.moka_replay.specs.Calls.{call_of, call_text, insert_of, send_of, get_of, contains_of, key_of, remove_of, run_of};
+ghost use Rattle.moka_replay.specs.Calls.{call_of, call_text, key_and_moment, insert_of, send_of, get_of, contains_of, key_of, remove_of, invall_of, run_of};
 
 use crate::key_range::KeyRange;
-use crate::lex::{alone, number, small_number};
+use crate::lex::{alone, lone_number, number, small_number};
 use crate::word::Word;
 use moka_parts::calls::{Call, Reply, Ticket};
 use moka_parts::policy::Instant;
@@ -59,14 +59,23 @@ fn insert<'a>(arguments: &[&'a str]) -> Option<LineCall<'a>>
     Some(LineCall::Insert { key, value, now })
 }
 
+/// `KEY NOW`
+fn key_and_moment(arguments: &[&str]) -> Option<(u32, Instant)>
+    ensures { result ≡ key_and_moment (texts arguments.now) }
+{
+    let [key, now] = arguments else {
+        return None;
+    };
+    let key = small_number(key)?;
+    let now = Instant(number(now)?);
+    Some((key, now))
+}
+
 /// `send TICKET`
 fn send(arguments: &[&str]) -> Option<ScriptCall>
     ensures { result ≡ send_of (texts arguments.now) }
 {
-    let [ticket] = arguments else {
-        return None;
-    };
-    let ticket = Ticket(number(ticket)?);
+    let ticket = Ticket(lone_number(arguments)?);
     Some(Call::Send { ticket })
 }
 
@@ -74,11 +83,7 @@ fn send(arguments: &[&str]) -> Option<ScriptCall>
 fn get(arguments: &[&str]) -> Option<ScriptCall>
     ensures { result ≡ get_of (texts arguments.now) }
 {
-    let [key, now] = arguments else {
-        return None;
-    };
-    let key = small_number(key)?;
-    let now = Instant(number(now)?);
+    let (key, now) = key_and_moment(arguments)?;
     Some(Call::Get {
         key,
         hash: u64::from(key),
@@ -91,11 +96,7 @@ fn get(arguments: &[&str]) -> Option<ScriptCall>
 fn contains(arguments: &[&str]) -> Option<ScriptCall>
     ensures { result ≡ contains_of (texts arguments.now) }
 {
-    let [key, now] = arguments else {
-        return None;
-    };
-    let key = small_number(key)?;
-    let now = Instant(number(now)?);
+    let (key, now) = key_and_moment(arguments)?;
     Some(Call::Contains {
         key,
         hash: u64::from(key),
@@ -134,6 +135,14 @@ fn remove(arguments: &[&str]) -> Option<ScriptCall>
     })
 }
 
+/// `invall NOW`
+fn invall(arguments: &[&str]) -> Option<ScriptCall>
+    ensures { result ≡ invall_of (texts arguments.now) }
+{
+    let now = Instant(lone_number(arguments)?);
+    Some(Call::InvalidateAll { now })
+}
+
 /// `run NOW BATCH`, which may repeat four times
 fn run(arguments: &[&str]) -> Option<ScriptCall>
     ensures { result ≡ run_of (texts arguments.now) }
@@ -162,9 +171,11 @@ pub fn parse_call<'a>(name: &str, arguments: &[&'a str]) -> Option<LineCall<'a>>
         "contains" => contains(arguments)?,
         "key" => key(arguments)?,
         "remove" => remove(arguments)?,
+        "invall" => invall(arguments)?,
         "run" => run(arguments)?,
         "keys" => alone(Call::Keys { segment: 0 }, arguments)?,
         "report" => alone(Call::Report, arguments)?,
+        "pending" => alone(Call::Pending, arguments)?,
         _ => return None,
     };
     Some(LineCall::Other(call))

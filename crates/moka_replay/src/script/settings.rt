@@ -1,10 +1,10 @@
 //! The settings of a script.
 ghost use Rattle.std.specs.Prelude.{◌≡◌};
 ghost use Rattle.moka_replay.specs.Lex.{texts};
-ghost use Rattle.moka_replay.specs.Settings.{first_of, capacity_of, policy_of, policy_named, setting_of};
+ghost use Rattle.moka_replay.specs.Settings.{keeper_of, policy_of, policy_named, setting_of};
 
 use crate::first_ticket::FirstTicket;
-use crate::lex::{alone, number};
+use crate::lex::{alone, lone_number, number, small_number};
 use crate::weigher::NumberWeigher;
 use moka_parts::policy::EvictionPolicy;
 
@@ -17,10 +17,24 @@ pub struct Settings {
     pub capacity: Option<u64>,
     /// How the cache chooses what stays.
     pub policy: Option<EvictionPolicy>,
+    /// How long an entry lasts after it was last inserted or read, in nanoseconds.
+    pub time_to_idle: Option<u64>,
     /// What weighs the values.
     pub weigher: Option<NumberWeigher>,
     /// Whether a listener keeps the notices.
     pub listener: bool,
+    /// The moment at which the cache is made.
+    pub start: Option<u64>,
+    /// What the housekeeper gives to its runs.
+    pub keeper: Option<KeeperTerms>,
+}
+
+/// What the housekeeper gives to each run: its time limit in nanoseconds, its repeats and its batch.
+#[derive(Clone, Copy)]
+pub struct KeeperTerms {
+    pub limit: u64,
+    pub repeats: u32,
+    pub batch: u32,
 }
 
 impl Settings {
@@ -35,8 +49,11 @@ impl Settings {
             first: None,
             capacity: None,
             policy: None,
+            time_to_idle: None,
             weigher: None,
             listener: false,
+            start: None,
+            keeper: None,
         }
     }
 
@@ -57,12 +74,24 @@ impl Settings {
                 policy: Some(policy),
                 ..self
             }),
+            Setting::TimeToIdle(nanos) if self.time_to_idle.is_none() => Some(Settings {
+                time_to_idle: Some(nanos),
+                ..self
+            }),
             Setting::Weigh(weigher) if self.weigher.is_none() => Some(Settings {
                 weigher: Some(weigher),
                 ..self
             }),
             Setting::Listener if !self.listener => Some(Settings {
                 listener: true,
+                ..self
+            }),
+            Setting::Start(now) if self.start.is_none() => Some(Settings {
+                start: Some(now),
+                ..self
+            }),
+            Setting::Keeper(keeper) if self.keeper.is_none() => Some(Settings {
+                keeper: Some(keeper),
                 ..self
             }),
             _ => None,
@@ -76,8 +105,11 @@ pub enum Setting {
     First(FirstTicket),
     Capacity(u64),
     Policy(EvictionPolicy),
+    TimeToIdle(u64),
     Weigh(NumberWeigher),
     Listener,
+    Start(u64),
+    Keeper(KeeperTerms),
 }
 
 impl Setting {
@@ -90,30 +122,26 @@ impl Setting {
     {
         match self {
             Setting::Capacity(capacity) => has_lru || *capacity == 0,
-            Setting::First(_) | Setting::Policy(_) | Setting::Weigh(_) | Setting::Listener => true,
+            _ => true,
         }
     }
 }
 
-/// `first N`
-fn first(arguments: &[&str]) -> Option<Setting>
-    ensures { result ≡ first_of (texts arguments.now) }
+/// `keeper LIMIT REPEATS BATCH`
+fn keeper(arguments: &[&str]) -> Option<Setting>
+    ensures { result ≡ keeper_of (texts arguments.now) }
 {
-    let [ticket] = arguments else {
+    let [limit, repeats, batch] = arguments else {
         return None;
     };
-    let ticket = FirstTicket::new(number(ticket)?)?;
-    Some(Setting::First(ticket))
-}
-
-/// `capacity N`
-fn capacity(arguments: &[&str]) -> Option<Setting>
-    ensures { result ≡ capacity_of (texts arguments.now) }
-{
-    let [capacity] = arguments else {
-        return None;
-    };
-    Some(Setting::Capacity(number(capacity)?))
+    let limit = number(limit)?;
+    let repeats = small_number(repeats)?;
+    let batch = small_number(batch)?;
+    Some(Setting::Keeper(KeeperTerms {
+        limit,
+        repeats,
+        batch,
+    }))
 }
 
 /// `policy lru`
@@ -141,11 +169,16 @@ pub fn parse_setting(name: &str, arguments: &[&str]) -> Option<Setting>
     ensures { result ≡ setting_of name.now (texts arguments.now) }
 {
     match name {
-        "first" => first(arguments),
-        "capacity" => capacity(arguments),
+        "first" => lone_number(arguments)
+            .and_then(FirstTicket::new)
+            .map(Setting::First),
+        "capacity" => lone_number(arguments).map(Setting::Capacity),
         "policy" => policy(arguments),
+        "tti" => lone_number(arguments).map(Setting::TimeToIdle),
         "weigh" => alone(Setting::Weigh(NumberWeigher), arguments),
         "listener" => alone(Setting::Listener, arguments),
+        "start" => lone_number(arguments).map(Setting::Start),
+        "keeper" => keeper(arguments),
         _ => None,
     }
 }

@@ -6,6 +6,7 @@ use Rattle.moka_parts.specs.Runs.{PromisedRun, Step}
 use Rattle.moka_parts.specs.Listed.{ListedStep}
 use Rattle.moka_parts.proofs.OrderedDrive.{listed_call_promised, lists_go_on, drives_in_order}
 use Rattle.moka_parts.proofs.RunsGoOn.{MakesCalls_push}
+use Rattle.moka_drive.specs.Meanings.{meaning_of}
 use Rattle.moka_drive.specs.Served.{IsServed}
 use Rattle.moka_drive.proofs.Quiet.{no_calls, empty_of_length}
 use Rattle.moka_drive.proofs.driver.drive.Goals as goal
@@ -14,7 +15,7 @@ pub loop-call-init : goal.loop-call-init
 loop-call-init g c = record {
   can = tt;
   finite = tt;
-  ran = ([], rw c.in-Ok.ensures.items (no_calls (record { eq = g.K.PartialEq.eq; tells = g.L.Listener.tells; says = g.P.PredicateFn.says; weighs = g.W.Weigher.weighs; observes = g.C.Clock.reads; gives = g.I.IdSource.gives; created = g.X.Expiry.created; read = g.X.Expiry.read; updated = g.X.Expiry.updated }) (PromisedRun g.P.PredicateFn.says g.X.Expiry.read) c.args.cache.now c.args.clock.now c.args.ids.now), refl);
+  ran = ([], rw c.in-Ok.ensures.items (no_calls (meaning_of g.K.PartialEq.eq g.L.Listener.tells g.P.PredicateFn.says g.W.Weigher.weighs g.C.Clock.reads g.I.IdSource.gives g.X.Expiry.created g.X.Expiry.read g.X.Expiry.updated) (PromisedRun g.P.PredicateFn.says g.X.Expiry.read) c.args.cache.now c.args.clock.now c.args.ids.now), refl);
   rest = search rules;
   served = grind (rules, c.requires.served);
   room = search rules;
@@ -28,7 +29,7 @@ push_reserved-requires g c = omega (arith, c.loop-call.invariant.room, ap length
 
 pub loop-call-preserved : goal.loop-call-preserved
 loop-call-preserved g c =
-    let m : Meaning g.row.K.Denot g.row.V.Denot g.row.X.Denot g.row.L.Denot g.row.P.Denot g.row.W.Denot g.row.C.Denot g.row.I.Denot = record { eq = g.K.PartialEq.eq; tells = g.L.Listener.tells; says = g.P.PredicateFn.says; weighs = g.W.Weigher.weighs; observes = g.C.Clock.reads; gives = g.I.IdSource.gives; created = g.X.Expiry.created; read = g.X.Expiry.read; updated = g.X.Expiry.updated } in
+    let m : Meaning g.row.K.Denot g.row.V.Denot g.row.X.Denot g.row.L.Denot g.row.P.Denot g.row.W.Denot g.row.C.Denot g.row.I.Denot = meaning_of g.K.PartialEq.eq g.L.Listener.tells g.P.PredicateFn.says g.W.Weigher.weighs g.C.Clock.reads g.I.IdSource.gives g.X.Expiry.created g.X.Expiry.read g.X.Expiry.updated in
     let h = c.loop-call.invariant.ran in
     let k = c.make-reply.ensures in
     let made : Step g.row.K.Denot g.row.V.Denot g.row.X.Denot g.row.P.Denot g.row.W.Denot = record { call = c.in-Some.call; reply = c.make-reply.result; events = k.0; after = c.make-reply.new.cache.state } in
@@ -51,7 +52,7 @@ loop-call-preserved g c =
 
 pub returns-clause-run : goal.returns-clause-run
 returns-clause-run g c =
-    let m : Meaning g.row.K.Denot g.row.V.Denot g.row.X.Denot g.row.L.Denot g.row.P.Denot g.row.W.Denot g.row.C.Denot g.row.I.Denot = record { eq = g.K.PartialEq.eq; tells = g.L.Listener.tells; says = g.P.PredicateFn.says; weighs = g.W.Weigher.weighs; observes = g.C.Clock.reads; gives = g.I.IdSource.gives; created = g.X.Expiry.created; read = g.X.Expiry.read; updated = g.X.Expiry.updated } in
+    let m : Meaning g.row.K.Denot g.row.V.Denot g.row.X.Denot g.row.L.Denot g.row.P.Denot g.row.W.Denot g.row.C.Denot g.row.I.Denot = meaning_of g.K.PartialEq.eq g.L.Listener.tells g.P.PredicateFn.says g.W.Weigher.weighs g.C.Clock.reads g.I.IdSource.gives g.X.Expiry.created g.X.Expiry.read g.X.Expiry.updated in
     let h = c.loop-call.invariant.ran in
     let none = empty_of_length (into_iter_items c.loop-call.call-iterator) (sym c.loop-call.call-iterator.rest.ok.0 ∙ c.in-None.ensures.steps.0) in
     let all = c.loop-call.invariant.rest ∙ (ap (λ xs. c.loop-call.yielded ++ xs) none ∙ append-nil c.loop-call.yielded) in

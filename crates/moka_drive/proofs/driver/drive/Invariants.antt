@@ -4,6 +4,7 @@ use Rattle.std.specs.List.{AllByRecursion}
 use Rattle.std.specs.Vec.Iter.{into_iter_items}
 use Rattle.moka_parts.specs.Runs.{MakesCalls, PromisedRun, Step}
 use Rattle.moka_parts.specs.Listed.{AreListedSteps}
+use Rattle.moka_drive.specs.Meanings.{meaning_of}
 use Rattle.moka_drive.specs.Served.{IsServed}
 use Rattle.moka_drive.proofs.driver.drive.Given as goal
 
@@ -12,8 +13,8 @@ invariant-loop-call g l = record {
   can : (goal.iterator-loop-call g).can_next l.call-iterator;
   finite : (goal.iterator-loop-call g).is_finite l.call-iterator;
   ran : (steps : List (Step g.row.K.Denot g.row.V.Denot g.row.X.Denot g.row.P.Denot g.row.W.Denot))
-      × MakesCalls (record { eq = g.K.PartialEq.eq; tells = g.L.Listener.tells; says = g.P.PredicateFn.says; weighs = g.W.Weigher.weighs; observes = g.C.Clock.reads; gives = g.I.IdSource.gives; created = g.X.Expiry.created; read = g.X.Expiry.read; updated = g.X.Expiry.updated }) (PromisedRun g.P.PredicateFn.says g.X.Expiry.read) l.yielded l.replies.items steps l.fn.cache l.fn.clock l.fn.ids l.cache l.clock l.ids
-      × AreListedSteps (record { eq = g.K.PartialEq.eq; tells = g.L.Listener.tells; says = g.P.PredicateFn.says; weighs = g.W.Weigher.weighs; observes = g.C.Clock.reads; gives = g.I.IdSource.gives; created = g.X.Expiry.created; read = g.X.Expiry.read; updated = g.X.Expiry.updated }) l.fn.cache.state l.fn.cache.write_list steps l.cache.write_list;
+      × MakesCalls (meaning_of g.K.PartialEq.eq g.L.Listener.tells g.P.PredicateFn.says g.W.Weigher.weighs g.C.Clock.reads g.I.IdSource.gives g.X.Expiry.created g.X.Expiry.read g.X.Expiry.updated) (PromisedRun g.P.PredicateFn.says g.X.Expiry.read) l.yielded l.replies.items steps l.fn.cache l.fn.clock l.fn.ids l.cache l.clock l.ids
+      × AreListedSteps (meaning_of g.K.PartialEq.eq g.L.Listener.tells g.P.PredicateFn.says g.W.Weigher.weighs g.C.Clock.reads g.I.IdSource.gives g.X.Expiry.created g.X.Expiry.read g.X.Expiry.updated) l.fn.cache.state l.fn.cache.write_list steps l.cache.write_list;
   rest : l.fn.calls.items ≡ l.yielded ++ into_iter_items l.call-iterator;
   served : AllByRecursion IsServed (into_iter_items l.call-iterator);
   room : vec_len l.replies + length (into_iter_items l.call-iterator) ≤ vec_capacity l.replies;

@@ -1,7 +1,8 @@
 use Rattle.std.proofs.Common.{refl, sym, ◌∙◌}
 use Rattle.moka_parts.specs.Calls.{no_events}
 use Rattle.moka_parts.specs.Listed.{ListedRun}
-use Rattle.moka_drive.proofs.Quiet.{nothing_befalls, keys_step}
+use Rattle.moka_drive.specs.Meanings.{meaning_of}
+use Rattle.moka_drive.proofs.Quiet.{nothing_befalls, keys_step, pending_step}
 use Rattle.moka_drive.proofs.driver.make.Goals as goal
 
 pub returns-in-Insert : goal.returns-in-Insert
@@ -16,10 +17,17 @@ pub returns-in-Key : goal.returns-in-Key
 returns-in-Key g c =
     rw c.in-Key.is (no_events, (c.key_of.ensures, (refl, refl)), nothing_befalls g.L.Listener.tells c.args.cache.now, refl, refl)
 
+pub returns-in-InvalidateAll : goal.returns-in-InvalidateAll
+returns-in-InvalidateAll g c = rw c.in-InvalidateAll.is (no_events, (c.invalidate_all.ensures.step, refl), c.invalidate_all.ensures.events, refl, refl)
+
 pub returns-in-Keys : goal.returns-in-Keys
 returns-in-Keys g c =
-    rw c.in-Keys.is (no_events, keys_step (record { eq = g.K.PartialEq.eq; tells = g.L.Listener.tells; says = g.P.PredicateFn.says; weighs = g.W.Weigher.weighs; observes = g.C.Clock.reads; gives = g.I.IdSource.gives; created = g.X.Expiry.created; read = g.X.Expiry.read; updated = g.X.Expiry.updated }) (ListedRun g.P.PredicateFn.says g.X.Expiry.read c.args.cache.now.write_list c.args.cache.now.write_list) c.args.cache.now.state c.in-Keys.segment c.keys.result c.keys.ensures.ok c.keys.ensures.err, nothing_befalls g.L.Listener.tells c.args.cache.now, refl, refl)
+    rw c.in-Keys.is (no_events, keys_step (meaning_of g.K.PartialEq.eq g.L.Listener.tells g.P.PredicateFn.says g.W.Weigher.weighs g.C.Clock.reads g.I.IdSource.gives g.X.Expiry.created g.X.Expiry.read g.X.Expiry.updated) (ListedRun g.P.PredicateFn.says g.X.Expiry.read c.args.cache.now.write_list c.args.cache.now.write_list) c.args.cache.now.state c.in-Keys.segment c.keys.result c.keys.ensures.ok c.keys.ensures.err, nothing_befalls g.L.Listener.tells c.args.cache.now, refl, refl)
 
 pub returns-in-Report : goal.returns-in-Report
 returns-in-Report g c =
     rw c.in-Report.is (rw c.report.ensures (no_events, (refl, refl, refl, (refl, refl)), nothing_befalls g.L.Listener.tells c.args.cache.now, refl, refl))
+
+pub returns-in-Pending : goal.returns-in-Pending
+returns-in-Pending g c =
+    rw c.in-Pending.is (no_events, pending_step (meaning_of g.K.PartialEq.eq g.L.Listener.tells g.P.PredicateFn.says g.W.Weigher.weighs g.C.Clock.reads g.I.IdSource.gives g.X.Expiry.created g.X.Expiry.read g.X.Expiry.updated) (ListedRun g.P.PredicateFn.says g.X.Expiry.read c.args.cache.now.write_list c.args.cache.now.write_list) c.args.cache.now.state c.pending.result c.pending.ensures, nothing_befalls g.L.Listener.tells c.args.cache.now, refl, refl)
