@@ -1,7 +1,6 @@
 -- A run of maintenance of the cache, from what applying the queues and the passes make of its inner part.
-use Rattle.std.proofs.Common.{◌≡◌, refl, ℕ, Bool, true, false, true≢false, ◌||◌, ◌==◌, ◌⊎◌, inl, inr, List, [], length, min, Option, Some, None, is_some, ap, sym, subst, ◌∙◌, if◌then◌else◌}
+use Rattle.std.proofs.Common.{◌≡◌, refl, ℕ, Bool, true, false, ◌||◌, List, [], length, min, Option, None, is_some, ap, sym, subst, ◌∙◌, if◌then◌else◌}
 use Rattle.moka_parts.specs.declared.notification.RemovalCause.{RemovalCause}
-use Rattle.moka_parts.specs.declared.policy.EvictionPolicy.{EvictionPolicy}
 use Rattle.moka_parts.specs.declared.policy.Instant.{Instant}
 use Rattle.moka_parts.specs.declared.records.Registered.{Registered}
 use Rattle.moka_parts.specs.Records.{total_weight}
@@ -80,8 +79,6 @@ module _ {K V X L P W C : Type 0} {tells : L → K → V → RemovalCause → L 
       no_expiry = h.served.no_expiry;
       no_predicates = h.served.no_predicates;
       no_invalidator = h.served.no_invalidator;
-      finished = h.served.finished;
-      asked = h.served.asked;
       unexpiring = λ _. (run_leaves_simple s simple terms by_state refl applied limited refl sketched ran).lasting;
     };
     listens = h.listens ∙ sym (run_keeps_listening s simple terms by_state refl applied limited refl sketched ran);
