@@ -11,8 +11,8 @@
      2  time to idle        2^64-1: none; no other is served
      3  policy              1: LRU; no other is served
      4  expiry              0: none; no other is served
-     5  automatic runs      1: the driver makes a run of maintenance before a get where 64 reads were made since the
-                            last one, and before a send where 64 operations were sent since; else: none
+     5  automatic runs      1: a run of maintenance is made before a get's read is queued and before a send, if 64 reads or
+                            operations are queued or 300 milliseconds have passed since the last such run; else: none
      6  initial capacity    for how many entries room is made at once
      7  hasher              0: one folded multiplication, 1: SipHash-1-3
      8  strings             0: none; no other is served

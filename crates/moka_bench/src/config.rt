@@ -15,7 +15,7 @@ const COUNTS_LENGTH: usize = 64;
 pub struct Config {
     pub max_capacity: Option<u64>,
     pub initial_capacity: usize,
-    /// Whether the driver makes runs by itself.
+    /// Whether the cache starts runs by itself.
     pub is_automatic: bool,
     /// Whether keys are hashed by SipHash, and else by folding.
     pub is_sip: bool,

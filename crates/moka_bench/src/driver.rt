@@ -10,9 +10,6 @@ use moka_parts::policy::{EvictionPolicy, ExpirationPolicy, Instant, NoExpiry};
 use std::alloc::Global;
 use std::hash::BuildHasher;
 
-/// How many operations or reads wait before a run. moka: `READ_LOG_FLUSH_POINT`, `WRITE_LOG_FLUSH_POINT`.
-const FLUSH_POINT: u64 = 64;
-
 /// How many members a step of a run turns over.
 pub const BATCH: u32 = 384;
 
@@ -55,15 +52,12 @@ impl Counts {
     }
 }
 
-/// A cache, the moment, and what was counted. While the cache starts no run by itself, the driver makes them.
+/// A cache, the moment, and what was counted.
 #[derive(Drop)]
 pub struct Driver<S: BuildHasher> {
     cache: Cache<S>,
     config: Config,
     now: u64,
-    // Reads and sends since the last run.
-    reads: u64,
-    sends: u64,
     counts: Counts,
     is_refused: bool,
 }
@@ -74,7 +68,7 @@ impl<S: BuildHasher> Driver<S> {
     where
         S: Clone + Drop,
     {
-        let cache = BaseCache::new(
+        let mut cache = BaseCache::new(
             alloc,
             None,
             config.max_capacity,
@@ -89,12 +83,13 @@ impl<S: BuildHasher> Driver<S> {
             Instant(0),
             1,
         )?;
+        if !config.is_automatic {
+            cache.disable_auto_run();
+        }
         Ok(Driver {
             cache,
             config,
             now: 0,
-            reads: 0,
-            sends: 0,
             counts: Counts::default(),
             is_refused: false,
         })
@@ -127,16 +122,10 @@ impl<S: BuildHasher> Driver<S> {
         let _left = self
             .cache
             .run_pending_tasks(Instant(self.now), &mut clock, None, REPEATS, batch);
-        self.reads = 0;
-        self.sends = 0;
     }
 
-    /// Gets a key, after a run where many reads wait. Whether it was found.
+    /// Gets a key. Whether it was found.
     pub fn get(&mut self, key: u64) -> bool {
-        if self.config.is_automatic && self.reads >= FLUSH_POINT {
-            self.run(BATCH);
-        }
-        self.reads = self.reads.wrapping_add(1);
         let hash = self.cache.hash(&key);
         let mut clock = FixedClock(Instant(0));
         let found = self
@@ -159,7 +148,7 @@ impl<S: BuildHasher> Driver<S> {
         }
     }
 
-    /// Puts the number behind the key under it, and sends that, where `may_run` after a run if many sends wait.
+    /// Puts the number behind the key under it, and sends that, where `may_run` after a run if one is due.
     pub fn put(&mut self, key: u64, may_run: bool) {
         if self.cache.is_map_disabled() {
             return;
@@ -174,19 +163,19 @@ impl<S: BuildHasher> Driver<S> {
             self.is_refused = true;
             return;
         };
-        if may_run && self.config.is_automatic && self.sends >= FLUSH_POINT {
-            self.run(BATCH);
+        if may_run {
+            let mut clock = FixedClock(Instant(0));
+            self.cache
+                .apply_reads_writes_if_needed(Instant(self.now), &mut clock);
         }
         self.send(ticket);
     }
 
     // Sends an operation, after a run where the queue is full.
     fn send(&mut self, ticket: Ticket) {
-        self.sends = self.sends.wrapping_add(1);
         let sent = match self.cache.send(ticket) {
             Err(SendError::QueueFull) => {
                 self.run(BATCH);
-                self.sends = 1;
                 self.cache.send(ticket)
             }
             sent => sent,

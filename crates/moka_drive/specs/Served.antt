@@ -13,22 +13,11 @@ use Rattle.moka_parts.specs.Records.{Notice}
 use Rattle.moka_parts.specs.State.{State, Settings, Events}
 use Rattle.moka_parts.specs.Calls.{only_notices, RemoveStep, NotifiesAfter, oldest_ticket}
 
--- the call is an insert, a send, a removal, an invalidation of all, a look-up that changes nothing, a get, a run, or asks for the keys, a report or what waits
+-- the call is any but the registration of a predicate and another capacity
 abbrev pub IsServed : {K V P : Type 0} → Call K V P → Type 0
-IsServed (call.Insert key hash value now) = ⊤
-IsServed (call.Send ticket) = ⊤
-IsServed (call.Get key hash need_key now) = ⊤
-IsServed (call.GetUnrecorded key hash now) = ⊤
-IsServed (call.Contains key hash now) = ⊤
-IsServed (call.Key key hash) = ⊤
-IsServed (call.Scan key now) = ⊤
-IsServed (call.Remove key hash now) = ⊤
-IsServed (call.InvalidateAll now) = ⊤
-IsServed (call.Keys segment) = ⊤
-IsServed (call.Run now limit repeats batch) = ⊤
-IsServed call.Report = ⊤
-IsServed call.Pending = ⊤
-IsServed c = ⊥
+IsServed (call.InvalidateIf predicate now) = ⊥
+IsServed (call.SetCapacity capacity) = ⊥
+IsServed c = ⊤
 
 -- the reply is that of a removal of the key with these events
 abbrev pub RemovesAndNotifies : {K V X P W : Type 0} → (K → K → Bool) → State K V X P W → K → Option Instant → Reply K V P → Events K V → State K V X P W → Type 0

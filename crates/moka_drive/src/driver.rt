@@ -23,9 +23,9 @@ use moka_parts::policy::{Expiry, Instant};
 use std::alloc::Global;
 use std::hash::{BuildHasher, Hash};
 
-/// Makes the calls one after the other, and answers each with the reply of the same name. So far these are inserts,
-/// sends, gets, look-ups that are not recorded, removals, invalidations of all, runs, lists of keys, reports and what
-/// waits. A removal that carries a moment and finds its key is followed by `notify_invalidate` at that moment.
+/// Makes the calls one after the other, and answers each with the reply of the same name. So far these are all but the
+/// registration of a predicate and another capacity. A removal that carries a moment and finds its key is followed by
+/// `notify_invalidate` at that moment.
 ///
 /// Replies, records and notices are a run of the reference cache, in which each run of maintenance keeps all that is
 /// promised of it: one with a batch of at least one that begins with every operation sent, and is not cut short, ends with
@@ -143,6 +143,14 @@ fn make<
             repeats,
             batch,
         } => Reply::Run(cache.run_pending_tasks(now, clock, limit, repeats, batch)),
+        Call::RunIfDue { now } => {
+            cache.apply_reads_writes_if_needed(now, clock);
+            Reply::RunIfDue
+        }
+        Call::DisableAutoRun => {
+            cache.disable_auto_run();
+            Reply::DisableAutoRun
+        }
         Call::Report => report(cache),
         Call::Pending => pending(cache),
         _ => unreachable!(),

@@ -70,8 +70,6 @@ module _ {K V X L P W : Type 0} {eq : K → K → Bool} {l : Option L} {s : Stat
       no_expiry = h.served.no_expiry;
       no_predicates = h.served.no_predicates;
       no_invalidator = h.served.no_invalidator;
-      finished = h.served.finished;
-      asked = h.served.asked;
       unexpiring = none;
     };
     listens = h.listens ∙ sym same;

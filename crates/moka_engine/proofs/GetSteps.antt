@@ -1,6 +1,7 @@
 -- Look-ups as steps of the reference cache, and what always holds after them.
-use Rattle.std.proofs.Common.{◌≡◌, refl, ℕ, Bool, true, false, List, [], ◌∷◌, ◌++◌, length, ◌⊎◌, inl, inr, Option, Some, None, Result, Ok, Err, ap, sym, subst, ◌∙◌, arith, if◌then◌else◌}
+use Rattle.std.proofs.Common.{◌≡◌, refl, ℕ, Bool, true, false, List, [], ◌∷◌, ◌++◌, length, ◌⊎◌, inl, inr, Option, Some, None, option_map, Result, Ok, Err, ap, sym, subst, ◌∙◌, arith, if◌then◌else◌}
 use Rattle.std.specs.Prelude.{nat_lt}
+use Rattle.std.specs.Cmp.{IsEquivalence}
 use Rattle.std.specs.FinMap.{get, insert}
 use Rattle.moka_parts.specs.declared.calls.Entry.{Entry}
 use Rattle.moka_parts.specs.declared.error.OutOfMemory.{OutOfMemory}
@@ -9,8 +10,9 @@ use Rattle.moka_parts.specs.declared.policy.Instant.{Instant}
 use Rattle.moka_parts.specs.declared.records.ReadOperation.{ReadOperation}
 use Rattle.moka_parts.specs.declared.records.ReadOperation.TheVariants.{Hit, Miss}
 use Rattle.moka_parts.specs.declared.records.Record.{Record}
-use Rattle.moka_parts.specs.Calls.{no_events, queue_length, GetsAt, GetStep, RunsIfDue, queueing, IsMissed, answer_at, hit_record, after_hit, hit_at, hit_operation}
+use Rattle.moka_parts.specs.Calls.{no_events, queue_length, GetsAt, GetStep, RecordsRead, queueing, IsMissed, answer_at, hit_record, after_hit, hit_at, hit_operation}
 use Rattle.moka_parts.specs.Expiry.{is_renewal, renewed, answer_to_hit}
+use Rattle.moka_parts.specs.Housekeeping.{is_due}
 use Rattle.moka_parts.specs.Maintenance.{Terms, Course}
 use Rattle.moka_parts.specs.Records.{Notice, record_of_key, with_record}
 use Rattle.moka_parts.specs.Runs.{Cache, Befalls}
@@ -19,8 +21,8 @@ use Rattle.moka_parts.specs.State.{State, Settings, Events, is_disabled}
 use Rattle.moka_parts.specs.Surroundings.{Leads, IsAskedOnce}
 use Rattle.moka_parts.specs.Time.{is_same_duration}
 use Rattle.moka_parts.specs.Visibility.{has_lapsed, NoneCovers}
-use Rattle.moka_parts.proofs.Lookup.{record_of_key_empty}
-use Rattle.moka_parts.proofs.Maps.{itself_tested}
+use Rattle.moka_parts.proofs.Lookup.{record_of_key_empty, record_of_key_found, present_key}
+use Rattle.moka_parts.proofs.Maps.{itself_tested, get_inserted}
 use Rattle.moka_parts.proofs.StepsKeep.{hit_valid, valid_with}
 use Rattle.moka_store.specs.Store.{Kept}
 use Rattle.moka_engine.specs.BaseCache.{IsCache, NoneExpires, expirations_of, expiring_by}
@@ -82,12 +84,12 @@ is_missed says s ignored now r (inr lapsed) = inr (inl lapsed)
 module _ {K V X P W : Type 0} (says : P → K → V → Bool → Type 0) (read : X → K → V → ℕ → Option ℕ → ℕ → Option ℕ) (Runs : State K V X P W → Terms → Course → List (Notice K V) → State K V X P W → Type 0)
     (eq : K → K → Bool) (s : State K V X P W) (enabled : is_disabled s.capacity ≡ false) (key : K) (hash : ℕ) (need_key ignored : Bool) (now : ℕ) where
   -- nothing is found that is visible
-  missed : ((r : Record K V) → record_of_key eq s.records key ≡ Some r → (ignored ≡ true) ⊎ (has_lapsed s.settings s.invalid_before r now ≡ true)) → (e : Events K V) (mid : State K V X P W) → RunsIfDue Runs s (length s.reads) now e mid → GetStep says read Runs eq s key hash need_key ignored now (Ok None) e (queueing mid (Miss hash))
-  missed hidden e mid due = rw enabled (at (record_of_key eq s.records key) refl)
+  missed : ((r : Record K V) → record_of_key eq s.records key ≡ Some r → (ignored ≡ true) ⊎ (has_lapsed s.settings s.invalid_before r now ≡ true)) → (e : Events K V) (t : State K V X P W) → RecordsRead Runs s now (Miss hash) e t → GetStep says read Runs eq s key hash need_key ignored now (Ok None) e t
+  missed hidden e t recorded = rw enabled (at (record_of_key eq s.records key) refl)
     where
-      at : (o : Option (Record K V)) → record_of_key eq s.records key ≡ o → GetsAt says read Runs s o hash need_key ignored now (Ok None) e (queueing mid (Miss hash))
-      at None found = (refl, (mid, due, refl))
-      at (Some r) found = (is_missed says s ignored now r (hidden r found), (mid, due, refl))
+      at : (o : Option (Record K V)) → record_of_key eq s.records key ≡ o → GetsAt says read Runs s o hash need_key ignored now (Ok None) e t
+      at None found = (refl, recorded)
+      at (Some r) found = (is_missed says s ignored now r (hidden r found), recorded)
 
   module _ (r : Record K V) (found : record_of_key eq s.records key ≡ Some r) (accepted : ignored ≡ false) (shown : has_lapsed s.settings s.invalid_before r now ≡ false) (uncovered : NoneCovers says s.predicates r) where
     -- memory for a clone is refused
@@ -95,9 +97,9 @@ module _ {K V X P W : Type 0} (says : P → K → V → Bool → Type 0) (read :
     refused e = rw (enabled, found) ((accepted, (shown, uncovered)), (refl, refl))
 
     -- a record is found that is visible
-    hit : (entry : Entry K V) → entry.value ≡ r.value → entry.key ≡ (if need_key then Some r.key else None) → (e : Events K V) (mid : State K V X P W) → RunsIfDue Runs (after_hit read s r now) (length s.reads) (hit_at read s r now) e mid
-        → GetStep says read Runs eq s key hash need_key ignored now (Ok (Some entry)) e (queueing mid (hit_operation read s r now))
-    hit entry value own e mid due = rw (enabled, found) ((accepted, (shown, uncovered)), value, own, (mid, due, refl))
+    hit : (entry : Entry K V) → entry.value ≡ r.value → entry.key ≡ (if need_key then Some r.key else None) → (e : Events K V) (t : State K V X P W)
+        → RecordsRead Runs (after_hit read s r now) (hit_at read s r now) (hit_operation read s r now) e t → GetStep says read Runs eq s key hash need_key ignored now (Ok (Some entry)) e t
+    hit entry value own e t recorded = rw (enabled, found) ((accepted, (shown, uncovered)), value, own, recorded)
 
 -- ---- steps of the inner part
 
@@ -134,17 +136,26 @@ module _ {K V X L P W : Type 0} {eq : K → K → Bool} {l : Option L} {s : Stat
       cache-inner h l j refl (subst (IsValid eq) (sym (reads_queued s i inside j read step)) (valid_with eq s (queueing s read).reads s.invalid_before s.predicates s.housekeeping h.valid))
       (λ none. subst (λ (x : Interior K V). NoneExpires x.kept.records) (sym step) (unexpiring-inside h i inside none))
 
-  -- after a record was read
-  pub cache-touched : (says : P → K → V → Bool → Type 0) (read : X → K → V → ℕ → Option ℕ → ℕ → Option ℕ) (key : K) (n : ℕ) (r : Record K V) → get i.kept.records n ≡ Some r → record_of_key eq i.kept.records key ≡ Some r
-      → (now : ℕ) (at : Instant) (expires : Option Instant) (is_renewed : Bool) → Touches read (expirations_of s.settings) r now at.0 expires is_renewed
-      → (j : Interior K V) → j ≡ record i { kept = j.kept } → j.kept ≡ record i.kept { records = insert i.kept.records n (record r { read = at; expires = expires }) } → IsCache eq l (with_inner s j)
-  cache-touched says read key n r there found now at expires is_renewed t j rest kept =
-      let number = (number-inside h i inside n r there).0 in
-      let valid = hit_valid eq says read s key r now (key-inside h i inside key (Some r) found) h.valid in
-      cache-inner h l j refl (subst (IsValid eq) (sym (record_read s i inside read n r number now at expires is_renewed t j rest kept)) valid)
-      (λ none.
-      let lasts = lasts_on read s r now at expires is_renewed t none (unexpiring-inside h i inside none n r there) in
-      subst (λ (k : Kept K V). NoneExpires k.records) (sym kept) (unexpiring-inserted i.kept.records (unexpiring-inside h i inside none) n (record r { read = at; expires = expires }) lasts))
+  module _ (says : P → K → V → Bool → Type 0) (read : X → K → V → ℕ → Option ℕ → ℕ → Option ℕ) (key : K) (n : ℕ) (r : Record K V) (there : get i.kept.records n ≡ Some r) (found : record_of_key eq i.kept.records key ≡ Some r)
+      (now : ℕ) (at : Instant) (expires : Option Instant) (is_renewed : Bool) (t : Touches read (expirations_of s.settings) r now at.0 expires is_renewed)
+      (j : Interior K V) (rest : j ≡ record i { kept = j.kept }) (kept : j.kept ≡ record i.kept { records = insert i.kept.records n (record r { read = at; expires = expires }) }) where
+    -- after a record was read
+    pub cache-touched : IsCache eq l (with_inner s j)
+    cache-touched =
+        let number = (number-inside h i inside n r there).0 in
+        let valid = hit_valid eq says read s key r now (key-inside h i inside key (Some r) found) h.valid in
+        cache-inner h l j refl (subst (IsValid eq) (sym (record_read s i inside read n r number now at expires is_renewed t j rest kept)) valid)
+        (λ none.
+        let lasts = lasts_on read s r now at expires is_renewed t none (unexpiring-inside h i inside none n r there) in
+        subst (λ (k : Kept K V). NoneExpires k.records) (sym kept) (unexpiring-inserted i.kept.records (unexpiring-inside h i inside none) n (record r { read = at; expires = expires }) lasts))
+
+    -- it is still the key's
+    pub number-read : IsEquivalence eq → option_map (λ (x : Record K V). x.number) (record_of_key eq (with_inner s j).records key) ≡ Some n
+    number-read laws =
+        let q : Record K V = record r { read = at; expires = expires } in
+        let here : get (with_inner s j).records n ≡ Some q = ap (λ (k : Kept K V). get k.records n) kept ∙ get_inserted i.kept.records n q in
+        let asked = (record_of_key_found eq s.records key r (key-inside h i inside key (Some r) found)).2 in
+        ap (option_map (λ (x : Record K V). x.number)) (present_key eq (with_inner s j).records key laws cache-touched.valid.numbered.numbered.one_each n q here asked) ∙ ap Some (number-inside h i inside n r there).0
 
 -- ---- what a look-up returns
 
@@ -157,34 +168,29 @@ pub asked_of_cache : {K V S X L P W I : Type 0} {old now : Cache K V S X L P W} 
     → IsAskedOnce asks (Some before) (value_of (record_of_key eq old.state.records key)) ignored (Some after) → IsAskedOnce asks (Some before) (value_of (record_of_key eq now.state.records key)) ignored (Some after)
 asked_of_cache is eq key asks before after ignored asked = subst (λ (c : Cache _ _ _ _ _ _ _). IsAskedOnce asks (Some before) (value_of (record_of_key eq c.state.records key)) ignored (Some after)) is asked
 
-module _ {K V S X L P W C : Type 0} (says : P → K → V → Bool → Type 0) (read : X → K → V → ℕ → Option ℕ → ℕ → Option ℕ) (Runs : State K V X P W → Terms → Course → List (Notice K V) → State K V X P W → Type 0)
+module _ {K V S X L P W C : Type 0} (says : P → K → V → Bool → Type 0) (read : X → K → V → ℕ → Option ℕ → ℕ → Option ℕ) (Runs : List ℕ → State K V X P W → Terms → Course → List (Notice K V) → State K V X P W → Type 0)
     (tells : L → K → V → RemovalCause → L → Type 0) (reads : C → Instant → C → Type 0) (eq : K → K → Bool) {old now : Cache K V S X L P W} (is : old ≡ now) (key : K) (hash : ℕ) (need_key ignored : Bool) (moment : Instant) (clock : C) where
-  -- a look-up that answers so and reads no clock
-  abbrev Gets : Result (Option (Entry K V)) OutOfMemory → State K V X P W → Cache K V S X L P W → Type 0
-  Gets a t before = (e : Events K V) × GetStep says read Runs eq before.state key hash need_key ignored moment.0 a e t × Befalls tells e before (record old { state = t }) × Leads reads clock e.readings clock
+  -- a look-up of the first cache that answers so, and leaves the second
+  abbrev Gets : Cache K V S X L P W → Result (Option (Entry K V)) OutOfMemory → Cache K V S X L P W → C → Type 0
+  Gets before a new after = (e : Events K V) × GetStep says read (Runs before.write_list) eq before.state key hash need_key ignored moment.0 a e new.state × Befalls tells e before new × Leads reads clock e.readings after
+
+  -- a read that is recorded at the moment, after a run if one is due
+  abbrev pub Records : Instant → ReadOperation → Cache K V S X L P W → Cache K V S X L P W → C → Type 0
+  Records at operation before new after = (e : Events K V) × RecordsRead (Runs before.write_list) before.state at.0 operation e new.state × Befalls tells e before new × Leads reads clock e.readings after
 
   -- in a disabled cache
-  pub get_finds_nothing : is_disabled old.state.capacity ≡ true → Gets (Ok None) old.state now
-  get_finds_nothing disabled = subst (Gets (Ok None) old.state) is (no_events, rw disabled (refl, (refl, refl)), befalls-quietly tells old old.state, refl)
+  pub get_finds_nothing : is_disabled old.state.capacity ≡ true → Gets now (Ok None) now clock
+  get_finds_nothing disabled = subst (λ c. Gets c (Ok None) c clock) is (no_events, rw disabled (refl, (refl, refl)), befalls-quietly tells old old.state, refl)
 
   module _ {l : Option L} (h : IsCache eq l old.state) (enabled : is_disabled old.state.capacity ≡ false) (i : Interior K V) (inside : with_inner old.state i ≡ old.state) where
-    -- no run is due
-    not_due : (queued at : ℕ) → RunsIfDue Runs old.state queued at no_events old.state
-    not_due queued at = rw (h.served.finished, h.served.asked) (refl, refl)
-
-    -- of nothing visible
-    pub get_misses : ((r : Record K V) → record_of_key eq i.kept.records key ≡ Some r → (ignored ≡ true) ⊎ (has_lapsed old.state.settings old.state.invalid_before r moment.0 ≡ true)) → (j : Interior K V)
-        → j ≡ record i { reads = if nat_lt (length i.reads) queue_length then i.reads ++ Miss hash ∷ [] else i.reads } → Gets (Ok None) (with_inner old.state j) now
-    get_misses hidden j step =
+    -- of nothing visible, with what recording the read does
+    pub get_misses : ((r : Record K V) → record_of_key eq i.kept.records key ≡ Some r → (ignored ≡ true) ⊎ (has_lapsed old.state.settings old.state.invalid_before r moment.0 ≡ true)) → {new : Cache K V S X L P W} {after : C}
+        → Records moment (Miss hash) now new after → Gets now (Ok None) new after
+    get_misses hidden {new} {after} recorded =
         let hidden_so : (r : Record K V) → record_of_key eq old.state.records key ≡ Some r → (ignored ≡ true) ⊎ (has_lapsed old.state.settings old.state.invalid_before r moment.0 ≡ true) =
         λ r found. hidden r (ap (λ (t : State K V X P W). record_of_key eq t.records key) inside ∙ found) in
-        let done = missed says read Runs eq old.state enabled key hash need_key ignored moment.0 hidden_so no_events old.state (not_due (length old.state.reads) moment.0) in
-        subst (Gets (Ok None) (with_inner old.state j)) is (
-          no_events,
-          subst (λ t. GetStep says read Runs eq old.state key hash need_key ignored moment.0 (Ok None) no_events t) (sym (reads_queued old.state i inside j (Miss hash) step)) done,
-          befalls-quietly tells old (with_inner old.state j),
-          refl,
-        )
+        let of_old : Records moment (Miss hash) old new after = subst (λ c. Records moment (Miss hash) c new after) (sym is) recorded in
+        subst (λ c. Gets c (Ok None) new after) is (of_old.0, missed says read (Runs old.write_list) eq old.state enabled key hash need_key ignored moment.0 hidden_so of_old.0 new.state of_old.1, of_old.2, of_old.3)
 
     module _ (n : ℕ) (r : Record K V) (there : get i.kept.records n ≡ Some r) (found : record_of_key eq i.kept.records key ≡ Some r) (accepted : ignored ≡ false) (shown : has_lapsed old.state.settings old.state.invalid_before r moment.0 ≡ false) where
       found_in_state : record_of_key eq old.state.records key ≡ Some r
@@ -193,28 +199,32 @@ module _ {K V S X L P W C : Type 0} (says : P → K → V → Bool → Type 0) (
       uncovered : NoneCovers says old.state.predicates r
       uncovered = rw h.served.no_predicates tt
 
-      -- of what is visible
       module _ (at : Instant) (expires : Option Instant) (is_renewed : Bool) (t : Touches read (expirations_of old.state.settings) r moment.0 at.0 expires is_renewed)
           (mid : Interior K V) (rest : mid ≡ record i { kept = mid.kept }) (kept : mid.kept ≡ record i.kept { records = insert i.kept.records n (record r { read = at; expires = expires }) }) where
-        touched : with_inner old.state mid ≡ after_hit read old.state r moment.0
+        -- the cache with the record noted as read
+        abbrev noted : Cache K V S X L P W
+        noted = record old { state = with_inner old.state mid }
+
+        touched : noted.state ≡ after_hit read old.state r moment.0
         touched = record_read old.state i inside read n r (number-inside h i inside n r there).0 moment.0 at expires is_renewed t mid rest kept
 
-        pub get_hits : (j : Interior K V) → j ≡ record mid { reads = if nat_lt (length mid.reads) queue_length then mid.reads ++ Hit n r.hash is_renewed ∷ [] else mid.reads }
-            → (entry : Entry K V) → entry.value ≡ r.value → entry.key ≡ (if need_key then Some r.key else None) → Gets (Ok (Some entry)) (with_inner old.state j) now
-        get_hits j step entry value own =
-            let due : RunsIfDue Runs (after_hit read old.state r moment.0) (length old.state.reads) (hit_at read old.state r moment.0) no_events (after_hit read old.state r moment.0) = rw (h.served.finished, h.served.asked) (refl, refl) in
-            let done = hit says read Runs eq old.state enabled key hash need_key ignored moment.0 r found_in_state accepted shown uncovered entry value own no_events (after_hit read old.state r moment.0) due in
-            let ends : with_inner old.state j ≡ queueing (after_hit read old.state r moment.0) (hit_operation read old.state r moment.0) =
-            ap (with_inner old.state) step ∙ ap (λ u. queueing u (Hit n r.hash is_renewed)) touched ∙ ap (queueing (after_hit read old.state r moment.0)) (operation_is read old.state r moment.0 at expires is_renewed t n (number-inside h i inside n r there).0) in
-            subst (Gets (Ok (Some entry)) (with_inner old.state j)) is (
-              no_events,
-              subst (λ u. GetStep says read Runs eq old.state key hash need_key ignored moment.0 (Ok (Some entry)) no_events u) (sym ends) done,
-              befalls-quietly tells old (with_inner old.state j),
-              refl,
-            )
+        -- of what is visible, with what recording the read does
+        pub get_hits : (entry : Entry K V) → entry.value ≡ r.value → entry.key ≡ (if need_key then Some r.key else None) → {new : Cache K V S X L P W} {after : C} → Records at (Hit n r.hash is_renewed) noted new after → Gets now (Ok (Some entry)) new after
+        get_hits entry value own {new} {after} recorded =
+            let e = recorded.0 in
+            let hit_there : RecordsRead (Runs old.write_list) (after_hit read old.state r moment.0) at.0 (Hit n r.hash is_renewed) e new.state = subst (λ s. RecordsRead (Runs old.write_list) s at.0 (Hit n r.hash is_renewed) e new.state) touched recorded.1 in
+            let hit_then : RecordsRead (Runs old.write_list) (after_hit read old.state r moment.0) (hit_at read old.state r moment.0) (Hit n r.hash is_renewed) e new.state =
+            subst (λ m. RecordsRead (Runs old.write_list) (after_hit read old.state r moment.0) m (Hit n r.hash is_renewed) e new.state) t.moment hit_there in
+            let hit_so : RecordsRead (Runs old.write_list) (after_hit read old.state r moment.0) (hit_at read old.state r moment.0) (hit_operation read old.state r moment.0) e new.state =
+            subst (λ o. RecordsRead (Runs old.write_list) (after_hit read old.state r moment.0) (hit_at read old.state r moment.0) o e new.state) (operation_is read old.state r moment.0 at expires is_renewed t n (number-inside h i inside n r there).0) hit_then in
+            let befalls : Befalls tells e old new = record { kept = recorded.2.kept; heard = recorded.2.heard; passes = recorded.2.passes; listed = recorded.2.listed } in
+            subst (λ c. Gets c (Ok (Some entry)) new after) is (e, hit says read (Runs old.write_list) eq old.state enabled key hash need_key ignored moment.0 r found_in_state accepted shown uncovered entry value own e new.state hit_so, befalls, recorded.3)
+
+        -- where no run is due the read is only queued
+        pub queues_read : is_due old.state.housekeeping (length mid.reads) at.0 ≡ false → (j : Interior K V) (operation : ReadOperation) → j ≡ record mid { reads = if nat_lt (length mid.reads) queue_length then mid.reads ++ operation ∷ [] else mid.reads }
+            → Records at operation noted (record old { state = with_inner old.state j }) clock
+        queues_read due j operation step = (no_events, (noted.state, rw due (refl, refl), reads_queued noted.state mid refl j operation step), befalls-quietly tells noted (with_inner old.state j), refl)
 
       -- of what cannot be cloned
-      pub get_refused : (err : OutOfMemory) → (e : Events K V) × GetStep says read Runs eq now.state key hash need_key ignored moment.0 (Err err) e now.state × Befalls tells e now now × Leads reads clock e.readings clock
-      get_refused err =
-          subst (λ c. (e : Events K V) × GetStep says read Runs eq c.state key hash need_key ignored moment.0 (Err err) e c.state × Befalls tells e c c × Leads reads clock e.readings clock) is
-          (no_events, refused says read Runs eq old.state enabled key hash need_key ignored moment.0 r found_in_state accepted shown uncovered err, befalls-quietly tells old old.state, refl)
+      pub get_refused : (err : OutOfMemory) → Gets now (Err err) now clock
+      get_refused err = subst (λ c. Gets c (Err err) c clock) is (no_events, refused says read (Runs old.write_list) eq old.state enabled key hash need_key ignored moment.0 r found_in_state accepted shown uncovered err, befalls-quietly tells old old.state, refl)

@@ -12,3 +12,5 @@ pub mod GetSteps
 pub mod PeekSteps
 pub mod RunSteps
 pub mod IdleRuns
+pub mod KeeperSteps
+pub mod HitSteps

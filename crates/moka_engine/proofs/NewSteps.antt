@@ -4,43 +4,35 @@ use Rattle.moka_parts.specs.declared.housekeeper.HousekeeperConfig.{HousekeeperC
 use Rattle.moka_parts.specs.declared.policy.EvictionPolicy.{EvictionPolicy}
 use Rattle.moka_parts.specs.declared.records.Registered.{Registered}
 use Rattle.moka_parts.specs.Housekeeper.{Keeper, new_keeper}
-use Rattle.moka_parts.specs.Housekeeping.{without_automatic, new_housekeeping}
 use Rattle.moka_parts.specs.Policy.{Expirations}
 use Rattle.moka_parts.specs.State.{Settings, new_state}
 use Rattle.moka_parts.proofs.Maps.{nothing_at}
 use Rattle.moka_parts.proofs.NewCache.{new_is_valid}
-use Rattle.moka_parts.proofs.StepsKeep.{valid_with}
 use Rattle.moka_engine.specs.BaseCache.{IsCache, settings_of, state_of}
 use Rattle.moka_engine.specs.Interior.{Interior, nothing_inside}
 
--- a housekeeper that starts no run by itself
-abbrev pub idle_keeper : Bool → HousekeeperConfig → ℕ → Keeper
-idle_keeper listening config now = record (new_keeper listening config now) { housekeeping = without_automatic (new_housekeeping now) }
-
 -- it keeps nothing and listens where a listener is set
 pub cache-new : {K V X L P W : Type 0} (eq : K → K → Bool) (listener : Option L) (i : Interior K V) (first_ticket : ℕ) → i ≡ nothing_inside first_ticket i → (predicates : List (Registered P)) → predicates ≡ []
-    → (keeper : Keeper) (listening : Bool) (config : HousekeeperConfig) (now : ℕ) → keeper ≡ idle_keeper listening config now → listening ≡ is_some listener
+    → (keeper : Keeper) (listening : Bool) (config : HousekeeperConfig) (now : ℕ) → keeper ≡ new_keeper listening config now → listening ≡ is_some listener
     → (capacity : Option ℕ) (policy : EvictionPolicy) (expirations : Expirations X) (weigher : Option W) (invalidator : Bool) → expirations.time_to_live ≡ None → expirations.expiry ≡ None → invalidator ≡ false
     → IsCache eq listener (state_of i None predicates 0 0 keeper capacity (settings_of policy expirations weigher invalidator keeper))
 cache-new {K} {V} {X} {L} {P} {W} eq listener i first_ticket empty predicates none keeper listening config now kept heard capacity policy expirations weigher invalidator no_live no_expiry no_invalidator =
     subst (IsCache eq listener) (sym is) (record {
-      valid = valid_with eq (new_state settings capacity now first_ticket) [] None [] (without_automatic (new_housekeeping now)) (new_is_valid K V P settings capacity now first_ticket eq);
+      valid = new_is_valid K V P settings capacity now first_ticket eq;
       served = record {
         no_live = no_live;
         no_expiry = no_expiry;
         no_predicates = refl;
         no_invalidator = no_invalidator;
-        finished = refl;
-        asked = refl;
         unexpiring = λ _ n r there. absurd (nothing_at n r there);
       };
       listens = heard;
     })
   where
     settings : Settings X W
-    settings = settings_of policy expirations weigher invalidator (idle_keeper listening config now)
+    settings = settings_of policy expirations weigher invalidator (new_keeper listening config now)
 
-    is : state_of {X = X} i None predicates 0 0 keeper capacity (settings_of policy expirations weigher invalidator keeper) ≡ record (new_state {K = K} {V = V} {P = P} settings capacity now first_ticket) { housekeeping = without_automatic (new_housekeeping now) }
+    is : state_of {X = X} i None predicates 0 0 keeper capacity (settings_of policy expirations weigher invalidator keeper) ≡ new_state {K = K} {V = V} {P = P} settings capacity now first_ticket
     is =
         ap (λ (x : Interior K V). state_of x None predicates 0 0 keeper capacity (settings_of policy expirations weigher invalidator keeper)) empty
         ∙ ap (λ ps. state_of (nothing_inside first_ticket i) None ps 0 0 keeper capacity (settings_of policy expirations weigher invalidator keeper)) none

@@ -79,8 +79,6 @@ module _ {K V X L P W C : Type 0} {tells : L → K → V → RemovalCause → L 
       no_expiry = h.served.no_expiry;
       no_predicates = h.served.no_predicates;
       no_invalidator = h.served.no_invalidator;
-      finished = h.served.finished;
-      asked = h.served.asked;
       unexpiring = λ _. (run_leaves_simple s simple terms by_state refl applied limited refl sketched ran).lasting;
     };
     listens = h.listens ∙ sym (run_keeps_listening s simple terms by_state refl applied limited refl sketched ran);

@@ -71,14 +71,12 @@ expiring_by x = record {
 abbrev pub NoneExpires : {K V : Type 0} → Records K V → Type 0
 NoneExpires records = (n : ℕ) (r : Record _ _) → get records n ≡ Some r → r.expires ≡ None
 
--- the settings are such as a cache can have today, no run starts by itself, and without an expiry no record has one of its own
+-- the settings are such as a cache can have today, and without an expiry no record has one of its own
 pub record IsServed {K V X P W : Type 0} (s : State K V X P W) : Type 0 where
   pub no_live : s.settings.time_to_live ≡ None
   pub no_expiry : s.settings.expiry ≡ None
   pub no_predicates : s.predicates ≡ []
   pub no_invalidator : s.settings.invalidator ≡ false
-  pub finished : s.housekeeping.more ≡ false
-  pub asked : s.housekeeping.automatic ≡ false
   pub unexpiring : s.settings.expiry ≡ None → NoneExpires s.records
 
 -- the state is a valid one, and the settings listen exactly where a listener is set

@@ -2,7 +2,6 @@
 use Rattle.std.specs.Prelude.{◌≡◌, ℕ, Bool, false, List, [], Option, Some, None, is_some}
 use Rattle.moka_parts.specs.declared.policy.EvictionPolicy.{EvictionPolicy}
 use Rattle.moka_parts.specs.declared.policy.EvictionPolicy.TheVariants.{TinyLfu}
-use Rattle.moka_parts.specs.Housekeeping.{new_housekeeping, without_automatic}
 use Rattle.moka_parts.specs.Runs.{Cache}
 use Rattle.moka_parts.specs.State.{Settings, new_state}
 
@@ -122,7 +121,7 @@ module _ {X L W : Type 0} where
   new_cache c hasher now = record {
     name = c.name;
     hasher = hasher;
-    state = record (new_state (chosen_settings c) c.max_capacity now c.first_ticket) { housekeeping = without_automatic (new_housekeeping now) };
+    state = new_state (chosen_settings c) c.max_capacity now c.first_ticket;
     listener = c.listener;
     write_list = [];
     passes = 0;

@@ -4,3 +4,5 @@ pub mod Inner
 pub mod BaseCache
 pub mod Config
 pub mod Looks
+pub mod CacheRuns
+pub mod ReadNumber

@@ -4,7 +4,6 @@ ghost use Rattle.std.specs.Duration.{as_nanos};
 ghost use Rattle.std.specs.List.{fold};
 ghost use Rattle.std.specs.String.{string_bytes};
 ghost use Rattle.moka_parts.specs.Calls.{no_events, only_notices, Weighs, InsertsAt, InsertStep, SendStep, RemoveStep, NotifyStep, ContainsStep, KeysStep, GetStep};
-ghost use Rattle.moka_parts.specs.Housekeeping.{new_housekeeping, without_automatic};
 ghost use Rattle.moka_parts.specs.Listed.{ListedRun};
 ghost use Rattle.moka_parts.specs.Order.{IsWriteList};
 ghost use Rattle.moka_parts.specs.Records.{Notice, record_of_key};
@@ -113,7 +112,7 @@ impl<
     P: PredicateFn<K, V>,
     W: Weigher<K, V>,
 > BaseCache<K, V, S, X, L, P, W> {
-    /// An empty cache, made at the moment `now`. No run of maintenance starts by itself.
+    /// An empty cache, made at the moment `now`. Gets start runs of maintenance until `disable_auto_run` is called.
     ///
     /// - `name`: for the caller alone.
     /// - `max_capacity`: the greatest sum of weights that runs of maintenance leave; `None` is no bound, and with 0 the
@@ -125,7 +124,7 @@ impl<
     /// - `eviction_listener`: is told key, value and cause of each removal but those by `remove_entry`.
     /// - `expiration_policy`: the time to idle, as a duration since the last insert or read. So far there is no time to
     ///   live and no expiry of single entries.
-    /// - `housekeeper_config`: the time limit, repeats and batch of the runs that the cache starts itself.
+    /// - `housekeeper_config`: the time limit, repeats and batch of the runs that the housekeeper starts.
     /// - `invalidator_enabled`: whether predicates can be registered; so far they cannot.
     /// - `first_ticket`: the ticket of the first operation, at least 1.
     ///
@@ -162,7 +161,7 @@ impl<
         ensures { IfOk result (λ c. c ≡ record {
           name = option_map string_bytes name;
           hasher = build_hasher;
-          state = record (new_state
+          state = new_state
               (record {
                 policy = eviction_policy;
                 time_to_live = expiration_policy.time_to_live;
@@ -175,7 +174,7 @@ impl<
                 run_repeats = housekeeper_config.max_log_sync_repeats;
                 run_batch = housekeeper_config.eviction_batch_size;
               })
-              max_capacity now.0 first_ticket) { housekeeping = without_automatic (new_housekeeping now.0) };
+              max_capacity now.0 first_ticket;
           listener = eviction_listener;
           write_list = [];
           passes = 0;
@@ -189,8 +188,7 @@ impl<
             return Err(OutOfMemory);
         };
         let notifier = RemovalNotifier::new(eviction_listener);
-        let mut housekeeper = Housekeeper::new(notifier.is_enabled(), housekeeper_config, now);
-        housekeeper.disable_auto_run();
+        let housekeeper = Housekeeper::new(notifier.is_enabled(), housekeeper_config, now);
         Ok(BaseCache {
             alloc,
             name,
@@ -475,8 +473,8 @@ impl<
     }
 
     /// Looks up a key at the moment `now`, and queues the read. The answer has a clone of the record's value, and one of
-    /// its key where `need_key` asks for it. Where the capacity is 0 nothing is found and no read is queued. The clock is
-    /// for a run of maintenance that the look-up starts; so far none does.
+    /// its key where `need_key` asks for it. Where the capacity is 0 nothing is found and no read is queued. Before the
+    /// read is queued a run of maintenance is made if the housekeeper says that one is due; the clock is for that run.
     ///
     /// # Errors
     /// `OutOfMemory` where memory for a clone is refused. Nothing has changed.
@@ -489,8 +487,8 @@ impl<
         clock: &mut C,
     ) -> Result<Option<Entry<K, V>>, OutOfMemory>
     where
-        K: Clone,
-        V: Clone,
+        K: Clone + Drop,
+        V: Clone + Drop,
         requires keys { ClonesAreEqual K.is_clone }
         requires values { ClonesAreEqual V.is_clone }
         ensures { (e : Events K V)

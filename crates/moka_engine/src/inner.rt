@@ -8,6 +8,7 @@ ghost use Rattle.moka_parts.specs.Records.{record_of_key, total_weight, with_rec
 ghost use Rattle.moka_parts.specs.declared.error.InsertError.TheVariants.{NumbersUsedUp};
 ghost use Rattle.moka_parts.specs.declared.records.Operation.{Operation};
 ghost use Rattle.moka_parts.specs.declared.records.Operation.TheVariants.{Upsert, Removal};
+ghost use Rattle.moka_parts.specs.declared.records.ReadOperation.TheVariants.{Hit};
 ghost use Rattle.moka_parts.specs.declared.records.Record.{Record};
 ghost use Rattle.moka_store.specs.Store.{ChangesRecord, ClonesAreEqual, IsHandle};
 ghost use Rattle.moka_store.specs.Updates.{updated};
@@ -15,6 +16,7 @@ ghost use Rattle.moka_maintenance.specs.Passes.{IsRan};
 ghost use Rattle.moka_maintenance.specs.Queues.{ArePrepared};
 ghost use Rattle.moka_maintenance.specs.Steps.{contents_in, contents_with};
 ghost use Rattle.moka_engine.specs.Interior.{IsReadLocated, first_record, handing_out_inside, nothing_inside};
+ghost use Rattle.moka_engine.specs.ReadNumber.{IsReadNumber};
 
 use circular_buffer::HeapCircularBuffer;
 use moka_maintenance::admission::{apply_reads, apply_writes};
@@ -292,6 +294,23 @@ impl<K: Eq + Hash, V, S: BuildHasher> Inner<K, V, S> {
         ensures { self.new ≡ record self.old { reads = if nat_lt (length self.old.reads) queue_length then self.old.reads ++ read ∷ [] else self.old.reads } }
     {
         let _full = self.reads.try_push_back(QueuedRead { place, read });
+    }
+
+    /// Queues a hit of the record of this number, which was the key's and may have left the map since. Its place is looked
+    /// up by the key.
+    pub fn queue_hit(&mut self, key: &K, number: u64, hash: u64, renewed: bool)
+        requires { IsReadNumber K.eq self.old.kept.records self.old.outstanding self.old.writes self.old.next_number key.now number }
+        ensures { self.new ≡ record self.old { reads = if nat_lt (length self.old.reads) queue_length then self.old.reads ++ Hit number hash renewed ∷ [] else self.old.reads } }
+    {
+        let read = ReadOperation::Hit {
+            number,
+            hash,
+            renewed,
+        };
+        match self.store.find_by_key(key) {
+            Some((Handle { place, .. }, _)) => self.queue_read(place, read),
+            None => self.queue_read(0, read),
+        }
     }
 
     /// Applies all queued reads, and then all queued writes in order. Then the sketch comes on where it is due.

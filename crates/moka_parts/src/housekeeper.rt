@@ -302,6 +302,7 @@ mod tests {
         housekeeper.disable_auto_run();
         assert!(rt; !housekeeper.should_apply_reads(64, after));
         assert!(rt; !housekeeper.should_apply_writes(64, after));
+        assert!(rt; !housekeeper.copied().should_apply_writes(64, after));
     }
 
     #[test]

@@ -97,7 +97,7 @@ fn new_cache(
         Some(ticket) => ticket.number(),
         None => FIRST_TICKET,
     };
-    BaseCache::new(
+    let mut cache = BaseCache::new(
         alloc,
         None,
         settings.capacity,
@@ -111,7 +111,9 @@ fn new_cache(
         false,
         Instant(settings.start.unwrap_or(0)),
         first,
-    )
+    )?;
+    cache.disable_auto_run();
+    Ok(cache)
 }
 
 /// What the housekeeper of a script's cache gives to its runs.

@@ -8,7 +8,6 @@ use Rattle.moka_parts.specs.declared.policy.Instant.{Instant}
 use Rattle.moka_parts.specs.declared.records.Operation.{Operation}
 use Rattle.moka_parts.specs.declared.records.Record.{Record}
 use Rattle.moka_parts.specs.Calls.{InsertsAt, InsertStep, new_record, SendsAt, SendStep, GetsAt, GetStep}
-use Rattle.moka_parts.specs.Housekeeping.{Housekeeping}
 use Rattle.moka_parts.specs.Maintenance.{Terms, Course}
 use Rattle.moka_parts.specs.Records.{Notice, Records, record_of_key}
 use Rattle.moka_parts.specs.State.{State, Settings, Events, new_state, is_disabled}
@@ -64,13 +63,13 @@ module _ {K V X P W : Type 0} (eq : K → K → Bool) (says : P → K → V → 
 
   module _ (created : X → K → V → ℕ → Option ℕ) (updated : X → K → V → ℕ → Option ℕ → Option ℕ) (weighs : W → K → V → ℕ → Type 0) where
     -- what was put into a new cache without times, and sent, is found
-    pub finds_what_was_put : IsEquivalence eq → (settings : Settings X W) (capacity : Option ℕ) (first_ticket : ℕ) (h : Housekeeping) (old : State K V X P W) → old ≡ record (new_state settings capacity 0 first_ticket) { housekeeping = h }
+    pub finds_what_was_put : IsEquivalence eq → (settings : Settings X W) (capacity : Option ℕ) (first_ticket : ℕ) (old : State K V X P W) → old ≡ new_state settings capacity 0 first_ticket
         → settings.time_to_live ≡ None → settings.time_to_idle ≡ None → settings.expiry ≡ None → is_disabled capacity ≡ false
         → (key : K) (hash : ℕ) (value : V) (now : Instant) (a : Ticket × Instant) (e : Events K V) (s : State K V X P W) → InsertStep created updated weighs eq old key hash value now (Ok a) e s
         → (ticket : ℕ) (u : Unit {0}) (t : State K V X P W) → SendStep s ticket (Ok u) t
         → (get_hash : ℕ) (need_key : Bool) (at : ℕ) (found : Option (Entry K V)) (f : Events K V) (v : State K V X P W) → GetStep says read Runs eq t key get_hash need_key false at (Ok found) f v
         → option_map (λ x. x.value) found ≡ Some value
-    finds_what_was_put laws settings capacity first_ticket h old is live idle expiry enabled key hash value now a e s put ticket u t sent get_hash need_key at found f v gets =
+    finds_what_was_put laws settings capacity first_ticket old is live idle expiry enabled key hash value now a e s put ticket u t sent get_hash need_key at found f v gets =
         let step : InsertsAt created updated weighs new None key hash value now (Ok a) e s = subst (λ o. InsertsAt created updated weighs new o key hash value now (Ok a) e s) (record_of_key_empty eq key) (subst (λ x. InsertStep created updated weighs eq x key hash value now (Ok a) e s) is put) in
         let alike = sent_hides_alike s ticket u t sent in
         let r = new_record created updated new key hash value now step.0 in
@@ -85,4 +84,4 @@ module _ {K V X P W : Type 0} (eq : K → K → Bool) (says : P → K → V → 
         }) get_hash need_key at found f v gets
       where
         new : State K V X P W
-        new = record (new_state settings capacity 0 first_ticket) { housekeeping = h }
+        new = new_state settings capacity 0 first_ticket

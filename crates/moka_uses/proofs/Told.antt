@@ -7,7 +7,6 @@ use Rattle.moka_parts.specs.declared.policy.Instant.{Instant}
 use Rattle.moka_parts.specs.declared.records.Record.{Record}
 use Rattle.moka_parts.specs.Calls.{InsertsAt, InsertStep, new_record, SendStep}
 use Rattle.moka_parts.specs.Causes.{cause_of_replacement}
-use Rattle.moka_parts.specs.Housekeeping.{Housekeeping}
 use Rattle.moka_parts.specs.Records.{Notice, record_of_key, when_listening}
 use Rattle.moka_parts.specs.State.{State, Settings, Events, new_state}
 use Rattle.moka_parts.specs.Surroundings.{Heard}
@@ -43,12 +42,12 @@ module _ {K V L : Type 0} (next : L → L) (tells : L → K → V → RemovalCau
 
 module _ {K V X P W : Type 0} (eq : K → K → Bool) (created : X → K → V → ℕ → Option ℕ) (updated : X → K → V → ℕ → Option ℕ → Option ℕ) (weighs : W → K → V → ℕ → Type 0) where
   -- the first value under a key is told to nobody, and leaves at the second, which is told once
-  pub told_of_the_first : IsEquivalence eq → (settings : Settings X W) (capacity : Option ℕ) (first_ticket : ℕ) (h : Housekeeping) (old : State K V X P W) → old ≡ record (new_state settings capacity 0 first_ticket) { housekeeping = h } → settings.listening ≡ true
+  pub told_of_the_first : IsEquivalence eq → (settings : Settings X W) (capacity : Option ℕ) (first_ticket : ℕ) (old : State K V X P W) → old ≡ new_state settings capacity 0 first_ticket → settings.listening ≡ true
       → (key : K) (hash : ℕ) (value : V) (now : Instant) (a : Ticket × Instant) (e : Events K V) (s : State K V X P W) → InsertStep created updated weighs eq old key hash value now (Ok a) e s
       → (ticket : ℕ) (u : Unit {0}) (t : State K V X P W) → SendStep s ticket (Ok u) t
       → (other_hash : ℕ) (other : V) (later : Instant) (b : Ticket × Instant) (f : Events K V) (v : State K V X P W) → InsertStep created updated weighs eq t key other_hash other later (Ok b) f v
       → (e.notices ≡ []) × IsOne f.notices
-  told_of_the_first laws settings capacity first_ticket h old is listening key hash value now a e s put ticket u t sent other_hash other later b f v again = (
+  told_of_the_first laws settings capacity first_ticket old is listening key hash value now a e s put ticket u t sent other_hash other later b f v again = (
     ap (λ x. x.notices) step.6,
     record {
       notice = (key, r.value, cause_of_replacement t.settings t.invalid_before r later.0);
@@ -57,7 +56,7 @@ module _ {K V X P W : Type 0} (eq : K → K → Bool) (created : X → K → V �
   )
     where
       new : State K V X P W
-      new = record (new_state settings capacity 0 first_ticket) { housekeeping = h }
+      new = new_state settings capacity 0 first_ticket
 
       step : InsertsAt created updated weighs new None key hash value now (Ok a) e s
       step = subst (λ o. InsertsAt created updated weighs new o key hash value now (Ok a) e s) (record_of_key_empty eq key) (subst (λ x. InsertStep created updated weighs eq x key hash value now (Ok a) e s) is put)

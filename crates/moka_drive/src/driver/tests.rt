@@ -112,7 +112,9 @@ fn numbers(alloc: Global, max_capacity: Option<u64>) -> Result<Numbers, Fail> {
         NOW,
         1,
     );
-    cache.map_err(|_| Fail::from("memory"))
+    let mut cache = cache.map_err(|_| Fail::from("memory"))?;
+    cache.disable_auto_run();
+    Ok(cache)
 }
 
 fn insert(key: u64, value: u64) -> NumberCall

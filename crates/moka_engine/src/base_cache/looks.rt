@@ -47,8 +47,8 @@ impl<
         clock: &mut C,
     ) -> Result<Option<Entry<K, V>>, OutOfMemory>
     where
-        K: Clone,
-        V: Clone,
+        K: Clone + Drop,
+        V: Clone + Drop,
         requires keys { ClonesAreEqual K.is_clone }
         requires values { ClonesAreEqual V.is_clone }
         requires askable { CanAskIfGiven I.can_ask (test_given ignore_if) }
@@ -75,8 +75,8 @@ impl<
         clock: &mut C,
     ) -> Result<Option<Entry<K, V>>, OutOfMemory>
     where
-        K: Clone,
-        V: Clone,
+        K: Clone + Drop,
+        V: Clone + Drop,
         requires keys { ClonesAreEqual K.is_clone }
         requires values { ClonesAreEqual V.is_clone }
         requires askable { (v : V) → I.can_ask test.old v }
@@ -93,7 +93,7 @@ impl<
         let policy = &self.expiration_policy;
         let shown = gets::find_unless(&self.inner, policy, valid_after, key, test, now);
         let Some((handle, found)) = shown else {
-            self.inner.queue_read(0, ReadOperation::Miss { hash });
+            self.record_miss(hash, now, clock);
             return Ok(None);
         };
         let Ok(entry) = gets::entry_of(found, need_key) else {
@@ -101,12 +101,18 @@ impl<
         };
         let (hash, hit) = (found.hash, gets::hit_of(found, policy, now));
         let Handle { number, place } = handle;
+        let renewed = hit.is_renewed;
+        self.inner.touch(handle, hit.read, hit.expires);
+        let queued = self.inner.read_count();
+        if self.housekeeper.should_apply_reads(queued, hit.read) {
+            self.record_hit_when_due(key, number, hash, renewed, hit.read, clock);
+            return Ok(Some(entry));
+        }
         let read = ReadOperation::Hit {
             number,
             hash,
-            renewed: hit.is_renewed,
+            renewed,
         };
-        self.inner.touch(handle, hit.read, hit.expires);
         self.inner.queue_read(place, read);
         Ok(Some(entry))
     }

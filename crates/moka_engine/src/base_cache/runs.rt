@@ -1,22 +1,26 @@
 //! Runs of maintenance. moka: `sync::base_cache::Inner::do_run_pending_tasks`.
-ghost use Rattle.std.specs.Prelude.{◌≡◌, ◌≤◌, min, option_map, None, false, if◌then◌else◌};
+ghost use Rattle.std.specs.Prelude.{◌≡◌, length, min, option_map, None, Some, true, false, if◌then◌else◌};
 ghost use Rattle.std.specs.Duration.{as_nanos};
 ghost use Rattle.std.specs.FinMap as finite;
-ghost use Rattle.moka_parts.specs.Calls.{RunStep};
+ghost use Rattle.moka_parts.specs.Calls.{KeeperRun, RecordsRead, RunStep, RunsIfDue, no_events};
 ghost use Rattle.moka_parts.specs.Exact.{IsExact};
+ghost use Rattle.moka_parts.specs.Housekeeping.{is_due, without_automatic};
 ghost use Rattle.moka_parts.specs.Listed.{ListedRun};
+ghost use Rattle.moka_parts.specs.Records.{record_of_key};
 ghost use Rattle.moka_parts.specs.Runs.{Befalls};
-ghost use Rattle.moka_parts.specs.Settling.{leaves_more_idle};
+ghost use Rattle.moka_parts.specs.Settling.{IsValid, leaves_more_idle};
 ghost use Rattle.moka_parts.specs.State.{Events, is_disabled};
 ghost use Rattle.moka_parts.specs.Surroundings.{Leads};
 ghost use Rattle.moka_parts.specs.Time.{greatest};
+ghost use Rattle.moka_parts.specs.declared.records.ReadOperation.TheVariants.{Hit, Miss};
 
 use super::BaseCache;
 use moka_maintenance::sweep::Tests;
 use moka_parts::closures::{PredicateFn, Weigher};
-use moka_parts::housekeeper::Clock;
+use moka_parts::housekeeper::{Clock, InnerSync};
 use moka_parts::notification::Listener;
 use moka_parts::policy::{Expiry, Instant};
+use moka_parts::records::ReadOperation;
 use std::hash::{BuildHasher, Hash};
 use std::time::Duration;
 
@@ -87,6 +91,138 @@ impl<
         self.weighted_size = saturated(self.inner.total_weight());
         self.passes = ran.passes;
         ran.is_left
+    }
+
+    /// Makes a run of maintenance at the moment `now` if the housekeeper says that one is due: the last run left more, or
+    /// runs start by themselves, and 64 operations are queued or 300 milliseconds have passed since the last run. The
+    /// housekeeper gives its limit, repeats and batch to the run, and remembers the moment and, where a listener is set,
+    /// whether more is left. moka: `sync::base_cache::BaseCache::apply_reads_writes_if_needed`.
+    pub fn apply_reads_writes_if_needed<C: Clock>(&mut self, now: Instant, clock: &mut C)
+    where
+        K: Drop,
+        V: Drop,
+        ensures { (e : Events K V)
+            × RunsIfDue (ListedRun P.says X.read self.old.write_list self.new.write_list) self.old.state (length self.old.state.writes) now.0 e self.new.state
+            × Befalls L.tells e self.old self.new
+            × Leads C.reads clock.old e.readings clock.new }
+    {
+        let queued = self.inner.write_count();
+        if self.housekeeper.should_apply_writes(queued, now) {
+            self.run_by_housekeeper(now, clock);
+        }
+    }
+
+    // Makes a run at the moment `now` if the housekeeper says that one is due with so many reads queued.
+    fn apply_reads_if_needed<C: Clock>(&mut self, now: Instant, clock: &mut C)
+    where
+        K: Drop,
+        V: Drop,
+        ensures { (e : Events K V)
+            × RunsIfDue (ListedRun P.says X.read self.old.write_list self.new.write_list) self.old.state (length self.old.state.reads) now.0 e self.new.state
+            × Befalls L.tells e self.old self.new
+            × Leads C.reads clock.old e.readings clock.new }
+    {
+        let queued = self.inner.read_count();
+        if self.housekeeper.should_apply_reads(queued, now) {
+            self.run_by_housekeeper(now, clock);
+        }
+    }
+
+    // Makes the run that is due, if one is, and queues a read that found nothing.
+    // moka: `sync::base_cache::BaseCache::record_read_op`.
+    pub(super) fn record_miss<C: Clock>(&mut self, hash: u64, now: Instant, clock: &mut C)
+    where
+        K: Drop,
+        V: Drop,
+        ensures { (e : Events K V)
+            × RecordsRead (ListedRun P.says X.read self.old.write_list self.new.write_list) self.old.state now.0 (Miss hash) e self.new.state
+            × Befalls L.tells e self.old self.new
+            × Leads C.reads clock.old e.readings clock.new }
+    {
+        self.apply_reads_if_needed(now, clock);
+        self.inner.queue_read(0, ReadOperation::Miss { hash });
+    }
+
+    // Makes the run that is due, and queues a hit of the key's record. The run may remove that record, so its place is
+    // looked up again.
+    pub(super) fn record_hit_when_due<C: Clock>(
+        &mut self,
+        key: &K,
+        number: u64,
+        hash: u64,
+        renewed: bool,
+        now: Instant,
+        clock: &mut C,
+    )
+    where
+        K: Drop,
+        V: Drop,
+        requires due { is_due self.old.state.housekeeping (length self.old.state.reads) now.0 ≡ true }
+        requires found { option_map (λ r. r.number) (record_of_key K.eq self.old.state.records key.now) ≡ Some number }
+        ensures { (e : Events K V)
+            × RecordsRead (ListedRun P.says X.read self.old.write_list self.new.write_list) self.old.state now.0 (Hit number hash renewed) e self.new.state
+            × Befalls L.tells e self.old self.new
+            × Leads C.reads clock.old e.readings clock.new }
+    {
+        self.run_by_housekeeper(now, clock);
+        self.inner.queue_hit(key, number, hash, renewed);
+    }
+
+    // A run that the housekeeper makes.
+    fn run_by_housekeeper<C: Clock>(&mut self, now: Instant, clock: &mut C)
+    where
+        K: Drop,
+        V: Drop,
+        ensures step { (e : Events K V)
+            × KeeperRun (ListedRun P.says X.read self.old.write_list self.new.write_list) self.old.state now.0 e self.new.state
+            × Befalls L.tells e self.old self.new
+            × Leads C.reads clock.old e.readings clock.new }
+        ensures valid { IsValid K.eq self.old.state }
+    {
+        let mut housekeeper = self.housekeeper.copied();
+        housekeeper.run_pending_tasks(self, now, clock);
+        self.housekeeper = housekeeper;
+    }
+
+    /// From now on runs start only where the last one left more, or by `run_pending_tasks`.
+    /// moka: `common::concurrent::housekeeper::Housekeeper::disable_auto_run`.
+    pub fn disable_auto_run(&mut self)
+        ensures step { self.new.state ≡ record self.old.state { housekeeping = without_automatic self.old.state.housekeeping } }
+        ensures events { Befalls L.tells no_events self.old self.new }
+    {
+        self.housekeeper.disable_auto_run();
+    }
+}
+
+impl<
+    K: Eq + Hash + Drop,
+    V: Drop,
+    S: BuildHasher,
+    X: Expiry<K, V>,
+    L: Listener<K, V>,
+    P: PredicateFn<K, V>,
+    W: Weigher<K, V>,
+> InnerSync for BaseCache<K, V, S, X, L, P, W> {
+    ghost use Rattle.moka_engine.specs.CacheRuns.{CacheRuns};
+
+    ghost runs = { CacheRuns P.says X.read L.tells };
+
+    fn run_pending_tasks<C: Clock>(
+        &mut self,
+        now: Instant,
+        clock: &mut C,
+        timeout: Option<Duration>,
+        max_log_sync_repeats: u32,
+        eviction_batch_size: u32,
+    ) -> bool {
+        BaseCache::run_pending_tasks(
+            self,
+            now,
+            clock,
+            timeout,
+            max_log_sync_repeats,
+            eviction_batch_size,
+        )
     }
 }
 

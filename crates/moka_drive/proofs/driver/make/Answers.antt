@@ -30,6 +30,9 @@ returns-in-Key g c =
 pub returns-in-InvalidateAll : goal.returns-in-InvalidateAll
 returns-in-InvalidateAll g c = rw c.in-InvalidateAll.is (no_events, (c.invalidate_all.ensures.step, refl), c.invalidate_all.ensures.events, refl, refl)
 
+pub returns-in-DisableAutoRun : goal.returns-in-DisableAutoRun
+returns-in-DisableAutoRun g c = rw c.in-DisableAutoRun.is (no_events, (c.disable_auto_run.ensures.step, refl), c.disable_auto_run.ensures.events, refl, refl)
+
 pub returns-in-Keys : goal.returns-in-Keys
 returns-in-Keys g c =
     rw c.in-Keys.is (no_events, keys_step (meaning_of g.K.PartialEq.eq g.L.Listener.tells g.P.PredicateFn.says g.W.Weigher.weighs g.C.Clock.reads g.I.IdSource.gives g.X.Expiry.created g.X.Expiry.read g.X.Expiry.updated) (ListedRun g.P.PredicateFn.says g.X.Expiry.read c.args.cache.now.write_list c.args.cache.now.write_list) c.args.cache.now.state c.in-Keys.segment c.keys.result c.keys.ensures.ok c.keys.ensures.err, nothing_befalls g.L.Listener.tells c.args.cache.now, refl, refl)
