@@ -2,5 +2,4 @@ pub mod Numerals
 pub mod Printable
 pub mod Lines
 pub mod Served
-pub mod Bounded
 pub mod KeptNotices

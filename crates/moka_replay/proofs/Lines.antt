@@ -1,5 +1,5 @@
 -- One line more of a script.
-use Rattle.std.proofs.Common.{◌≡◌, ◌==◌, Bool, true, false, ◌||◌, refl, [], ◌∷◌, take, ℕ, ◌+◌, ◌<◌, ◌≤◌, ◌∙◌, List, length, drop, get_or, ap, sym, Result, Ok, Err, IsErrAnd, Some, None, unwrap_or, arith}
+use Rattle.std.proofs.Common.{◌≡◌, ◌==◌, Bool, true, false, ◌||◌, refl, [], ◌∷◌, take, ℕ, ◌+◌, ◌<◌, ◌≤◌, ◌∙◌, List, length, drop, get_or, ap, sym, Result, Ok, Err, IsErrAnd, Some, None, arith}
 use Rattle.std.specs.Option.{option_map_or}
 use Rattle.std.proofs.lemmas.List.{at_drop_more, at_drop_all}
 use Rattle.std.proofs.lemmas.List.Splits.{length-slice_split}
@@ -7,36 +7,28 @@ use Rattle.std.proofs.lemmas.List.Sums.{count_by-le-length}
 use Rattle.moka_replay.specs.declared.script.Script.{Script}
 use Rattle.moka_replay.specs.declared.failure.Failure.{Failure}
 use Rattle.moka_replay.specs.declared.failure.Failure.TheVariants as failure
-use Rattle.moka_replay.specs.Script.{ScriptText, script_of, asks_for_memory, IsAdded, IsParseOf, asked_by, asked_in, is_call, has_call, lru_in, has_lru, with_line, lines_read, lines_of}
+use Rattle.moka_replay.specs.Script.{ScriptText, script_of, asks_for_memory, IsAdded, IsParseOf, asked_by, asked_in, is_call, has_call, with_line, lines_read, lines_of}
 
 -- the line of that index
 abbrev pub IsLineAt : List (List ℕ) → List ℕ → ℕ → Type 0
 IsLineAt lines line n = (n < length lines) × (line ≡ get_or lines n line)
 
-module _ (with_lru : Bool) (n : ℕ) (script : ScriptText) (lines : List (List ℕ)) where
+module _ (n : ℕ) (script : ScriptText) (lines : List (List ℕ)) where
   -- the next line decides
-  lines_read-turn : (line : List ℕ) → IsLineAt lines line n → lines_read with_lru (n + 1) script (drop n lines) ≡ option_map_or (λ more. lines_read with_lru (n + 1 + 1) more (drop (n + 1) lines)) (with_line with_lru script line) (Err (n + 1))
-  lines_read-turn line t = at_drop_more (lines_read with_lru (n + 1) script) lines n line t.0 ∙ ap (λ l. option_map_or (λ more. lines_read with_lru (n + 1 + 1) more (drop (n + 1) lines)) (with_line with_lru script l) (Err (n + 1))) (sym t.1)
+  lines_read-turn : (line : List ℕ) → IsLineAt lines line n → lines_read (n + 1) script (drop n lines) ≡ option_map_or (λ more. lines_read (n + 1 + 1) more (drop (n + 1) lines)) (with_line script line) (Err (n + 1))
+  lines_read-turn line t = at_drop_more (lines_read (n + 1) script) lines n line t.0 ∙ ap (λ l. option_map_or (λ more. lines_read (n + 1 + 1) more (drop (n + 1) lines)) (with_line script l) (Err (n + 1))) (sym t.1)
 
   -- it is right
-  pub lines_read_more : (line : List ℕ) (more : ScriptText) → IsLineAt lines line n → with_line with_lru script line ≡ Some more → lines_read with_lru (n + 1) script (drop n lines) ≡ lines_read with_lru (n + 1 + 1) more (drop (n + 1) lines)
-  lines_read_more line more t e = lines_read-turn line t ∙ ap (λ o. option_map_or (λ more. lines_read with_lru (n + 1 + 1) more (drop (n + 1) lines)) o (Err (n + 1))) e
+  pub lines_read_more : (line : List ℕ) (more : ScriptText) → IsLineAt lines line n → with_line script line ≡ Some more → lines_read (n + 1) script (drop n lines) ≡ lines_read (n + 1 + 1) more (drop (n + 1) lines)
+  lines_read_more line more t e = lines_read-turn line t ∙ ap (λ o. option_map_or (λ more. lines_read (n + 1 + 1) more (drop (n + 1) lines)) o (Err (n + 1))) e
 
   -- it is faulty
-  pub lines_read_bad : (line : List ℕ) → IsLineAt lines line n → with_line with_lru script line ≡ None → lines_read with_lru (n + 1) script (drop n lines) ≡ Err (n + 1)
-  lines_read_bad line t e = lines_read-turn line t ∙ ap (λ o. option_map_or (λ more. lines_read with_lru (n + 1 + 1) more (drop (n + 1) lines)) o (Err (n + 1))) e
+  pub lines_read_bad : (line : List ℕ) → IsLineAt lines line n → with_line script line ≡ None → lines_read (n + 1) script (drop n lines) ≡ Err (n + 1)
+  lines_read_bad line t e = lines_read-turn line t ∙ ap (λ o. option_map_or (λ more. lines_read (n + 1 + 1) more (drop (n + 1) lines)) o (Err (n + 1))) e
 
   -- no line is left
-  pub lines_read_all : length lines ≤ n → lines_read with_lru (n + 1) script (drop n lines) ≡ Ok script
-  lines_read_all past = at_drop_all (lines_read with_lru (n + 1) script) lines n past
-
--- the next line says whether the policy stands there, or leaves it to the later ones
-pub has_lru_more : (n : ℕ) (lines : List (List ℕ)) (line : List ℕ) → IsLineAt lines line n → has_lru (drop n lines) ≡ unwrap_or (lru_in (asked_in line)) (has_lru (drop (n + 1) lines))
-has_lru_more n lines line t = at_drop_more has_lru lines n line t.0 ∙ ap (λ l. unwrap_or (lru_in (asked_in l)) (has_lru (drop (n + 1) lines))) (sym t.1)
-
--- no line is left that says it
-pub has_lru_all : (n : ℕ) (lines : List (List ℕ)) → length lines ≤ n → has_lru (drop n lines) ≡ false
-has_lru_all n lines past = at_drop_all has_lru lines n past
+  pub lines_read_all : length lines ≤ n → lines_read (n + 1) script (drop n lines) ≡ Ok script
+  lines_read_all past = at_drop_all (lines_read (n + 1) script) lines n past
 
 -- there is at most one line more than there are bytes
 pub length-lines_of-le : (text : List ℕ) → length (lines_of text) ≤ length text + 1
@@ -49,24 +41,24 @@ or_true true = refl
 or_true false = refl
 
 -- the next line is a call, or it is right and one that follows is
-module _ (with_lru : Bool) (n : ℕ) (script : ScriptText) (lines : List (List ℕ)) (line : List ℕ) (t : IsLineAt lines line n) where
-  has_call-turn : has_call with_lru script (drop n lines) ≡ (is_call (asked_in line) || option_map_or (λ more. has_call with_lru more (drop (n + 1) lines)) (with_line with_lru script line) false)
-  has_call-turn = at_drop_more (has_call with_lru script) lines n line t.0 ∙ ap (λ l. is_call (asked_in l) || option_map_or (λ more. has_call with_lru more (drop (n + 1) lines)) (with_line with_lru script l) false) (sym t.1)
+module _ (n : ℕ) (script : ScriptText) (lines : List (List ℕ)) (line : List ℕ) (t : IsLineAt lines line n) where
+  has_call-turn : has_call script (drop n lines) ≡ (is_call (asked_in line) || option_map_or (λ more. has_call more (drop (n + 1) lines)) (with_line script line) false)
+  has_call-turn = at_drop_more (has_call script) lines n line t.0 ∙ ap (λ l. is_call (asked_in l) || option_map_or (λ more. has_call more (drop (n + 1) lines)) (with_line script l) false) (sym t.1)
 
   -- it is a call
-  pub has_call_here : is_call (asked_in line) ≡ true → has_call with_lru script (drop n lines) ≡ true
-  has_call_here call = has_call-turn ∙ ap (λ b. b || option_map_or (λ more. has_call with_lru more (drop (n + 1) lines)) (with_line with_lru script line) false) call
+  pub has_call_here : is_call (asked_in line) ≡ true → has_call script (drop n lines) ≡ true
+  has_call_here call = has_call-turn ∙ ap (λ b. b || option_map_or (λ more. has_call more (drop (n + 1) lines)) (with_line script line) false) call
 
   -- it is right
-  pub has_call_more : (more : ScriptText) → with_line with_lru script line ≡ Some more → has_call with_lru more (drop (n + 1) lines) ≡ true → has_call with_lru script (drop n lines) ≡ true
-  has_call_more more right later = has_call-turn ∙ (ap (λ o. is_call (asked_in line) || option_map_or (λ more. has_call with_lru more (drop (n + 1) lines)) o false) right ∙ (ap (λ b. is_call (asked_in line) || b) later ∙ or_true (is_call (asked_in line))))
+  pub has_call_more : (more : ScriptText) → with_line script line ≡ Some more → has_call more (drop (n + 1) lines) ≡ true → has_call script (drop n lines) ≡ true
+  has_call_more more right later = has_call-turn ∙ (ap (λ o. is_call (asked_in line) || option_map_or (λ more. has_call more (drop (n + 1) lines)) o false) right ∙ (ap (λ b. is_call (asked_in line) || b) later ∙ or_true (is_call (asked_in line))))
 
 -- reading stops where a line does
-pub stops_at : (with_lru : Bool) (n : ℕ) (script : ScriptText) (text line : List ℕ) (failure : Failure) (new : ScriptText) → IsLineAt (lines_of text) line n → IsAdded with_lru (n + 1) script line (Err failure) new → lines_read with_lru (n + 1) script (drop n (lines_of text)) ≡ script_of text → (has_call with_lru script (drop n (lines_of text)) ≡ true → asks_for_memory text ≡ true) → IsParseOf text (Err failure)
-stops_at with_lru n script text line (failure.BadLine number) new t stops left asks = rw stops.0 (sym left ∙ lines_read_bad with_lru n script (lines_of text) line t stops.1)
-stops_at with_lru n script text line failure.OutOfMemory new t stops left asks = asks (has_call_here with_lru n script (lines_of text) line t stops)
-stops_at with_lru n script text line failure.Usage new t stops left asks = stops
-stops_at with_lru n script text line failure.CannotRead new t stops left asks = stops
+pub stops_at : (n : ℕ) (script : ScriptText) (text line : List ℕ) (failure : Failure) (new : ScriptText) → IsLineAt (lines_of text) line n → IsAdded (n + 1) script line (Err failure) new → lines_read (n + 1) script (drop n (lines_of text)) ≡ script_of text → (has_call script (drop n (lines_of text)) ≡ true → asks_for_memory text ≡ true) → IsParseOf text (Err failure)
+stops_at n script text line (failure.BadLine number) new t stops left asks = rw stops.0 (sym left ∙ lines_read_bad n script (lines_of text) line t stops.1)
+stops_at n script text line failure.OutOfMemory new t stops left asks = asks (has_call_here n script (lines_of text) line t stops)
+stops_at n script text line failure.Usage new t stops left asks = stops
+stops_at n script text line failure.CannotRead new t stops left asks = stops
 
 -- a failure is passed on as it is
 pub passed_on : (text : List ℕ) (result : Result Script Failure) (failure : Failure) → IsErrAnd result (λ passed. passed ≡ failure) → IsParseOf text (Err failure) → IsParseOf text result

@@ -11,7 +11,7 @@ use Rattle.moka_replay.specs.declared.script.Line.TheVariants as line
 use Rattle.moka_replay.specs.Lex.{number_of, lone_number, alone, is_printable, words_of}
 use Rattle.moka_replay.specs.Settings.{setting_of, put_in}
 use Rattle.moka_replay.specs.Calls.{CallText, told_call, key_and_moment, insert_of, send_of, get_of, peek_of, scan_of, contains_of, key_of, remove_of, invall_of, run_of, call_of}
-use Rattle.moka_replay.specs.Script.{LineText, ScriptText, asked_by_name, asked_by, asked_in, is_comment, has_lru, joined, with_line, lines_read, lines_of, no_text, script_of}
+use Rattle.moka_replay.specs.Script.{LineText, ScriptText, asked_by_name, asked_by, asked_in, is_comment, joined, with_line, lines_read, lines_of, no_text, script_of}
 
 -- ---- calls
 
@@ -145,11 +145,11 @@ serves_set true None calls all = tt
 serves_set true (Some settings) calls all = all
 serves_set false set calls all = tt
 
-serves_joined : (with_lru : Bool) (script : ScriptText) (asked : Option LineText) → AllByRecursion IsServed script.1 → ServesLine asked → ServesAll (option_and_then (joined with_lru script) asked)
-serves_joined with_lru script None all asks = tt
-serves_joined with_lru script (Some line.Nothing) all asks = all
-serves_joined with_lru script (Some (line.Setting setting)) all asks = serves_set _ (put_in script.0 setting) script.1 all
-serves_joined with_lru script (Some (line.Call call)) all asks = served_push script.1 (told_call call) all (served_told call asks)
+serves_joined : (script : ScriptText) (asked : Option LineText) → AllByRecursion IsServed script.1 → ServesLine asked → ServesAll (option_and_then (joined script) asked)
+serves_joined script None all asks = tt
+serves_joined script (Some line.Nothing) all asks = all
+serves_joined script (Some (line.Setting setting)) all asks = serves_set _ (put_in script.0 setting) script.1 all
+serves_joined script (Some (line.Call call)) all asks = served_push script.1 (told_call call) all (served_told call asks)
 
 -- each call of what was read is served
 abbrev ServesRead : Result ScriptText ℕ → Type 0
@@ -160,11 +160,11 @@ serves_next : (next : Option ScriptText) (number : ℕ) (read : ScriptText → R
 serves_next None number read all each = tt
 serves_next (Some more) number read all each = each more all
 
-serves_lines : (with_lru : Bool) (number : ℕ) (script : ScriptText) (lines : List (List ℕ)) → AllByRecursion IsServed script.1 → ServesRead (lines_read with_lru number script lines)
-serves_lines with_lru number script [] all = all
-serves_lines with_lru number script (text ∷ lines) all =
-    serves_next (with_line with_lru script text) number _ (serves_joined with_lru script (asked_in text) all (serves_in text)) (λ more each. serves_lines with_lru (number + 1) more lines each)
+serves_lines : (number : ℕ) (script : ScriptText) (lines : List (List ℕ)) → AllByRecursion IsServed script.1 → ServesRead (lines_read number script lines)
+serves_lines number script [] all = all
+serves_lines number script (text ∷ lines) all =
+    serves_next (with_line script text) number _ (serves_joined script (asked_in text) all (serves_in text)) (λ more each. serves_lines (number + 1) more lines each)
 
 -- each call that a script tells, if it is right, is served
 pub served_of_script : (text : List ℕ) (script : ScriptText) (calls : List CallText) → script.1 ≡ map told_call calls → script_of text ≡ Ok script → AllByRecursion IsServed calls
-served_of_script text script calls told read = served_all calls (subst (AllByRecursion IsServed) told (subst ServesRead read (serves_lines (has_lru (lines_of text)) 1 no_text (lines_of text) tt)))
+served_of_script text script calls told read = served_all calls (subst (AllByRecursion IsServed) told (subst ServesRead read (serves_lines 1 no_text (lines_of text) tt)))

@@ -1,10 +1,8 @@
 -- What the lines of a script ask for.
-use Rattle.std.specs.Prelude.{◌≡◌, ℕ, ◌+◌, ◌==◌, Bool, true, false, ◌&&◌, ◌||◌, List, [], ◌∷◌, ◌++◌, length, map, Option, Some, None, Result, Ok, Err, option_map, unwrap_or, slice_index, if◌then◌else◌}
+use Rattle.std.specs.Prelude.{◌≡◌, ℕ, ◌+◌, ◌==◌, Bool, true, false, ◌||◌, List, [], ◌∷◌, ◌++◌, length, map, Option, Some, None, Result, Ok, Err, option_map, slice_index, if◌then◌else◌}
 use Rattle.std.specs.List.{slice_split, list_all}
 use Rattle.std.specs.Option.{option_or, option_map_or}
-use Rattle.moka_parts.specs.declared.policy.EvictionPolicy.TheVariants.{Lru}
 use Rattle.moka_replay.specs.declared.script.settings.Settings.{Settings}
-use Rattle.moka_replay.specs.declared.script.settings.Setting.TheVariants.{Policy}
 use Rattle.moka_replay.specs.declared.script.Script.{Script}
 use Rattle.moka_replay.specs.declared.script.calls.LineCall.{LineCall}
 use Rattle.moka_replay.specs.declared.script.Line.{Line}
@@ -12,7 +10,7 @@ use Rattle.moka_replay.specs.declared.script.Line.TheVariants as line
 use Rattle.moka_replay.specs.declared.failure.Failure.{Failure}
 use Rattle.moka_replay.specs.declared.failure.Failure.TheVariants as failure
 use Rattle.moka_replay.specs.Lex.{is_printable, words_of, ◌>>=◌}
-use Rattle.moka_replay.specs.Settings.{setting_of, no_settings, is_allowed, put_in}
+use Rattle.moka_replay.specs.Settings.{setting_of, no_settings, put_in}
 use Rattle.moka_replay.specs.Calls.{CallText, call_text, told_call, call_of}
 
 -- ---- lines
@@ -58,31 +56,20 @@ no_text = (no_settings, [])
 abbrev pub text_of : Script → ScriptText
 text_of script = (script.settings, map told_call script.calls.items)
 
--- whether a line tells that `policy lru` stands among the settings: it does itself, or a call ends them
-abbrev pub lru_in : Option LineText → Option Bool
-lru_in (Some (line.Setting (Policy Lru))) = Some true
-lru_in (Some (line.Call call)) = Some false
-lru_in asked = None
-
--- whether `policy lru` stands before the first call
-abbrev pub has_lru : List (List ℕ) → Bool
-has_lru [] = false
-has_lru (text ∷ lines) = unwrap_or (lru_in (asked_in text)) (has_lru lines)
-
 -- settings come before the first call
-abbrev pub joined : Bool → ScriptText → LineText → Option ScriptText
-joined with_lru script line.Nothing = Some script
-joined with_lru script (line.Setting setting) = if length script.1 == 0 && is_allowed with_lru setting then option_map (λ settings. (settings, script.1)) (put_in script.0 setting) else None
-joined with_lru script (line.Call call) = Some (script.0, script.1 ++ told_call call ∷ [])
+abbrev pub joined : ScriptText → LineText → Option ScriptText
+joined script line.Nothing = Some script
+joined script (line.Setting setting) = if length script.1 == 0 then option_map (λ settings. (settings, script.1)) (put_in script.0 setting) else None
+joined script (line.Call call) = Some (script.0, script.1 ++ told_call call ∷ [])
 
 -- the script, and what one more line asks for
-abbrev pub with_line : Bool → ScriptText → List ℕ → Option ScriptText
-with_line with_lru script text = asked_in text >>= joined with_lru script
+abbrev pub with_line : ScriptText → List ℕ → Option ScriptText
+with_line script text = asked_in text >>= joined script
 
 -- the script that lines from that number on lead to, or the number of the first faulty one
-abbrev pub lines_read : Bool → ℕ → ScriptText → List (List ℕ) → Result ScriptText ℕ
-lines_read with_lru number script [] = Ok script
-lines_read with_lru number script (text ∷ lines) = option_map_or (λ more. lines_read with_lru (number + 1) more lines) (with_line with_lru script text) (Err number)
+abbrev pub lines_read : ℕ → ScriptText → List (List ℕ) → Result ScriptText ℕ
+lines_read number script [] = Ok script
+lines_read number script (text ∷ lines) = option_map_or (λ more. lines_read (number + 1) more lines) (with_line script text) (Err number)
 
 -- the lines of a text
 abbrev pub lines_of : List ℕ → List (List ℕ)
@@ -90,7 +77,7 @@ lines_of text = slice_split (λ byte. byte == 10) text
 
 -- the script that a text says, or the number of its first faulty line
 abbrev pub script_of : List ℕ → Result ScriptText ℕ
-script_of text = lines_read (has_lru (lines_of text)) 1 no_text (lines_of text)
+script_of text = lines_read 1 no_text (lines_of text)
 
 -- whether the line asks for a call
 abbrev pub is_call : Option LineText → Bool
@@ -98,20 +85,20 @@ is_call (Some (line.Call call)) = true
 is_call asked = false
 
 -- whether a call stands in front of the first faulty line
-abbrev pub has_call : Bool → ScriptText → List (List ℕ) → Bool
-has_call with_lru script [] = false
-has_call with_lru script (text ∷ lines) = is_call (asked_in text) || option_map_or (λ more. has_call with_lru more lines) (with_line with_lru script text) false
+abbrev pub has_call : ScriptText → List (List ℕ) → Bool
+has_call script [] = false
+has_call script (text ∷ lines) = is_call (asked_in text) || option_map_or (λ more. has_call more lines) (with_line script text) false
 
 -- whether the text asks for memory: only a call does
 abbrev pub asks_for_memory : List ℕ → Bool
-asks_for_memory text = has_call (has_lru (lines_of text)) no_text (lines_of text)
+asks_for_memory text = has_call no_text (lines_of text)
 
 -- what a line asks for is added exactly where it is right, and memory may be refused to a call alone
-abbrev pub IsAdded : Bool → ℕ → ScriptText → List ℕ → Result (Unit {0}) Failure → ScriptText → Type 0
-IsAdded with_lru number old text (Ok _) new = with_line with_lru old text ≡ Some new
-IsAdded with_lru number old text (Err (failure.BadLine n)) new = (n ≡ number) × (with_line with_lru old text ≡ None)
-IsAdded with_lru number old text (Err failure.OutOfMemory) new = is_call (asked_in text) ≡ true
-IsAdded with_lru number old text (Err _) new = ⊥
+abbrev pub IsAdded : ℕ → ScriptText → List ℕ → Result (Unit {0}) Failure → ScriptText → Type 0
+IsAdded number old text (Ok _) new = with_line old text ≡ Some new
+IsAdded number old text (Err (failure.BadLine n)) new = (n ≡ number) × (with_line old text ≡ None)
+IsAdded number old text (Err failure.OutOfMemory) new = is_call (asked_in text) ≡ true
+IsAdded number old text (Err _) new = ⊥
 
 -- reading succeeds exactly where each line is right, and else the first faulty line is named; memory may be refused to the calls in front of it
 abbrev pub IsParseOf : List ℕ → Result Script Failure → Type 0

@@ -1,8 +1,8 @@
 -- What the settings of a script say.
-use Rattle.std.specs.Prelude.{ℕ, ◌==◌, Bool, true, false, ◌||◌, List, [], ◌∷◌, Option, Some, None, option_map, codes, if◌then◌else◌}
+use Rattle.std.specs.Prelude.{ℕ, ◌==◌, true, false, List, [], ◌∷◌, Option, Some, None, option_map, codes, if◌then◌else◌}
 use Rattle.std.specs.Str.{bytes_eq}
 use Rattle.moka_parts.specs.declared.policy.EvictionPolicy.{EvictionPolicy}
-use Rattle.moka_parts.specs.declared.policy.EvictionPolicy.TheVariants.{Lru}
+use Rattle.moka_parts.specs.declared.policy.EvictionPolicy.TheVariants.{TinyLfu, Lru}
 use Rattle.moka_replay.specs.declared.script.settings.Settings.{Settings}
 use Rattle.moka_replay.specs.declared.script.settings.Setting.{Setting}
 use Rattle.moka_replay.specs.declared.script.settings.Setting.TheVariants.{First, Capacity, Policy, TimeToIdle, Weigh, Listener, Start, Keeper}
@@ -23,9 +23,12 @@ keeper_of _ = None
 
 -- the policy of that name
 abbrev pub policy_named : List ℕ → Option EvictionPolicy
-policy_named name = if bytes_eq name (codes "lru") then Some Lru else None
+policy_named name =
+    if bytes_eq name (codes "lru") then Some Lru
+    else (if bytes_eq name (codes "tinylfu") then Some TinyLfu
+    else None)
 
--- `policy lru`
+-- `policy NAME`
 abbrev pub policy_of : List (List ℕ) → Option Setting
 policy_of (name ∷ []) = do
   policy ← policy_named name
@@ -48,11 +51,6 @@ setting_of name arguments =
 -- nothing is set
 abbrev pub no_settings : Settings
 no_settings = record { first = None; capacity = None; policy = None; time_to_idle = None; weigher = None; listener = false; start = None; keeper = None }
-
--- whether a setting may stand in a script: a capacity other than 0 needs `policy lru`
-abbrev pub is_allowed : Bool → Setting → Bool
-is_allowed has_lru (Capacity capacity) = has_lru || capacity == 0
-is_allowed has_lru setting = true
 
 -- a place is filled at most once
 abbrev pub filled : {A : Type 0} → Option A → A → Option (Option A)

@@ -5,7 +5,7 @@ ghost use Rattle.std.specs.List.{AllByRecursion};
 ghost use Rattle.moka_drive.specs.Served.{IsServed};
 ghost use Rattle.moka_replay.specs.Notices.{told_of, listener_for};
 ghost use Rattle.moka_replay.specs.Script.{text_of};
-ghost use Rattle.moka_replay.specs.Played.{AreReplies, IsLruWhereBounded, chosen_policy, chosen_terms, expirations_of, first_state, total_of};
+ghost use Rattle.moka_replay.specs.Played.{AreReplies, chosen_terms, expirations_of, first_state, total_of};
 
 use crate::key_range::KeyRange;
 use crate::notices::{Notices, room_for};
@@ -49,7 +49,6 @@ pub struct Played {
 /// `OutOfMemory` where memory for the cache, for its listener or for the replies is refused.
 pub fn play(alloc: Global, script: Script) -> Result<Played, OutOfMemory>
     requires served { AllByRecursion IsServed script.calls.items }
-    requires bounded { IsLruWhereBounded script.settings.capacity (chosen_policy script.settings) }
     ensures { IfOk result (λ played. AreReplies (text_of script) played.replies.items (told_of played.cache.listener) (total_of played.cache.state)) }
 {
     let Script { settings, calls } = script;
@@ -88,7 +87,6 @@ fn new_cache(
     settings: Settings,
     listener: Option<Notices>,
 ) -> Result<ScriptCache, OutOfMemory>
-    requires bounded { IsLruWhereBounded settings.capacity (chosen_policy settings) }
     requires listens { is_some listener ≡ settings.listener }
     ensures state { IfOk result (λ cache. cache.state ≡ first_state settings) }
     ensures listener { IfOk result (λ cache. cache.listener ≡ listener) }

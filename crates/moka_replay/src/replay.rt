@@ -4,7 +4,6 @@ ghost use Rattle.std.specs.List.{AllByRecursion};
 ghost use Rattle.moka_drive.specs.Served.{IsServed};
 ghost use Rattle.moka_replay.specs.Failure.{IsWritten};
 ghost use Rattle.moka_replay.specs.Notices.{told_of};
-ghost use Rattle.moka_replay.specs.Played.{IsLruWhereBounded, chosen_policy};
 ghost use Rattle.moka_replay.specs.Replay.{Reading, Answers, Ends, IsReplayed, IsPlayed, IsScriptRead, played_text, status_of_replies};
 
 use crate::failure::{Failure, REFUSED, REPLAYED, tell, write_with_status};
@@ -101,7 +100,6 @@ fn status_of(replies: &[ScriptReply]) -> u8
 fn read_script<R: Source>(alloc: Global, input: &mut R) -> Result<Script, Failure>
     ensures read { (read : Reading) × R.gives input.old read input.new × IsScriptRead read result }
     ensures served { IfOk result (λ script. AllByRecursion IsServed script.calls.items) }
-    ensures bounded { IfOk result (λ script. IsLruWhereBounded script.settings.capacity (chosen_policy script.settings)) }
 {
     let text = input.read_all(alloc)?;
     Ok(parse(alloc, &text)?)

@@ -1,13 +1,12 @@
 //! Scripts: settings, and then calls on the cache, one a line.
 ghost use Rattle.std.specs.Prelude.{◌≡◌, ◌<◌, ◌^◌, length, option_map};
 ghost use Rattle.moka_replay.specs.Lex.{texts, words_of};
-ghost use Rattle.moka_replay.specs.Script.{line_text, asked_by, asked_in, lru_in, has_lru, lines_of, IsParseOf};
+ghost use Rattle.moka_replay.specs.Script.{line_text, asked_by, asked_in, lines_of, IsParseOf};
 
 use crate::failure::Failure;
 use crate::lex::{first_words, is_printable};
 use calls::{LineCall, parse_call};
 use moka_parts::calls::Call;
-use moka_parts::policy::EvictionPolicy;
 use settings::{Setting, parse_setting};
 use std::alloc::Global;
 
@@ -40,20 +39,14 @@ impl Script {
 
     /// Reads the line of that number, and adds what it asks for. Settings come before the first call, each at most once.
     /// Only a call needs memory.
-    fn read(
-        &mut self,
-        alloc: Global,
-        number: u64,
-        line: &[u8],
-        has_lru: bool,
-    ) -> Result<(), Failure>
-        ensures { IsAdded has_lru number (text_of self.old) line.now result (text_of self.new) }
+    fn read(&mut self, alloc: Global, number: u64, line: &[u8]) -> Result<(), Failure>
+        ensures { IsAdded number (text_of self.old) line.now result (text_of self.new) }
     {
         let fault = Failure::BadLine(number);
         match parse_line(line).ok_or(fault)? {
             Line::Nothing => {}
             Line::Setting(setting) => {
-                if !self.calls.is_empty() || !setting.is_allowed(has_lru) {
+                if !self.calls.is_empty() {
                     return Err(fault);
                 }
                 self.settings = self.settings.with(setting).ok_or(fault)?;
@@ -109,33 +102,7 @@ fn parse_line(line: &[u8]) -> Option<Line<LineCall<'_>>>
     parse_text(text)
 }
 
-/// Whether a line tells that `policy lru` stands among the settings: it does itself, or a call ends them. Any other line
-/// leaves that to the later ones, also a faulty one.
-fn lru_in(line: &[u8]) -> Option<bool>
-    ensures { result ≡ lru_in (asked_in line.now) }
-{
-    match parse_line(line)? {
-        Line::Setting(Setting::Policy(EvictionPolicy::Lru)) => Some(true),
-        Line::Call(_) => Some(false),
-        _ => None,
-    }
-}
-
-/// Tells whether `policy lru` stands before the first call. This pass of its own over the settings is there for as long as
-/// a capacity is served under that policy alone.
-fn has_lru(text: &[u8]) -> bool
-    ensures { result ≡ has_lru (lines_of text.now) }
-{
-    for line in text.split(|byte| *byte == b'\n') {
-        if let Some(answer) = lru_in(line) {
-            return answer;
-        }
-    }
-    false
-}
-
-/// Reads a script, shorter than 2^63 bytes as all that a `Vec` holds. The first faulty line is named. A capacity other
-/// than 0 is faulty where `policy lru` does not stand among the settings, before it or behind it.
+/// Reads a script, shorter than 2^63 bytes as all that a `Vec` holds. The first faulty line is named.
 ///
 /// # Errors
 /// `BadLine` where a line is faulty, and `OutOfMemory` where memory is refused to a call in front of the first such line.
@@ -143,12 +110,11 @@ pub fn parse(alloc: Global, text: &[u8]) -> Result<Script, Failure>
     requires { length text.now < 2 ^ 63 }
     ensures { IsParseOf text.now result }
 {
-    let has_lru = has_lru(text);
     let mut script = Script::new(alloc);
     let mut number = 0;
     for line in text.split(|byte| *byte == b'\n') {
         number += 1;
-        script.read(alloc, number, line, has_lru)?;
+        script.read(alloc, number, line)?;
     }
     Ok(script)
 }

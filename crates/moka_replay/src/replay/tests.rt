@@ -274,6 +274,59 @@ fn replays_scripts(rt: HostRuntime) -> Result<(), Fail> {
             handed 1 oldest 1 writes 0 reads 0\ncount 0 weight 0\n",
         ),
         (
+            "capacity 2\npolicy tinylfu\nlistener\ninsert 1 a 0\ninsert 2 b 0\nsend 1\nsend 2\n\
+            run 0 10\ninsert 3 c 1\nsend 3\nrun 1 10\nkeys\n",
+            "ticket 1\nticket 2\nsent\nsent\ndone\nticket 3\nsent\ndone\nkeys 1 2\n\
+            notice 3 c Size\ncount 2 weight 2\n",
+        ),
+        (
+            "capacity 2\nlistener\ninsert 1 a 0\ninsert 2 b 0\nsend 1\nsend 2\nrun 0 10\n\
+            get 3 0\nget 1 0\ninsert 3 c 1\nsend 3\nrun 1 10\nkeys\n",
+            "ticket 1\nticket 2\nsent\nsent\ndone\nnone\nvalue a\nticket 3\nsent\ndone\n\
+            keys 1 3\nnotice 2 b Size\ncount 2 weight 2\n",
+        ),
+        (
+            "capacity 10\nweigh\nlistener\ninsert 1 4 0\ninsert 2 3 0\ninsert 3 3 0\nsend 1\n\
+            send 2\nsend 3\nrun 0 10\nget 1 0\nget 2 0\nget 3 0\nget 4 0\nget 4 0\n\
+            insert 4 5 1\nsend 4\nrun 1 10\nkeys\n",
+            "ticket 1\nticket 2\nticket 3\nsent\nsent\nsent\ndone\nvalue 4\nvalue 3\nvalue 3\n\
+            none\nnone\nticket 4\nsent\ndone\nkeys 1 2 3\nnotice 4 5 Size\ncount 3 weight 10\n",
+        ),
+        (
+            "capacity 10\nweigh\nlistener\ninsert 1 4 0\ninsert 2 3 0\ninsert 3 3 0\nsend 1\n\
+            send 2\nsend 3\nrun 0 10\nget 1 0\nget 2 0\nget 3 0\nget 4 0\nget 4 0\nget 4 0\n\
+            insert 4 5 1\nsend 4\nrun 1 10\nkeys\nreport\n",
+            "ticket 1\nticket 2\nticket 3\nsent\nsent\nsent\ndone\nvalue 4\nvalue 3\nvalue 3\n\
+            none\nnone\nnone\nticket 4\nsent\ndone\nkeys 3 4\ncount 2 weight 8 predicates 0\n\
+            notice 1 4 Size\nnotice 2 3 Size\ncount 2 weight 8\n",
+        ),
+        (
+            "capacity 2\nlistener\ninsert 1 a 0\ninsert 2 b 0\nsend 1\nsend 2\nrun 0 10\n\
+            get 3 0\ninsert 1 c 1\ninsert 3 d 1\nsend 4\nrun 1 10\nkeys\nsend 3\nrun 2 10\n\
+            report\n",
+            "ticket 1\nticket 2\nsent\nsent\ndone\nnone\nticket 3\nticket 4\nsent\ndone\n\
+            keys 1 3\nsent\ndone\ncount 2 weight 2 predicates 0\nnotice 1 a Replaced\n\
+            notice 2 b Size\ncount 2 weight 2\n",
+        ),
+        (
+            "capacity 7\ninsert 1 v 0\ninsert 2 v 0\ninsert 3 v 0\ninsert 4 v 0\ninsert 5 v 0\n\
+            insert 6 v 0\ninsert 7 v 0\nsend 1\nsend 2\nsend 3\nsend 4\nsend 5\nsend 6\nsend 7\n\
+            run 0 10\nget 8 0\ninsert 1 w 1\ninsert 2 w 1\ninsert 3 w 1\ninsert 4 w 1\n\
+            insert 5 w 1\ninsert 6 w 1\ninsert 8 x 1\nsend 14\nrun 1 10\nkeys\n",
+            "ticket 1\nticket 2\nticket 3\nticket 4\nticket 5\nticket 6\nticket 7\nsent\nsent\n\
+            sent\nsent\nsent\nsent\nsent\ndone\nnone\nticket 8\nticket 9\nticket 10\nticket 11\n\
+            ticket 12\nticket 13\nticket 14\nsent\ndone\nkeys 1 2 3 4 5 6 7\ncount 7 weight 7\n",
+        ),
+        (
+            "capacity 7\ninsert 1 v 0\ninsert 2 v 0\ninsert 3 v 0\ninsert 4 v 0\ninsert 5 v 0\n\
+            insert 6 v 0\ninsert 7 v 0\nsend 1\nsend 2\nsend 3\nsend 4\nsend 5\nsend 6\nsend 7\n\
+            run 0 10\nget 8 0\ninsert 1 w 1\ninsert 2 w 1\ninsert 3 w 1\ninsert 4 w 1\n\
+            insert 5 w 1\ninsert 8 x 1\nsend 13\nrun 1 10\nkeys\n",
+            "ticket 1\nticket 2\nticket 3\nticket 4\nticket 5\nticket 6\nticket 7\nsent\nsent\n\
+            sent\nsent\nsent\nsent\nsent\ndone\nnone\nticket 8\nticket 9\nticket 10\nticket 11\n\
+            ticket 12\nticket 13\nsent\ndone\nkeys 1 2 3 4 5 7 8\ncount 7 weight 7\n",
+        ),
+        (
             "capacity 0\npeek 1 0\nscan 1 0\n",
             "none\nnone\ncount 0 weight 0\n",
         ),
@@ -353,12 +406,13 @@ fn replays_long_scripts(rt: HostRuntime) -> Result<(), Fail> {
 #[test]
 fn names_the_first_faulty_line(rt: HostRuntime) -> Result<(), Fail> {
     for (script, line) in [
-        ("capacity 4\n\ninsert 1 a\n", 1),
+        ("capacity 4\n\ninsert 1 a\n", 3),
         ("first 0\nreport\n", 1),
         ("first 1\nfirst 2\n", 2),
         ("first 1 2\n", 1),
         ("first\n", 1),
-        ("policy tinylfu\n", 1),
+        ("policy tinylfu\n\npolicy lru\n", 3),
+        ("policy tiny_lfu\n", 1),
         ("policy\n", 1),
         ("policy lru lru\n", 1),
         ("policy lru\n\npolicy lru\n", 3),
@@ -369,9 +423,9 @@ fn names_the_first_faulty_line(rt: HostRuntime) -> Result<(), Fail> {
         ("weigh\nweigh\n", 2),
         ("weigh 1\n", 1),
         ("report\nweigh\n", 2),
-        ("first 2\ncapacity 4\nfirst 0\n", 2),
+        ("first 2\ncapacity 4\nfirst 0\n", 3),
         ("capacity 4\nfirst 0\npolicy lru\n", 2),
-        ("capacity 4\nreport\npolicy lru\n", 1),
+        ("capacity 4\nreport\npolicy lru\n", 3),
         ("remove 1 4\nremove 1 4 5\n", 2),
         ("tti 1\ntti 2\n", 2),
         ("start 1\nstart 1\n", 2),

@@ -112,21 +112,6 @@ pub enum Setting {
     Keeper(KeeperTerms),
 }
 
-impl Setting {
-    ghost use Rattle.std.specs.Prelude.{◌≡◌};
-    ghost use Rattle.moka_replay.specs.Settings.{is_allowed};
-
-    /// Tells whether the setting may stand in a script: a capacity other than 0 needs `policy lru`.
-    pub fn is_allowed(&self, has_lru: bool) -> bool
-        ensures { result ≡ is_allowed has_lru self.now }
-    {
-        match self {
-            Setting::Capacity(capacity) => has_lru || *capacity == 0,
-            _ => true,
-        }
-    }
-}
-
 /// `keeper LIMIT REPEATS BATCH`
 fn keeper(arguments: &[&str]) -> Option<Setting>
     ensures { result ≡ keeper_of (texts arguments.now) }
@@ -144,7 +129,7 @@ fn keeper(arguments: &[&str]) -> Option<Setting>
     }))
 }
 
-/// `policy lru`
+/// `policy NAME`
 fn policy(arguments: &[&str]) -> Option<Setting>
     ensures { result ≡ policy_of (texts arguments.now) }
 {
@@ -160,6 +145,7 @@ fn policy_named(name: &str) -> Option<EvictionPolicy>
 {
     match name {
         "lru" => Some(EvictionPolicy::lru()),
+        "tinylfu" => Some(EvictionPolicy::tiny_lfu()),
         _ => None,
     }
 }

@@ -17,17 +17,17 @@ loop-line-preserved c =
     let here = subst (IsLineAt (lines_of c.args.text.now) c.in-Some.line.now) (sym c.loop-line.invariant.counted) t in
     record {
       counted = omega (arith, length_push c.loop-line.yielded c.in-Some.line);
-      left = sym (lines_read_more _ _ _ _ _ _ here c.in_ok-read.ensures) ∙ c.loop-line.invariant.left;
-      asks = λ later. c.loop-line.invariant.asks (has_call_more _ _ _ _ _ here _ c.in_ok-read.ensures later);
+      left = sym (lines_read_more _ _ _ _ _ here c.in_ok-read.ensures) ∙ c.loop-line.invariant.left;
+      asks = λ later. c.loop-line.invariant.asks (has_call_more _ _ _ _ here _ c.in_ok-read.ensures later);
     }
 
 pub returns-in_err-read : goal.returns-in_err-read
 returns-in_err-read c =
     let t = YieldsList-turn (YieldsList-from_slice_split _ (λ byte. byte == 10) c.args.text.now (cc) (cc) (cc) (λ x b q k. search (rules, tests))) c.loop-line.yielded _ c.loop-line.yielded_by _ _ c.in-Some.line c.in-Some.is c.next.ensures.steps in
     let here = subst (IsLineAt (lines_of c.args.text.now) c.in-Some.line.now) (sym c.loop-line.invariant.counted) t in
-    passed_on c.args.text.now _ _ c.from_residual.ensures.1 (stops_at _ _ _ c.args.text.now _ _ _ here c.in_err-read.ensures c.loop-line.invariant.left c.loop-line.invariant.asks)
+    passed_on c.args.text.now _ _ c.from_residual.ensures.1 (stops_at _ _ c.args.text.now _ _ _ here c.in_err-read.ensures c.loop-line.invariant.left c.loop-line.invariant.asks)
 
 pub returns : goal.returns
 returns c =
     let t = YieldsList-end (YieldsList-from_slice_split _ (λ byte. byte == 10) c.args.text.now (cc) (cc) (cc) (λ x b q k. search (rules, tests))) c.loop-line.yielded _ c.loop-line.yielded_by _ _ c.in-None.is c.next.ensures.steps in
-    sym c.loop-line.invariant.left ∙ lines_read_all _ c.loop-line.number (text_of c.loop-line.script) (lines_of c.args.text.now) (omega (arith, t.1))
+    sym c.loop-line.invariant.left ∙ lines_read_all c.loop-line.number (text_of c.loop-line.script) (lines_of c.args.text.now) (omega (arith, t.1))

@@ -5,6 +5,6 @@ use Rattle.moka_replay.proofs.script.parse.Given as goal
 abbrev pub invariant-loop-line : goal.invariant-loop-line
 invariant-loop-line l = record {
   counted : l.number ≡ length l.yielded;
-  left : lines_read l.has_lru (l.number + 1) (text_of l.script) (drop l.number (lines_of l.text)) ≡ script_of l.text;
-  asks : has_call l.has_lru (text_of l.script) (drop l.number (lines_of l.text)) ≡ true → asks_for_memory l.text ≡ true;
+  left : lines_read (l.number + 1) (text_of l.script) (drop l.number (lines_of l.text)) ≡ script_of l.text;
+  asks : has_call (text_of l.script) (drop l.number (lines_of l.text)) ≡ true → asks_for_memory l.text ≡ true;
 }
