@@ -1,10 +1,10 @@
 -- Timers in slots as a map.
 use Rattle.std.proofs.Common.{◌≡◌, ◌≢◌, ℕ, zero, suc, ◌+◌, ◌-◌, ◌<◌, ◌≤◌, true, cond, nat_eq, List, Option, Some, None, is_some, inl, inr, refl, sym, ap, ◌∙◌, arith}
-use Rattle.std.proofs.lemmas.Bool.{cases_eq, cases_lt, cases_Bool, cond-true, cond-false, eq-eqb, ne_eqb, false≢true}
+use Rattle.std.proofs.lemmas.Bool.{cases_eq, cases_Bool, cond-true, cond-false, eq-eqb, ne_eqb, false≢true}
 use Rattle.std.proofs.lemmas.Cmp.{nat_cmp_total}
 use Rattle.std.specs.Cmp.{unsigned_tied}
 use Rattle.std.specs.Ordering.{nat_cmp, eq_by_cmp}
-use Rattle.std.specs.FinMap.{FinMap, find, get, insert, remove, len, contains_key, from_entries, len-empty, get-from_entries, get-insert, get-remove, len-insert, len-remove, empty_of_len, get-empty, same_map, nat_cmp-IsAntisymmetric}
+use Rattle.std.specs.FinMap.{FinMap, find, get, insert, remove, len, contains_key, from_entries, len-empty, get-from_entries, get-insert, get-remove, len-insert, len-remove, empty_of_len, get-empty}
 use Rattle.moka_wheel.specs.Wheel.{Timer}
 use Rattle.moka_wheel.specs.Slots.{entry, entries_of, map_of}
 
