@@ -1,5 +1,7 @@
+pub mod Listing
 pub mod Store
 pub mod StoreRows
 pub mod StoreTies
+pub mod Timing
 pub mod Updates
 pub mod Weights

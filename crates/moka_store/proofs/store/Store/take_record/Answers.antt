@@ -1,9 +1,10 @@
 use Rattle.moka_parts.specs.declared.records.Record.{Record}
+use Rattle.moka_store.proofs.Orders.{stays-row}
 use Rattle.moka_store.proofs.Gets.{len-removed}
 use Rattle.moka_store.proofs.Steps.{index-of}
 use Rattle.std.specs.HashMap as hash
 use Rattle.std.specs.FinMap as finite
-use Rattle.std.proofs.Common.{◌≡◌, Some, refl, sym, ap, ◌∙◌, arith, subst}
+use Rattle.std.proofs.Common.{◌≡◌, Some, None, refl, sym, ap, ◌∙◌, arith, subst}
 use Rattle.std.specs.FinMap.{get, remove}
 use Rattle.moka_structures.specs.RecordTable.{records_of}
 use Rattle.moka_structures.proofs.TableMaps.{get-removed}
@@ -21,6 +22,7 @@ invariant_of-self g c =
     let h = handled _ _ _ _ c.self.invariant.tied _ _ (rw (← c.self.view_is) at c.requires.placed) (rw (← c.self.view_is) at c.requires.stored) in
     let is : h.row.stored ≡ Some c.take-taken.result = h.stored_is ∙ sym h.stored_at_is ∙ c.take-taken.ensures.taken in
     let s = taken _ g.met.K.Eq.laws _ _ _ _ _ c.self.invariant.tied h.row h.at_is _ c.take-taken.result is (c.take-taken.ensures.changes _ h.at_is) c.remove-place.ensures.updates.0 in
+    let stay = stays-row c.self.inside.table.rows c.take-taken.new.self.rows c.self.inside.written c.self.inside.timers.timers c.self.invariant.written c.self.invariant.timed c.self.invariant.tied.numbered s.tied.numbered _ h.row (record h.row { stored = None }) h.at_is (c.take-taken.ensures.changes _ h.at_is) refl refl refl refl in
     let len = c.take-taken.ensures.len in
     let fits = c.self.invariant.fits in
     let same : c.take-taken.result ≡ h.stored = (let x : Some c.take-taken.result ≡ Some h.stored = sym c.take-taken.ensures.taken ∙ h.stored_at_is in cc) in
@@ -29,7 +31,7 @@ invariant_of-self g c =
     let shorter = ap finite.len c.take-taken.ensures.records ∙ ap (λ n. finite.len (finite.remove (records_of c.self.inside.table.rows) n)) h.number_at_is ∙ len-removed _ _ h.stored h.record_is in
     let before = c.self.invariant.keyed in
     let keyed : hash.hash_map_len c.remove-place.new.self ≡ finite.len (records_of c.take-taken.new.self.rows) = omega (arith, less, shorter, before) in
-    record { tied = s.tied; keyed = keyed; fits = omega arith; few = c.self.invariant.few; weighed = subst (λ members. IsWeighed members c.self.inside.weight) (sym s.access) c.self.invariant.weighed }
+    record { tied = s.tied; written = stay.written; timed = stay.timed; keyed = keyed; fits = omega arith; few = c.self.invariant.few; weighed = subst (λ members. IsWeighed members c.self.inside.weight) (sym s.access) c.self.invariant.weighed }
 
 pub returns-clause-taken : goal.returns-clause-taken
 returns-clause-taken g c =
@@ -41,7 +43,8 @@ returns-clause-step g c =
     let h = handled _ _ _ _ c.self.invariant.tied _ _ (rw (← c.self.view_is) at c.requires.placed) (rw (← c.self.view_is) at c.requires.stored) in
     let is : h.row.stored ≡ Some c.take-taken.result = h.stored_is ∙ sym h.stored_at_is ∙ c.take-taken.ensures.taken in
     let s = taken _ g.met.K.Eq.laws _ _ _ _ _ c.self.invariant.tied h.row h.at_is _ c.take-taken.result is (c.take-taken.ensures.changes _ h.at_is) c.remove-place.ensures.updates.0 in
-    rw (s.access, c.take-taken.ensures.records, c.take-taken.ensures.places, h.number_at_is, ← c.self.view_is) refl
+    let stay = stays-row c.self.inside.table.rows c.take-taken.new.self.rows c.self.inside.written c.self.inside.timers.timers c.self.invariant.written c.self.invariant.timed c.self.invariant.tied.numbered s.tied.numbered _ h.row (record h.row { stored = None }) h.at_is (c.take-taken.ensures.changes _ h.at_is) refl refl refl refl in
+    rw (s.access, stay.written_is, stay.cursor_is, stay.timers_is, c.take-taken.ensures.records, c.take-taken.ensures.places, h.number_at_is, ← c.self.view_is) refl
 
 pub returns-clause-gone : goal.returns-clause-gone
 returns-clause-gone g c =
