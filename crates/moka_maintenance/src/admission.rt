@@ -7,11 +7,11 @@ ghost use Rattle.circular_buffer.specs.Buffer.{buffer};
 ghost use Rattle.moka_parts.specs.declared.policy.EvictionPolicy.TheVariants.{Lru};
 ghost use Rattle.moka_parts.specs.declared.records.Operation.TheVariants.{Upsert, Removal};
 ghost use Rattle.moka_parts.specs.declared.records.Record.{Record};
-ghost use Rattle.moka_parts.specs.Records.{counted_of, has_room, to_back, without_member};
+ghost use Rattle.moka_parts.specs.Records.{counted_of, has_room, to_back, without_member, number_to_back, without_number};
 ghost use Rattle.moka_parts.specs.Reads.{after_read, after_reads};
 ghost use Rattle.moka_parts.specs.Settling.{number_of};
 ghost use Rattle.moka_parts.specs.Writes.{rejected, left_by_rejection};
-ghost use Rattle.moka_store.specs.Store.{IsPlaced, IsHandle};
+ghost use Rattle.moka_store.specs.Store.{IsPlaced, IsHandle, cursor_past};
 ghost use Rattle.moka_maintenance.specs.declared.queued.QueuedRead.{QueuedRead};
 ghost use Rattle.moka_maintenance.specs.declared.queued.QueuedWrite.{QueuedWrite};
 ghost use Rattle.moka_maintenance.specs.Queued.{IsAt, IsReadAt, reads_of, writes_of};
@@ -52,7 +52,7 @@ fn apply_read<K: Eq + Hash, V, S: BuildHasher>(store: &mut Store<K, V, S>, queue
         let place = queued.place;
         let handle = Handle { number, place };
         if store.has_row(handle) && store.find(handle).is_some() {
-            pass(store, handle);
+            pass_read(store, handle);
         }
     }
 }
@@ -198,13 +198,23 @@ fn reject<K: Eq + Hash + Drop, V: Drop, S: BuildHasher, L: Listener<K, V>>(
     }
 }
 
-// The member of this number, if there is one, comes to the back of the access list.
+// The member of this number, if there is one, comes to the back of both orders.
 fn pass<K: Eq + Hash, V, S: BuildHasher>(store: &mut Store<K, V, S>, handle: Handle)
+    requires { IsPlaced store.old handle }
+    ensures { store.new ≡ record store.old { access = to_back handle.number store.old.access; written = number_to_back handle.number store.old.written; cursor = cursor_past handle.number store.old.written store.old.cursor } }
+{
+    if store.is_member(handle) {
+        store.move_to_back(handle);
+    }
+}
+
+// The member of this number, if there is one, comes to the back of the access list alone.
+fn pass_read<K: Eq + Hash, V, S: BuildHasher>(store: &mut Store<K, V, S>, handle: Handle)
     requires { IsPlaced store.old handle }
     ensures { store.new ≡ record store.old { access = to_back handle.number store.old.access } }
 {
     if store.is_member(handle) {
-        store.move_to_back(handle);
+        store.move_in_access(handle);
     }
 }
 
@@ -228,10 +238,10 @@ fn apply_removal<K: Eq + Hash + Drop, V: Drop, S: BuildHasher>(
     }
 }
 
-// The member of this number, if there is one, leaves the access list.
+// The member of this number, if there is one, leaves both orders and the timers.
 fn leave<K: Eq + Hash, V, S: BuildHasher>(store: &mut Store<K, V, S>, handle: Handle)
     requires { IsPlaced store.old handle }
-    ensures { store.new ≡ record store.old { access = without_member handle.number store.old.access } }
+    ensures { store.new ≡ record store.old { access = without_member handle.number store.old.access; written = without_number handle.number store.old.written; timers = finite.remove store.old.timers handle.number; cursor = cursor_past handle.number store.old.written store.old.cursor } }
 {
     if store.is_member(handle) {
         store.leave(handle);

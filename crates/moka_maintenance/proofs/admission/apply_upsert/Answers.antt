@@ -22,8 +22,8 @@ returns-then-found-generation-clause-applied g c = λ hash.
 pub returns-then-is_member-clause-applied : goal.returns-then-is_member-clause-applied
 returns-then-is_member-clause-applied g c = λ hash.
     applied-counted g.L.Listener.tells c.args.capacity c.args.policy (contents_in c.args.store.now) c.args.handle.number c.args.generation c.args.weight hash (contents_in c.recount.new.self) c.in-Some.found.now (sym (c.in-Some.ensures.found (c.has_row.ensures.placed.0 c.if-not-has_row.false))) c.args.notifier.now c.args.notifier.now
-    c.if-found-generation.false (sym c.is_member.ensures ∙ c.if-is_member.true)
-    (entered-recounted c.args.store.now c.set_applied.new.self c.recount.new.self c.args.handle.number c.args.generation c.args.weight c.in-Some.found.now (c.set_applied.ensures.step c.in-Some.found.now (sym (c.in-Some.ensures.found (c.has_row.ensures.placed.0 c.if-not-has_row.false)))) c.recount.ensures.step)
+    c.if-found-generation.false (sym c.is_member.ensures.member ∙ c.if-is_member.true)
+    (entered-recounted c.args.store.now c.set_applied.new.self c.recount.new.self c.args.handle.number c.args.generation c.args.weight c.in-Some.found.now (c.set_applied.ensures.step c.in-Some.found.now (sym (c.in-Some.ensures.found (c.has_row.ensures.placed.0 c.if-not-has_row.false)))) (ap (λ (k : Kept g.row.K.Denot g.row.V.Denot). contents_in k) c.recount.ensures.step))
     refl
 
 pub returns-then-is_member-clause-rows : goal.returns-then-is_member-clause-rows
@@ -39,8 +39,8 @@ pub returns-then-is_admitted-clause-applied : goal.returns-then-is_admitted-clau
 returns-then-is_admitted-clause-applied g c = λ hash.
     let mid = c.set_applied-then-is_admitted in
     applied-admitted g.L.Listener.tells c.args.capacity c.args.policy (contents_in c.args.store.now) c.args.handle.number c.args.generation c.args.weight hash (contents_in c.admit.new.self) c.in-Some.found.now (sym (c.in-Some.ensures.found (c.has_row.ensures.placed.0 c.if-not-has_row.false))) c.args.notifier.now c.args.notifier.now
-    c.requires.policy c.if-found-generation.false (sym c.is_member.ensures ∙ c.if-is_member.false) (sym c.is_admitted.ensures ∙ c.if-is_admitted.true)
-    (entered-admitted c.args.store.now mid.new.self c.admit.new.self c.args.handle.number c.args.generation c.args.weight c.in-Some.found.now (mid.ensures.step c.in-Some.found.now (sym (c.in-Some.ensures.found (c.has_row.ensures.placed.0 c.if-not-has_row.false)))) c.admit.ensures.step)
+    c.requires.policy c.if-found-generation.false (sym c.is_member.ensures.member ∙ c.if-is_member.false) (sym c.is_admitted.ensures ∙ c.if-is_admitted.true)
+    (entered-admitted c.args.store.now mid.new.self c.admit.new.self c.args.handle.number c.args.generation c.args.weight c.in-Some.found.now (mid.ensures.step c.in-Some.found.now (sym (c.in-Some.ensures.found (c.has_row.ensures.placed.0 c.if-not-has_row.false)))) (ap (λ (k : Kept g.row.K.Denot g.row.V.Denot). contents_in k) c.admit.ensures.step))
     refl
 
 pub returns-then-is_admitted-clause-rows : goal.returns-then-is_admitted-clause-rows
@@ -57,6 +57,6 @@ returns-then-is_admitted-clause-room g c =
 pub returns-else-is_admitted-clause-applied : goal.returns-else-is_admitted-clause-applied
 returns-else-is_admitted-clause-applied g c = λ hash.
     applied-rejected g.L.Listener.tells c.args.capacity c.args.policy (contents_in c.args.store.now) c.args.handle.number c.args.generation c.args.weight hash (contents_in c.reject.new.store) c.in-Some.found.now (sym (c.in-Some.ensures.found (c.has_row.ensures.placed.0 c.if-not-has_row.false))) c.args.notifier.now c.reject.new.notifier
-    c.requires.policy c.if-found-generation.false (sym c.is_member.ensures ∙ c.if-is_member.false) (sym c.is_admitted.ensures ∙ c.if-is_admitted.false)
+    c.requires.policy c.if-found-generation.false (sym c.is_member.ensures.member ∙ c.if-is_member.false) (sym c.is_admitted.ensures ∙ c.if-is_admitted.false)
     (c.reject.ensures.step c.in-Some.found.now (sym (c.in-Some.ensures.found (c.has_row.ensures.placed.0 c.if-not-has_row.false))))
     (c.reject.ensures.told c.in-Some.found.now (sym (c.in-Some.ensures.found (c.has_row.ensures.placed.0 c.if-not-has_row.false))))
