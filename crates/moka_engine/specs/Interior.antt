@@ -1,5 +1,5 @@
 -- What contracts see of the inner part of the cache.
-use Rattle.std.specs.Prelude.{ℕ, ◌+◌, ◌<◌, List, [], Option, None}
+use Rattle.std.specs.Prelude.{ℕ, ◌+◌, ◌<◌, false, List, [], Option, None}
 use Rattle.std.specs.FinMap.{FinMap, empty, insert}
 use Rattle.std.specs.Ordering.{nat_cmp}
 use Rattle.moka_parts.specs.declared.records.Operation.{Operation}
@@ -45,7 +45,7 @@ module _ {K V : Type 0} where
   -- nothing is kept, and nothing waits; the rooms are those of the second
   abbrev pub nothing_inside : ℕ → Interior K V → Interior K V
   nothing_inside first_ticket i = record {
-    kept = record { records = empty; access = []; places = empty; room = i.kept.room };
+    kept = record { records = empty; access = []; written = []; timers = empty; cursor = None; places = empty; room = i.kept.room; ordered = false; timed = false };
     sketch = None;
     outstanding = empty;
     writes = [];

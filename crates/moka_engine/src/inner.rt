@@ -99,7 +99,7 @@ impl<K: Eq + Hash, V, S: BuildHasher> Inner<K, V, S> {
         ensures empty { IfOk result (λ i. i ≡ nothing_inside first_ticket i) }
         ensures room { IfOk result (λ i. initial_capacity ≤ i.kept.room) }
     {
-        let mut store = Store::new(alloc, hasher)?;
+        let mut store = Store::new(alloc, hasher, false, false)?;
         store.reserve(initial_capacity)?;
         let sketch = FrequencySketch::new(alloc)?;
         let outstanding = Outstanding::new(alloc)?;

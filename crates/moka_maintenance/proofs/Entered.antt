@@ -11,12 +11,8 @@ use Rattle.moka_maintenance.proofs.Placed.{rows-changed}
 
 module _ {K V : Type 0} (old mid new : Kept K V) (n generation weight : ℕ) (r : Record K V) (seen : mid ≡ record old { records = insert old.records n (record r { applied = generation }) }) where
   -- the record has seen the operation, and then its member goes to the back with another weight
-  pub entered-recounted : (sketch : Option Table) → new ≡ record mid { access = without_member n mid.access ++ member n weight ∷ [] } → contents_with sketch new ≡ entered n generation weight r (record (contents_with sketch old) { access = without_member n old.access })
-  entered-recounted sketch step = ap (contents_with sketch) step ∙ ap (λ (m : Kept K V). contents_with sketch (record m { access = without_member n m.access ++ member n weight ∷ [] })) seen
-
-  -- the record has seen the operation, and then its number comes in
-  pub entered-admitted : new ≡ record mid { access = mid.access ++ member n weight ∷ [] } → contents_in new ≡ entered n generation weight r (contents_in old)
-  entered-admitted step = ap contents_in step ∙ ap (λ (m : Kept K V). contents_in (record m { access = m.access ++ member n weight ∷ [] })) seen
+  pub entered-recounted : (sketch : Option Table) → contents_with sketch new ≡ contents_with sketch (record mid { access = without_member n mid.access ++ member n weight ∷ [] }) → contents_with sketch new ≡ entered n generation weight r (record (contents_with sketch old) { access = without_member n old.access })
+  entered-recounted sketch step = step ∙ ap (λ (m : Kept K V). contents_with sketch (record m { access = without_member n m.access ++ member n weight ∷ [] })) seen
 
   -- no row is left without a record
   pub entered-rows : new.records ≡ mid.records → LeavesNoRow old new

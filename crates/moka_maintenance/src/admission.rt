@@ -6,11 +6,11 @@ ghost use Rattle.std.specs.FinMap as finite;
 ghost use Rattle.circular_buffer.specs.Buffer.{buffer};
 ghost use Rattle.moka_parts.specs.declared.records.Operation.TheVariants.{Upsert, Removal};
 ghost use Rattle.moka_parts.specs.declared.records.Record.{Record};
-ghost use Rattle.moka_parts.specs.Records.{counted_of, has_room, to_back, without_member};
+ghost use Rattle.moka_parts.specs.Records.{counted_of, has_room, to_back, without_member, number_to_back, without_number};
 ghost use Rattle.moka_parts.specs.Reads.{after_read, after_reads};
 ghost use Rattle.moka_parts.specs.Settling.{number_of};
 ghost use Rattle.moka_parts.specs.Writes.{entered, rejected, left_by_rejection};
-ghost use Rattle.moka_store.specs.Store.{IsPlaced, IsHandle};
+ghost use Rattle.moka_store.specs.Store.{IsPlaced, IsHandle, cursor_past};
 ghost use Rattle.moka_maintenance.specs.declared.queued.QueuedRead.{QueuedRead};
 ghost use Rattle.moka_maintenance.specs.declared.queued.QueuedWrite.{QueuedWrite};
 ghost use Rattle.moka_maintenance.specs.Queued.{IsAt, IsReadAt, reads_of, writes_of};
@@ -69,7 +69,7 @@ fn apply_read<K: Eq + Hash, V, S: BuildHasher>(
             let place = queued.place;
             let handle = Handle { number, place };
             if store.has_row(handle) && store.find(handle).is_some() {
-                pass(store, handle);
+                pass_read(store, handle);
             }
         }
         ReadOperation::Miss { hash } => sketch.increment(hash),
@@ -133,7 +133,7 @@ fn apply_write<K: Eq + Hash + Drop, V: Drop, S: BuildHasher, L: Listener<K, V>>(
 }
 
 // Applies an upsert. What is newer than all that its record has seen is admitted or rejected; else the member comes to
-// the back.
+// the back of both orders.
 fn apply_upsert<K: Eq + Hash + Drop, V: Drop, S: BuildHasher, L: Listener<K, V>>(
     store: &mut Store<K, V, S>,
     sketch: &FrequencySketch,
@@ -270,13 +270,23 @@ fn reject<K: Eq + Hash + Drop, V: Drop, S: BuildHasher, L: Listener<K, V>>(
     }
 }
 
-// The member of this number, if there is one, comes to the back of the access list.
+// The member of this number, if there is one, comes to the back of both orders.
 fn pass<K: Eq + Hash, V, S: BuildHasher>(store: &mut Store<K, V, S>, handle: Handle)
+    requires { IsPlaced store.old handle }
+    ensures { store.new ≡ record store.old { access = to_back handle.number store.old.access; written = number_to_back handle.number store.old.written; cursor = cursor_past handle.number store.old.written store.old.cursor } }
+{
+    if store.is_member(handle) {
+        store.move_to_back(handle);
+    }
+}
+
+// The member of this number, if there is one, comes to the back of the access list alone.
+fn pass_read<K: Eq + Hash, V, S: BuildHasher>(store: &mut Store<K, V, S>, handle: Handle)
     requires { IsPlaced store.old handle }
     ensures { store.new ≡ record store.old { access = to_back handle.number store.old.access } }
 {
     if store.is_member(handle) {
-        store.move_to_back(handle);
+        store.move_in_access(handle);
     }
 }
 
@@ -300,10 +310,10 @@ fn apply_removal<K: Eq + Hash + Drop, V: Drop, S: BuildHasher>(
     }
 }
 
-// The member of this number, if there is one, leaves the access list.
+// The member of this number, if there is one, leaves both orders and the timers.
 fn leave<K: Eq + Hash, V, S: BuildHasher>(store: &mut Store<K, V, S>, handle: Handle)
     requires { IsPlaced store.old handle }
-    ensures { store.new ≡ record store.old { access = without_member handle.number store.old.access } }
+    ensures { store.new ≡ record store.old { access = without_member handle.number store.old.access; written = without_number handle.number store.old.written; timers = finite.remove store.old.timers handle.number; cursor = cursor_past handle.number store.old.written store.old.cursor } }
 {
     if store.is_member(handle) {
         store.leave(handle);

@@ -30,7 +30,7 @@ pub(crate) struct Chosen {
 }
 
 /// Compares a candidate of this weight and hash with the settled members that would make room for it, from the front
-/// on. A member that is not settled goes to the back, so that the victims stand in front afterwards.
+/// on. A member that is not settled goes to the back of the access list alone, so that the victims stand in front afterwards.
 pub(crate) fn choose<K: Eq + Hash, V, S: BuildHasher>(
     store: &mut Store<K, V, S>,
     sketch: &FrequencySketch,
@@ -64,7 +64,7 @@ pub(crate) fn choose<K: Eq + Hash, V, S: BuildHasher>(
                 unsettled = 0;
             }
             None => {
-                store.move_to_back(handle);
+                store.move_in_access(handle);
                 unsettled += 1;
             }
         }

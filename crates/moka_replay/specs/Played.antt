@@ -46,11 +46,6 @@ script_meaning = record {
 abbrev pub chosen_policy : Settings → EvictionPolicy
 chosen_policy settings = unwrap_or settings.policy TinyLfu
 
--- where something is kept and bounded, the least recently used leaves
-abbrev pub IsLruWhereBounded : Option ℕ → EvictionPolicy → Type 0
-IsLruWhereBounded None policy = ⊤
-IsLruWhereBounded (Some capacity) policy = (capacity ≡ 0) ⊎ (policy ≡ Lru)
-
 -- when its entries expire, in nanoseconds
 abbrev pub expirations_of : Option ℕ → Expirations NoExpiry
 expirations_of time_to_idle = record { time_to_live = None; time_to_idle = time_to_idle; expiry = None }

@@ -1,19 +1,20 @@
 -- Nodes of a list, each a slot with the place that it leads to, and what they stand for under a map.
-use Rattle.std.proofs.Common.{◌≡◌, ◌≢◌, ℕ, zero, suc, ◌+◌, ◌<◌, ◌≤◌, Bool, true, false, cond, not, ◌==◌, List, [], ◌∷◌, ◌++◌, map, Option, Some, None, is_some, length, count_by, inl, inr, refl, sym, ap, subst, ◌∙◌, arith, nat_eq, Contains}
+use Rattle.std.proofs.Common.{◌≡◌, ◌≢◌, ℕ, zero, suc, ◌+◌, ◌<◌, ◌≤◌, Bool, true, false, cond, not, ◌==◌, ◌||◌, filter, List, [], ◌∷◌, ◌++◌, map, Option, Some, None, is_some, length, count_by, inl, inr, refl, sym, ap, subst, ◌∙◌, arith, nat_eq, Contains}
 use Rattle.std.proofs.lemmas.Bool.{cases_eq, cases_Bool, eq-eqb, ne_eqb, eqb-true, cond-true, cond-false}
 use Rattle.std.proofs.lemmas.List.{get_or-set_other}
 use Rattle.std.proofs.lemmas.List.Sums.{sum_by-set}
+use Rattle.std.proofs.lemmas.Map.{lookup-remove_entry}
 use Rattle.std.proofs.lemmas.Map.Views.{lookup-from_Contains, Contains-from_lookup}
 use Rattle.std.specs.Cmp.{nat_eq_equiv}
-use Rattle.std.specs.List.{IsDistinct, AllByRecursion}
+use Rattle.std.specs.List.{IsDistinct, AllByRecursion, list_any}
 use Rattle.std.specs.Map.{lookup, remove_entry, keys_of}
 use Rattle.std.specs.Option.{option_map}
 use Rattle.std.specs.Prelude.{slice_index_or, slice_set, slice_get}
 use Rattle.moka_structures.proofs.TableMaps.{row_at-within}
 use Rattle.moka_structures.specs.Order.{next_after}
-use Rattle.moka_store.specs.Store.{member_after}
+use Rattle.moka_store.specs.Store.{behind}
 use Rattle.moka_parts.specs.declared.records.Member.{Member}
-use Rattle.moka_parts.specs.Records.{counted_of, without_member}
+use Rattle.moka_parts.specs.Records.{counted_of}
 
 -- ---- slots are distinct
 
@@ -61,10 +62,10 @@ in-nodes nodes m d h = lookup-from_Contains nat_eq_equiv m.0 m.1 nodes d h
 pub node-in : (nodes : List (ℕ × ℕ)) (slot place : ℕ) → lookup (nat_eq slot) nodes ≡ Some place → Contains nodes (slot, place)
 node-in nodes slot place h = Contains-from_lookup (λ x y q. eqb-true x y q) slot place nodes h
 
-later : {X : Type 0} (x y : X) (xs : List X) → Contains xs y → Contains (x ∷ xs) y
+pub later : {X : Type 0} (x y : X) (xs : List X) → Contains xs y → Contains (x ∷ xs) y
 later x y xs c = (suc c.0, omega (arith, c.1), c.2)
 
-here : {X : Type 0} (x : X) (xs : List X) → Contains (x ∷ xs) x
+pub here : {X : Type 0} (x : X) (xs : List X) → Contains (x ∷ xs) x
 here x xs = (0, omega arith, refl)
 
 pub get-map : {X Y : Type 0} (f : X → Y) (xs : List X) → slice_get (map f xs) 0 ≡ option_map f (slice_get xs 0)
@@ -75,6 +76,10 @@ get-map f (x ∷ xs) = refl
 pub map-agree : {X Y : Type 0} (f g : X → Y) (xs : List X) → ((x : X) → Contains xs x → f x ≡ g x) → map f xs ≡ map g xs
 map-agree f g [] h = refl
 map-agree f g (x ∷ xs) h = let first = h x (here x xs) in let rest = map-agree f g xs (λ y c. h y (later x y xs c)) in cc
+
+-- two maps that agree everywhere
+pub map-all : {X Y : Type 0} (f g : X → Y) (xs : List X) → ((x : X) → f x ≡ g x) → map f xs ≡ map g xs
+map-all f g xs h = map-agree f g xs (λ x _. h x)
 
 -- no later node has a slot that all others differ from
 all-other : (slot : ℕ) (nodes : List (ℕ × ℕ)) (k : ℕ × ℕ) → AllByRecursion (λ y. nat_eq slot y ≡ false) (keys_of nodes) → (i : ℕ) → i < length nodes → slice_index_or nodes i k ≡ k → slot ≡ k.0 → ⊥
@@ -91,12 +96,6 @@ module _ (g : ℕ × ℕ → Member) (n : ℕ) where
   counted-none (m ∷ nodes) h =
       cond-false ((g m).number == n) (Some (g m).counted) (counted_of n (map g nodes)) (h m (here m nodes))
       ∙ counted-none nodes (λ k c. h k (later m k nodes c))
-
-  pub without-none : (nodes : List (ℕ × ℕ)) → ((m : ℕ × ℕ) → Contains nodes m → ((g m).number == n) ≡ false) → without_member n (map g nodes) ≡ map g nodes
-  without-none [] h = refl
-  without-none (m ∷ nodes) h =
-      cond-true (not ((g m).number == n)) (g m ∷ without_member n (map g nodes)) (without_member n (map g nodes)) (ap not (h m (here m nodes)))
-      ∙ ap (λ l. g m ∷ l) (without-none nodes (λ k c. h k (later m k nodes c)))
 
   -- the node in a slot stands for the number
   module _ (slot : ℕ) where
@@ -115,42 +114,82 @@ module _ (g : ℕ × ℕ → Member) (n : ℕ) where
           ∙ counted-found nodes place (λ k c. h k (later m k nodes c)) (sym (cond-false (nat_eq slot m.0) (Some m.1) (lookup (nat_eq slot) nodes) f) ∙ e)
     ]
 
-    pub after-found : (nodes : List (ℕ × ℕ)) → ((m : ℕ × ℕ) → Contains nodes m → ((g m).number == n) ≡ nat_eq slot m.0) → member_after n (map g nodes) ≡ option_map g (next_after slot nodes)
-    after-found [] h = refl
-    after-found (m ∷ nodes) h = elim (cases_Bool (nat_eq slot m.0)) as (λ _. member_after n (map g (m ∷ nodes)) ≡ option_map g (next_after slot (m ∷ nodes))) [
+-- a later node has another slot
+not-later : (m : ℕ × ℕ) (nodes : List (ℕ × ℕ)) (k : ℕ × ℕ) → IsDistinct nat_eq (keys_of (m ∷ nodes)) → Contains nodes k → nat_eq m.0 k.0 ≡ false
+unfolding IsDistinct
+not-later m nodes k d c = ne_eqb m.0 k.0 (λ q. all-other m.0 nodes k d.0 c.0 c.1 c.2 q)
+
+-- ---- what passes a test, where just the node in one slot does
+
+module _ {X : Type 0} (g : ℕ × ℕ → X) (test : X → Bool) where
+  pub rest-none : (nodes : List (ℕ × ℕ)) → ((m : ℕ × ℕ) → Contains nodes m → test (g m) ≡ false) → filter (λ x. not (test x)) (map g nodes) ≡ map g nodes
+  rest-none [] h = refl
+  rest-none (m ∷ nodes) h =
+      cond-true (not (test (g m))) (g m ∷ filter (λ x. not (test x)) (map g nodes)) (filter (λ x. not (test x)) (map g nodes)) (ap not (h m (here m nodes)))
+      ∙ ap (λ l. g m ∷ l) (rest-none nodes (λ k c. h k (later m k nodes c)))
+
+  pub behind-none : (nodes : List (ℕ × ℕ)) → ((m : ℕ × ℕ) → Contains nodes m → test (g m) ≡ false) → behind test (map g nodes) ≡ None
+  behind-none [] h = refl
+  behind-none (m ∷ nodes) h =
+      cond-false (test (g m)) (slice_get (map g nodes) 0) (behind test (map g nodes)) (h m (here m nodes)) ∙ behind-none nodes (λ k c. h k (later m k nodes c))
+
+  pub any-none : (nodes : List (ℕ × ℕ)) → ((m : ℕ × ℕ) → Contains nodes m → test (g m) ≡ false) → list_any test (map g nodes) ≡ false
+  any-none [] h = refl
+  any-none (m ∷ nodes) h = ap (λ b. b || list_any test (map g nodes)) (h m (here m nodes)) ∙ any-none nodes (λ k c. h k (later m k nodes c))
+
+  module _ (slot : ℕ) where
+    pub any-found : (nodes : List (ℕ × ℕ)) (place : ℕ) → ((m : ℕ × ℕ) → Contains nodes m → test (g m) ≡ nat_eq slot m.0) → lookup (nat_eq slot) nodes ≡ Some place → list_any test (map g nodes) ≡ true
+    any-found [] place h e = cc
+    any-found (m ∷ nodes) place h e = elim (cases_Bool (nat_eq slot m.0)) as (λ _. list_any test (map g (m ∷ nodes)) ≡ true) [
+      | inl t ↦ ap (λ b. b || list_any test (map g nodes)) (h m (here m nodes) ∙ t)
+      | inr f ↦
+          ap (λ b. b || list_any test (map g nodes)) (h m (here m nodes) ∙ f)
+          ∙ any-found nodes place (λ k c. h k (later m k nodes c)) (sym (cond-false (nat_eq slot m.0) (Some m.1) (lookup (nat_eq slot) nodes) f) ∙ e)
+    ]
+
+    -- the one behind it
+    pub behind-found : (nodes : List (ℕ × ℕ)) → ((m : ℕ × ℕ) → Contains nodes m → test (g m) ≡ nat_eq slot m.0) → behind test (map g nodes) ≡ option_map g (next_after slot nodes)
+    behind-found [] h = refl
+    behind-found (m ∷ nodes) h = elim (cases_Bool (nat_eq slot m.0)) as (λ _. behind test (map g (m ∷ nodes)) ≡ option_map g (next_after slot (m ∷ nodes))) [
       | inl t ↦
-          cond-true ((g m).number == n) (slice_get (map g nodes) 0) (member_after n (map g nodes)) (h m (here m nodes) ∙ t)
+          cond-true (test (g m)) (slice_get (map g nodes) 0) (behind test (map g nodes)) (h m (here m nodes) ∙ t)
           ∙ get-map g nodes
           ∙ ap (option_map g) (sym (cond-true (nat_eq slot m.0) (slice_get nodes 0) (next_after slot nodes) t))
       | inr f ↦
-          cond-false ((g m).number == n) (slice_get (map g nodes) 0) (member_after n (map g nodes)) (h m (here m nodes) ∙ f)
-          ∙ after-found nodes (λ k c. h k (later m k nodes c))
+          cond-false (test (g m)) (slice_get (map g nodes) 0) (behind test (map g nodes)) (h m (here m nodes) ∙ f)
+          ∙ behind-found nodes (λ k c. h k (later m k nodes c))
           ∙ ap (option_map g) (sym (cond-false (nat_eq slot m.0) (slice_get nodes 0) (next_after slot nodes) f))
     ]
 
-    not-later : (m : ℕ × ℕ) (nodes : List (ℕ × ℕ)) (k : ℕ × ℕ) → IsDistinct nat_eq (keys_of (m ∷ nodes)) → slot ≡ m.0 → Contains nodes k → nat_eq slot k.0 ≡ false
+    -- all but it
+    pub rest-found : (nodes : List (ℕ × ℕ)) → IsDistinct nat_eq (keys_of nodes) → ((m : ℕ × ℕ) → Contains nodes m → test (g m) ≡ nat_eq slot m.0) → filter (λ x. not (test x)) (map g nodes) ≡ map g (remove_entry (nat_eq slot) nodes)
     unfolding IsDistinct
-    not-later m nodes k d e c = ne_eqb slot k.0 (λ q. all-other m.0 nodes k d.0 c.0 c.1 c.2 (sym e ∙ q))
-
-    pub without-found : (nodes : List (ℕ × ℕ)) → IsDistinct nat_eq (keys_of nodes) → ((m : ℕ × ℕ) → Contains nodes m → ((g m).number == n) ≡ nat_eq slot m.0) → without_member n (map g nodes) ≡ map g (remove_entry (nat_eq slot) nodes)
-    unfolding IsDistinct
-    without-found [] d h = refl
-    without-found (m ∷ nodes) d h = elim (cases_eq slot m.0) as (λ _. without_member n (map g (m ∷ nodes)) ≡ map g (remove_entry (nat_eq slot) (m ∷ nodes))) [
+    rest-found [] d h = refl
+    rest-found (m ∷ nodes) d h = elim (cases_eq slot m.0) as (λ _. filter (λ x. not (test x)) (map g (m ∷ nodes)) ≡ map g (remove_entry (nat_eq slot) (m ∷ nodes))) [
       | inl q ↦
           let t = eq-eqb slot m.0 q in
-          cond-false (not ((g m).number == n)) (g m ∷ without_member n (map g nodes)) (without_member n (map g nodes)) (ap not (h m (here m nodes) ∙ t))
-          ∙ without-none nodes (λ k c. h k (later m k nodes c) ∙ not-later m nodes k d q c)
+          cond-false (not (test (g m))) (g m ∷ filter (λ x. not (test x)) (map g nodes)) (filter (λ x. not (test x)) (map g nodes)) (ap not (h m (here m nodes) ∙ t))
+          ∙ rest-none nodes (λ k c. h k (later m k nodes c) ∙ ap (λ s. nat_eq s k.0) q ∙ not-later m nodes k d c)
           ∙ ap (map g) (sym (cond-true (nat_eq slot m.0) nodes (m ∷ remove_entry (nat_eq slot) nodes) t))
       | inr ne ↦
           let f = ne_eqb slot m.0 ne in
-          cond-true (not ((g m).number == n)) (g m ∷ without_member n (map g nodes)) (without_member n (map g nodes)) (ap not (h m (here m nodes) ∙ f))
-          ∙ ap (λ l. g m ∷ l) (without-found nodes d.1 (λ k c. h k (later m k nodes c)))
+          cond-true (not (test (g m))) (g m ∷ filter (λ x. not (test x)) (map g nodes)) (filter (λ x. not (test x)) (map g nodes)) (ap not (h m (here m nodes) ∙ f))
+          ∙ ap (λ l. g m ∷ l) (rest-found nodes d.1 (λ k c. h k (later m k nodes c)))
           ∙ ap (map g) (sym (cond-false (nat_eq slot m.0) nodes (m ∷ remove_entry (nat_eq slot) nodes) f))
     ]
 
+-- ---- what is found once a slot left
+
+pub lookup-remove : (slot other : ℕ) (nodes : List (ℕ × ℕ)) → IsDistinct nat_eq (keys_of nodes) → lookup (nat_eq other) (remove_entry (nat_eq slot) nodes) ≡ cond (nat_eq slot other) None (lookup (nat_eq other) nodes)
+lookup-remove slot other nodes d = lookup-remove_entry nat_eq_equiv (nat_eq slot) (λ x y e. ap (λ s. nat_eq s y) (eqb-true slot x e)) other nodes d
+
+-- a slot that left is free
+pub lookup-removed : (slot : ℕ) (nodes : List (ℕ × ℕ)) → IsDistinct nat_eq (keys_of nodes) → lookup (nat_eq slot) (remove_entry (nat_eq slot) nodes) ≡ None
+lookup-removed slot nodes d = lookup-remove slot slot nodes d ∙ cond-true (nat_eq slot slot) None (lookup (nat_eq slot) nodes) (eq-eqb slot slot refl)
+
 -- ---- there are no more nodes than rows
 
-count-cleared : {X : Type 0} (rows : List (Option X)) (place : ℕ) (x : X) → slice_index_or rows place None ≡ Some x → count_by is_some (slice_set rows place None) + 1 ≡ count_by is_some rows
+pub count-cleared : {X : Type 0} (rows : List (Option X)) (place : ℕ) (x : X) → slice_index_or rows place None ≡ Some x → count_by is_some (slice_set rows place None) + 1 ≡ count_by is_some rows
 count-cleared rows place x e =
     let lt = row_at-within rows place x e in
     let whole = sum_by-set (λ o. cond (is_some o) 1 0) rows place None None lt in
@@ -175,7 +214,7 @@ module _ {X : Type 0} (f : X → Option ℕ) where
       let same : v.0 ≡ w.0 = cc in
       let slots : Some k.0 ≡ Some m.0 = sym v.2 ∙ ap f same ∙ w.2 in
       let s : m.0 ≡ k.0 = cc in
-      let bad : true ≡ false = sym (eq-eqb m.0 k.0 s) ∙ not-later (λ _. record { number = 0; counted = 0 }) 0 m.0 m nodes k d refl kc in
+      let bad : true ≡ false = sym (eq-eqb m.0 k.0 s) ∙ not-later m nodes k d kc in
       cc) in
       (v.0, get_or-set_other rows m.1 k.1 None None apart ∙ v.1, v.2)) in
       omega (arith, c, rest)

@@ -35,7 +35,7 @@ module _ {K V : Type 0} (eq : K → K → Bool) (rows : List (Option (Row (Recor
   member-placed n h =
       let c = some_is (counted_of n (map (member_at rows) nodes)) h in
       let m = counted-node (member_at rows) n c.0 nodes c.1 in
-      let w = node-member eq rows index nodes t m.0.0 m.0.1 (in-nodes nodes m.0 t.distinct m.1) in
+      let w = node-member eq rows index nodes t m.0.0 m.0.1 (in-nodes nodes m.0 t.listed.distinct m.1) in
       let number : w.row.number ≡ n = sym (ap (λ (x : Member). x.number) w.member_is) ∙ m.2 in
       ap is_some (ap (get (places_of rows)) (sym number) ∙ w.place_is)
 

@@ -1,30 +1,32 @@
 -- What a store is after each of its calls.
 use Rattle.std.proofs.Common.{◌≡◌, ℕ, ◌≤◌, Bool, true, false, cond, List, [], ◌∷◌, ◌++◌, map, Option, Some, None, IsSome, is_some, count_by, inl, inr, refl, sym, ap, subst, ◌∙◌, nat_eq}
-use Rattle.std.proofs.lemmas.Bool.{eqb-true, cases_eq, cases_Bool, eq-eqb, ne_eqb, cond-true, cond-false, false≢true}
+use Rattle.std.proofs.lemmas.Bool.{cases_eq, cases_Bool, eq-eqb, ne_eqb, cond-true, cond-false, false≢true}
 use Rattle.std.proofs.lemmas.List.{map-append}
-use Rattle.std.proofs.lemmas.Map.{lookup-remove_entry}
-use Rattle.std.specs.Cmp.{IsEquivalence, nat_eq_equiv}
-use Rattle.std.specs.FinMap.{get, insert, remove, len, empty, get-empty}
-use Rattle.std.specs.List.{IsDistinct}
-use Rattle.std.specs.Map.{lookup, remove_entry, keys_of}
-use Rattle.std.specs.Ordering.{nat_cmp}
+use Rattle.std.specs.Cmp.{IsEquivalence}
+use Rattle.std.specs.FinMap.{FinMap, get, insert, remove, len, empty, get-empty}
+use Rattle.std.specs.Map.{lookup, remove_entry}
 use Rattle.std.specs.Option.{option_map, option_and_then, option_map_or}
+use Rattle.std.specs.Ordering.{nat_cmp}
 use Rattle.std.specs.Prelude.{option_to_list}
-use Rattle.moka_structures.proofs.Linked.{linked-same, linked-added, linked-removed}
-use Rattle.moka_structures.proofs.TableCalls.{get-records, get-places, record_row, placed_row, shows-inserted, shows-stored, shows-taken, shows-counted, shows-uncounted, shows-forgotten, with_stored-changes, count-with_stored}
+use Rattle.moka_structures.proofs.TableCalls.{get-records, get-places, record_row, placed_row, shows-inserted, shows-stored, shows-taken, shows-timed, shows-counted, shows-uncounted, shows-forgotten, with_stored-changes, count-with_stored}
 use Rattle.moka_store.proofs.Gets.{option-cases, some_is, get-inserted, len-kept}
 use Rattle.moka_structures.specs.declared.record_table.Membership.{Membership}
 use Rattle.moka_structures.specs.declared.record_table.Row.{Row}
-use Rattle.moka_structures.specs.Linked.{IsLinked}
 use Rattle.moka_structures.specs.RecordTable.{Table, row_at, number_at, stored_at, membership_at, with_stored, ChangesAt, records_of, places_of}
 use Rattle.moka_store.proofs.Keys.{index-same, index-added, index-removed}
-use Rattle.moka_store.proofs.Nodes.{distinct-none, distinct-push, distinct-remove, in-nodes, node-in}
-use Rattle.moka_store.proofs.Ties.{read-other, read-same, named-changed, named-gone, access-kept, access-off, node_row, node-of, off-nodes, counted-row, without-row, unlisted-from}
+use Rattle.moka_store.proofs.Nodes.{in-nodes, node-in, lookup-remove, distinct-remove}
+use Rattle.moka_store.proofs.Orders.{stays-row}
+use Rattle.moka_store.proofs.Slots.{off-nodes, listed-kept, listed-added, listed-removed, listed-moved, listed-empty}
+use Rattle.moka_store.proofs.Timed.{untimed}
+use Rattle.moka_store.proofs.Ties.{read-other, read-same, named-changed, named-gone, access-kept, access-off, node_row, access-of, counted-row, without-row, unlisted-from}
 use Rattle.moka_parts.proofs.Lookup.{record_of_key_found, absent_key, present_key}
+use Rattle.moka_wheel.specs.Wheel.{Timer}
+use Rattle.moka_store.specs.Listing.{Listing}
+use Rattle.moka_store.specs.Timing.{Timing}
 use Rattle.moka_store.specs.declared.store.Handle.{Handle}
 use Rattle.moka_store.specs.Store.{IsOneEach, IsHandle, ChangesRecord}
-use Rattle.moka_store.specs.StoreRows.{key_in, key_at, has_key_at, access_in, access_at, timer_at, member_in, member_at}
-use Rattle.moka_store.specs.StoreTies.{KeyIndex, IsIndex, IsNamed, IsTied, IsStore, kept_of}
+use Rattle.moka_store.specs.StoreRows.{key_in, key_at, has_key_at, access_in, access_at, member_in, member_at, written_of, cursor_of, timers_of}
+use Rattle.moka_store.specs.StoreTies.{KeyIndex, IsListed, IsIndex, IsNamed, IsTied, IsWritten, IsTimed, IsStore, kept_of}
 use Rattle.moka_store.specs.Weights.{IsWeighed}
 use Rattle.moka_parts.specs.declared.records.Member.{Member}
 use Rattle.moka_parts.specs.declared.records.Record.{Record}
@@ -71,14 +73,6 @@ key-row {K} {V} (Some row) k e = elim (option-cases row.stored) as (λ _. (row' 
       let same : Some r.0.key ≡ Some k = sym (ap (option_map (λ (r : Record K V). r.key)) r.1) ∙ e in
       (row, r.0, refl, r.1, (let q : r.0.key ≡ k = cc in q))
 ]
-
--- what is found once a slot left
-lookup-remove : (slot other : ℕ) (nodes : List (ℕ × ℕ)) → IsDistinct nat_eq (keys_of nodes) → lookup (nat_eq other) (remove_entry (nat_eq slot) nodes) ≡ cond (nat_eq slot other) None (lookup (nat_eq other) nodes)
-lookup-remove slot other nodes d = lookup-remove_entry nat_eq_equiv (nat_eq slot) (λ x y e. ap (λ s. nat_eq s y) (eqb-true slot x e)) other nodes d
-
--- a slot that left is free
-lookup-removed : (slot : ℕ) (nodes : List (ℕ × ℕ)) → IsDistinct nat_eq (keys_of nodes) → lookup (nat_eq slot) (remove_entry (nat_eq slot) nodes) ≡ None
-lookup-removed slot nodes d = lookup-remove_entry nat_eq_equiv (nat_eq slot) (λ x y e. ap (λ s. nat_eq s y) (eqb-true slot x e)) slot nodes d ∙ cond-true (nat_eq slot slot) None (lookup (nat_eq slot) nodes) (eq-eqb slot slot refl)
 
 module _ {K V : Type 0} (eq : K → K → Bool) (rows : List (Option (Row (Record K V)))) (index : KeyIndex K) (nodes : List (ℕ × ℕ)) (t : IsTied eq rows index nodes) where
   -- the test of a record's key is one of the place's key
@@ -210,7 +204,7 @@ module _ {K V : Type 0} (eq : K → K → Bool) (rows : List (Option (Row (Recor
           number_is = w.number_is;
           number_at_is = w.number_at_is;
           membership_is = is;
-          node_is = node-of eq rows index nodes t place w.row w.at_is m is;
+          node_is = access-of eq rows index nodes t place w.row w.at_is m is;
           counted_is = sym counted-placed ∙ ap (option_map (λ (m : Membership). m.counted)) e;
         }
 
@@ -219,12 +213,12 @@ module _ {K V : Type 0} (eq : K → K → Bool) (rows : List (Option (Row (Recor
     unlisted w none = unlisted-from eq rows index nodes t place w.row w.at_is (ap (λ n. counted_of n (map (member_at rows) nodes)) w.number_is ∙ none)
 
     -- a row that may go
-    pub bare-row : get (records_of rows) number ≡ None → counted_of number (map (member_at rows) nodes) ≡ None → row_at rows place ≡ Some (record { number = number_at rows place; stored = None; membership = None; timer = None })
-    bare-row gone apart =
+    pub bare-row : (timers : FinMap nat_cmp Timer) → IsTimed rows timers → get (records_of rows) number ≡ None → counted_of number (map (member_at rows) nodes) ≡ None → row_at rows place ≡ Some (record { number = number_at rows place; stored = None; membership = None; timer = None })
+    bare-row timers timed gone apart =
         let w = placed eq rows index nodes t place number h in
         let bare : w.row.stored ≡ None = sym (get-records rows t.numbered place w.row w.at_is) ∙ ap (get (records_of rows)) w.number_is ∙ gone in
         let alone = unlisted w apart in
-        let still : w.row.timer ≡ None = sym (ap (option_and_then (λ (row : Row (Record K V)). row.timer)) w.at_is) ∙ t.untimed place in
+        let still = untimed rows timers timed place w.row w.at_is alone in
         w.at_is
         ∙ ap (λ (s : Option (Record K V)). Some (record w.row { stored = s })) bare
         ∙ ap (λ (m : Option Membership). Some (record w.row { stored = None; membership = m })) alone
@@ -245,20 +239,17 @@ module _ {K V : Type 0} (eq : K → K → Bool) (laws : IsEquivalence eq) (rows 
           numbered = (shows-inserted rows new place t.numbered r.number r vacant fresh c).numbered;
           named = named-changed (row_at rows) (row_at new) place t.named row c (λ s e. let same : r ≡ s = cc in ap (λ (r : Record K V). r.number) (sym same));
           indexed = index-added eq (key_at rows) (key_at new) index t.indexed place (read-other key_in (row_at rows) (row_at new) place (Some row) c) laws r.key (ap (option_and_then key_in) c.changed) unknown;
-          linked = linked-same (access_at rows) (access_at new) (λ s. lookup (nat_eq s) nodes) (λ s. lookup (nat_eq s) nodes) t.linked (read-same access_in (row_at rows) (row_at new) place (Some row) c (sym (ap (option_and_then access_in) vacant))) (λ s. refl);
-          distinct = t.distinct;
-          untimed = λ p. read-same (λ row. row.timer) (row_at rows) (row_at new) place (Some row) c (sym (t.untimed place)) p ∙ t.untimed p;
+          listed = listed-kept access_in rows nodes t.listed new (read-same access_in (row_at rows) (row_at new) place (Some row) c (sym (ap (option_and_then access_in) vacant)));
         };
         access = access-off rows new place (Some row) c nodes (λ m h e.
-            let w = in-nodes nodes m t.distinct h in
-            let bad : None ≡ Some m.0 = sym (ap (option_and_then access_in) vacant) ∙ ap (access_at rows) (sym e) ∙ t.linked.to_slot m.0 m.1 w in
+            let w = in-nodes nodes m t.listed.distinct h in
+            let bad : None ≡ Some m.0 = sym (ap (option_and_then access_in) vacant) ∙ ap (access_at rows) (sym e) ∙ t.listed.linked.to_slot m.0 m.1 w in
             cc);
       }
 
   module _ (was : Row (Record K V)) (at_is : row_at rows place ≡ Some was) where
-    same-members : (row : Row (Record K V)) → ChangesAt (row_at rows) (row_at new) place (Some row) → row.membership ≡ was.membership → IsLinked (access_at new) (λ s. lookup (nat_eq s) nodes)
-    same-members row c e = linked-same (access_at rows) (access_at new) (λ s. lookup (nat_eq s) nodes) (λ s. lookup (nat_eq s) nodes) t.linked
-        (read-same access_in (row_at rows) (row_at new) place (Some row) c (ap (option_map (λ (m : Membership). m.access)) e ∙ sym (ap (option_and_then access_in) at_is))) (λ s. refl)
+    same-members : (row : Row (Record K V)) → ChangesAt (row_at rows) (row_at new) place (Some row) → access_in row ≡ access_in was → IsListed access_in new nodes
+    same-members row c e = listed-kept access_in rows nodes t.listed new (read-same access_in (row_at rows) (row_at new) place (Some row) c (e ∙ sym (ap (option_and_then access_in) at_is)))
 
     same-keys : (row : Row (Record K V)) → ChangesAt (row_at rows) (row_at new) place (Some row) → key_in row ≡ key_in was → IsIndex eq (key_at new) index
     same-keys row c e = index-same eq (key_at rows) (key_at new) index t.indexed (read-same key_in (row_at rows) (row_at new) place (Some row) c (e ∙ sym (ap (option_and_then key_in) at_is)))
@@ -267,9 +258,6 @@ module _ {K V : Type 0} (eq : K → K → Bool) (laws : IsEquivalence eq) (rows 
     same-access row c n e = access-kept rows new place (Some row) c nodes
         (ap (λ n. member n (option_map_or (λ (m : Membership). m.counted) row.membership 0)) n ∙ ap (λ m. member was.number (option_map_or (λ (m : Membership). m.counted) m 0)) e
         ∙ sym (ap (λ o. option_map_or member_in o (record { number = 0; counted = 0 })) at_is))
-
-    same-timer : (row : Row (Record K V)) → ChangesAt (row_at rows) (row_at new) place (Some row) → row.timer ≡ was.timer → (p : ℕ) → timer_at new p ≡ None
-    same-timer row c e p = read-same (λ row. row.timer) (row_at rows) (row_at new) place (Some row) c (e ∙ sym (ap (option_and_then (λ (row : Row (Record K V)). row.timer)) at_is)) p ∙ t.untimed p
 
     same-named : (row : Row (Record K V)) → ChangesAt (row_at rows) (row_at new) place (Some row) → row.number ≡ was.number → row.stored ≡ was.stored → IsNamed (row_at new)
     same-named row c n s = named-changed (row_at rows) (row_at new) place t.named row c (λ r e. t.named.same place was r at_is (sym s ∙ e) ∙ sym n)
@@ -283,9 +271,7 @@ module _ {K V : Type 0} (eq : K → K → Bool) (laws : IsEquivalence eq) (rows 
             numbered = (shows-stored rows new place t.numbered was at_is r c).numbered;
             named = named-changed (row_at rows) (row_at new) place t.named row c (λ s e. let same : r ≡ s = cc in ap (λ (r : Record K V). r.number) (sym same) ∙ number ∙ t.named.same place was old at_is is);
             indexed = same-keys row c (ap Some key ∙ sym (ap (option_map (λ (r : Record K V). r.key)) is));
-            linked = same-members row c refl;
-            distinct = t.distinct;
-            untimed = same-timer row c refl;
+            listed = same-members row c refl;
           };
           access = same-access row c refl refl;
         }
@@ -299,9 +285,21 @@ module _ {K V : Type 0} (eq : K → K → Bool) (laws : IsEquivalence eq) (rows 
             numbered = (shows-taken rows new place t.numbered was at_is c).numbered;
             named = named-changed (row_at rows) (row_at new) place t.named row c (λ s e. cc);
             indexed = index-removed eq (key_at rows) (key_at new) index t.indexed place (read-other key_in (row_at rows) (row_at new) place (Some row) c) (ap (option_and_then key_in) c.changed);
-            linked = same-members row c refl;
-            distinct = t.distinct;
-            untimed = same-timer row c refl;
+            listed = same-members row c refl;
+          };
+          access = same-access row c refl refl;
+        }
+
+    -- the row gets another timer
+    pub retimed : (timer : Option ℕ) → ChangesAt (row_at rows) (row_at new) place (Some (record was { timer = timer })) → Sees eq new index nodes (map (member_at rows) nodes)
+    retimed timer c =
+        let row : Row (Record K V) = record was { timer = timer } in
+        record {
+          tied = record {
+            numbered = (shows-timed rows new place t.numbered was at_is timer c).numbered;
+            named = same-named row c refl refl;
+            indexed = same-keys row c refl;
+            listed = same-members row c refl;
           };
           access = same-access row c refl refl;
         }
@@ -317,14 +315,12 @@ module _ {K V : Type 0} (eq : K → K → Bool) (laws : IsEquivalence eq) (rows 
             numbered = (shows-counted rows new place t.numbered was at_is m c).numbered;
             named = same-named row c refl refl;
             indexed = same-keys row c refl;
-            linked = linked-added (access_at rows) (access_at new) (λ s. lookup (nat_eq s) nodes) (λ s. lookup (nat_eq s) after) t.linked m.access place (read-other access_in (row_at rows) (row_at new) place (Some row) c)
-                (ap (option_and_then access_in) at_is ∙ ap (option_map (λ (m : Membership). m.access)) none) (ap (option_and_then access_in) c.changed) free u;
-            distinct = subst (λ l. IsDistinct nat_eq (keys_of l)) (sym is) (distinct-push nodes m.access place t.distinct free);
-            untimed = same-timer row c refl;
+            listed = listed-added access_in rows nodes t.listed m.access place after new (read-other access_in (row_at rows) (row_at new) place (Some row) c)
+                (ap (option_and_then access_in) at_is ∙ ap (option_map (λ (m : Membership). m.access)) none) (ap (option_and_then access_in) c.changed) free is u;
           };
           access =
               ap (map (member_at new)) is ∙ map-append (member_at new) nodes ((m.access, place) ∷ [])
-              ∙ ap (λ l. l ++ member_at new (m.access, place) ∷ []) (access-off rows new place (Some row) c nodes (off-nodes eq rows index nodes t place was at_is none))
+              ∙ ap (λ l. l ++ member_at new (m.access, place) ∷ []) (access-off rows new place (Some row) c nodes (off-nodes access_in rows nodes t.listed place was at_is (ap (option_map (λ (m : Membership). m.access)) none)))
               ∙ ap (λ o. map (member_at rows) nodes ++ option_map_or member_in o (record { number = 0; counted = 0 }) ∷ []) c.changed;
         }
 
@@ -334,21 +330,18 @@ module _ {K V : Type 0} (eq : K → K → Bool) (laws : IsEquivalence eq) (rows 
         → ChangesAt (row_at rows) (row_at new) place (Some (record was { membership = None })) → Sees eq new index after (without_member was.number (map (member_at rows) nodes))
     left m after member_is is u c =
         let row : Row (Record K V) = record was { membership = None } in
-        let d : IsDistinct nat_eq (keys_of after) = subst (λ l. IsDistinct nat_eq (keys_of l)) (sym is) (distinct-remove (nat_eq m.access) nodes t.distinct) in
-        let l : IsLinked (access_at new) (λ s. lookup (nat_eq s) after) = linked-removed (access_at rows) (access_at new) (λ s. lookup (nat_eq s) nodes) (λ s. lookup (nat_eq s) after) t.linked m.access place (read-other access_in (row_at rows) (row_at new) place (Some row) c)
-        (ap (option_and_then access_in) at_is ∙ ap (option_map (λ (m : Membership). m.access)) member_is) (ap (option_and_then access_in) c.changed) u in
+        let l = listed-removed access_in rows nodes t.listed m.access place after new (read-other access_in (row_at rows) (row_at new) place (Some row) c)
+        (ap (option_and_then access_in) at_is ∙ ap (option_map (λ (m : Membership). m.access)) member_is) (ap (option_and_then access_in) c.changed) is u in
         record {
           tied = record {
             numbered = (shows-uncounted rows new place t.numbered was at_is c).numbered;
             named = same-named row c refl refl;
             indexed = same-keys row c refl;
-            linked = l;
-            distinct = d;
-            untimed = same-timer row c refl;
+            listed = l;
           };
           access =
               access-off rows new place (Some row) c after (λ k h e.
-              let there = l.to_slot k.0 k.1 (in-nodes after k d h) in
+              let there = l.linked.to_slot k.0 k.1 (in-nodes after k l.distinct h) in
               let bad : None ≡ Some k.0 = sym (ap (option_and_then access_in) c.changed) ∙ ap (access_at new) (sym e) ∙ there in
               cc)
               ∙ ap (map (member_at rows)) is
@@ -367,21 +360,19 @@ module _ {K V : Type 0} (eq : K → K → Bool) (laws : IsEquivalence eq) (rows 
             numbered = (shows-counted rows new place t.numbered was at_is (record m { counted = weight }) c).numbered;
             named = same-named row c refl refl;
             indexed = same-keys row c refl;
-            linked = linked-same (access_at rows) (access_at new) (λ s. lookup (nat_eq s) nodes) (λ s. lookup (nat_eq s) after) t.linked (read-same access_in (row_at rows) (row_at new) place (Some row) c (sym there)) u;
-            distinct = subst (λ l. IsDistinct nat_eq (keys_of l)) (sym is) (distinct-push (remove_entry (nat_eq m.access) nodes) m.access place (distinct-remove (nat_eq m.access) nodes t.distinct) (lookup-removed m.access nodes t.distinct));
-            untimed = same-timer row c refl;
+            listed = listed-kept access_in rows after (listed-moved access_in rows nodes t.listed m.access place after is u) new (read-same access_in (row_at rows) (row_at new) place (Some row) c (sym there));
           };
           access =
               ap (map (member_at new)) is ∙ map-append (member_at new) (remove_entry (nat_eq m.access) nodes) ((m.access, place) ∷ [])
               ∙ ap (λ l. l ++ member_at new (m.access, place) ∷ []) (access-off rows new place (Some row) c (remove_entry (nat_eq m.access) nodes) (λ k h e.
-              let d = distinct-remove (nat_eq m.access) nodes t.distinct in
+              let d = distinct-remove (nat_eq m.access) nodes t.listed.distinct in
               let found : lookup (nat_eq k.0) (remove_entry (nat_eq m.access) nodes) ≡ Some k.1 = in-nodes (remove_entry (nat_eq m.access) nodes) k d h in
-              let other = lookup-remove m.access k.0 nodes t.distinct in
+              let other = lookup-remove m.access k.0 nodes t.listed.distinct in
               elim (cases_eq m.access k.0) as (λ _. ⊥) [
                 | inl s ↦ let bad : None ≡ Some k.1 = sym (other ∙ cond-true (nat_eq m.access k.0) None (lookup (nat_eq k.0) nodes) (eq-eqb m.access k.0 s)) ∙ found in cc
                 | inr ne ↦
                     let was_in : lookup (nat_eq k.0) nodes ≡ Some k.1 = sym (other ∙ cond-false (nat_eq m.access k.0) None (lookup (nat_eq k.0) nodes) (ne_eqb m.access k.0 ne)) ∙ found in
-                    let both : Some m.access ≡ Some k.0 = sym there ∙ ap (access_at rows) (sym e) ∙ t.linked.to_slot k.0 k.1 was_in in
+                    let both : Some m.access ≡ Some k.0 = sym there ∙ ap (access_at rows) (sym e) ∙ t.listed.linked.to_slot k.0 k.1 was_in in
                     ne (cc)
               ]))
               ∙ ap (λ l. l ++ member_at new (m.access, place) ∷ []) (sym (without-row eq rows index nodes t place was at_is m member_is))
@@ -395,12 +386,9 @@ module _ {K V : Type 0} (eq : K → K → Bool) (laws : IsEquivalence eq) (rows 
         numbered = (shows-forgotten rows new place t.numbered was at_is bare alone c).numbered;
         named = named-gone (row_at rows) (row_at new) place t.named c;
         indexed = index-same eq (key_at rows) (key_at new) index t.indexed (read-same key_in (row_at rows) (row_at new) place None c (sym (ap (option_and_then key_in) at_is ∙ ap (option_map (λ (r : Record K V). r.key)) bare)));
-        linked = linked-same (access_at rows) (access_at new) (λ s. lookup (nat_eq s) nodes) (λ s. lookup (nat_eq s) nodes) t.linked
-            (read-same access_in (row_at rows) (row_at new) place None c (sym (ap (option_and_then access_in) at_is ∙ ap (option_map (λ (m : Membership). m.access)) alone))) (λ s. refl);
-        distinct = t.distinct;
-        untimed = λ p. read-same (λ row. row.timer) (row_at rows) (row_at new) place None c (sym (t.untimed place)) p ∙ t.untimed p;
+        listed = listed-kept access_in rows nodes t.listed new (read-same access_in (row_at rows) (row_at new) place None c (sym (ap (option_and_then access_in) at_is ∙ ap (option_map (λ (m : Membership). m.access)) alone)));
       };
-      access = access-off rows new place None c nodes (off-nodes eq rows index nodes t place was at_is alone);
+      access = access-off rows new place None c nodes (off-nodes access_in rows nodes t.listed place was at_is (ap (option_map (λ (m : Membership). m.access)) alone));
     }
 
 module _ {K V : Type 0} (eq : K → K → Bool) (rows : List (Option (Row (Record K V)))) (index : KeyIndex K) (nodes after : List (ℕ × ℕ)) (place : ℕ) (t : IsTied eq rows index nodes) (was : Row (Record K V)) (at_is : row_at rows place ≡ Some was) where
@@ -413,9 +401,7 @@ module _ {K V : Type 0} (eq : K → K → Bool) (rows : List (Option (Row (Recor
           numbered = t.numbered;
           named = t.named;
           indexed = t.indexed;
-          linked = linked-same (access_at rows) (access_at rows) (λ s. lookup (nat_eq s) nodes) (λ s. lookup (nat_eq s) after) t.linked (λ p. refl) u;
-          distinct = subst (λ l. IsDistinct nat_eq (keys_of l)) (sym is) (distinct-push (remove_entry (nat_eq m.access) nodes) m.access place (distinct-remove (nat_eq m.access) nodes t.distinct) (lookup-removed m.access nodes t.distinct));
-          untimed = t.untimed;
+          listed = listed-moved access_in rows nodes t.listed m.access place after is u;
         };
         access =
             ap (map (member_at rows)) is ∙ map-append (member_at rows) (remove_entry (nat_eq m.access) nodes) ((m.access, place) ∷ [])
@@ -426,20 +412,20 @@ module _ {K V : Type 0} (eq : K → K → Bool) (rows : List (Option (Row (Recor
       }
 
 -- a store after a write into a record
-pub record Changed {K V : Type 0} (eq : K → K → Bool) (old new : Table (Record K V)) (index : KeyIndex K) (nodes : List (ℕ × ℕ)) (keys spare most weight number : ℕ) (f : Record K V → Record K V) : Type 0 where
-  pub store : IsStore eq new.rows index keys nodes most weight
-  pub step : ChangesRecord number f (kept_of old.rows nodes spare old.room most) (kept_of new.rows nodes spare new.room most)
+pub record Changed {K V : Type 0} (eq : K → K → Bool) (old new : Table (Record K V)) (index : KeyIndex K) (nodes : List (ℕ × ℕ)) (list : Listing) (timing : Timing) (keys spare most weight number : ℕ) (f : Record K V → Record K V) : Type 0 where
+  pub store : IsStore eq new.rows index keys nodes list timing most weight
+  pub step : ChangesRecord number f (kept_of old.rows nodes list timing spare old.room most) (kept_of new.rows nodes list timing spare new.room most)
   pub stored : IsSome (get (records_of new.rows) number)
   pub places : places_of new.rows ≡ places_of old.rows
   pub access : map (member_at new.rows) nodes ≡ map (member_at old.rows) nodes
 
-module _ {K V : Type 0} (eq : K → K → Bool) (laws : IsEquivalence eq) (old new : Table (Record K V)) (index : KeyIndex K) (nodes : List (ℕ × ℕ)) (keys spare most weight : ℕ) (s : IsStore eq old.rows index keys nodes most weight) (handle : Handle) (h : IsHandle (kept_of old.rows nodes spare old.room most) handle) where
+module _ {K V : Type 0} (eq : K → K → Bool) (laws : IsEquivalence eq) (old new : Table (Record K V)) (index : KeyIndex K) (nodes : List (ℕ × ℕ)) (list : Listing) (timing : Timing) (keys spare most weight : ℕ) (s : IsStore eq old.rows index keys nodes list timing most weight) (handle : Handle) (h : IsHandle (kept_of old.rows nodes list timing spare old.room most) handle) where
   -- the record that a handle leads to
   pub handled_at : Handled old.rows handle.place handle.number
   handled_at = handled eq old.rows index nodes s.tied handle.place handle.number h.placed h.stored
 
   pub changed : (at : Handled old.rows handle.place handle.number) (f : Record K V → Record K V) → (f at.stored).number ≡ at.stored.number → (f at.stored).key ≡ at.stored.key → new ≡ record old { rows = with_stored old.rows handle.place (f at.stored) }
-      → Changed eq old new index nodes keys spare most weight handle.number f
+      → Changed eq old new index nodes list timing keys spare most weight handle.number f
   changed at f n k e =
       let r = f at.stored in
       let rows = with_stored old.rows handle.place r in
@@ -449,12 +435,18 @@ module _ {K V : Type 0} (eq : K → K → Bool) (laws : IsEquivalence eq) (old n
       let is : new.rows ≡ rows = ap (λ (t : Table (Record K V)). t.rows) e in
       let records : records_of new.rows ≡ insert (records_of old.rows) handle.number r = ap records_of is ∙ m.records_is ∙ ap (λ n. insert (records_of old.rows) n r) at.number_is in
       let places : places_of new.rows ≡ places_of old.rows = ap places_of is ∙ m.places_is in
+      let stay = stays-row old.rows rows list timing.timers s.written s.timed s.tied.numbered m.numbered handle.place at.row (record at.row { stored = Some r }) at.at_is c refl refl refl refl in
+      let written = ap (λ rows. written_of rows list.nodes) is ∙ stay.written_is in
+      let cursor = ap (λ rows. cursor_of rows list.cursor) is ∙ stay.cursor_is in
+      let timers = ap (timers_of timing.timers) is ∙ stay.timers_is in
       let access : map (member_at new.rows) nodes ≡ map (member_at old.rows) nodes = ap (λ rows. map (member_at rows) nodes) is ∙ ties.access in
       let rowed : count_by is_some new.rows ≡ count_by is_some old.rows = ap (count_by is_some) is ∙ count-with_stored old.rows handle.place r in
       let room : new.room ≡ old.room = ap (λ (t : Table (Record K V)). t.room) e in
       record {
         store = record {
           tied = subst (λ rows. IsTied eq rows index nodes) (sym is) ties.tied;
+          written = subst (λ rows. IsWritten rows list) (sym is) stay.written;
+          timed = subst (λ rows. IsTimed rows timing.timers) (sym is) stay.timed;
           keyed = s.keyed ∙ sym (ap len records ∙ len-kept (records_of old.rows) handle.number r at.stored at.record_is);
           fits = subst (λ n. n ≤ most) (sym rowed) s.fits;
           few = s.few;
@@ -462,7 +454,7 @@ module _ {K V : Type 0} (eq : K → K → Bool) (laws : IsEquivalence eq) (old n
         };
         step = λ x there.
             let same : at.stored ≡ x = (let y = at.record_is in cc) in
-            rw (records, access, places, rowed, room, same) refl;
+            rw (records, access, written, timers, cursor, places, rowed, room, same) refl;
         stored = ap is_some (ap (λ m. get m handle.number) records ∙ get-inserted (records_of old.rows) handle.number r);
         places = places;
         access = access;
@@ -479,12 +471,7 @@ tied-empty eq rows index nodes re ie ne =
         at = λ p. ap (λ m. get m p) ie ∙ get-empty nat_cmp p ∙ ap (λ o. option_map index.hash_of (option_and_then key_in o)) (sym (no_row p));
         once = λ p q x y h _ _. (let bad : None ≡ Some x = sym (ap (option_and_then key_in) (no_row p)) ∙ h in cc);
       };
-      linked = record {
-        to_slot = λ s p h. (let bad : None ≡ Some p = ap (lookup (nat_eq s)) (sym ne) ∙ h in cc);
-        to_place = λ s p h. (let bad : None ≡ Some s = sym (ap (option_and_then access_in) (no_row p)) ∙ h in cc);
-      };
-      distinct = subst (λ l. IsDistinct nat_eq (keys_of l)) (sym ne) distinct-none;
-      untimed = λ p. ap (option_and_then (λ (row : Row (Record _ _)). row.timer)) (no_row p);
+      listed = listed-empty access_in rows nodes re ne;
     }
 
 module _ {K V : Type 0} (eq : K → K → Bool) (laws : IsEquivalence eq) (rows : List (Option (Row (Record K V)))) (index : KeyIndex K) (nodes : List (ℕ × ℕ)) (t : IsTied eq rows index nodes) where

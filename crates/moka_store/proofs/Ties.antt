@@ -1,6 +1,6 @@
 -- What the calls of a `Store` use of its invariant.
-use Rattle.std.proofs.Common.{◌≡◌, ◌≢◌, ℕ, ◌<◌, ◌≤◌, ◌==◌, Bool, false, List, map, Option, Some, None, is_some, length, count_by, inl, inr, sym, ap, ◌∙◌, nat_eq, Contains}
-use Rattle.std.proofs.lemmas.Bool.{cases_eq, eq-eqb, ne_eqb}
+use Rattle.std.proofs.Common.{◌≡◌, ◌≢◌, ℕ, ◌==◌, Bool, false, List, map, Option, Some, None, inl, inr, refl, sym, ap, ◌∙◌, nat_eq, Contains}
+use Rattle.std.proofs.lemmas.Bool.{cases_eq, ne_eqb}
 use Rattle.std.specs.FinMap.{get}
 use Rattle.std.specs.Map.{lookup, remove_entry}
 use Rattle.std.specs.Option.{option_map, option_and_then, option_map_or}
@@ -9,8 +9,9 @@ use Rattle.moka_structures.proofs.TableMaps.{option-cases}
 use Rattle.moka_structures.specs.declared.record_table.Membership.{Membership}
 use Rattle.moka_structures.specs.declared.record_table.Row.{Row}
 use Rattle.moka_structures.specs.Order.{next_after}
-use Rattle.moka_structures.specs.RecordTable.{row_at, ChangesAt, places_of}
-use Rattle.moka_store.proofs.Nodes.{in-nodes, map-agree, counted-none, counted-found, after-found, without-found, LeadsTo, length-nodes, length-nodes_below}
+use Rattle.moka_structures.specs.RecordTable.{row_at, number_at, ChangesAt, places_of}
+use Rattle.moka_store.proofs.Nodes.{in-nodes, map-agree, counted-none, counted-found, behind-found, rest-found}
+use Rattle.moka_store.proofs.Slots.{node-of, no-node, one-node}
 use Rattle.moka_store.specs.Store.{member_after}
 use Rattle.moka_store.specs.StoreRows.{access_in, access_at, member_in, member_at}
 use Rattle.moka_store.specs.StoreTies.{KeyIndex, IsNamed, IsTied}
@@ -72,6 +73,10 @@ module _ {K V : Type 0} (rows new : List (Option (Row (Record K V)))) (place : �
   pub access-off : ((m : ℕ × ℕ) → Contains nodes m → m.1 ≢ place) → map (member_at new) nodes ≡ map (member_at rows) nodes
   access-off off = map-agree (member_at new) (member_at rows) nodes (λ m h. ap (λ o. option_map_or member_in o (record { number = 0; counted = 0 })) (c.others m.1 (off m h)))
 
+-- a node's member has the number of its row
+pub member-number : {K V : Type 0} (rows : List (Option (Row (Record K V)))) (m : ℕ × ℕ) → (member_at rows m).number ≡ number_at rows m.1
+member-number rows m = elim (row_at rows m.1) as (λ o. (option_map_or member_in o (record { number = 0; counted = 0 })).number ≡ option_map_or (λ (row : Row (Record _ _)). row.number) o 0) [ None ↦ refl | Some row ↦ refl ]
+
 -- the row at a node's place, with its slot
 pub record NodeRow {K V : Type 0} (rows : List (Option (Row (Record K V)))) (node : ℕ × ℕ) : Type 0 where
   pub row : Row (Record K V)
@@ -96,14 +101,7 @@ module _ {K V : Type 0} (rows : List (Option (Row (Record K V)))) where
 
 module _ {K V : Type 0} (eq : K → K → Bool) (rows : List (Option (Row (Record K V)))) (index : KeyIndex K) (nodes : List (ℕ × ℕ)) (t : IsTied eq rows index nodes) where
   pub node_row : (m : ℕ × ℕ) → Contains nodes m → NodeRow rows m
-  node_row m h = access_at-row rows m.0 m.1 (t.linked.to_slot m.0 m.1 (in-nodes nodes m t.distinct h))
-
-  leads : (m : ℕ × ℕ) → Contains nodes m → LeadsTo access_in rows m
-  leads m h = let w = node_row m h in (w.row, w.at_is, ap (option_map (λ (m : Membership). m.access)) w.membership_is ∙ ap Some w.slot_is)
-
-  -- there are no more nodes than rows
-  pub nodes-within : length nodes ≤ count_by is_some rows
-  nodes-within = length-nodes access_in nodes rows t.distinct leads
+  node_row m h = access_at-row rows m.0 m.1 (t.listed.linked.to_slot m.0 m.1 (in-nodes nodes m t.listed.distinct h))
 
   -- a number without a row is not counted
   pub counted-unplaced : (number : ℕ) → get (places_of rows) number ≡ None → counted_of number (map (member_at rows) nodes) ≡ None
@@ -116,54 +114,15 @@ module _ {K V : Type 0} (eq : K → K → Bool) (rows : List (Option (Row (Recor
       cc))
 
   module _ (place : ℕ) (row : Row (Record K V)) (at_is : row_at rows place ≡ Some row) where
-    -- and fewer, where some row is no member
-    pub nodes-below : row.membership ≡ None → length nodes < count_by is_some rows
-    nodes-below none = length-nodes_below access_in nodes rows place row t.distinct leads at_is (ap (option_map (λ (m : Membership). m.access)) none)
-
-    -- a node of the same number leads to the row
-    same-place : (m : ℕ × ℕ) → Contains nodes m → (member_at rows m).number ≡ row.number → m.1 ≡ place
-    same-place m h e =
-        let w = node_row m h in
-        let its : (member_at rows m).number ≡ w.row.number = ap (λ o. (option_map_or member_in o (record { number = 0; counted = 0 })).number) w.at_is in
-        t.numbered.same m.1 place w.row row w.at_is at_is (sym its ∙ e)
-
-    -- no node leads to a row that is no member
-    pub off-nodes : row.membership ≡ None → (m : ℕ × ℕ) → Contains nodes m → m.1 ≢ place
-    off-nodes none m h e =
-        let w = node_row m h in
-        let both : Some w.row ≡ Some row = sym w.at_is ∙ ap (row_at rows) e ∙ at_is in
-        let same : w.row ≡ row = cc in
-        let bad : None ≡ Some w.membership = sym none ∙ ap (λ r. r.membership) (sym same) ∙ w.membership_is in
-        cc
-
     test-none : row.membership ≡ None → (m : ℕ × ℕ) → Contains nodes m → ((member_at rows m).number == row.number) ≡ false
-    test-none none m h = ne_eqb (member_at rows m).number row.number (λ e. off-nodes none m h (same-place m h e))
-
-    -- the node of a member is in its slot
-    pub node-of : (m : Membership) → row.membership ≡ Some m → lookup (nat_eq m.access) nodes ≡ Some place
-    node-of m is = t.linked.to_place m.access place (ap (option_and_then access_in) at_is ∙ ap (option_map (λ (m : Membership). m.access)) is)
+    test-none none m h = ap (λ n. n == row.number) (member-number rows m) ∙ no-node access_in rows nodes t.listed place row at_is t.numbered (ap (option_map (λ (m : Membership). m.access)) none) m h
 
     test-same : (m : Membership) → row.membership ≡ Some m → (k : ℕ × ℕ) → Contains nodes k → ((member_at rows k).number == row.number) ≡ nat_eq m.access k.0
-    test-same m is k h =
-        let w = node_row k h in
-        let its : (member_at rows k).number ≡ w.row.number = ap (λ o. (option_map_or member_in o (record { number = 0; counted = 0 })).number) w.at_is in
-        elim (cases_eq m.access k.0) as (λ _. ((member_at rows k).number == row.number) ≡ nat_eq m.access k.0) [
-          | inl s ↦
-              let both : Some place ≡ Some k.1 = sym (node-of m is) ∙ ap (λ s. lookup (nat_eq s) nodes) s ∙ in-nodes nodes k t.distinct h in
-              let p : place ≡ k.1 = cc in
-              let rs : Some w.row ≡ Some row = sym w.at_is ∙ ap (row_at rows) (sym p) ∙ at_is in
-              let r : w.row ≡ row = cc in
-              eq-eqb (member_at rows k).number row.number (its ∙ ap (λ r. r.number) r) ∙ sym (eq-eqb m.access k.0 s)
-          | inr ne ↦
-              ne_eqb (member_at rows k).number row.number (λ e.
-              let p = same-place k h e in
-              let rs : Some w.row ≡ Some row = sym w.at_is ∙ ap (row_at rows) p ∙ at_is in
-              let r : w.row ≡ row = cc in
-              let ms : Some w.membership ≡ Some m = sym w.membership_is ∙ ap (λ r. r.membership) r ∙ is in
-              let same : w.membership ≡ m = cc in
-              ne (ap (λ m. m.access) (sym same) ∙ w.slot_is))
-              ∙ sym (ne_eqb m.access k.0 ne)
-        ]
+    test-same m is k h = ap (λ n. n == row.number) (member-number rows k) ∙ one-node access_in rows nodes t.listed place row at_is t.numbered m.access (ap (option_map (λ (m : Membership). m.access)) is) k h
+
+    -- the node of a member is in its slot
+    pub access-of : (m : Membership) → row.membership ≡ Some m → lookup (nat_eq m.access) nodes ≡ Some place
+    access-of m is = node-of access_in rows nodes t.listed place row at_is m.access (ap (option_map (λ (m : Membership). m.access)) is)
 
     member-is : (slot : ℕ) → member_at rows (slot, place) ≡ member_in row
     member-is slot = ap (λ o. option_map_or member_in o (record { number = 0; counted = 0 })) at_is
@@ -173,7 +132,7 @@ module _ {K V : Type 0} (eq : K → K → Bool) (rows : List (Option (Row (Recor
     counted-row = elim (option-cases row.membership) as (λ _. counted_of row.number (map (member_at rows) nodes) ≡ option_map (λ (m : Membership). m.counted) row.membership) [
       | inl none ↦ counted-none (member_at rows) row.number nodes (test-none none) ∙ sym (ap (option_map (λ (m : Membership). m.counted)) none)
       | inr m ↦
-          counted-found (member_at rows) row.number m.0.access nodes place (test-same m.0 m.1) (node-of m.0 m.1)
+          counted-found (member_at rows) row.number m.0.access nodes place (test-same m.0 m.1) (access-of m.0 m.1)
           ∙ ap (λ a. Some a.counted) (member-is m.0.access)
           ∙ ap (λ o. Some (option_map_or (λ (m : Membership). m.counted) o 0)) m.1
           ∙ sym (ap (option_map (λ (m : Membership). m.counted)) m.1)
@@ -181,11 +140,11 @@ module _ {K V : Type 0} (eq : K → K → Bool) (rows : List (Option (Row (Recor
 
     -- the list without the row's number
     pub without-row : (m : Membership) → row.membership ≡ Some m → without_member row.number (map (member_at rows) nodes) ≡ map (member_at rows) (remove_entry (nat_eq m.access) nodes)
-    without-row m is = without-found (member_at rows) row.number m.access nodes t.distinct (test-same m is)
+    without-row m is = rest-found (member_at rows) (λ a. a.number == row.number) m.access nodes t.listed.distinct (test-same m is)
 
     -- the member behind the row's
     pub after-row : (m : Membership) → row.membership ≡ Some m → member_after row.number (map (member_at rows) nodes) ≡ option_map (member_at rows) (next_after m.access nodes)
-    after-row m is = after-found (member_at rows) row.number m.access nodes (test-same m is)
+    after-row m is = behind-found (member_at rows) (λ a. a.number == row.number) m.access nodes (test-same m is)
 
     -- a row whose number is not counted is no member
     pub unlisted-from : counted_of row.number (map (member_at rows) nodes) ≡ None → row.membership ≡ None

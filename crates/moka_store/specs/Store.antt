@@ -1,6 +1,6 @@
 -- What a contract sees of a `Store`.
-use Rattle.std.specs.Prelude.{◌≡◌, ℕ, Bool, true, Option, Some, None, IsSome, List, [], ◌∷◌, ◌==◌, if◌then◌else◌, slice_get, refl}
-use Rattle.std.specs.Coded.{Coded, code_by, coded×, coded_ℕ, coded_list, coded_option}
+use Rattle.std.specs.Prelude.{◌≡◌, ◌≢◌, ℕ, Bool, true, false, Option, Some, None, IsSome, List, [], ◌∷◌, ◌==◌, if◌then◌else◌, slice_get, refl}
+use Rattle.std.specs.Coded.{Coded, code_by, coded×, coded_ℕ, coded_bool, coded_list, coded_option}
 use Rattle.std.specs.FinMap as finite
 use Rattle.std.specs.FinMap.{FinMap}
 use Rattle.std.specs.Ordering.{nat_cmp}
@@ -8,14 +8,23 @@ use Rattle.moka_store.specs.declared.store.Handle.{Handle}
 use Rattle.moka_parts.specs.declared.policy.Instant.{Instant}
 use Rattle.moka_parts.specs.declared.records.Record.{Record}
 use Rattle.moka_parts.specs.declared.records.Member.{Member}
-use Rattle.moka_parts.specs.Records.{Records}
+use Rattle.moka_parts.specs.Records.{Records, is_listed}
 
--- the records by number, the access list, the place of each number that has a row, and how many new records need no memory
+-- the records by number, both orders, the timers, the place of each number that has a row, and how many new records need no memory
 pub record Kept (K V : Type 0) : Type 0 where
   pub records : Records K V
   pub access : List Member
+  -- the members' numbers in the order of writing, where that is kept
+  pub written : List ℕ
+  -- the moment of each number's timer
+  pub timers : FinMap nat_cmp ℕ
+  -- where a scan of the order of writing goes on; none is the front
+  pub cursor : Option ℕ
   pub places : FinMap nat_cmp ℕ
   pub room : ℕ
+  -- these never change: the order of writing is kept, and timers are
+  pub ordered : Bool
+  pub timed : Bool
 
 -- a moment is stored as its number
 abbrev pub instant_code : Coded Instant
@@ -39,16 +48,34 @@ member_code = code_by (ℕ × ℕ) (coded× coded_ℕ coded_ℕ) (λ m. (m.numbe
 abbrev pub kept_code : {K V : Type 0} → Coded K → Coded V → Coded (Kept K V)
 kept_code {K} {V} k v =
     code_by
-    (Records K V × (List Member × (FinMap nat_cmp ℕ × ℕ)))
-    (coded× (finite.code coded_ℕ (record_code k v)) (coded× (coded_list member_code) (coded× (finite.code coded_ℕ coded_ℕ) coded_ℕ)))
-    (λ s. (s.records, (s.access, (s.places, s.room))))
-    (λ p. record { records = p.0; access = p.1.0; places = p.1.1.0; room = p.1.1.1 })
+    (Records K V × (List Member × (List ℕ × (FinMap nat_cmp ℕ × (Option ℕ × (FinMap nat_cmp ℕ × (ℕ × (Bool × Bool))))))))
+    (coded× (finite.code coded_ℕ (record_code k v)) (coded× (coded_list member_code) (coded× (coded_list coded_ℕ) (coded× (finite.code coded_ℕ coded_ℕ) (coded× (coded_option coded_ℕ) (coded× (finite.code coded_ℕ coded_ℕ) (coded× coded_ℕ (coded× coded_bool coded_bool))))))))
+    (λ s. (s.records, (s.access, (s.written, (s.timers, (s.cursor, (s.places, (s.room, (s.ordered, s.timed)))))))))
+    (λ p. record { records = p.0; access = p.1.0; written = p.1.1.0; timers = p.1.1.1.0; cursor = p.1.1.1.1.0; places = p.1.1.1.1.1.0; room = p.1.1.1.1.1.1.0; ordered = p.1.1.1.1.1.1.1.0; timed = p.1.1.1.1.1.1.1.1 })
     (λ _. refl)
+
+-- the one behind the first that passes a test
+abbrev pub behind : {X : Type 0} → (X → Bool) → List X → Option X
+behind test [] = None
+behind test (x ∷ xs) = if test x then slice_get xs 0 else behind test xs
 
 -- the member behind the one of a number
 abbrev pub member_after : ℕ → List Member → Option Member
-member_after n [] = None
-member_after n (a ∷ members) = if a.number == n then slice_get members 0 else member_after n members
+member_after n members = behind (λ a. a.number == n) members
+
+-- the number behind this one
+abbrev pub number_after : ℕ → List ℕ → Option ℕ
+number_after n ns = behind (λ m. m == n) ns
+
+-- where a cursor stands once the number has moved or left: at the one that stood behind it, else at the front
+abbrev pub cursor_past : ℕ → List ℕ → Option ℕ → Option ℕ
+cursor_past n ns None = None
+cursor_past n ns (Some m) = if m == n then number_after n ns else Some m
+
+-- the timers with this moment for the number, or with none
+abbrev pub with_timer : FinMap nat_cmp ℕ → ℕ → Option ℕ → FinMap nat_cmp ℕ
+with_timer timers n None = finite.remove timers n
+with_timer timers n (Some at) = finite.insert timers n at
 
 module _ {K V : Type 0} where
   -- the number has a row at the place
@@ -59,6 +86,12 @@ module _ {K V : Type 0} where
   pub record IsHandle (s : Kept K V) (handle : Handle) : Type 0 where
     pub placed : IsPlaced s handle
     pub stored : IsSome (finite.get s.records handle.number)
+
+  -- the number stands nowhere in the order of writing, no timer is its, and the cursor is not at it
+  pub record IsOff (s : Kept K V) (n : ℕ) : Type 0 where
+    pub unlisted : is_listed n s.written ≡ false
+    pub untimed : finite.get s.timers n ≡ None
+    pub passed : s.cursor ≢ Some n
 
   -- each record is under its own number, and a key has one record
   pub record IsOneEach (eq : K → K → Bool) (records : Records K V) : Type 0 where

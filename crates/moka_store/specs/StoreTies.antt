@@ -1,15 +1,19 @@
 -- How the parts of a `Store` hold together. No public clause cites this module.
-use Rattle.std.specs.Prelude.{◌≡◌, ℕ, ◌^◌, ◌-◌, ◌<◌, ◌≤◌, min, Bool, true, List, Option, Some, None, is_some, count_by, length, map, nat_eq}
+use Rattle.std.specs.Prelude.{◌≡◌, ℕ, ◌+◌, ◌^◌, ◌-◌, ◌<◌, ◌≤◌, min, Bool, true, List, Option, Some, None, IsSome, is_some, count_by, length, map, nat_eq}
 use Rattle.std.specs.FinMap.{FinMap, get, len}
 use Rattle.std.specs.List.{IsDistinct}
 use Rattle.std.specs.Map.{lookup, keys_of}
-use Rattle.std.specs.Option.{option_map}
+use Rattle.std.specs.Option.{option_map, option_and_then}
 use Rattle.std.specs.Ordering.{nat_cmp}
 use Rattle.moka_structures.specs.declared.record_table.Row.{Row}
 use Rattle.moka_structures.specs.Linked.{IsLinked}
-use Rattle.moka_structures.specs.RecordTable.{row_at, IsNumbered, records_of, places_of}
+use Rattle.moka_structures.specs.Order.{Order}
+use Rattle.moka_structures.specs.RecordTable.{row_at, membership_at, IsNumbered, records_of, places_of}
+use Rattle.moka_wheel.specs.Wheel.{Timer}
+use Rattle.moka_store.specs.Listing.{Listing, IsCursor}
+use Rattle.moka_store.specs.Timing.{Timing}
 use Rattle.moka_store.specs.Store.{Kept}
-use Rattle.moka_store.specs.StoreRows.{key_at, access_at, timer_at, member_at, row_room}
+use Rattle.moka_store.specs.StoreRows.{key_at, access_in, written_in, written_at, timer_at, member_at, written_of, cursor_of, timers_of, row_room}
 use Rattle.moka_store.specs.Weights.{IsWeighed}
 use Rattle.moka_parts.specs.declared.records.Record.{Record}
 
@@ -27,28 +31,53 @@ pub record IsIndex {K : Type 0} (eq : K → K → Bool) (key_at : ℕ → Option
 pub record IsNamed {K V : Type 0} (at : ℕ → Option (Row (Record K V))) : Type 0 where
   pub same : (p : ℕ) (row : Row (Record K V)) (r : Record K V) → at p ≡ Some row → row.stored ≡ Some r → r.number ≡ row.number
 
+-- the slots in the rows are those of the nodes, and none stands twice
+pub record IsListed {K V : Type 0} (slot_in : Row (Record K V) → Option ℕ) (rows : List (Option (Row (Record K V)))) (nodes : List (ℕ × ℕ)) : Type 0 where
+  pub linked : IsLinked (λ place. option_and_then slot_in (row_at rows place)) (λ slot. lookup (nat_eq slot) nodes)
+  pub distinct : IsDistinct nat_eq (keys_of nodes)
+
 -- the parts belong together
 pub record IsTied {K V : Type 0} (eq : K → K → Bool) (rows : List (Option (Row (Record K V)))) (index : KeyIndex K) (nodes : List (ℕ × ℕ)) : Type 0 where
   pub numbered : IsNumbered (row_at rows)
   pub named : IsNamed (row_at rows)
   pub indexed : IsIndex eq (key_at rows) index
-  pub linked : IsLinked (access_at rows) (λ slot. lookup (nat_eq slot) nodes)
-  pub distinct : IsDistinct nat_eq (keys_of nodes)
-  pub untimed : (place : ℕ) → timer_at rows place ≡ None
+  pub listed : IsListed access_in rows nodes
 
--- there is a key for each record and a node for each row, and the weight is that of all members
-pub record IsStore {K V : Type 0} (eq : K → K → Bool) (rows : List (Option (Row (Record K V)))) (index : KeyIndex K) (keys : ℕ) (nodes : List (ℕ × ℕ)) (most weight : ℕ) : Type 0 where
+-- the nodes of the write list are those of rows, where the list is kept of all members
+pub record IsWritten {K V : Type 0} (rows : List (Option (Row (Record K V)))) (list : Listing) : Type 0 where
+  pub listed : IsListed written_in rows list.nodes
+  pub cursor : IsCursor list.nodes list.cursor
+  pub all : list.ordered ≡ true → (place : ℕ) → IsSome (membership_at rows place) → IsSome (written_at rows place)
+
+-- the slots in the rows are those of the timers, and only members have one
+pub record IsTimed {K V : Type 0} (rows : List (Option (Row (Record K V)))) (timers : FinMap nat_cmp Timer) : Type 0 where
+  pub linked : IsLinked (timer_at rows) (λ slot. option_map (λ t. t.number) (get timers slot))
+  pub members : (place : ℕ) → IsSome (timer_at rows place) → IsSome (membership_at rows place)
+
+-- there is a key for each record, and a node and a timer for each row, and the weight is that of all members
+pub record IsStore {K V : Type 0} (eq : K → K → Bool) (rows : List (Option (Row (Record K V)))) (index : KeyIndex K) (keys : ℕ) (nodes : List (ℕ × ℕ)) (list : Listing) (timing : Timing) (most weight : ℕ) : Type 0 where
   pub tied : IsTied eq rows index nodes
+  pub written : IsWritten rows list
+  pub timed : IsTimed rows timing.timers
   pub keyed : keys ≡ len (records_of rows)
   pub fits : count_by is_some rows ≤ most
   pub few : length nodes < 2 ^ 32
   pub weighed : IsWeighed (map (member_at rows) nodes) weight
 
+-- for how many rows the nodes of both lists and the timers suffice
+abbrev pub most_of : Order → Listing → Timing → ℕ
+most_of access list timing = min (length access.members + access.room) (min list.most timing.most)
+
 -- what a contract sees of the parts, where so many places of the index, rows and nodes fit with no memory
-abbrev pub kept_of : {K V : Type 0} → List (Option (Row (Record K V))) → List (ℕ × ℕ) → ℕ → ℕ → ℕ → Kept K V
-kept_of rows nodes spare room most = record {
+abbrev pub kept_of : {K V : Type 0} → List (Option (Row (Record K V))) → List (ℕ × ℕ) → Listing → Timing → ℕ → ℕ → ℕ → Kept K V
+kept_of rows nodes list timing spare room most = record {
   records = records_of rows;
   access = map (member_at rows) nodes;
+  written = written_of rows list.nodes;
+  timers = timers_of timing.timers rows;
+  cursor = cursor_of rows list.cursor;
   places = places_of rows;
   room = min spare (min (row_room rows room) (most - count_by is_some rows));
+  ordered = list.ordered;
+  timed = timing.timed;
 }

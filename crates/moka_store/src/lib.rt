@@ -2,5 +2,7 @@
 #![tactic(auto)]
 
 pub mod store;
+mod timers;
+mod write_list;
 
 pub use store::{Handle, Store, Update};

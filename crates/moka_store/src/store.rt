@@ -1,15 +1,19 @@
-//! Records, their order and the index of their keys, in one.
+//! Records, their orders and timers and the index of their keys, in one.
 //!
 //! moka: `sync::base_cache::Inner`, whose maps and deques these are.
-ghost use Rattle.std.specs.Prelude.{◌==◌, if◌then◌else◌, ◌≡◌, ◌≢◌, ◌+◌, ◌^◌, ◌<◌, ◌≤◌, ℕ, [], ◌∷◌, ◌++◌, length, map, IsPermutation, OnOk, IfOk, IfSome, IsOk, IsSome, None, Some, slice_get, option_map, option_copied, IsTrue, ◌↔◌};
+ghost use Rattle.std.specs.Prelude.{◌==◌, if◌then◌else◌, ◌≡◌, ◌≢◌, ◌+◌, ◌^◌, ◌<◌, ◌≤◌, ℕ, [], ◌∷◌, ◌++◌, length, map, IsPermutation, OnOk, IfOk, IfSome, IfNone, true, false, IsOk, IsSome, IsNone, None, Some, slice_get, option_map, option_copied, IsTrue, ◌↔◌};
 ghost use Rattle.std.specs.FinMap as finite;
 ghost use Rattle.std.specs.List.{IsDistinct};
-ghost use Rattle.moka_store.specs.Store.{member_after, ChangesRecord, ClonesAreEqual, IsPlaced, IsHandle, IsOneEach};
+ghost use Rattle.moka_store.specs.Store.{member_after, number_after, cursor_past, with_timer, ChangesRecord, ClonesAreEqual, IsOff, IsPlaced, IsHandle, IsOneEach};
 ghost use Rattle.moka_store.specs.declared.store.Handle.{Handle};
 ghost use Rattle.moka_parts.specs.declared.records.Record.{Record};
 ghost use Rattle.moka_store.specs.Updates.{updated};
-ghost use Rattle.moka_parts.specs.Records.{member, counted_of, record_of_key, with_record, without_member, is_member, is_settled, numbers_of, to_back, total_weight};
+ghost use Rattle.moka_parts.specs.Order.{IsListOf};
+ghost use Rattle.moka_parts.specs.Time.{moment_of};
+ghost use Rattle.moka_parts.specs.Records.{member, counted_of, record_of_key, with_record, without_member, is_member, is_settled, numbers_of, to_back, total_weight, is_listed, without_number, number_to_back, entered_by};
 
+use crate::timers::Timers;
+use crate::write_list::WriteList;
 use moka_index::PlaceIndex;
 use moka_parts::policy::Instant;
 use moka_parts::records::Record;
@@ -38,7 +42,8 @@ pub struct Update<V> {
     pub weight: u32,
 }
 
-/// The records of a cache, found by key or by handle, with their order of access and the sum of its weights.
+/// The records of a cache, found by key or by handle, with their orders of access and of writing, their timers and the
+/// sum of the members' weights.
 #[derive(Drop)]
 pub struct Store<K: Eq + Hash, V, S: BuildHasher> {
     hasher: S,
@@ -46,12 +51,13 @@ pub struct Store<K: Eq + Hash, V, S: BuildHasher> {
     index: PlaceIndex,
     table: RecordTable<Record<K, V>>,
     access: OrderList,
+    written: WriteList,
+    timers: Timers,
     // The sum of the weights that are counted for the members.
     weight: u128,
 }
 
 impl<K: Eq + Hash, V, S: BuildHasher> Model for Store<K, V, S> {
-    ghost use Rattle.std.specs.Prelude.{◌+◌, length};
     ghost use Rattle.std.specs.FinMap as finite;
     ghost use Rattle.moka_store.specs.Hashing.{hash_by};
     ghost use Rattle.moka_store.specs.Store.{Kept, kept_code};
@@ -60,34 +66,39 @@ impl<K: Eq + Hash, V, S: BuildHasher> Model for Store<K, V, S> {
 
     ghost coded = { kept_code K.code V.code };
 
-    ghost use Rattle.moka_store.specs.StoreTies.{IsStore, kept_of};
+    ghost use Rattle.moka_store.specs.StoreTies.{IsStore, kept_of, most_of};
 
-    ghost view = { λ a. kept_of a.table.rows a.access.members a.index.room a.table.room (length a.access.members + a.access.room) };
+    ghost view = { λ a. kept_of a.table.rows a.access.members a.written a.timers a.index.room a.table.room (most_of a.access a.written a.timers) };
 
-    ghost invariant = { λ a. IsStore K.eq a.table.rows (record { hash_of = λ k. hash_by S.Hasher.finish S.Hasher.write (S.build_hasher a.hasher) (K.hash_input k); entries = a.index.entries }) (finite.len a.index.entries) a.access.members (length a.access.members + a.access.room) a.weight };
+    ghost invariant = { λ a. IsStore K.eq a.table.rows (record { hash_of = λ k. hash_by S.Hasher.finish S.Hasher.write (S.build_hasher a.hasher) (K.hash_input k); entries = a.index.entries }) (finite.len a.index.entries) a.access.members a.written a.timers (most_of a.access a.written a.timers) a.weight };
 }
 
 impl<K: Eq + Hash, V, S: BuildHasher> Store<K, V, S> {
-    /// An empty store.
-    pub fn new(alloc: Global, hasher: S) -> Result<Self, AllocError>
+    /// An empty store, which keeps the order of writing if it is to be `ordered`, and timers if it is to be `timed`.
+    pub fn new(alloc: Global, hasher: S, ordered: bool, timed: bool) -> Result<Self, AllocError>
     where
         S: Drop,
         ensures records { IfOk result (λ s. s.records ≡ finite.empty) }
         ensures access { IfOk result (λ s. s.access ≡ []) }
         ensures places { IfOk result (λ s. s.places ≡ finite.empty) }
+        ensures empty { IfOk result (λ s. s ≡ record { records = finite.empty; access = []; written = []; timers = finite.empty; cursor = None; places = finite.empty; room = s.room; ordered = ordered; timed = timed }) }
     {
         let access = OrderList::new(alloc)?;
+        let written = WriteList::new(alloc, ordered)?;
+        let timers = Timers::new(alloc, timed)?;
         Ok(Store {
             hasher,
             index: PlaceIndex::new(alloc),
             table: RecordTable::new(alloc),
             access,
+            written,
+            timers,
             weight: 0,
         })
     }
 
-    /// Makes room for `additional` more records: in the index, for their rows and for their members. An error leaves what
-    /// is kept as it was: there is no memory, or a place would need more than 32 bits.
+    /// Makes room for `additional` more records: in the index, for their rows, their places in the orders and their timers.
+    /// An error leaves what is kept as it was: there is no memory, or a place would need more than 32 bits.
     pub fn reserve(&mut self, additional: usize) -> Result<(), AllocError>
         ensures room { OnOk result (additional ≤ self.new.room) }
         ensures succeeds { additional ≤ self.old.room → IsOk result }
@@ -97,7 +108,9 @@ impl<K: Eq + Hash, V, S: BuildHasher> Store<K, V, S> {
         changes::reserve_rows(&mut self.table, additional)?;
         self.index.reserve(additional)?;
         let rows = self.table.len() + additional;
-        self.access.reserve(rows - self.access.len())
+        self.access.reserve(rows - self.access.len())?;
+        self.written.reserve(rows)?;
+        self.timers.reserve(rows)
     }
 
     /// The record whose key is equal, with its handle.
@@ -226,7 +239,8 @@ impl<K: Eq + Hash, V, S: BuildHasher> Store<K, V, S> {
     /// The weight that is counted for the number at this handle, if it is in the access list.
     pub fn counted(&self, handle: Handle) -> Option<u32>
         requires { IsPlaced self.now handle }
-        ensures { result ≡ counted_of handle.number self.now.access }
+        ensures counted { result ≡ counted_of handle.number self.now.access }
+        ensures off { IsNone result → IsOff self.now handle.number }
     {
         self.table.counted(handle.place)
     }
@@ -234,7 +248,8 @@ impl<K: Eq + Hash, V, S: BuildHasher> Store<K, V, S> {
     /// Whether the number at this handle is in the access list.
     pub fn is_member(&self, handle: Handle) -> bool
         requires { IsPlaced self.now handle }
-        ensures { result ≡ is_member handle.number self.now.access }
+        ensures member { result ≡ is_member handle.number self.now.access }
+        ensures off { result ≡ false → IsOff self.now handle.number }
     {
         self.counted(handle).is_some()
     }
@@ -250,32 +265,48 @@ impl<K: Eq + Hash, V, S: BuildHasher> Store<K, V, S> {
         }
     }
 
-    /// The number at this handle comes to the back of the access list, with this weight. It takes no memory.
+    /// The number at this handle comes to the back of both orders, with this weight. It takes no memory.
     pub fn admit(&mut self, handle: Handle, weight: u32)
         requires placed { IsPlaced self.old handle }
         requires apart { counted_of handle.number self.old.access ≡ None }
-        ensures step { self.new ≡ record self.old { access = self.old.access ++ member handle.number weight ∷ [] } }
+        ensures step { self.new ≡ record self.old { access = self.old.access ++ member handle.number weight ∷ []; written = entered_by self.old.ordered handle.number self.old.written } }
         ensures counted { (n : ℕ) → counted_of n self.new.access ≡ (if n == handle.number then Some weight else counted_of n self.old.access) }
         ensures places { self.new.places ≡ self.old.places }
         ensures records { self.new.records ≡ self.old.records }
     {
         let access = self.access.push_back(handle.place as u64);
+        let written = self.written.push_back(handle.place as u64);
         self.weight += weight as u128;
         let _none = self.table.set_membership(
             handle.place,
             Membership {
                 counted: weight,
                 access,
-                written: None,
+                written,
             },
         );
     }
 
-    /// The number at this handle moves to the back of the access list.
-    pub fn move_to_back(&mut self, handle: Handle)
+    /// The number at this handle moves to the back of the access list alone.
+    pub fn move_in_access(&mut self, handle: Handle)
         requires placed { IsPlaced self.old handle }
         requires member { IsSome (counted_of handle.number self.old.access) }
         ensures step { self.new ≡ record self.old { access = to_back handle.number self.old.access } }
+        ensures counted { (n : ℕ) → counted_of n self.new.access ≡ counted_of n self.old.access }
+        ensures places { self.new.places ≡ self.old.places }
+        ensures records { self.new.records ≡ self.old.records }
+    {
+        let Some(found) = self.table.membership(handle.place) else {
+            unreachable!()
+        };
+        self.access.move_to_back(found.access);
+    }
+
+    /// The number at this handle moves to the back of both orders. A cursor there goes on.
+    pub fn move_to_back(&mut self, handle: Handle)
+        requires placed { IsPlaced self.old handle }
+        requires member { IsSome (counted_of handle.number self.old.access) }
+        ensures step { self.new ≡ record self.old { access = to_back handle.number self.old.access; written = number_to_back handle.number self.old.written; cursor = cursor_past handle.number self.old.written self.old.cursor } }
         ensures counted { (n : ℕ) → counted_of n self.new.access ≡ counted_of n self.old.access }
         ensures places { self.new.places ≡ self.old.places }
         ensures records { self.new.records ≡ self.old.records }
@@ -284,13 +315,14 @@ impl<K: Eq + Hash, V, S: BuildHasher> Store<K, V, S> {
             unreachable!()
         };
         self.access.move_to_back(membership.access);
+        self.written.move_to_back(membership.written);
     }
 
-    /// The number at this handle moves to the back of the access list, with this weight.
+    /// The number at this handle moves to the back of both orders, with this weight. A cursor there goes on.
     pub fn recount(&mut self, handle: Handle, weight: u32)
         requires placed { IsPlaced self.old handle }
         requires member { IsSome (counted_of handle.number self.old.access) }
-        ensures step { self.new ≡ record self.old { access = without_member handle.number self.old.access ++ member handle.number weight ∷ [] } }
+        ensures step { self.new ≡ record self.old { access = without_member handle.number self.old.access ++ member handle.number weight ∷ []; written = number_to_back handle.number self.old.written; cursor = cursor_past handle.number self.old.written self.old.cursor } }
         ensures counted { (n : ℕ) → counted_of n self.new.access ≡ (if n == handle.number then Some weight else counted_of n self.old.access) }
         ensures places { self.new.places ≡ self.old.places }
         ensures records { self.new.records ≡ self.old.records }
@@ -300,23 +332,113 @@ impl<K: Eq + Hash, V, S: BuildHasher> Store<K, V, S> {
         };
         self.table.set_counted(handle.place, weight);
         self.access.move_to_back(before.access);
+        self.written.move_to_back(before.written);
         self.weight = self.weight - before.counted as u128 + weight as u128;
     }
 
-    /// The number at this handle leaves the access list.
+    /// The number at this handle leaves both orders, and has no timer any more. A cursor there goes on.
     pub fn leave(&mut self, handle: Handle)
         requires placed { IsPlaced self.old handle }
         requires member { IsSome (counted_of handle.number self.old.access) }
-        ensures step { self.new ≡ record self.old { access = without_member handle.number self.old.access } }
+        ensures step { self.new ≡ record self.old { access = without_member handle.number self.old.access; written = without_number handle.number self.old.written; timers = finite.remove self.old.timers handle.number; cursor = cursor_past handle.number self.old.written self.old.cursor } }
         ensures counted { (n : ℕ) → counted_of n self.new.access ≡ (if n == handle.number then None else counted_of n self.old.access) }
         ensures places { self.new.places ≡ self.old.places }
         ensures records { self.new.records ≡ self.old.records }
     {
+        self.clear_timer(handle);
         let Some(membership) = self.table.clear_membership(handle.place) else {
             unreachable!()
         };
         let _place = self.access.unlink(membership.access);
+        self.written.unlink(membership.written);
         self.weight -= membership.counted as u128;
+    }
+
+    // The number at this handle has no timer any more.
+    fn clear_timer(&mut self, handle: Handle)
+        requires { IsPlaced self.old handle }
+        ensures { self.new ≡ record self.old { timers = finite.remove self.old.timers handle.number } }
+    {
+        let timer = self.table.set_timer(handle.place, None);
+        let _none = self.timers.set(timer, handle.place as u64, None);
+    }
+
+    /// The timer of the number at this handle, where timers are kept, stands at its record's expiry, or is taken out where
+    /// there is none. It takes no memory.
+    pub fn set_timer(&mut self, handle: Handle)
+        requires handle { IsHandle self.old handle }
+        requires member { IsSome (counted_of handle.number self.old.access) }
+        ensures step { (r : Record K V) → finite.get self.old.records handle.number ≡ Some r → self.new ≡ record self.old { timers = if self.old.timed then with_timer self.old.timers handle.number (moment_of r.expires) else self.old.timers } }
+        ensures rest { self.new ≡ record self.old { timers = self.new.timers } }
+    {
+        let (before, expires) = changes::timing_at(&self.table, handle.place);
+        let timer = self.timers.set(before, handle.place as u64, expires);
+        let _before = self.table.set_timer(handle.place, timer);
+    }
+
+    /// Takes a timer out whose moment is at or before `now`. The answer is whose it was, and None exactly where there is none.
+    pub fn due(&mut self, now: Instant) -> Option<Handle>
+        ensures due { IfSome result (λ h. (t : ℕ) × (finite.get self.old.timers h.number ≡ Some t) × (t ≤ now.0)) }
+        ensures placed { IfSome result (λ h. IsPlaced self.new h) }
+        ensures member { IfSome result (λ h. IsSome (counted_of h.number self.new.access)) }
+        ensures step { IfSome result (λ h. self.new ≡ record self.old { timers = finite.remove self.old.timers h.number }) }
+        ensures none { IfNone result ((n t : ℕ) → finite.get self.old.timers n ≡ Some t → now.0 < t) }
+        ensures unchanged { IfNone result (self.new ≡ self.old) }
+    {
+        let due = self.timers.due(now)?;
+        let place = due.number as usize;
+        let _slot = self.table.set_timer(place, None);
+        Some(changes::handle_at(&self.table, place))
+    }
+
+    /// The first member in the order of writing, where that is kept.
+    pub fn front_written(&self) -> Option<Handle>
+        ensures placed { IfSome result (λ h. IsPlaced self.now h) }
+        ensures member { IfSome result (λ h. IsSome (counted_of h.number self.now.access)) }
+        ensures listed { IfSome result (λ h. is_listed h.number self.now.written ≡ true) }
+        ensures front { option_map (λ h. h.number) result ≡ slice_get self.now.written 0 }
+    {
+        let (_, place) = self.written.front()?;
+        Some(changes::handle_at(&self.table, place as usize))
+    }
+
+    /// The member behind the one at this handle in the order of writing.
+    pub fn next_written(&self, handle: Handle) -> Option<Handle>
+        requires placed { IsPlaced self.now handle }
+        requires member { IsSome (counted_of handle.number self.now.access) }
+        ensures placed { IfSome result (λ h. IsPlaced self.now h) }
+        ensures member { IfSome result (λ h. IsSome (counted_of h.number self.now.access)) }
+        ensures listed { IfSome result (λ h. is_listed h.number self.now.written ≡ true) }
+        ensures next { option_map (λ h. h.number) result ≡ number_after handle.number self.now.written }
+    {
+        let slot = changes::written_slot(&self.table, handle.place);
+        let (_, place) = self.written.next(slot)?;
+        Some(changes::handle_at(&self.table, place as usize))
+    }
+
+    /// The member at which a scan of the order of writing goes on; none is the front.
+    pub fn cursor(&self) -> Option<Handle>
+        ensures placed { IfSome result (λ h. IsPlaced self.now h) }
+        ensures member { IfSome result (λ h. IsSome (counted_of h.number self.now.access)) }
+        ensures listed { IfSome result (λ h. is_listed h.number self.now.written ≡ true) }
+        ensures cursor { option_map (λ h. h.number) result ≡ self.now.cursor }
+    {
+        let (_, place) = self.written.cursor()?;
+        Some(changes::handle_at(&self.table, place as usize))
+    }
+
+    /// A scan of the order of writing goes on at this member, which stands in that order, or at the front.
+    pub fn set_cursor(&mut self, handle: Option<Handle>)
+        requires placed { IfSome handle (λ h. IsPlaced self.old h) }
+        requires listed { IfSome handle (λ h. is_listed h.number self.old.written ≡ true) }
+        ensures { self.new ≡ record self.old { cursor = option_map (λ h. h.number) handle } }
+    {
+        let Some(handle) = handle else {
+            self.written.set_cursor(None);
+            return;
+        };
+        let node = changes::written_node(&self.table, handle.place);
+        self.written.set_cursor(node);
     }
 
     /// How many records there are.
@@ -363,6 +485,7 @@ impl<K: Eq + Hash, V, S: BuildHasher> Store<K, V, S> {
         ensures records { (n : ℕ) → IsSome (finite.get self.now.records n) → IsSome (finite.get self.now.places n) }
         ensures members { (n : ℕ) → IsSome (counted_of n self.now.access) → IsSome (finite.get self.now.places n) }
         ensures distinct { IsDistinct (◌==◌) (numbers_of self.now.access) }
+        ensures listed { self.now.ordered ≡ true → IsListOf self.now.access self.now.written }
     {
         let _weight = self.weight;
     }
@@ -392,11 +515,11 @@ impl<K: Eq + Hash, V, S: BuildHasher> Store<K, V, S> {
         Some(changes::member_at(&self.table, place as usize))
     }
 
-    /// The record at this handle leaves the map and, if it is a member, the access list. Its number stays.
+    /// The record at this handle leaves the map and, if it is a member, both orders and the timers. Its number stays.
     pub fn take_out(&mut self, handle: Handle) -> Record<K, V>
         requires { IsHandle self.old handle }
         ensures taken { finite.get self.old.records handle.number ≡ Some result }
-        ensures step { self.new ≡ record self.old { records = finite.remove self.old.records handle.number; access = without_member handle.number self.old.access; room = self.new.room } }
+        ensures step { self.new ≡ record self.old { records = finite.remove self.old.records handle.number; access = without_member handle.number self.old.access; written = without_number handle.number self.old.written; timers = finite.remove self.old.timers handle.number; cursor = cursor_past handle.number self.old.written self.old.cursor; room = self.new.room } }
         ensures room { self.old.room ≤ self.new.room }
         ensures gone { finite.get self.new.records handle.number ≡ None }
         ensures counted { (n : ℕ) → counted_of n self.new.access ≡ (if n == handle.number then None else counted_of n self.old.access) }
@@ -457,7 +580,7 @@ mod tests {
     #[test]
     #[tactic(auto, using(moka_structures::proofs::Gets::map_calls))]
     fn keeps_an_order(rt: HostRuntime) -> Result<(), Fail> {
-        let mut store: TestStore = Store::new(rt.alloc(), BuildHasherDefault::new())?;
+        let mut store: TestStore = Store::new(rt.alloc(), BuildHasherDefault::new(), true, true)?;
         store.reserve(2)?;
         assert!(rt; store.find_by_key(&10).is_none());
         let first = store.insert_new(record(1, 10, 100));
@@ -483,7 +606,7 @@ mod tests {
     #[test]
     #[tactic(auto, using(moka_structures::proofs::Gets::map_calls))]
     fn lets_a_record_go(rt: HostRuntime) -> Result<(), Fail> {
-        let mut store: TestStore = Store::new(rt.alloc(), BuildHasherDefault::new())?;
+        let mut store: TestStore = Store::new(rt.alloc(), BuildHasherDefault::new(), true, true)?;
         store.reserve(1)?;
         assert!(rt; store.find_by_key(&10).is_none());
         let handle = store.insert_new(record(1, 10, 100));
@@ -519,7 +642,7 @@ mod tests {
     #[test]
     #[tactic(auto, using(moka_structures::proofs::Gets::map_calls))]
     fn lists_its_keys(rt: HostRuntime) -> Result<(), Fail> {
-        let mut store: TestStore = Store::new(rt.alloc(), BuildHasherDefault::new())?;
+        let mut store: TestStore = Store::new(rt.alloc(), BuildHasherDefault::new(), true, true)?;
         store.reserve(2)?;
         assert!(rt; store.find_by_key(&10).is_none());
         let _first = store.insert_new(record(1, 10, 100));

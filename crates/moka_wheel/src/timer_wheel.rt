@@ -1,6 +1,6 @@
 //! A hierarchical timer wheel.
 ghost use Rattle.std.specs.Prelude.{◌≡◌, ◌+◌, ◌<◌, ◌≤◌, ℕ, IsOk, IsSome, OnOk, IfOk, IfSome, IfNone, Some, None, nat_eq, option_map, if◌then◌else◌};
-ghost use Rattle.std.specs.FinMap.{empty, get, insert, remove};
+ghost use Rattle.std.specs.FinMap.{empty, get, insert, len, remove};
 ghost use Rattle.moka_wheel.specs.Wheel.{Timer};
 
 use crate::buckets::Buckets;
@@ -63,6 +63,13 @@ impl TimerWheel {
             len: 0,
             free: 0,
         })
+    }
+
+    /// How many timers there are.
+    pub fn len(&self) -> usize
+        ensures { result ≡ len self.now.timers }
+    {
+        self.len
     }
 
     /// Makes room for `additional` more timers. It refuses more than 32-bit slots can name, as it does for want of memory.

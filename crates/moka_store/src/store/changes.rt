@@ -1,6 +1,6 @@
 //! Changes and reads at one place of the table.
-ghost use Rattle.std.specs.Prelude.{◌≡◌, ◌+◌, ◌^◌, ◌<◌, ◌≤◌, IsOk, IsSome, OnOk, Some};
-ghost use Rattle.moka_store.specs.StoreRows.{has_key_at, member_in, row_room};
+ghost use Rattle.std.specs.Prelude.{◌≡◌, ◌+◌, ◌^◌, ◌<◌, ◌≤◌, IsOk, IsSome, OnOk, Some, option_map};
+ghost use Rattle.moka_store.specs.StoreRows.{has_key_at, member_in, row_room, timer_at, written_at};
 ghost use Rattle.moka_store.specs.Updates.{updated};
 ghost use Rattle.moka_parts.specs.declared.records.Record.{Record};
 ghost use Rattle.moka_parts.specs.Records.{member};
@@ -143,4 +143,55 @@ pub(crate) fn member_at<K, V>(table: &RecordTable<Record<K, V>>, place: usize) -
         place,
     };
     (handle, row.membership.map_or(0, |m| m.counted))
+}
+
+// The handle of the row at this place.
+pub(crate) fn handle_at<K, V>(table: &RecordTable<Record<K, V>>, place: usize) -> Handle
+    requires { IsSome (row_at table.now.rows place) }
+    ensures place { result.place ≡ place }
+    ensures number { (row : Row (Record K V)) → row_at table.now.rows place ≡ Some row → result.number ≡ row.number }
+{
+    let Some(row) = table.row(place) else {
+        unreachable!()
+    };
+    Handle {
+        number: row.number,
+        place,
+    }
+}
+
+// The slot in the write list of the row at this place.
+pub(crate) fn written_slot<K, V>(table: &RecordTable<Record<K, V>>, place: usize) -> Option<u32>
+    ensures { result ≡ written_at table.now.rows place }
+{
+    table.membership(place)?.written
+}
+
+// The node of the write list that leads to the row at this place.
+pub(crate) fn written_node<K, V>(
+    table: &RecordTable<Record<K, V>>,
+    place: usize,
+) -> Option<(u32, u64)>
+    ensures { result ≡ option_map (λ slot. (slot, place)) (written_at table.now.rows place) }
+{
+    let slot = written_slot(table, place)?;
+    Some((slot, place as u64))
+}
+
+// The timer of the row at this place, and when its record expires.
+pub(crate) fn timing_at<K, V>(
+    table: &RecordTable<Record<K, V>>,
+    place: usize,
+) -> (Option<u32>, Option<Instant>)
+    ensures timer { result.0 ≡ timer_at table.now.rows place }
+    ensures expires { (r : Record K V) → stored_at table.now.rows place ≡ Some r → result.1 ≡ r.expires }
+{
+    let Some(row) = table.row(place) else {
+        return (None, None);
+    };
+    let expires = match &row.stored {
+        Some(stored) => stored.expires,
+        None => None,
+    };
+    (row.timer, expires)
 }

@@ -22,8 +22,8 @@ returns-then-found-upsert-clause-applied g c =
 pub returns-then-is_member-clause-applied : goal.returns-then-is_member-clause-applied
 returns-then-is_member-clause-applied g c =
     applied-counted g.L.Listener.tells c.args.capacity c.args.policy (contents_with c.args.sketch.now c.args.store.now) c.args.upsert.handle.number c.args.upsert.generation c.args.upsert.weight c.args.upsert.hash (contents_with c.args.sketch.now c.recount.new.self) c.in-Some.found.now (sym (c.in-Some.ensures.found (c.has_row.ensures.placed.0 c.if-not-has_row.false))) c.args.notifier.now c.args.notifier.now
-    c.if-found-upsert.false (sym c.is_member.ensures ∙ c.if-is_member.true)
-    (entered-recounted c.args.store.now c.set_applied.new.self c.recount.new.self c.args.upsert.handle.number c.args.upsert.generation c.args.upsert.weight c.in-Some.found.now (c.set_applied.ensures.step c.in-Some.found.now (sym (c.in-Some.ensures.found (c.has_row.ensures.placed.0 c.if-not-has_row.false)))) c.args.sketch.now c.recount.ensures.step)
+    c.if-found-upsert.false (sym c.is_member.ensures.member ∙ c.if-is_member.true)
+    (entered-recounted c.args.store.now c.set_applied.new.self c.recount.new.self c.args.upsert.handle.number c.args.upsert.generation c.args.upsert.weight c.in-Some.found.now (c.set_applied.ensures.step c.in-Some.found.now (sym (c.in-Some.ensures.found (c.has_row.ensures.placed.0 c.if-not-has_row.false)))) c.args.sketch.now (ap (λ (k : Kept g.row.K.Denot g.row.V.Denot). contents_with c.args.sketch.now k) c.recount.ensures.step))
     refl
 
 pub returns-then-is_member-clause-rows : goal.returns-then-is_member-clause-rows

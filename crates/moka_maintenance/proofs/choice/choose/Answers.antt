@@ -85,14 +85,14 @@ loop-weights-preserved g c =
     let walk : Walks k c.from-weight.result c.args.hash l.store.access (Some a) l.victims l.weights l.frequencies l.unsettled l.ahead =
     subst (λ o. Walks k c.from-weight.result c.args.hash l.store.access (named o) l.victims l.weights l.frequencies l.unsettled l.ahead) c.in-Some.is inv.walks in
     let is = ap (λ (s : Kept g.row.K.Denot g.row.V.Denot). is_settled s.records c.in-Some.handle.number) (sym inv.rest) ∙ c.in-None.ensures.unsettled in
-    let step = c.move_to_back.ensures.step in
+    let step = c.move_in_access.ensures.step in
     record {
       walks =
-          walks-as k c.from-weight.result c.args.hash c.move_to_back.new.self.access (named c.next-next.result) l.victims l.weights l.frequencies (l.unsettled + 1) (l.ahead - 1) l.weights l.frequencies c.saturating_sub-ahead.result refl refl c.saturating_sub-ahead.ensures
+          walks-as k c.from-weight.result c.args.hash c.move_in_access.new.self.access (named c.next-next.result) l.victims l.weights l.frequencies (l.unsettled + 1) (l.ahead - 1) l.weights l.frequencies c.saturating_sub-ahead.result refl refl c.saturating_sub-ahead.ensures
           (walks-unsettled k c.from-weight.result c.args.hash c.invariant_holds.ensures.distinct l.store.access a l.victims l.weights l.frequencies l.unsettled l.ahead walk
-          c.loop-weights-test.true c.if-unsettled-lt-MOST_UNSETTLED.true (named c.next-next.result) c.next-next.ensures.next c.move_to_back.new.self.access (ap (λ (s : Kept g.row.K.Denot g.row.V.Denot). s.access) step) is);
-      placed = some_placed c.next-next.result (sym c.move_to_back.ensures.places) c.next-next.ensures.placed;
-      member = some_counted c.next-next.result l.store.access c.move_to_back.new.self.access c.move_to_back.ensures.counted c.next-next.ensures.member;
+          c.loop-weights-test.true c.if-unsettled-lt-MOST_UNSETTLED.true (named c.next-next.result) c.next-next.ensures.next c.move_in_access.new.self.access (ap (λ (s : Kept g.row.K.Denot g.row.V.Denot). s.access) step) is);
+      placed = some_placed c.next-next.result (sym c.move_in_access.ensures.places) c.next-next.ensures.placed;
+      member = some_counted c.next-next.result l.store.access c.move_in_access.new.self.access c.move_in_access.ensures.counted c.next-next.ensures.member;
       rest = step ∙ ap (λ (s : Kept g.row.K.Denot g.row.V.Denot). record s { access = to_back a.number l.store.access }) inv.rest ∙ ap (λ xs. record c.args.store.now { access = xs }) (sym (ap (λ (s : Kept g.row.K.Denot g.row.V.Denot). s.access) step));
       few = (let less = c.saturating_sub-ahead.ensures in let few = inv.few in omega arith);
     }

@@ -16,4 +16,4 @@ pub returns-clause-empty : goal.returns-clause-empty
 returns-clause-empty g c =
     let made = c.in_ok-store.ensures in
     let first : c.args.first_ticket - 1 + 1 ≡ c.args.first_ticket = omega (arith, c.requires) in
-    rw (c.in_ok-outstanding.ensures.items, map_values-empty, c.in_ok-writes.ensures, c.in_ok-reads.ensures, c.in_ok-reserve.ensures.rest, made.records, made.access, made.places, c.in_ok-sketch.ensures, first) refl
+    rw (c.in_ok-outstanding.ensures.items, map_values-empty, c.in_ok-writes.ensures, c.in_ok-reads.ensures, c.in_ok-reserve.ensures.rest, made.empty, c.in_ok-sketch.ensures, first) refl

@@ -1,32 +1,38 @@
 use Rattle.std.specs.FinMap as finite
-use Rattle.std.proofs.Common.{refl, ap, ◌∙◌, arith, sym, subst}
+use Rattle.std.proofs.Common.{None, refl, ap, ◌∙◌, arith, sym, subst}
 use Rattle.std.specs.FinMap.{get, remove}
 use Rattle.moka_structures.specs.RecordTable.{places_of}
 use Rattle.moka_structures.proofs.TableMaps.{get-past_remove}
+use Rattle.std.specs.Option.{option_and_then}
+use Rattle.moka_structures.specs.declared.record_table.Row.{Row}
+use Rattle.moka_parts.specs.declared.records.Record.{Record}
+use Rattle.moka_store.proofs.Orders.{stays-bare}
 use Rattle.moka_store.proofs.Steps.{placed, bare-row, forgotten}
 use Rattle.moka_store.specs.Weights.{IsWeighed}
 use Rattle.moka_store.proofs.store.Store.forget.Goals as goal
 
 pub forget-requires : goal.forget-requires
 forget-requires g c =
-    let bare = bare-row _ _ _ _ c.self.invariant.tied _ _ (rw (← c.self.view_is) at c.requires.placed) (rw (← c.self.view_is) at c.requires.gone) (rw (← c.self.view_is) at c.requires.apart) in
+    let bare = bare-row _ _ _ _ c.self.invariant.tied _ _ (rw (← c.self.view_is) at c.requires.placed) _ c.self.invariant.timed (rw (← c.self.view_is) at c.requires.gone) (rw (← c.self.view_is) at c.requires.apart) in
     bare
 
 pub invariant_of-self : goal.invariant_of-self
 invariant_of-self g c =
-    let bare = bare-row _ _ _ _ c.self.invariant.tied _ _ (rw (← c.self.view_is) at c.requires.placed) (rw (← c.self.view_is) at c.requires.gone) (rw (← c.self.view_is) at c.requires.apart) in
+    let bare = bare-row _ _ _ _ c.self.invariant.tied _ _ (rw (← c.self.view_is) at c.requires.placed) _ c.self.invariant.timed (rw (← c.self.view_is) at c.requires.gone) (rw (← c.self.view_is) at c.requires.apart) in
     let w = placed _ _ _ _ c.self.invariant.tied _ _ (rw (← c.self.view_is) at c.requires.placed) in
     let s = forgotten _ g.met.K.Eq.laws _ _ _ _ _ c.self.invariant.tied _ bare refl refl c.forget.ensures.changes in
+    let stay = stays-bare c.self.inside.table.rows c.forget.new.self.rows c.self.inside.written c.self.inside.timers.timers c.self.invariant.written c.self.invariant.timed c.self.invariant.tied.numbered s.tied.numbered _ None c.forget.ensures.changes (ap (option_and_then (λ (row : Row (Record _ _)). row.membership)) bare) (ap (option_and_then (λ (row : Row (Record _ _)). row.timer)) bare) refl refl in
     let len = c.forget.ensures.len in
     let fits = c.self.invariant.fits in
-    record { tied = s.tied; keyed = c.self.invariant.keyed ∙ sym (ap finite.len c.forget.ensures.records); fits = omega arith; few = c.self.invariant.few; weighed = subst (λ members. IsWeighed members c.self.inside.weight) (sym s.access) c.self.invariant.weighed }
+    record { tied = s.tied; written = stay.written; timed = stay.timed; keyed = c.self.invariant.keyed ∙ sym (ap finite.len c.forget.ensures.records); fits = omega arith; few = c.self.invariant.few; weighed = subst (λ members. IsWeighed members c.self.inside.weight) (sym s.access) c.self.invariant.weighed }
 
 pub returns-clause-step : goal.returns-clause-step
 returns-clause-step g c =
-    let bare = bare-row _ _ _ _ c.self.invariant.tied _ _ (rw (← c.self.view_is) at c.requires.placed) (rw (← c.self.view_is) at c.requires.gone) (rw (← c.self.view_is) at c.requires.apart) in
+    let bare = bare-row _ _ _ _ c.self.invariant.tied _ _ (rw (← c.self.view_is) at c.requires.placed) _ c.self.invariant.timed (rw (← c.self.view_is) at c.requires.gone) (rw (← c.self.view_is) at c.requires.apart) in
     let w = placed _ _ _ _ c.self.invariant.tied _ _ (rw (← c.self.view_is) at c.requires.placed) in
     let s = forgotten _ g.met.K.Eq.laws _ _ _ _ _ c.self.invariant.tied _ bare refl refl c.forget.ensures.changes in
-    rw (s.access, c.forget.ensures.records, c.forget.ensures.places, w.number_at_is, ← c.self.view_is) refl
+    let stay = stays-bare c.self.inside.table.rows c.forget.new.self.rows c.self.inside.written c.self.inside.timers.timers c.self.invariant.written c.self.invariant.timed c.self.invariant.tied.numbered s.tied.numbered _ None c.forget.ensures.changes (ap (option_and_then (λ (row : Row (Record _ _)). row.membership)) bare) (ap (option_and_then (λ (row : Row (Record _ _)). row.timer)) bare) refl refl in
+    rw (s.access, stay.written_is, stay.cursor_is, stay.timers_is, c.forget.ensures.records, c.forget.ensures.places, w.number_at_is, ← c.self.view_is) refl
 
 pub returns-clause-kept : goal.returns-clause-kept
 returns-clause-kept g c other ne e =
@@ -38,7 +44,7 @@ returns-clause-kept g c other ne e =
 
 pub returns-clause-access : goal.returns-clause-access
 returns-clause-access g c =
-    let bare = bare-row _ _ _ _ c.self.invariant.tied _ _ (rw (← c.self.view_is) at c.requires.placed) (rw (← c.self.view_is) at c.requires.gone) (rw (← c.self.view_is) at c.requires.apart) in
+    let bare = bare-row _ _ _ _ c.self.invariant.tied _ _ (rw (← c.self.view_is) at c.requires.placed) _ c.self.invariant.timed (rw (← c.self.view_is) at c.requires.gone) (rw (← c.self.view_is) at c.requires.apart) in
     let w = placed _ _ _ _ c.self.invariant.tied _ _ (rw (← c.self.view_is) at c.requires.placed) in
     let s = forgotten _ g.met.K.Eq.laws _ _ _ _ _ c.self.invariant.tied _ bare refl refl c.forget.ensures.changes in
     rw (s.access, ← c.self.view_is) refl

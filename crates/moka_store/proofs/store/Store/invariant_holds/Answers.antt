@@ -1,3 +1,4 @@
+use Rattle.moka_store.proofs.KnownOrders.{known-order}
 use Rattle.moka_store.proofs.Places.{record-placed, member-placed}
 use Rattle.moka_store.proofs.Steps.{one-each}
 use Rattle.moka_store.proofs.store.Store.invariant_holds.Goals as goal
@@ -10,3 +11,6 @@ returns-clause-records g c = rw (← c.self.view_is) (record-placed _ _ _ _ c.se
 
 pub returns-clause-members : goal.returns-clause-members
 returns-clause-members g c = rw (← c.self.view_is) (member-placed _ _ _ _ c.self.invariant.tied)
+
+pub returns-clause-listed : goal.returns-clause-listed
+returns-clause-listed g c = rw (← c.self.view_is) (known-order _ _ _ _ c.self.invariant.tied c.self.inside.written c.self.invariant.written)

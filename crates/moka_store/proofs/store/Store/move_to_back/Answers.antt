@@ -1,4 +1,8 @@
-use Rattle.std.proofs.Common.{map, refl, sym, ◌∙◌, arith, subst}
+use Rattle.std.proofs.Common.{map, refl, sym, ◌∙◌, arith, subst, ap}
+use Rattle.std.specs.Option.{option_and_then}
+use Rattle.moka_structures.specs.declared.record_table.Membership.{Membership}
+use Rattle.moka_store.specs.Listing.{Listing}
+use Rattle.moka_store.proofs.Orders.{slot-there, moves}
 use Rattle.moka_parts.proofs.AccessList.{counted-to_back}
 use Rattle.moka_store.proofs.Steps.{member-there, member-row, moved}
 use Rattle.moka_store.specs.StoreRows.{member_at}
@@ -15,20 +19,31 @@ move_to_back-requires g c =
     let w = member-row _ _ _ _ c.self.invariant.tied _ _ (rw (← c.self.view_is) at c.requires.placed) _ (sym c.membership.ensures ∙ c.in-Some.is) in
     rw w.node_is refl
 
+pub move_to_back-requires-2 : goal.move_to_back-requires-2
+move_to_back-requires-2 g c =
+    let w = member-row _ _ _ _ c.self.invariant.tied _ _ (rw (← c.self.view_is) at c.requires.placed) _ (sym c.membership.ensures ∙ c.in-Some.is) in
+    slot-there c.self.inside.table.rows c.self.inside.written c.self.invariant.written _ w.row w.at_is _ (ap (option_and_then (λ (m : Membership). m.written)) w.membership_is)
+
 pub invariant_of-self : goal.invariant_of-self
 invariant_of-self g c =
     let w = member-row _ _ _ _ c.self.invariant.tied _ _ (rw (← c.self.view_is) at c.requires.placed) _ (sym c.membership.ensures ∙ c.in-Some.is) in
     let s = moved _ _ _ _ _ _ c.self.invariant.tied w.row w.at_is c.in-Some.membership w.membership_is (c.move_to_back.ensures.members _ w.node_is) c.move_to_back.ensures.lookups in
+    let p = c.move_to_back-2.ensures in
+    let order = moves c.self.inside.table.rows c.self.inside.written c.move_to_back-2.new.self c.self.invariant.written c.self.invariant.tied.numbered _ w.row w.at_is c.in-Some.membership.written (ap (option_and_then (λ (m : Membership). m.written)) w.membership_is) p.nodes p.lookups p.rest p.absent p.cursor in
     let len = c.move_to_back.ensures.len in
     let room = c.move_to_back.ensures.room in
     let fits = c.self.invariant.fits in
-    record { tied = s.tied; keyed = c.self.invariant.keyed; fits = omega arith; few = (let few = c.self.invariant.few in omega arith); weighed = subst (λ members. IsWeighed members c.self.inside.weight) (sym s.access) (weighed-to_back w.row.number _ _ c.self.invariant.weighed) }
+    record { tied = s.tied; written = order.written; timed = c.self.invariant.timed; keyed = c.self.invariant.keyed; fits = (let most = ap (λ (l : Listing). l.most) p.rest in omega arith); few = (let few = c.self.invariant.few in omega arith); weighed = subst (λ members. IsWeighed members c.self.inside.weight) (sym s.access) (weighed-to_back w.row.number _ _ c.self.invariant.weighed) }
 
 pub returns-clause-step : goal.returns-clause-step
 returns-clause-step g c =
     let w = member-row _ _ _ _ c.self.invariant.tied _ _ (rw (← c.self.view_is) at c.requires.placed) _ (sym c.membership.ensures ∙ c.in-Some.is) in
     let s = moved _ _ _ _ _ _ c.self.invariant.tied w.row w.at_is c.in-Some.membership w.membership_is (c.move_to_back.ensures.members _ w.node_is) c.move_to_back.ensures.lookups in
-    rw (s.access, c.move_to_back.ensures.len, c.move_to_back.ensures.room, w.number_is, ← c.self.view_is) refl
+    let p = c.move_to_back-2.ensures in
+    let order = moves c.self.inside.table.rows c.self.inside.written c.move_to_back-2.new.self c.self.invariant.written c.self.invariant.tied.numbered _ w.row w.at_is c.in-Some.membership.written (ap (option_and_then (λ (m : Membership). m.written)) w.membership_is) p.nodes p.lookups p.rest p.absent p.cursor in
+    let most = ap (λ (l : Listing). l.most) p.rest in
+    let ordered = ap (λ (l : Listing). l.ordered) p.rest in
+    rw (s.access, order.written_is, order.cursor_is, most, ordered, c.move_to_back.ensures.len, c.move_to_back.ensures.room, w.number_is, ← c.self.view_is) refl
 
 pub returns-clause-counted : goal.returns-clause-counted
 returns-clause-counted g c n =

@@ -1,16 +1,30 @@
 use Rattle.std.specs.FinMap as finite
 use Rattle.std.specs.Ordering.{nat_cmp}
-use Rattle.std.proofs.Common.{ap, arith, sym, ◌∙◌}
+use Rattle.std.proofs.Common.{ap, arith, refl, sym, ◌∙◌}
 use Rattle.moka_store.proofs.Weights.{weighed-empty}
+use Rattle.moka_store.specs.Listing.{Listing}
+use Rattle.moka_store.specs.Timing.{Timing}
+use Rattle.moka_store.proofs.Orders.{written-empty, timed-empty, written-none, timers-none, cursor-nowhere}
 use Rattle.moka_store.proofs.Steps.{tied-empty}
 use Rattle.moka_store.proofs.store.Store.new.Goals as goal
 
 pub invariant_of-result : goal.invariant_of-result
 invariant_of-result g c =
     record {
-      tied = tied-empty _ _ _ _ c.new-3.ensures.rows c.new-2.ensures.entries c.in_ok-access.ensures;
-      keyed = ap finite.len c.new-2.ensures.entries ∙ finite.len-empty nat_cmp _ ∙ sym (ap finite.len c.new-3.ensures.records ∙ finite.len-empty nat_cmp _);
-      fits = rw c.new-3.ensures.rows (omega arith);
+      tied = tied-empty _ _ _ _ c.new-5.ensures.rows c.new-4.ensures.entries c.in_ok-access.ensures;
+      written = written-empty _ _ c.new-5.ensures.rows (ap (λ (l : Listing). l.nodes) c.in_ok-written.ensures) (ap (λ (l : Listing). l.cursor) c.in_ok-written.ensures);
+      timed = timed-empty _ _ c.new-5.ensures.rows (ap (λ (t : Timing). t.timers) c.in_ok-timers.ensures);
+      keyed = ap finite.len c.new-4.ensures.entries ∙ finite.len-empty nat_cmp _ ∙ sym (ap finite.len c.new-5.ensures.records ∙ finite.len-empty nat_cmp _);
+      fits = rw c.new-5.ensures.rows (omega arith);
       few = rw c.in_ok-access.ensures (omega arith);
       weighed = rw c.in_ok-access.ensures weighed-empty;
     }
+
+pub returns-clause-empty : goal.returns-clause-empty
+returns-clause-empty g c =
+    let rows = c.new-5.ensures.rows in
+    let nodes = ap (λ (l : Listing). l.nodes) c.in_ok-written.ensures in
+    let cursor = ap (λ (l : Listing). l.cursor) c.in_ok-written.ensures in
+    let ordered = ap (λ (l : Listing). l.ordered) c.in_ok-written.ensures in
+    let timed = ap (λ (t : Timing). t.timed) c.in_ok-timers.ensures in
+    rw (c.new-5.ensures.records, c.new-5.ensures.places, written-none c.new-5.result.rows c.in_ok-written.written nodes, cursor-nowhere c.new-5.result.rows c.in_ok-written.written cursor, timers-none c.new-5.result.rows c.in_ok-timers.timers.timers rows, ordered, timed, c.in_ok-access.ensures) refl

@@ -1,5 +1,9 @@
 use Rattle.std.specs.FinMap as finite
-use Rattle.std.proofs.Common.{◌<◌, ◌^◌, ◌-◌, ◌+◌, map, refl, sym, ◌∙◌, arith, ap, subst}
+use Rattle.std.proofs.Common.{◌<◌, ◌^◌, ◌-◌, ◌+◌, map, refl, sym, ◌∙◌, arith, ap, subst, Some, is_some}
+use Rattle.std.specs.Option.{option_and_then}
+use Rattle.moka_structures.specs.declared.record_table.Membership.{Membership}
+use Rattle.moka_store.specs.Listing.{Listing}
+use Rattle.moka_store.proofs.Orders.{slot-there, stays-row, moves}
 use Rattle.moka_store.proofs.Members.{counted-recounted}
 use Rattle.moka_store.proofs.Steps.{member-there, member-row, recounted}
 use Rattle.moka_store.specs.StoreRows.{member_at}
@@ -18,21 +22,38 @@ move_to_back-requires g c =
     let w = member-row _ _ _ _ c.self.invariant.tied _ _ (rw (← c.self.view_is) at c.requires.placed) _ (sym c.membership.ensures ∙ c.in-Some.is) in
     rw w.node_is refl
 
+pub move_to_back-requires-2 : goal.move_to_back-requires-2
+move_to_back-requires-2 g c =
+    let w = member-row _ _ _ _ c.self.invariant.tied _ _ (rw (← c.self.view_is) at c.requires.placed) _ (sym c.membership.ensures ∙ c.in-Some.is) in
+    slot-there c.self.inside.table.rows c.self.inside.written c.self.invariant.written _ w.row w.at_is _ (ap (option_and_then (λ (m : Membership). m.written)) w.membership_is)
+
 pub invariant_of-self : goal.invariant_of-self
 invariant_of-self g c =
     let w = member-row _ _ _ _ c.self.invariant.tied _ _ (rw (← c.self.view_is) at c.requires.placed) _ (sym c.membership.ensures ∙ c.in-Some.is) in
     let s = recounted _ g.met.K.Eq.laws _ _ _ _ _ c.self.invariant.tied w.row w.at_is c.in-Some.before c.args.weight _ w.membership_is (c.move_to_back.ensures.members _ w.node_is) c.move_to_back.ensures.lookups (c.set_counted.ensures.changes _ _ w.at_is w.membership_is) in
+    let p = c.move_to_back-2.ensures in
+    let changes = c.set_counted.ensures.changes _ _ w.at_is w.membership_is in
+    let slot = ap (option_and_then (λ (m : Membership). m.written)) w.membership_is in
+    let stay = stays-row c.self.inside.table.rows c.set_counted.new.self.rows c.self.inside.written c.self.inside.timers.timers c.self.invariant.written c.self.invariant.timed c.self.invariant.tied.numbered s.tied.numbered _ w.row (record w.row { membership = Some (record c.in-Some.before { counted = c.args.weight }) }) w.at_is changes refl refl (sym slot) (sym (ap is_some w.membership_is)) in
+    let order = moves c.set_counted.new.self.rows c.self.inside.written c.move_to_back-2.new.self stay.written s.tied.numbered _ (record w.row { membership = Some (record c.in-Some.before { counted = c.args.weight }) }) changes.changed c.in-Some.before.written refl p.nodes p.lookups p.rest p.absent p.cursor in
     let len = c.move_to_back.ensures.len in
     let room = c.move_to_back.ensures.room in
     let rows = c.set_counted.ensures.len in
     let fits = c.self.invariant.fits in
-    record { tied = s.tied; keyed = c.self.invariant.keyed ∙ sym (ap finite.len c.set_counted.ensures.records); fits = omega arith; few = (let few = c.self.invariant.few in omega arith); weighed = subst (λ members. IsWeighed members (c.self.inside.weight - c.in-Some.before.counted + c.args.weight)) (sym s.access) (weighed-recounted w.row.number _ c.args.weight _ _ c.self.invariant.weighed (ap (λ n. counted_of n (map (member_at c.self.inside.table.rows) c.self.inside.access.members)) w.number_is ∙ w.counted_is) c.ranges.weight.fits) }
+    record { tied = s.tied; written = order.written; timed = stay.timed; keyed = c.self.invariant.keyed ∙ sym (ap finite.len c.set_counted.ensures.records); fits = (let most = ap (λ (l : Listing). l.most) p.rest in omega arith); few = (let few = c.self.invariant.few in omega arith); weighed = subst (λ members. IsWeighed members (c.self.inside.weight - c.in-Some.before.counted + c.args.weight)) (sym s.access) (weighed-recounted w.row.number _ c.args.weight _ _ c.self.invariant.weighed (ap (λ n. counted_of n (map (member_at c.self.inside.table.rows) c.self.inside.access.members)) w.number_is ∙ w.counted_is) c.ranges.weight.fits) }
 
 pub returns-clause-step : goal.returns-clause-step
 returns-clause-step g c =
     let w = member-row _ _ _ _ c.self.invariant.tied _ _ (rw (← c.self.view_is) at c.requires.placed) _ (sym c.membership.ensures ∙ c.in-Some.is) in
     let s = recounted _ g.met.K.Eq.laws _ _ _ _ _ c.self.invariant.tied w.row w.at_is c.in-Some.before c.args.weight _ w.membership_is (c.move_to_back.ensures.members _ w.node_is) c.move_to_back.ensures.lookups (c.set_counted.ensures.changes _ _ w.at_is w.membership_is) in
-    rw (s.access, c.set_counted.ensures.records, c.set_counted.ensures.places, c.set_counted.ensures.len, c.set_counted.ensures.room, c.move_to_back.ensures.len, c.move_to_back.ensures.room, w.number_is, ← c.self.view_is) refl
+    let p = c.move_to_back-2.ensures in
+    let changes = c.set_counted.ensures.changes _ _ w.at_is w.membership_is in
+    let slot = ap (option_and_then (λ (m : Membership). m.written)) w.membership_is in
+    let stay = stays-row c.self.inside.table.rows c.set_counted.new.self.rows c.self.inside.written c.self.inside.timers.timers c.self.invariant.written c.self.invariant.timed c.self.invariant.tied.numbered s.tied.numbered _ w.row (record w.row { membership = Some (record c.in-Some.before { counted = c.args.weight }) }) w.at_is changes refl refl (sym slot) (sym (ap is_some w.membership_is)) in
+    let order = moves c.set_counted.new.self.rows c.self.inside.written c.move_to_back-2.new.self stay.written s.tied.numbered _ (record w.row { membership = Some (record c.in-Some.before { counted = c.args.weight }) }) changes.changed c.in-Some.before.written refl p.nodes p.lookups p.rest p.absent p.cursor in
+    let most = ap (λ (l : Listing). l.most) p.rest in
+    let ordered = ap (λ (l : Listing). l.ordered) p.rest in
+    rw (s.access, order.written_is, order.cursor_is, stay.written_is, stay.cursor_is, stay.timers_is, most, ordered, c.set_counted.ensures.records, c.set_counted.ensures.places, c.set_counted.ensures.len, c.set_counted.ensures.room, c.move_to_back.ensures.len, c.move_to_back.ensures.room, w.number_is, ← c.self.view_is) refl
 
 pub returns-clause-counted : goal.returns-clause-counted
 returns-clause-counted g c n =

@@ -1,5 +1,6 @@
+use Rattle.moka_store.proofs.Orders.{stays-row}
 use Rattle.std.specs.FinMap as finite
-use Rattle.std.proofs.Common.{◌≡◌, ◌-◌, refl, sym, ap, ◌∙◌, arith, subst}
+use Rattle.std.proofs.Common.{◌≡◌, ◌-◌, Some, None, refl, sym, ap, ◌∙◌, arith, subst}
 use Rattle.std.specs.FinMap.{get, remove}
 use Rattle.moka_structures.specs.RecordTable.{records_of}
 use Rattle.moka_structures.proofs.TableMaps.{get-removed}
@@ -23,11 +24,12 @@ pub invariant_of-self : goal.invariant_of-self
 invariant_of-self g c =
     let h = handled _ _ _ _ c.self.invariant.tied _ _ (rw (← c.self.view_is) at c.requires.placed) (rw (← c.self.view_is) at c.requires.stored) in
     let s = taken _ g.met.K.Eq.laws _ _ _ _ _ c.self.invariant.tied h.row h.at_is (c.take-taken.ensures.changes _ h.at_is) in
+    let stay = stays-row c.self.inside.table.rows c.take-taken.new.self.rows c.self.inside.written c.self.inside.timers.timers c.self.invariant.written c.self.invariant.timed c.self.invariant.tied.numbered s.tied.numbered _ h.row (record h.row { stored = None }) h.at_is (c.take-taken.ensures.changes _ h.at_is) refl refl refl refl in
     let len = c.take-taken.ensures.len in
     let fits = c.self.invariant.fits in
     let shorter = ap finite.len c.take-taken.ensures.records ∙ ap (λ n. finite.len (remove (records_of c.self.inside.table.rows) n)) h.number_at_is ∙ len-removed _ _ h.stored h.record_is in
     let fewer = ap finite.len c.remove.ensures.entries ∙ len-removed _ _ _ (index-of _ g.met.K.Eq.laws _ _ _ c.self.invariant.tied _ _ h) in
-    record { tied = rw c.remove.ensures.entries s.tied; keyed = fewer ∙ ap (λ n. n - 1) c.self.invariant.keyed ∙ sym shorter; fits = omega arith; few = c.self.invariant.few; weighed = subst (λ members. IsWeighed members c.self.inside.weight) (sym s.access) c.self.invariant.weighed }
+    record { tied = rw c.remove.ensures.entries s.tied; written = stay.written; timed = stay.timed; keyed = fewer ∙ ap (λ n. n - 1) c.self.invariant.keyed ∙ sym shorter; fits = omega arith; few = c.self.invariant.few; weighed = subst (λ members. IsWeighed members c.self.inside.weight) (sym s.access) c.self.invariant.weighed }
 
 pub returns-clause-taken : goal.returns-clause-taken
 returns-clause-taken g c =
@@ -38,7 +40,8 @@ pub returns-clause-step : goal.returns-clause-step
 returns-clause-step g c =
     let h = handled _ _ _ _ c.self.invariant.tied _ _ (rw (← c.self.view_is) at c.requires.placed) (rw (← c.self.view_is) at c.requires.stored) in
     let s = taken _ g.met.K.Eq.laws _ _ _ _ _ c.self.invariant.tied h.row h.at_is (c.take-taken.ensures.changes _ h.at_is) in
-    rw (s.access, c.take-taken.ensures.records, c.take-taken.ensures.places, h.number_at_is, ← c.self.view_is) refl
+    let stay = stays-row c.self.inside.table.rows c.take-taken.new.self.rows c.self.inside.written c.self.inside.timers.timers c.self.invariant.written c.self.invariant.timed c.self.invariant.tied.numbered s.tied.numbered _ h.row (record h.row { stored = None }) h.at_is (c.take-taken.ensures.changes _ h.at_is) refl refl refl refl in
+    rw (s.access, stay.written_is, stay.cursor_is, stay.timers_is, c.take-taken.ensures.records, c.take-taken.ensures.places, h.number_at_is, ← c.self.view_is) refl
 
 pub returns-clause-gone : goal.returns-clause-gone
 returns-clause-gone g c =

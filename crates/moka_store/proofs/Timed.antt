@@ -1,0 +1,354 @@
+-- The timers of rows after each change.
+use Rattle.std.proofs.Common.{◌≡◌, ◌≢◌, ℕ, zero, suc, ◌<◌, ◌≤◌, true, false, cond, List, [], ◌∷◌, Option, Some, None, IsSome, is_some, count_by, length, inl, inr, refl, sym, ap, subst, ◌∙◌, arith, ◌⊎◌}
+use Rattle.std.proofs.lemmas.Bool.{cases_eq, cases_Bool, eq-eqb, ne_eqb, eqb-true, cond-true, cond-false, false≢true}
+use Rattle.std.proofs.lemmas.List.{get_or-set_other}
+use Rattle.std.specs.Cmp.{nat_cmp_total}
+use Rattle.std.specs.FinMap.{FinMap, get, remove, len, entries, len-entries, get-entries, get-empty, empty, same_map, nat_cmp-IsAntisymmetric}
+use Rattle.std.specs.FinMap as finite
+use Rattle.std.specs.Option.{option_map, option_and_then}
+use Rattle.std.specs.Ordering.{nat_cmp}
+use Rattle.std.specs.Prelude.{IfSome, slice_index_or, slice_set}
+use Rattle.moka_structures.proofs.Linked.{linked-same}
+use Rattle.moka_structures.proofs.TableMaps.{option-cases, option-same, get-inserted, get-past_insert, get-removed, get-past_remove, get-map, map-found}
+use Rattle.moka_structures.specs.declared.record_table.Row.{Row}
+use Rattle.moka_structures.specs.RecordTable.{row_at, number_at, membership_at, map_of, IsNumbered, ChangesAt}
+use Rattle.moka_wheel.specs.Wheel.{Timer}
+use Rattle.moka_parts.proofs.Maps.{itself_ordered}
+use Rattle.moka_store.proofs.Gets.{len-removed, after_remove}
+use Rattle.moka_store.proofs.Nodes.{count-cleared, LeadsTo}
+use Rattle.moka_store.proofs.Slots.{read-of, number-of}
+use Rattle.moka_store.specs.Store.{with_timer}
+use Rattle.moka_store.specs.StoreRows.{timer_at, moment_in, timers_of}
+use Rattle.moka_store.specs.StoreTies.{IsTimed}
+use Rattle.moka_store.specs.Timing.{is_slot, timer_for, timer_after}
+use Rattle.moka_parts.specs.declared.records.Record.{Record}
+
+-- ---- timers in slots
+
+-- a timer of a place is there
+pub timer-there : (o : Option Timer) (place : ℕ) → option_map (λ (t : Timer). t.number) o ≡ Some place → (t : Timer) × (o ≡ Some t)
+timer-there None place h = cc
+timer-there (Some t) place h = (t, refl)
+
+-- without timers there is nothing to change
+pub none-after : (before : Option ℕ) (place : ℕ) (at : Option ℕ) (other : ℕ) → get (empty {X = Timer} {R = nat_cmp}) other ≡ timer_after empty before None place at other
+none-after before place at other = elim (is_slot before other) as (λ b. get (empty {X = Timer} {R = nat_cmp}) other ≡ cond b None (get (empty {X = Timer} {R = nat_cmp}) other)) [ true ↦ get-empty nat_cmp other | false ↦ refl ]
+
+-- ---- maps by number, of rows at which another function answers
+
+module _ {R X : Type 0} (f g : ℕ → Row R → Option X) (rows new : List (Option (Row R))) (d : IsNumbered (row_at rows)) (e : IsNumbered (row_at new)) where
+  -- what each row answers, a row of the same number answers as well
+  pub map-agrees : ((p : ℕ) (row : Row R) (x : X) → row_at rows p ≡ Some row → f p row ≡ Some x → (q : ℕ) × (other : Row R) × (row_at new q ≡ Some other) × (other.number ≡ row.number) × (g q other ≡ Some x))
+      → ((q : ℕ) (row : Row R) (x : X) → row_at new q ≡ Some row → g q row ≡ Some x → (p : ℕ) × (other : Row R) × (row_at rows p ≡ Some other) × (other.number ≡ row.number) × (f p other ≡ Some x))
+      → map_of g new ≡ map_of f rows
+  map-agrees forth back = same_map nat_cmp_total nat_cmp-IsAntisymmetric (map_of g new) (map_of f rows) (λ n. option-same (get (map_of g new) n) (get (map_of f rows) n)
+      (λ x h.
+      let w = map-found g new e n x h in
+      let o = back w.place w.row x w.at_is w.value_is in
+      ap (get (map_of f rows)) (sym w.number_is ∙ sym o.3) ∙ get-map f rows d o.0 o.1 o.2 ∙ o.4)
+      (λ x h.
+      let w = map-found f rows d n x h in
+      let o = forth w.place w.row x w.at_is w.value_is in
+      ap (get (map_of g new)) (sym w.number_is ∙ sym o.3) ∙ get-map g new e o.0 o.1 o.2 ∙ o.4))
+
+get-with_timer : (m : FinMap nat_cmp ℕ) (n : ℕ) (at : Option ℕ) → get (with_timer m n at) n ≡ at
+get-with_timer m n None = get-removed m n
+get-with_timer m n (Some t) = get-inserted m n t
+
+get-past_timer : (m : FinMap nat_cmp ℕ) (n : ℕ) (at : Option ℕ) (q : ℕ) → q ≢ n → get (with_timer m n at) q ≡ get m q
+get-past_timer m n None q ne = get-past_remove m n q ne
+get-past_timer m n (Some t) q ne = get-past_insert m n t q ne
+
+module _ {R : Type 0} (f g : ℕ → Row R → Option ℕ) (rows new : List (Option (Row R))) (d : IsNumbered (row_at rows)) (e : IsNumbered (row_at new)) (place : ℕ) (was row : Row R) where
+  -- one row answers anew, and all others as before
+  pub map-put : row_at rows place ≡ Some was → row_at new place ≡ Some row → row.number ≡ was.number → ((p : ℕ) → p ≢ place → row_at new p ≡ row_at rows p)
+      → ((p : ℕ) (other : Row R) → p ≢ place → row_at rows p ≡ Some other → g p other ≡ f p other)
+      → map_of g new ≡ with_timer (map_of f rows) was.number (g place row)
+  map-put was_is row_is number others same = same_map nat_cmp_total nat_cmp-IsAntisymmetric (map_of g new) (with_timer (map_of f rows) was.number (g place row)) (λ q.
+      elim (cases_eq q was.number) as (λ _. get (map_of g new) q ≡ get (with_timer (map_of f rows) was.number (g place row)) q) [
+        | inl here ↦
+            ap (get (map_of g new)) (here ∙ sym number) ∙ get-map g new e place row row_is
+            ∙ sym (get-with_timer (map_of f rows) was.number (g place row)) ∙ ap (get (with_timer (map_of f rows) was.number (g place row))) (sym here)
+        | inr away ↦
+            elsewhere q away ∙ sym (get-past_timer (map_of f rows) was.number (g place row) q away)
+      ])
+    where
+      elsewhere : (q : ℕ) → q ≢ was.number → get (map_of g new) q ≡ get (map_of f rows) q
+      elsewhere q away = option-same (get (map_of g new) q) (get (map_of f rows) q)
+          (λ x h.
+          let w = map-found g new e q x h in
+          let off : w.place ≢ place = (λ s.
+          let both : Some w.row ≡ Some row = sym w.at_is ∙ ap (row_at new) s ∙ row_is in
+          let one : w.row ≡ row = cc in
+          away (sym w.number_is ∙ ap (λ r. r.number) one ∙ number)) in
+          let old : row_at rows w.place ≡ Some w.row = sym (others w.place off) ∙ w.at_is in
+          ap (get (map_of f rows)) (sym w.number_is) ∙ get-map f rows d w.place w.row old ∙ sym (same w.place w.row off old) ∙ w.value_is)
+          (λ x h.
+          let w = map-found f rows d q x h in
+          let off : w.place ≢ place = (λ s.
+          let both : Some w.row ≡ Some was = sym w.at_is ∙ ap (row_at rows) s ∙ was_is in
+          let one : w.row ≡ was = cc in
+          away (sym w.number_is ∙ ap (λ r. r.number) one)) in
+          let now : row_at new w.place ≡ Some w.row = others w.place off ∙ w.at_is in
+          ap (get (map_of g new)) (sym w.number_is) ∙ get-map g new e w.place w.row now ∙ same w.place w.row off w.at_is ∙ w.value_is)
+
+-- ---- rows change, and no timer does
+
+module _ {K V : Type 0} (rows new : List (Option (Row (Record K V)))) (timers : FinMap nat_cmp Timer) (t : IsTimed rows timers) (same : (p : ℕ) → timer_at new p ≡ timer_at rows p) where
+  -- each row with a timer is still a member
+  pub timed-kept : ((p : ℕ) → IsSome (timer_at rows p) → IsSome (membership_at rows p) → IsSome (membership_at new p)) → IsTimed new timers
+  timed-kept stay = record {
+    linked = linked-same (timer_at rows) (timer_at new) (λ slot. option_map (λ (t : Timer). t.number) (get timers slot)) (λ slot. option_map (λ (t : Timer). t.number) (get timers slot)) t.linked same (λ s. refl);
+    members = λ p some. (let old : IsSome (timer_at rows p) = ap is_some (sym (same p)) ∙ some in stay p old (t.members p old));
+  }
+
+  -- and has its number
+  pub timers-kept : IsNumbered (row_at rows) → IsNumbered (row_at new) → ((p : ℕ) → IsSome (timer_at rows p) → number_at new p ≡ number_at rows p) → timers_of timers new ≡ timers_of timers rows
+  unfolding timers_of
+  timers-kept d e keeps = map-agrees (λ _ row. moment_in timers row) (λ _ row. moment_in timers row) rows new d e
+      (λ p row x at_is value.
+      let slot = read-of (λ slot. option_map (λ (t : Timer). t.at) (get timers slot)) row.timer x value in
+      let old : timer_at rows p ≡ Some slot.0 = ap (option_and_then (λ (row : Row (Record K V)). row.timer)) at_is ∙ slot.1 in
+      let w = read-of (λ (row : Row (Record K V)). row.timer) (row_at new p) slot.0 (same p ∙ old) in
+      let number = keeps p (ap is_some old) in
+      (p, w.0, w.1, sym (number-of new p w.0 w.1) ∙ number ∙ number-of rows p row at_is, ap (option_and_then (λ slot. option_map (λ (t : Timer). t.at) (get timers slot))) (w.2 ∙ sym slot.1) ∙ value))
+      (λ p row x at_is value.
+      let slot = read-of (λ slot. option_map (λ (t : Timer). t.at) (get timers slot)) row.timer x value in
+      let now : timer_at new p ≡ Some slot.0 = ap (option_and_then (λ (row : Row (Record K V)). row.timer)) at_is ∙ slot.1 in
+      let w = read-of (λ (row : Row (Record K V)). row.timer) (row_at rows p) slot.0 (sym (same p) ∙ now) in
+      let number = keeps p (ap is_some (sym (same p) ∙ now)) in
+      (p, w.0, w.1, sym (number-of rows p w.0 w.1) ∙ sym number ∙ number-of new p row at_is, ap (option_and_then (λ slot. option_map (λ (t : Timer). t.at) (get timers slot))) (w.2 ∙ sym slot.1) ∙ value))
+
+-- ---- there are fewer timers than rows, where one has none
+
+some-entry : {X : Type 0} (m : FinMap nat_cmp X) (n : ℕ) → len m ≡ suc n → (k : ℕ) × (x : X) × (get m k ≡ Some x)
+some-entry {X} m n h = let w = go (entries m) (sym (len-entries m) ∙ h) in (w.0, w.1, get-entries m w.0 ∙ w.2)
+  where
+    go : (es : List (ℕ × X)) → length es ≡ suc n → (k : ℕ) × (x : X) × (finite.find nat_cmp k es ≡ Some x)
+    go [] h = absurd (omega arith)
+    go (e ∷ es) h = (e.0, e.1, ap (λ b. cond b (Some e.1) (finite.find nat_cmp e.0 es)) (itself_ordered e.0))
+
+len-timers : {X : Type 0} (f : X → Option ℕ) (n : ℕ) (m : FinMap nat_cmp Timer) (rows : List (Option X)) → len m ≡ n → ((slot : ℕ) (t : Timer) → get m slot ≡ Some t → LeadsTo f rows (slot, t.number)) → n ≤ count_by is_some rows
+len-timers f zero m rows h leads = omega arith
+len-timers f (suc n) m rows h leads =
+    let e = some-entry m n h in
+    let w = leads e.0 e.1 e.2 in
+    let c = count-cleared rows e.1.number w.0 w.1 in
+    let fewer = len-removed m e.0 e.1 e.2 in
+    let rest : n ≤ count_by is_some (slice_set rows e.1.number None) = len-timers f n (remove m e.0) (slice_set rows e.1.number None) (omega arith) (λ slot t there.
+    let a = after_remove m e.0 slot t there in
+    let v = leads slot t a.1 in
+    let apart : t.number ≢ e.1.number = (λ s.
+    let both : Some v.0 ≡ Some w.0 = sym v.1 ∙ ap (λ p. slice_index_or rows p None) s ∙ w.1 in
+    let same : v.0 ≡ w.0 = cc in
+    let slots : Some slot ≡ Some e.0 = sym v.2 ∙ ap f same ∙ w.2 in
+    a.0 (cc)) in
+    (v.0, get_or-set_other rows e.1.number t.number None None apart ∙ v.1, v.2)) in
+    omega (arith, c, rest)
+
+module _ {K V : Type 0} (rows : List (Option (Row (Record K V)))) (timers : FinMap nat_cmp Timer) (t : IsTimed rows timers) (place : ℕ) (was : Row (Record K V)) (at_is : row_at rows place ≡ Some was) where
+  pub timed-below : was.timer ≡ None → len timers < count_by is_some rows
+  timed-below none =
+      let c = count-cleared rows place was at_is in
+      let rest : len timers ≤ count_by is_some (slice_set rows place None) = len-timers (λ (row : Row (Record K V)). row.timer) (len timers) timers (slice_set rows place None) refl (λ slot x there.
+      let v = read-of (λ (row : Row (Record K V)). row.timer) (row_at rows x.number) slot (t.linked.to_slot slot x.number (ap (option_map (λ (t : Timer). t.number)) there)) in
+      let apart : x.number ≢ place = (λ s.
+      let both : Some v.0 ≡ Some was = sym v.1 ∙ ap (row_at rows) s ∙ at_is in
+      let same : v.0 ≡ was = cc in
+      let bad : None ≡ Some slot = sym none ∙ ap (λ (row : Row (Record K V)). row.timer) (sym same) ∙ v.2 in
+      cc) in
+      (v.0, get_or-set_other rows place x.number None None apart ∙ v.1, v.2)) in
+      omega (arith, c, rest)
+
+  -- the timer in a row's slot is the row's
+  pub timer-held : IfSome was.timer (λ slot. option_map (λ (t : Timer). t.number) (get timers slot) ≡ Some place)
+  timer-held = elim was.timer as (λ o. was.timer ≡ o → IfSome o (λ slot. option_map (λ (t : Timer). t.number) (get timers slot) ≡ Some place)) [
+    | None ↦ λ _. tt
+    | Some slot ↦ λ is. t.linked.to_place slot place (ap (option_and_then (λ (row : Row (Record K V)). row.timer)) at_is ∙ is)
+  ] refl
+
+  -- a row's moment is under its number
+  pub moment-row : IsNumbered (row_at rows) → get (timers_of timers rows) was.number ≡ moment_in timers was
+  unfolding timers_of
+  moment-row d = get-map (λ _ row. moment_in timers row) rows d place was at_is
+
+  -- a number without a moment is of a row without a timer
+  pub timer-free : IsNumbered (row_at rows) → get (timers_of timers rows) was.number ≡ None → was.timer ≡ None
+  timer-free d free = elim (option-cases was.timer) as (λ _. was.timer ≡ None) [
+    | inl none ↦ none
+    | inr s ↦
+        let held = t.linked.to_place s.0 place (ap (option_and_then (λ (row : Row (Record K V)). row.timer)) at_is ∙ s.1) in
+        let there = timer-there (get timers s.0) place held in
+        let moment : moment_in timers was ≡ Some there.0.at = ap (option_and_then (λ slot. option_map (λ (t : Timer). t.at) (get timers slot))) s.1 ∙ ap (option_map (λ (t : Timer). t.at)) there.1 in
+        let bad : None ≡ Some there.0.at = sym free ∙ moment-row d ∙ moment in
+        cc
+  ]
+
+  -- only a member's row has one
+  pub untimed : was.membership ≡ None → was.timer ≡ None
+  untimed alone = elim (option-cases was.timer) as (λ _. was.timer ≡ None) [
+    | inl none ↦ none
+    | inr s ↦
+        let some = t.members place (ap is_some (ap (option_and_then (λ (row : Row (Record K V)). row.timer)) at_is ∙ s.1)) in
+        let none : membership_at rows place ≡ None = ap (option_and_then (λ (row : Row (Record K V)). row.membership)) at_is ∙ alone in
+        absurd (false≢true (sym (ap is_some none) ∙ some))
+  ]
+
+-- ---- one row's timer changes
+
+slot-true : (o : Option ℕ) (s : ℕ) → is_slot o s ≡ true → o ≡ Some s
+slot-true None s e = absurd (false≢true e)
+slot-true (Some slot) s e = ap Some (sym (eqb-true s slot e))
+
+slot-here : (o : Option ℕ) (s : ℕ) → o ≡ Some s → is_slot o s ≡ true
+slot-here o s e = ap (λ o. is_slot o s) e ∙ eq-eqb s s refl
+
+slot-false : (o : Option ℕ) (s : ℕ) → (o ≡ Some s → ⊥) → is_slot o s ≡ false
+slot-false None s h = refl
+slot-false (Some slot) s h = ne_eqb s slot (λ e. h (ap Some (sym e)))
+
+module _ {K V : Type 0} (rows new : List (Option (Row (Record K V)))) (timers after : FinMap nat_cmp Timer) (t : IsTimed rows timers) (place : ℕ) (was : Row (Record K V)) (at_is : row_at rows place ≡ Some was) (slot at : Option ℕ)
+    (c : ChangesAt (row_at rows) (row_at new) place (Some (record was { timer = slot })))
+    (fresh : IfSome slot (λ s. (was.timer ≡ Some s) ⊎ (get timers s ≡ None)))
+    (lookups : (other : ℕ) → get after other ≡ timer_after timers was.timer slot place at other) (some : IsSome slot → IsSome at) where
+  timer-was : timer_at rows place ≡ was.timer
+  timer-was = ap (option_and_then (λ (row : Row (Record K V)). row.timer)) at_is
+
+  timer-now : timer_at new place ≡ slot
+  timer-now = ap (option_and_then (λ (row : Row (Record K V)). row.timer)) c.changed
+
+  -- what stands in the row's slot now
+  own-timer : (s : ℕ) → slot ≡ Some s → get after s ≡ timer_for place at
+  own-timer s is = lookups s ∙ cond-true (is_slot slot s) (timer_for place at) (cond (is_slot was.timer s) None (get timers s)) (slot-here slot s is)
+
+  -- no other row had this slot
+  not-was : (p s : ℕ) → p ≢ place → timer_at rows p ≡ Some s → was.timer ≡ Some s → ⊥
+  not-was p s ne there is =
+      let one = t.linked.to_place s p there in
+      let other = t.linked.to_place s place (timer-was ∙ is) in
+      let both : Some p ≡ Some place = sym one ∙ other in
+      ne (cc)
+
+  not-now : (p s : ℕ) → p ≢ place → timer_at rows p ≡ Some s → slot ≡ Some s → ⊥
+  not-now p s ne there is = elim (subst (λ o. IfSome o (λ s. (was.timer ≡ Some s) ⊎ (get timers s ≡ None))) is fresh) [
+    | inl own ↦ not-was p s ne there own
+    | inr free ↦ (let one = t.linked.to_place s p there in let none = ap (option_map (λ (t : Timer). t.number)) free in let bad : None ≡ Some p = sym none ∙ one in cc)
+  ]
+
+  -- other rows' timers stay
+  other-timer : (p s : ℕ) → p ≢ place → timer_at rows p ≡ Some s → get after s ≡ get timers s
+  other-timer p s ne there =
+      lookups s ∙ cond-false (is_slot slot s) (timer_for place at) (cond (is_slot was.timer s) None (get timers s)) (slot-false slot s (not-now p s ne there))
+      ∙ cond-false (is_slot was.timer s) None (get timers s) (slot-false was.timer s (not-was p s ne there))
+
+  for-place : (o : Option ℕ) → IsSome o → option_map (λ (t : Timer). t.number) (timer_for place o) ≡ Some place
+  for-place None h = absurd (false≢true h)
+  for-place (Some x) h = refl
+
+  its-place : (o : Option ℕ) (p : ℕ) → option_map (λ (t : Timer). t.number) (timer_for place o) ≡ Some p → p ≡ place
+  its-place None p h = cc
+  its-place (Some x) p h = cc
+
+  read-other : (p : ℕ) → p ≢ place → timer_at new p ≡ timer_at rows p
+  read-other p ne = ap (option_and_then (λ (row : Row (Record K V)). row.timer)) (c.others p ne)
+
+  to-slot : (s p : ℕ) → option_map (λ (t : Timer). t.number) (get after s) ≡ Some p → timer_at new p ≡ Some s
+  to-slot s p h = elim (cases_Bool (is_slot slot s)) as (λ _. timer_at new p ≡ Some s) [
+    | inl y ↦
+        let is = slot-true slot s y in
+        let here = its-place at p (ap (option_map (λ (t : Timer). t.number)) (sym (own-timer s is)) ∙ h) in
+        ap (timer_at new) here ∙ timer-now ∙ is
+    | inr n ↦
+        let past = lookups s ∙ cond-false (is_slot slot s) (timer_for place at) (cond (is_slot was.timer s) None (get timers s)) n in
+        elim (cases_Bool (is_slot was.timer s)) as (λ _. timer_at new p ≡ Some s) [
+          | inl y ↦ let bad : None ≡ Some p = sym (ap (option_map (λ (t : Timer). t.number)) (past ∙ cond-true (is_slot was.timer s) None (get timers s) y)) ∙ h in cc
+          | inr k ↦
+              let there = t.linked.to_slot s p (sym (ap (option_map (λ (t : Timer). t.number)) (past ∙ cond-false (is_slot was.timer s) None (get timers s) k)) ∙ h) in
+              let off : p ≢ place = (λ e.
+              let is : was.timer ≡ Some s = sym timer-was ∙ ap (timer_at rows) (sym e) ∙ there in
+              false≢true (sym k ∙ slot-here was.timer s is)) in
+              read-other p off ∙ there
+        ]
+  ]
+
+  to-place : (s p : ℕ) → timer_at new p ≡ Some s → option_map (λ (t : Timer). t.number) (get after s) ≡ Some p
+  to-place s p h = elim (cases_eq p place) as (λ _. option_map (λ (t : Timer). t.number) (get after s) ≡ Some p) [
+    | inl e ↦
+        let is : slot ≡ Some s = sym timer-now ∙ ap (timer_at new) (sym e) ∙ h in
+        ap (option_map (λ (t : Timer). t.number)) (own-timer s is) ∙ for-place at (some (ap is_some is)) ∙ ap Some (sym e)
+    | inr ne ↦
+        let there = sym (read-other p ne) ∙ h in
+        ap (option_map (λ (t : Timer). t.number)) (other-timer p s ne there) ∙ t.linked.to_place s p there
+  ]
+
+  -- only a member gets a timer
+  pub timed-set : (IsSome slot → IsSome was.membership) → IsTimed new after
+  timed-set member = record {
+    linked = record { to_slot = to-slot; to_place = to-place };
+    members = λ p h. elim (cases_eq p place) as (λ _. IsSome (membership_at new p)) [
+      | inl e ↦
+          let has : IsSome slot = ap is_some (sym timer-now ∙ ap (timer_at new) (sym e)) ∙ h in
+          ap is_some (ap (membership_at new) e ∙ ap (option_and_then (λ (row : Row (Record K V)). row.membership)) c.changed) ∙ member has
+      | inr ne ↦
+          ap is_some (ap (option_and_then (λ (row : Row (Record K V)). row.membership)) (c.others p ne)) ∙ t.members p (ap is_some (sym (read-other p ne)) ∙ h)
+    ];
+  }
+
+  moment-now : (o : Option ℕ) → slot ≡ o → option_and_then (λ s. option_map (λ (t : Timer). t.at) (get after s)) slot ≡ cond (is_some o) at None
+  moment-now None is = ap (option_and_then (λ s. option_map (λ (t : Timer). t.at) (get after s))) is
+  moment-now (Some s) is = ap (option_and_then (λ s. option_map (λ (t : Timer). t.at) (get after s))) is ∙ ap (option_map (λ (t : Timer). t.at)) (own-timer s is) ∙ same at
+    where
+      same : (o : Option ℕ) → option_map (λ (t : Timer). t.at) (timer_for place o) ≡ o
+      same None = refl
+      same (Some x) = refl
+
+  pub timers-set : IsNumbered (row_at rows) → IsNumbered (row_at new) → timers_of after new ≡ with_timer (timers_of timers rows) was.number (cond (is_some slot) at None)
+  unfolding timers_of
+  timers-set d e =
+      map-put (λ _ row. moment_in timers row) (λ _ row. moment_in after row) rows new d e place was (record was { timer = slot }) at_is c.changed refl c.others
+      (λ p other ne there. elim (option-cases other.timer) as (λ _. moment_in after other ≡ moment_in timers other) [
+        | inl none ↦ ap (option_and_then (λ s. option_map (λ (t : Timer). t.at) (get after s))) none ∙ sym (ap (option_and_then (λ s. option_map (λ (t : Timer). t.at) (get timers s))) none)
+        | inr s ↦
+            ap (option_and_then (λ s. option_map (λ (t : Timer). t.at) (get after s))) s.1
+            ∙ ap (option_map (λ (t : Timer). t.at)) (other-timer p s.0 ne (ap (option_and_then (λ (row : Row (Record K V)). row.timer)) there ∙ s.1))
+            ∙ sym (ap (option_and_then (λ s. option_map (λ (t : Timer). t.at) (get timers s))) s.1)
+      ])
+      ∙ ap (with_timer (map_of (λ _ row. moment_in timers row) rows) was.number) (moment-now slot refl)
+
+  -- a timer taken out
+  pub timers-gone : IsNumbered (row_at rows) → IsNumbered (row_at new) → slot ≡ None → timers_of after new ≡ remove (timers_of timers rows) was.number
+  timers-gone d e none = timers-set d e ∙ ap (λ o. with_timer (timers_of timers rows) was.number (cond (is_some o) at None)) none
+
+module _ {K V : Type 0} (rows : List (Option (Row (Record K V)))) (timers : FinMap nat_cmp Timer) (t : IsTimed rows timers) (d : IsNumbered (row_at rows)) where
+  -- the row of a timer in a slot
+  pub record TimerRow (slot place at : ℕ) : Type 0 where
+    pub row : Row (Record K V)
+    pub at_is : row_at rows place ≡ Some row
+    pub timer_is : row.timer ≡ Some slot
+    pub moment_is : get (timers_of timers rows) row.number ≡ Some at
+    pub member : IsSome row.membership
+
+  pub timer-row : (slot place at : ℕ) → get timers slot ≡ Some (record { number = place; at = at }) → TimerRow slot place at
+  timer-row slot place at h =
+      let there : timer_at rows place ≡ Some slot = t.linked.to_slot slot place (ap (option_map (λ (t : Timer). t.number)) h) in
+      let w = read-of (λ (row : Row (Record K V)). row.timer) (row_at rows place) slot there in
+      record {
+        row = w.0;
+        at_is = w.1;
+        timer_is = w.2;
+        moment_is = moment-row rows timers t place w.0 w.1 d ∙ ap (option_and_then (λ slot. option_map (λ (t : Timer). t.at) (get timers slot))) w.2 ∙ ap (option_map (λ (t : Timer). t.at)) h;
+        member = ap is_some (sym (ap (option_and_then (λ (row : Row (Record K V)). row.membership)) w.1)) ∙ t.members place (ap is_some there);
+      }
+
+  -- where each timer lies ahead, each number's moment does
+  pub all-ahead : (now : ℕ) → ((slot : ℕ) (timer : Timer) → get timers slot ≡ Some timer → now < timer.at) → (n at : ℕ) → get (timers_of timers rows) n ≡ Some at → now < at
+  unfolding timers_of
+  all-ahead now ahead n at h =
+      let w = map-found (λ _ row. moment_in timers row) rows d n at h in
+      let slot = read-of (λ slot. option_map (λ (t : Timer). t.at) (get timers slot)) w.row.timer at w.value_is in
+      let timer = at-moment (get timers slot.0) at slot.2 in
+      subst (λ x. now < x) timer.2 (ahead slot.0 timer.0 timer.1)
+    where
+      at-moment : (o : Option Timer) (at : ℕ) → option_map (λ (t : Timer). t.at) o ≡ Some at → (t : Timer) × (o ≡ Some t) × (t.at ≡ at)
+      at-moment None at h = cc
+      at-moment (Some t) at h = (t, refl, cc)

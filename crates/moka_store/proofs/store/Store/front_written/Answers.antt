@@ -1,0 +1,35 @@
+use Rattle.std.proofs.Common.{ℕ, Some, refl, sym, ap, ◌∙◌}
+use Rattle.std.specs.Option.{option_map}
+use Rattle.moka_structures.specs.RecordTable.{number_at}
+use Rattle.moka_store.proofs.Orders.{written-place, written-listed}
+use Rattle.moka_store.proofs.Written.{number-front}
+use Rattle.moka_store.proofs.store.Store.front_written.Goals as goal
+
+pub returns-in_err-place-clause-front : goal.returns-in_err-place-clause-front
+returns-in_err-place-clause-front g c =
+    rw (c.from_residual.ensures, ← c.self.view_is, number-front c.self.inside.table.rows c.self.inside.written.nodes) (ap (option_map (λ (m : ℕ × ℕ). number_at c.self.inside.table.rows m.1)) c.in_err-place.ensures.front)
+
+pub handle_at-requires : goal.handle_at-requires
+handle_at-requires g c =
+    let n = written-place _ _ _ _ c.self.invariant.tied c.self.inside.written c.self.invariant.written _ _ c.in_ok-place.ensures.found in
+    rw n.at_is refl
+
+pub returns-clause-placed : goal.returns-clause-placed
+returns-clause-placed g c =
+    let n = written-place _ _ _ _ c.self.invariant.tied c.self.inside.written c.self.invariant.written _ _ c.in_ok-place.ensures.found in
+    rw (c.handle_at.ensures.number _ n.at_is, c.handle_at.ensures.place, ← c.self.view_is) n.place_is
+
+pub returns-clause-member : goal.returns-clause-member
+returns-clause-member g c =
+    let n = written-place _ _ _ _ c.self.invariant.tied c.self.inside.written c.self.invariant.written _ _ c.in_ok-place.ensures.found in
+    rw (c.handle_at.ensures.number _ n.at_is, ← c.self.view_is) n.counted_is
+
+pub returns-clause-listed : goal.returns-clause-listed
+returns-clause-listed g c =
+    let n = written-place _ _ _ _ c.self.invariant.tied c.self.inside.written c.self.invariant.written _ _ c.in_ok-place.ensures.found in
+    rw (c.handle_at.ensures.number _ n.at_is, ← c.self.view_is) (written-listed _ _ _ _ c.self.invariant.tied c.self.inside.written c.self.invariant.written _ _ c.in_ok-place.ensures.found n.row n.at_is)
+
+pub returns-clause-front : goal.returns-clause-front
+returns-clause-front g c =
+    let n = written-place _ _ _ _ c.self.invariant.tied c.self.inside.written c.self.invariant.written _ _ c.in_ok-place.ensures.found in
+    ap Some (c.handle_at.ensures.number _ n.at_is ∙ sym n.number_is) ∙ ap (option_map (λ (m : ℕ × ℕ). number_at c.self.inside.table.rows m.1)) c.in_ok-place.ensures.front ∙ sym (number-front c.self.inside.table.rows c.self.inside.written.nodes) ∙ rw (← c.self.view_is) refl

@@ -1,0 +1,48 @@
+use Rattle.std.proofs.Common.{Some, None, refl, sym, ap, ◌∙◌}
+use Rattle.std.specs.Option.{option_and_then}
+use Rattle.moka_store.proofs.Orders.{slot-there, written-place, written-listed}
+use Rattle.moka_store.proofs.Steps.{placed}
+use Rattle.moka_store.proofs.Written.{number-next}
+use Rattle.moka_store.specs.StoreRows.{written_in}
+use Rattle.moka_store.proofs.store.Store.next_written.Goals as goal
+
+pub next-requires : goal.next-requires
+next-requires g c =
+    let w = placed _ _ _ _ c.self.invariant.tied _ _ (rw (← c.self.view_is) at c.requires.placed) in
+    let is = sym (c.written_slot-slot.ensures ∙ ap (option_and_then written_in) w.at_is) in
+    slot-there c.self.inside.table.rows c.self.inside.written c.self.invariant.written _ w.row w.at_is _ is
+
+pub returns-in_err-place-clause-next : goal.returns-in_err-place-clause-next
+returns-in_err-place-clause-next g c =
+    let w = placed _ _ _ _ c.self.invariant.tied _ _ (rw (← c.self.view_is) at c.requires.placed) in
+    let is = sym (c.written_slot-slot.ensures ∙ ap (option_and_then written_in) w.at_is) in
+    rw (c.from_residual.ensures, ← c.self.view_is, ← w.number_is) (number-next c.self.inside.table.rows c.self.inside.written.nodes c.self.invariant.written.listed c.self.invariant.tied.numbered _ w.row w.at_is _ is None c.in_err-place.ensures.next c.in_err-place.ensures.absent)
+
+pub handle_at-requires : goal.handle_at-requires
+handle_at-requires g c =
+    let n = written-place _ _ _ _ c.self.invariant.tied c.self.inside.written c.self.invariant.written _ _ c.in_ok-place.ensures.found in
+    rw n.at_is refl
+
+pub returns-clause-placed : goal.returns-clause-placed
+returns-clause-placed g c =
+    let n = written-place _ _ _ _ c.self.invariant.tied c.self.inside.written c.self.invariant.written _ _ c.in_ok-place.ensures.found in
+    rw (c.handle_at.ensures.number _ n.at_is, c.handle_at.ensures.place, ← c.self.view_is) n.place_is
+
+pub returns-clause-member : goal.returns-clause-member
+returns-clause-member g c =
+    let n = written-place _ _ _ _ c.self.invariant.tied c.self.inside.written c.self.invariant.written _ _ c.in_ok-place.ensures.found in
+    rw (c.handle_at.ensures.number _ n.at_is, ← c.self.view_is) n.counted_is
+
+pub returns-clause-listed : goal.returns-clause-listed
+returns-clause-listed g c =
+    let n = written-place _ _ _ _ c.self.invariant.tied c.self.inside.written c.self.invariant.written _ _ c.in_ok-place.ensures.found in
+    rw (c.handle_at.ensures.number _ n.at_is, ← c.self.view_is) (written-listed _ _ _ _ c.self.invariant.tied c.self.inside.written c.self.invariant.written _ _ c.in_ok-place.ensures.found n.row n.at_is)
+
+pub returns-clause-next : goal.returns-clause-next
+returns-clause-next g c =
+    let w = placed _ _ _ _ c.self.invariant.tied _ _ (rw (← c.self.view_is) at c.requires.placed) in
+    let is = sym (c.written_slot-slot.ensures ∙ ap (option_and_then written_in) w.at_is) in
+    let n = written-place _ _ _ _ c.self.invariant.tied c.self.inside.written c.self.invariant.written _ _ c.in_ok-place.ensures.found in
+    ap Some (c.handle_at.ensures.number _ n.at_is ∙ sym n.number_is)
+    ∙ number-next c.self.inside.table.rows c.self.inside.written.nodes c.self.invariant.written.listed c.self.invariant.tied.numbered _ w.row w.at_is _ is _ c.in_ok-place.ensures.next c.in_ok-place.ensures.absent
+    ∙ rw (w.number_is, ← c.self.view_is) refl
