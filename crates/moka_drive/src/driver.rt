@@ -274,6 +274,3 @@ fn key_of<
         Err(_) => Err(OutOfMemory),
     }
 }
-
-#[cfg(test)]
-mod tests;
