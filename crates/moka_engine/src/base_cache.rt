@@ -238,6 +238,7 @@ impl<
     }
 
     /// The hash of a key by the cache's own hasher.
+    #[inline(always)]
     pub fn hash(&self, key: &K) -> u64
         ensures { result ≡ S.Hasher.finish (fold S.Hasher.write (S.build_hasher self.now.hasher) (K.hash_input key.now)) }
     {
@@ -293,6 +294,7 @@ impl<
     /// # Errors
     /// `NumbersUsedUp` where too few tickets are left, and `OutOfMemory` where memory for the operation or for a new
     /// record is refused. Key and value come back, and nothing has changed.
+    #[inline(always)]
     pub fn do_insert_with_hash(
         &mut self,
         key: K,
@@ -328,6 +330,7 @@ impl<
     }
 
     // A new record for a key that has none. All room is made before anything changes.
+    #[inline(always)]
     fn insert_new(
         &mut self,
         key: K,
@@ -359,6 +362,7 @@ impl<
     /// # Errors
     /// `UnknownTicket` where no operation waits under the ticket, and else `QueueFull` where 384 operations are queued;
     /// the operation is kept.
+    #[inline(always)]
     pub fn send(&mut self, ticket: Ticket) -> Result<(), SendError>
         ensures step { SendStep self.old.state ticket.0 result self.new.state }
         ensures events { Befalls L.tells no_events self.old self.new }
@@ -478,6 +482,7 @@ impl<
     ///
     /// # Errors
     /// `OutOfMemory` where memory for a clone is refused. Nothing has changed.
+    #[inline(always)]
     pub fn get_with_hash<C: Clock>(
         &mut self,
         key: &K,

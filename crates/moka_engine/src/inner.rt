@@ -117,6 +117,7 @@ impl<K: Eq + Hash, V, S: BuildHasher> Inner<K, V, S> {
     }
 
     /// The record whose key is equal, with its handle.
+    #[inline(always)]
     pub fn find(&self, key: &K) -> Option<(Handle, &Record<K, V>)>
         ensures handle { IfSome result (λ f. IsHandle self.now.kept f.0) }
         ensures numbered { IfSome result (λ f. finite.get self.now.kept.records f.0.number ≡ Some f.1.now) }
@@ -126,6 +127,7 @@ impl<K: Eq + Hash, V, S: BuildHasher> Inner<K, V, S> {
     }
 
     /// Makes room for one more record with its operation and its removal.
+    #[inline(always)]
     pub fn reserve_record(&mut self) -> Result<(), InsertError>
         ensures used_up { (result ≡ Err NumbersUsedUp) ↔ (2 ^ 64 ≤ self.old.next_ticket + finite.len self.old.kept.records + 1) }
         ensures rows { OnOk result (0 < self.new.kept.room) }
@@ -143,6 +145,7 @@ impl<K: Eq + Hash, V, S: BuildHasher> Inner<K, V, S> {
     }
 
     /// Makes room for one more operation.
+    #[inline(always)]
     pub fn reserve_operation(&mut self) -> Result<(), InsertError>
         ensures used_up { (result ≡ Err NumbersUsedUp) ↔ (2 ^ 64 ≤ self.old.next_ticket + finite.len self.old.kept.records) }
         ensures operations { OnOk result (0 < self.new.operation_room) }
@@ -159,6 +162,7 @@ impl<K: Eq + Hash, V, S: BuildHasher> Inner<K, V, S> {
     }
 
     // Whether one more ticket and a ticket for the removal of each record are left, with so many more records.
+    #[inline(always)]
     fn has_tickets(&self, more: u64) -> bool
         ensures { result ≡ nat_lt (self.now.next_ticket + finite.len self.now.kept.records + more) (2 ^ 64) }
     {
@@ -166,6 +170,7 @@ impl<K: Eq + Hash, V, S: BuildHasher> Inner<K, V, S> {
     }
 
     /// Puts a new record into the map, and hands its upsert out under the next ticket. It takes no memory.
+    #[inline(always)]
     pub fn insert(&mut self, key: K, hash: u64, update: Update<V>) -> Ticket
         requires rows { 0 < self.old.kept.room }
         requires operations { 1 < self.old.operation_room }
@@ -198,6 +203,7 @@ impl<K: Eq + Hash, V, S: BuildHasher> Inner<K, V, S> {
 
     /// Gives the record at this handle a new value, and hands its upsert out under the next ticket. The answer is the old
     /// value with the ticket. It takes no memory.
+    #[inline(always)]
     pub fn update(&mut self, handle: Handle, hash: u64, update: Update<V>) -> (V, Ticket)
         requires operations { 0 < self.old.operation_room }
         requires tickets { self.old.next_ticket + finite.len self.old.kept.records < 2 ^ 64 }
@@ -252,6 +258,7 @@ impl<K: Eq + Hash, V, S: BuildHasher> Inner<K, V, S> {
     }
 
     /// Moves the operation of this ticket to the back of the queue of writes.
+    #[inline(always)]
     pub fn send(&mut self, ticket: Ticket) -> Result<(), SendError>
         ensures unknown { (result ≡ Err SendError.UnknownTicket) ↔ (finite.get self.old.outstanding ticket.0 ≡ None) }
         ensures full { result ≡ Err SendError.QueueFull → queue_length ≤ length self.old.writes }
@@ -280,6 +287,7 @@ impl<K: Eq + Hash, V, S: BuildHasher> Inner<K, V, S> {
     }
 
     /// Notes that the record at this handle was read at this moment, and when it expires since then.
+    #[inline(always)]
     pub fn touch(&mut self, handle: Handle, read: Instant, expires: Option<Instant>)
         requires { IsHandle self.old.kept handle }
         ensures step { ChangesRecord handle.number (λ r. record r { read = read; expires = expires }) self.old.kept self.new.kept }
@@ -289,6 +297,7 @@ impl<K: Eq + Hash, V, S: BuildHasher> Inner<K, V, S> {
     }
 
     /// Queues a read, or drops it where the queue is full.
+    #[inline(always)]
     pub fn queue_read(&mut self, place: usize, read: ReadOperation)
         requires { IsReadLocated self.old.kept.places self.old.next_number place read }
         ensures { self.new ≡ record self.old { reads = if nat_lt (length self.old.reads) queue_length then self.old.reads ++ read ∷ [] else self.old.reads } }
@@ -298,6 +307,7 @@ impl<K: Eq + Hash, V, S: BuildHasher> Inner<K, V, S> {
 
     /// Queues a hit of the record of this number, which was the key's and may have left the map since. Its place is looked
     /// up by the key.
+    #[inline(always)]
     pub fn queue_hit(&mut self, key: &K, number: u64, hash: u64, renewed: bool)
         requires { IsReadNumber K.eq self.old.kept.records self.old.outstanding self.old.writes self.old.next_number key.now number }
         ensures { self.new ≡ record self.old { reads = if nat_lt (length self.old.reads) queue_length then self.old.reads ++ Hit number hash renewed ∷ [] else self.old.reads } }

@@ -141,6 +141,7 @@ impl<K: Eq + Hash, V, S: BuildHasher> Store<K, V, S> {
     }
 
     /// The record at this handle, if it is still there.
+    #[inline(always)]
     pub fn find(&self, handle: Handle) -> Option<&Record<K, V>>
         ensures found { IsPlaced self.now handle → option_copied result ≡ finite.get self.now.records handle.number }
         ensures elsewhere { (IsPlaced self.now handle → ⊥) → option_copied result ≡ None }
@@ -151,6 +152,7 @@ impl<K: Eq + Hash, V, S: BuildHasher> Store<K, V, S> {
     }
 
     /// Whether the number at this handle has its row there.
+    #[inline(always)]
     pub fn has_row(&self, handle: Handle) -> bool
         ensures placed { IsTrue result ↔ IsPlaced self.now handle }
         ensures records { (n : ℕ) → IsSome (finite.get self.now.records n) → IsSome (finite.get self.now.places n) }
@@ -163,6 +165,7 @@ impl<K: Eq + Hash, V, S: BuildHasher> Store<K, V, S> {
     }
 
     /// A new record of a key that has none. It takes no memory.
+    #[inline(always)]
     pub fn insert_new(&mut self, stored: Record<K, V>) -> Handle
         requires room { 0 < self.old.room }
         requires fresh { finite.get self.old.places stored.number ≡ None }
@@ -186,6 +189,7 @@ impl<K: Eq + Hash, V, S: BuildHasher> Store<K, V, S> {
 
     /// A new value for the record at this handle, with what comes with it, as its next generation. The answer is the
     /// old value.
+    #[inline(always)]
     pub fn update(&mut self, handle: Handle, update: Update<V>) -> V
         requires handle { IsHandle self.old handle }
         requires generation { (r : Record K V) → finite.get self.old.records handle.number ≡ Some r → r.generation + 1 < 2 ^ 64 }
@@ -199,6 +203,7 @@ impl<K: Eq + Hash, V, S: BuildHasher> Store<K, V, S> {
     }
 
     /// The record at this handle was read at this moment, and expires then.
+    #[inline(always)]
     pub fn touch(&mut self, handle: Handle, read: Instant, expires: Option<Instant>)
         requires { IsHandle self.old handle }
         ensures step { ChangesRecord handle.number (λ r. record r { read = read; expires = expires }) self.old self.new }
@@ -210,6 +215,7 @@ impl<K: Eq + Hash, V, S: BuildHasher> Store<K, V, S> {
     }
 
     /// The operation of this generation was applied to the record at this handle.
+    #[inline(always)]
     pub fn set_applied(&mut self, handle: Handle, generation: u64)
         requires { IsHandle self.old handle }
         ensures step { ChangesRecord handle.number (λ r. record r { applied = generation }) self.old self.new }
@@ -221,6 +227,7 @@ impl<K: Eq + Hash, V, S: BuildHasher> Store<K, V, S> {
     }
 
     /// The record at this handle leaves the map, and its number stays.
+    #[inline(always)]
     pub fn take_record(&mut self, handle: Handle) -> Record<K, V>
         requires { IsHandle self.old handle }
         ensures taken { finite.get self.old.records handle.number ≡ Some result }
@@ -237,6 +244,7 @@ impl<K: Eq + Hash, V, S: BuildHasher> Store<K, V, S> {
     }
 
     /// The weight that is counted for the number at this handle, if it is in the access list.
+    #[inline(always)]
     pub fn counted(&self, handle: Handle) -> Option<u32>
         requires { IsPlaced self.now handle }
         ensures counted { result ≡ counted_of handle.number self.now.access }
@@ -246,6 +254,7 @@ impl<K: Eq + Hash, V, S: BuildHasher> Store<K, V, S> {
     }
 
     /// Whether the number at this handle is in the access list.
+    #[inline(always)]
     pub fn is_member(&self, handle: Handle) -> bool
         requires { IsPlaced self.now handle }
         ensures member { result ≡ is_member handle.number self.now.access }
@@ -255,6 +264,7 @@ impl<K: Eq + Hash, V, S: BuildHasher> Store<K, V, S> {
     }
 
     /// Whether the number at this handle is settled: its record is in the map and saw its newest operation.
+    #[inline(always)]
     pub fn is_settled(&self, handle: Handle) -> bool
         requires { IsPlaced self.now handle }
         ensures { result ≡ is_settled self.now.records handle.number }
@@ -266,6 +276,7 @@ impl<K: Eq + Hash, V, S: BuildHasher> Store<K, V, S> {
     }
 
     /// The number at this handle comes to the back of both orders, with this weight. It takes no memory.
+    #[inline(always)]
     pub fn admit(&mut self, handle: Handle, weight: u32)
         requires placed { IsPlaced self.old handle }
         requires apart { counted_of handle.number self.old.access ≡ None }
@@ -288,6 +299,7 @@ impl<K: Eq + Hash, V, S: BuildHasher> Store<K, V, S> {
     }
 
     /// The number at this handle moves to the back of the access list alone.
+    #[inline(always)]
     pub fn move_in_access(&mut self, handle: Handle)
         requires placed { IsPlaced self.old handle }
         requires member { IsSome (counted_of handle.number self.old.access) }
@@ -303,6 +315,7 @@ impl<K: Eq + Hash, V, S: BuildHasher> Store<K, V, S> {
     }
 
     /// The number at this handle moves to the back of both orders. A cursor there goes on.
+    #[inline(always)]
     pub fn move_to_back(&mut self, handle: Handle)
         requires placed { IsPlaced self.old handle }
         requires member { IsSome (counted_of handle.number self.old.access) }
@@ -319,6 +332,7 @@ impl<K: Eq + Hash, V, S: BuildHasher> Store<K, V, S> {
     }
 
     /// The number at this handle moves to the back of both orders, with this weight. A cursor there goes on.
+    #[inline(always)]
     pub fn recount(&mut self, handle: Handle, weight: u32)
         requires placed { IsPlaced self.old handle }
         requires member { IsSome (counted_of handle.number self.old.access) }
@@ -337,6 +351,7 @@ impl<K: Eq + Hash, V, S: BuildHasher> Store<K, V, S> {
     }
 
     /// The number at this handle leaves both orders, and has no timer any more. A cursor there goes on.
+    #[inline(always)]
     pub fn leave(&mut self, handle: Handle)
         requires placed { IsPlaced self.old handle }
         requires member { IsSome (counted_of handle.number self.old.access) }
@@ -355,6 +370,7 @@ impl<K: Eq + Hash, V, S: BuildHasher> Store<K, V, S> {
     }
 
     // The number at this handle has no timer any more.
+    #[inline(always)]
     fn clear_timer(&mut self, handle: Handle)
         requires { IsPlaced self.old handle }
         ensures { self.new ≡ record self.old { timers = finite.remove self.old.timers handle.number } }
@@ -365,6 +381,7 @@ impl<K: Eq + Hash, V, S: BuildHasher> Store<K, V, S> {
 
     /// The timer of the number at this handle, where timers are kept, stands at its record's expiry, or is taken out where
     /// there is none. It takes no memory.
+    #[inline(always)]
     pub fn set_timer(&mut self, handle: Handle)
         requires handle { IsHandle self.old handle }
         requires member { IsSome (counted_of handle.number self.old.access) }
@@ -442,6 +459,7 @@ impl<K: Eq + Hash, V, S: BuildHasher> Store<K, V, S> {
     }
 
     /// How many records there are.
+    #[inline(always)]
     pub fn record_count(&self) -> usize
         ensures { result ≡ finite.len self.now.records }
     {
@@ -465,6 +483,7 @@ impl<K: Eq + Hash, V, S: BuildHasher> Store<K, V, S> {
     }
 
     /// How many members the access list has.
+    #[inline(always)]
     pub fn member_count(&self) -> usize
         ensures value { result ≡ length self.now.access }
         ensures few { result < 2 ^ 32 }
@@ -473,6 +492,7 @@ impl<K: Eq + Hash, V, S: BuildHasher> Store<K, V, S> {
     }
 
     /// The sum of the weights that are counted for the members.
+    #[inline(always)]
     pub fn total_weight(&self) -> u128
         ensures { result ≡ total_weight self.now.access }
     {
@@ -491,6 +511,7 @@ impl<K: Eq + Hash, V, S: BuildHasher> Store<K, V, S> {
     }
 
     /// The first of the access list, with its weight.
+    #[inline(always)]
     pub fn front(&self) -> Option<(Handle, u32)>
         ensures placed { IfSome result (λ f. IsPlaced self.now f.0) }
         ensures member { IfSome result (λ f. IsSome (counted_of f.0.number self.now.access)) }
@@ -501,6 +522,7 @@ impl<K: Eq + Hash, V, S: BuildHasher> Store<K, V, S> {
     }
 
     /// The member behind the one at this handle in the access list, with its weight.
+    #[inline(always)]
     pub fn next(&self, handle: Handle) -> Option<(Handle, u32)>
         requires placed { IsPlaced self.now handle }
         requires member { IsSome (counted_of handle.number self.now.access) }
@@ -516,6 +538,7 @@ impl<K: Eq + Hash, V, S: BuildHasher> Store<K, V, S> {
     }
 
     /// The record at this handle leaves the map and, if it is a member, both orders and the timers. Its number stays.
+    #[inline(always)]
     pub fn take_out(&mut self, handle: Handle) -> Record<K, V>
         requires { IsHandle self.old handle }
         ensures taken { finite.get self.old.records handle.number ≡ Some result }
@@ -533,6 +556,7 @@ impl<K: Eq + Hash, V, S: BuildHasher> Store<K, V, S> {
     }
 
     /// The number at this handle goes. Its record left the map, and it is no member.
+    #[inline(always)]
     pub fn forget(&mut self, handle: Handle)
     where
         K: Drop,

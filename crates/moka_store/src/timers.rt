@@ -57,6 +57,7 @@ impl Timers {
     }
 
     /// Gives a place, whose timer is in `before`, a timer at this moment, or none. The answer is its slot.
+    #[inline(always)]
     pub fn set(&mut self, before: Option<u32>, place: u64, at: Option<Instant>) -> Option<u32>
         requires held { IfSome before (λ slot. option_map (λ (t : Timer). t.number) (get self.old.timers slot) ≡ Some place) }
         requires room { IfNone before (IfSome at (λ _. len self.old.timers < self.old.most)) }

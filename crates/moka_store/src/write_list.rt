@@ -59,6 +59,7 @@ impl WriteList {
     }
 
     /// Puts a place behind all others. The answer is its slot.
+    #[inline(always)]
     pub fn push_back(&mut self, place: u64) -> Option<u32>
         requires { length self.old.nodes < self.old.most }
         ensures kept { is_some result ≡ self.old.ordered }
@@ -74,6 +75,7 @@ impl WriteList {
     }
 
     /// Moves the place in `slot` behind all others. A cursor there goes to the one that stood behind it.
+    #[inline(always)]
     pub fn move_to_back(&mut self, slot: Option<u32>)
         requires { IfSome slot (λ s. IsSome (lookup (nat_eq s) self.old.nodes)) }
         ensures nodes { IfSome slot (λ s. (place : ℕ) → lookup (nat_eq s) self.old.nodes ≡ Some place → self.new.nodes ≡ remove_entry (nat_eq s) self.old.nodes ++ (s, place) ∷ []) }
@@ -91,6 +93,7 @@ impl WriteList {
     }
 
     /// Takes the place in `slot` out. A cursor there goes to the one that stood behind it.
+    #[inline(always)]
     pub fn unlink(&mut self, slot: Option<u32>)
         requires { IfSome slot (λ s. IsSome (lookup (nat_eq s) self.old.nodes)) }
         ensures nodes { IfSome slot (λ s. self.new.nodes ≡ remove_entry (nat_eq s) self.old.nodes) }
@@ -108,6 +111,7 @@ impl WriteList {
     }
 
     /// The slot of the first place, and that place.
+    #[inline(always)]
     pub fn front(&self) -> Option<(u32, u64)>
         ensures front { result ≡ slice_get self.now.nodes 0 }
         ensures found { IfSome result (λ m. lookup (nat_eq m.0) self.now.nodes ≡ Some m.1) }
@@ -116,6 +120,7 @@ impl WriteList {
     }
 
     /// The slot of the place behind the one in `slot`, and that place.
+    #[inline(always)]
     pub fn next(&self, slot: Option<u32>) -> Option<(u32, u64)>
         requires { IfSome slot (λ s. IsSome (lookup (nat_eq s) self.now.nodes)) }
         ensures next { IfSome slot (λ s. result ≡ next_after s self.now.nodes) }

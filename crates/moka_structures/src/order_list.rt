@@ -21,6 +21,7 @@ struct Node {
 }
 
 // Takes the node at `slot` out of the ring.
+#[inline(always)]
 fn detach(nodes: &mut Vec<Node>, slot: u32)
     requires slot { slot < vec_len nodes.old }
     requires before { (at nodes.old.items slot).before < vec_len nodes.old }
@@ -35,6 +36,7 @@ fn detach(nodes: &mut Vec<Node>, slot: u32)
 }
 
 // Puts the node at `slot` before the sentinel, which is behind all others.
+#[inline(always)]
 fn attach(nodes: &mut Vec<Node>, slot: u32)
     requires some { 0 < vec_len nodes.old }
     requires slot { slot < vec_len nodes.old }
@@ -50,6 +52,7 @@ fn attach(nodes: &mut Vec<Node>, slot: u32)
 }
 
 // Takes the node at `slot` out of the ring, and puts it before the free ones.
+#[inline(always)]
 fn release(nodes: &mut Vec<Node>, slot: u32, free: u32)
     requires slot { slot < vec_len nodes.old }
     requires before { (at nodes.old.items slot).before < vec_len nodes.old }
@@ -62,6 +65,7 @@ fn release(nodes: &mut Vec<Node>, slot: u32, free: u32)
 }
 
 // Gives the free node at `slot` a number and attaches it. The answer is the slot that was free behind it.
+#[inline(always)]
 fn reuse(nodes: &mut Vec<Node>, slot: u32, number: u64) -> u32
     requires slot { slot < vec_len nodes.old }
     requires last { (at nodes.old.items 0).before < vec_len nodes.old }
@@ -159,6 +163,7 @@ impl OrderList {
     /// while it is in.
     ///
     /// moka: `Deque::push_back`.
+    #[inline(always)]
     pub fn push_back(&mut self, number: u64) -> u32
         requires { 0 < self.old.room }
         ensures fresh { lookup (nat_eq result) self.old.members ≡ None }
@@ -189,6 +194,7 @@ impl OrderList {
     /// Moves the number in `slot` behind all others. It stays in its slot.
     ///
     /// moka: `Deque::move_to_back`.
+    #[inline(always)]
     pub fn move_to_back(&mut self, slot: u32)
         requires { IsSome (lookup (nat_eq slot) self.old.members) }
         ensures members { (number : ℕ) → lookup (nat_eq slot) self.old.members ≡ Some number → self.new.members ≡ moved_to_back slot number self.old.members }
@@ -204,6 +210,7 @@ impl OrderList {
     /// Takes the number in `slot` out and gives it back. The slot may be given to a later number.
     ///
     /// moka: `Deque::unlink_and_drop`.
+    #[inline(always)]
     pub fn unlink(&mut self, slot: u32) -> u64
         requires { IsSome (lookup (nat_eq slot) self.old.members) }
         ensures number { lookup (nat_eq slot) self.old.members ≡ Some result }
@@ -222,6 +229,7 @@ impl OrderList {
     /// The slot of the first number, and that number.
     ///
     /// moka: `Deque::peek_front`.
+    #[inline(always)]
     pub fn front(&self) -> Option<(u32, u64)>
         ensures front { result ≡ slice_get self.now.members 0 }
         ensures found { IfSome result (λ m. lookup (nat_eq m.0) self.now.members ≡ Some m.1) }
@@ -238,6 +246,7 @@ impl OrderList {
     /// The slot of the number behind the one in `slot`, and that number.
     ///
     /// moka: `DeqNode::next_node_ptr`.
+    #[inline(always)]
     pub fn next(&self, slot: u32) -> Option<(u32, u64)>
         requires { IsSome (lookup (nat_eq slot) self.now.members) }
         ensures next { result ≡ next_after slot self.now.members }

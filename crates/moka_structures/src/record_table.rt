@@ -106,6 +106,7 @@ impl<R> RecordTable<R> {
     }
 
     /// A new row for a number that has none. The answer is its place.
+    #[inline(always)]
     pub fn insert(&mut self, number: u64, stored: R) -> usize
         requires room { 0 < self.old.room }
         requires fresh { map.get (places_of self.old.rows) number ≡ None }
@@ -126,6 +127,7 @@ impl<R> RecordTable<R> {
     }
 
     /// The row at this place.
+    #[inline(always)]
     pub fn row(&self, place: usize) -> Option<&Row<R>>
         ensures { option_copied result ≡ row_at self.now.rows place }
     {
@@ -133,6 +135,7 @@ impl<R> RecordTable<R> {
     }
 
     /// The record at this place.
+    #[inline(always)]
     pub fn record(&self, place: usize) -> Option<&R>
         ensures { option_copied result ≡ stored_at self.now.rows place }
     {
@@ -140,6 +143,7 @@ impl<R> RecordTable<R> {
     }
 
     /// The record at this place, if it is the one of this number.
+    #[inline(always)]
     pub fn find(&self, place: usize, number: u64) -> Option<&R>
         ensures value { option_copied result ≡ find_at self.now.rows place number }
         ensures found { map.get (places_of self.now.rows) number ≡ Some place → option_copied result ≡ map.get (records_of self.now.rows) number }
@@ -150,6 +154,7 @@ impl<R> RecordTable<R> {
     }
 
     /// The record at this place, for writing.
+    #[inline(always)]
     pub fn record_mut(&mut self, place: usize) -> Option<&mut R>
         ensures* writes_back { sem 𝓛 (lends_record R.row self.entry place result) }
         ensures value { option_copied_mut result ≡ stored_at self.old.rows place }
@@ -158,6 +163,7 @@ impl<R> RecordTable<R> {
     }
 
     /// The record at this place leaves the map, and its row stays.
+    #[inline(always)]
     pub fn take(&mut self, place: usize) -> R
         requires { IsSome (stored_at self.old.rows place) }
         ensures taken { stored_at self.old.rows place ≡ Some result }
@@ -172,6 +178,7 @@ impl<R> RecordTable<R> {
     }
 
     /// The membership of the row at this place.
+    #[inline(always)]
     pub fn membership(&self, place: usize) -> Option<Membership>
         ensures { result ≡ membership_at self.now.rows place }
     {
@@ -179,6 +186,7 @@ impl<R> RecordTable<R> {
     }
 
     /// The weight that is counted for the member at this place.
+    #[inline(always)]
     pub fn counted(&self, place: usize) -> Option<u32>
         ensures { result ≡ option_map (λ m. m.counted) (membership_at self.now.rows place) }
     {
@@ -186,6 +194,7 @@ impl<R> RecordTable<R> {
     }
 
     /// Another weight for the member at this place.
+    #[inline(always)]
     pub fn set_counted(&mut self, place: usize, weight: u32)
         requires { IsSome (membership_at self.old.rows place) }
         ensures changes { RecountsRow self.old.rows self.new.rows place weight }
@@ -199,6 +208,7 @@ impl<R> RecordTable<R> {
     }
 
     /// The row at this place becomes a member, or gets another membership. The answer is the one that it had.
+    #[inline(always)]
     pub fn set_membership(&mut self, place: usize, membership: Membership) -> Option<Membership>
         requires { IsSome (row_at self.old.rows place) }
         ensures old { result ≡ membership_at self.old.rows place }
@@ -213,6 +223,7 @@ impl<R> RecordTable<R> {
     }
 
     /// The row at this place is a member no longer. The answer is the membership that it had.
+    #[inline(always)]
     pub fn clear_membership(&mut self, place: usize) -> Option<Membership>
         requires { IsSome (row_at self.old.rows place) }
         ensures old { result ≡ membership_at self.old.rows place }
@@ -227,6 +238,7 @@ impl<R> RecordTable<R> {
     }
 
     /// Another timer, or none, for the row at this place. The answer is the one that it had.
+    #[inline(always)]
     pub fn set_timer(&mut self, place: usize, timer: Option<u32>) -> Option<u32>
         requires { IsSome (row_at self.old.rows place) }
         ensures old { result ≡ option_and_then (λ row. row.timer) (row_at self.old.rows place) }
@@ -241,6 +253,7 @@ impl<R> RecordTable<R> {
     }
 
     /// The row at this place goes. It has no record, no membership and no timer any more.
+    #[inline(always)]
     pub fn forget(&mut self, place: usize)
     where
         R: Drop,
@@ -266,6 +279,7 @@ impl<R> Rows<R> {
     ghost use Rattle.moka_structures.specs.Lending.{lends_stored};
 
     // The record at this place, if its row has this number.
+    #[inline(always)]
     fn find(&self, place: usize, number: u64) -> Option<&R>
         ensures { option_copied result ≡ find_at self.now.slab.slots place number }
     {
@@ -276,6 +290,7 @@ impl<R> Rows<R> {
     }
 
     // The record of the row at this place, for writing.
+    #[inline(always)]
     fn stored_mut(&mut self, place: usize) -> Option<&mut R>
         ensures* writes_back { sem 𝓛 (lends_stored R.row self.entry place result) }
         ensures value { option_copied_mut result ≡ stored_at self.old.slab.slots place }
@@ -287,6 +302,7 @@ impl<R> Rows<R> {
     }
 
     // The record of the row at this place leaves.
+    #[inline(always)]
     fn take_stored(&mut self, place: usize) -> R
         requires { IsSome (stored_at self.old.slab.slots place) }
         ensures taken { stored_at self.old.slab.slots place ≡ Some result }
@@ -304,6 +320,7 @@ impl<R> Rows<R> {
     }
 
     // Another weight for the member at this place.
+    #[inline(always)]
     fn recount(&mut self, place: usize, weight: u32)
         requires { IsSome (membership_at self.old.slab.slots place) }
         ensures changes { RecountsRow self.old.slab.slots self.new.slab.slots place weight }
@@ -320,6 +337,7 @@ impl<R> Rows<R> {
     }
 
     // Another membership, or none, for the row at this place. The answer is the old one.
+    #[inline(always)]
     fn replace_membership(
         &mut self,
         place: usize,
@@ -338,6 +356,7 @@ impl<R> Rows<R> {
     }
 
     // Another timer, or none, for the row at this place. The answer is the old one.
+    #[inline(always)]
     fn replace_timer(&mut self, place: usize, timer: Option<u32>) -> Option<u32>
         requires { IsSome (row_at self.old.slab.slots place) }
         ensures old { result ≡ option_and_then (λ row. row.timer) (row_at self.old.slab.slots place) }

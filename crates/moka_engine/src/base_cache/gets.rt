@@ -17,6 +17,7 @@ use std::hash::{BuildHasher, Hash};
 
 // The record whose key is equal, with its handle, unless the caller's test, which is asked of its value first, ignores
 // it or a test by moments hides it.
+#[inline(always)]
 pub(super) fn find_unless<'a, K: Eq + Hash, V, S: BuildHasher, X, I: ValueTest<V>>(
     inner: &'a Inner<K, V, S>,
     policy: &ExpirationPolicy<X>,
@@ -38,6 +39,7 @@ pub(super) fn find_unless<'a, K: Eq + Hash, V, S: BuildHasher, X, I: ValueTest<V
 }
 
 // The same without a test of the caller's.
+#[inline(always)]
 pub(super) fn find_shown<'a, K: Eq + Hash, V, S: BuildHasher, X>(
     inner: &'a Inner<K, V, S>,
     policy: &ExpirationPolicy<X>,
@@ -61,6 +63,7 @@ pub(super) struct Hit {
 
 // What a hit at the moment `now` makes of a record: where an expiry is set, it is asked, and the hit counts no earlier
 // than the record was written.
+#[inline(always)]
 pub(super) fn hit_of<K, V, X: Expiry<K, V>>(
     found: &Record<K, V>,
     policy: &ExpirationPolicy<X>,
@@ -89,6 +92,7 @@ pub(super) fn hit_of<K, V, X: Expiry<K, V>>(
 }
 
 // A clone of the record's value, with one of its key where that is asked for.
+#[inline(always)]
 pub(super) fn entry_of<K: Clone, V: Clone>(
     found: &Record<K, V>,
     need_key: bool,

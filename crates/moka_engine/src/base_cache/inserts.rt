@@ -14,6 +14,7 @@ use moka_parts::records::Record;
 const DEFAULT_WEIGHT: u32 = 1;
 
 // The weight of an entry: the weigher's answer, or 1 where none is set.
+#[inline(always)]
 pub(super) fn weigh<K, V, W: Weigher<K, V>>(weigher: &Option<W>, key: &K, value: &V) -> u32
     ensures { Weighs W.weighs weigher.now key.now value.now result }
 {
@@ -24,6 +25,7 @@ pub(super) fn weigh<K, V, W: Weigher<K, V>>(weigher: &Option<W>, key: &K, value:
 }
 
 // When a new entry expires: where an expiry is set, it is asked.
+#[inline(always)]
 pub(super) fn expires_at_creation<K, V, X: Expiry<K, V>>(
     policy: &ExpirationPolicy<X>,
     key: &K,
@@ -40,6 +42,7 @@ pub(super) fn expires_at_creation<K, V, X: Expiry<K, V>>(
 
 // When an entry with a new value expires: where an expiry is set, it is asked, and as about a new entry if the old one
 // has expired.
+#[inline(always)]
 pub(super) fn expires_at_update<K, V, X: Expiry<K, V>>(
     found: &Record<K, V>,
     policy: &ExpirationPolicy<X>,

@@ -65,6 +65,7 @@ impl<
     }
 
     // A look-up that is recorded, where the test does not ignore what it finds.
+    #[inline(always)]
     pub(super) fn do_get_with_hash<I: ValueTest<V>, C: Clock>(
         &mut self,
         key: &K,

@@ -113,6 +113,7 @@ impl<
     }
 
     // Makes a run at the moment `now` if the housekeeper says that one is due with so many reads queued.
+    #[inline(always)]
     fn apply_reads_if_needed<C: Clock>(&mut self, now: Instant, clock: &mut C)
     where
         K: Drop,
@@ -130,6 +131,7 @@ impl<
 
     // Makes the run that is due, if one is, and queues a read that found nothing.
     // moka: `sync::base_cache::BaseCache::record_read_op`.
+    #[inline(always)]
     pub(super) fn record_miss<C: Clock>(&mut self, hash: u64, now: Instant, clock: &mut C)
     where
         K: Drop,
@@ -145,6 +147,7 @@ impl<
 
     // Makes the run that is due, and queues a hit of the key's record. The run may remove that record, so its place is
     // looked up again.
+    #[inline(always)]
     pub(super) fn record_hit_when_due<C: Clock>(
         &mut self,
         key: &K,
