@@ -337,3 +337,6 @@ fn expirations<X: Drop>(
     }
     policy
 }
+
+#[cfg(test)]
+mod tests;

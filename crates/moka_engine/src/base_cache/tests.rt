@@ -8,6 +8,7 @@ use moka_parts::notification::{NoListener, RemovalCause};
 use moka_parts::policy::NoExpiry;
 use std::cell::Cell;
 use std::hash::{BuildHasherDefault, FoldHasher};
+use std::process::Abort;
 use std::rc::Rc;
 use std::test::Fail;
 use std::time::Duration;
@@ -27,20 +28,6 @@ impl<V> Weigher<u64, V> for ByKey {
     }
 
     ghost one_weight = { λ w k v a b x y. x ∙ sym y };
-}
-
-/// Keeps each notice.
-#[derive(Drop)]
-struct Recorder {
-    told: Vec<(u64, u64, RemovalCause)>,
-}
-
-impl Listener<u64, u64> for Recorder {
-    ghost tells = { λ _ _ _ _ _. Unit {0} };
-
-    fn notify(&mut self, key: u64, value: u64, cause: RemovalCause) {
-        let _kept = self.told.push((key, value, cause));
-    }
 }
 
 /// Counts the notices, also for others than the cache.
@@ -66,6 +53,9 @@ type TestCache<V, L, W> = BaseCache<
     NoPredicate,
     W,
 >;
+
+/// A cache of values that are also held elsewhere, and a listener that is.
+type SharedCache = TestCache<Rc<u8>, Counter, ByKey>;
 
 /// An empty cache that evicts by recency, whose entries last 100 nanoseconds after they were read.
 fn cache_of<V: Drop, L: Listener<u64, V> + Drop, W: Weigher<u64, V> + Drop>(
@@ -117,65 +107,22 @@ fn run<V: Drop, L: Listener<u64, V>, W: Weigher<u64, V>>(
     cache.run_pending_tasks(now, &mut FixedClock(now), None, 1, 1)
 }
 
-#[test]
-fn tells_why_each_value_left(rt: HostRuntime) -> Result<(), Fail> {
-    let told = Vec::new(rt.alloc());
-    let mut cache: TestCache<u64, Recorder, ByKey> = cache_of(
-        rt.alloc(),
-        Some(4),
-        Some(ByKey),
-        Some(Recorder { told }),
-    )?;
-    for (key, value) in [(1, 10), (1, 11), (2, 20), (3, 30), (5, 50)] {
-        settle(&mut cache, key, value)?;
+/// A cache of at most three entries that holds the value under four keys, of which one was written twice.
+fn filled(alloc: Global, value: &Rc<u8>, told: Rc<Cell<u32>>) -> Result<SharedCache, Fail> {
+    let listener = Some(Counter { told });
+    let mut cache: SharedCache = cache_of(alloc, Some(3), None, listener)?;
+    for key in [1, 2, 2, 3, 4] {
+        settle(&mut cache, key, value.clone()?)?;
     }
-    assert!(rt; !run(&mut cache, Instant(0)));
-    let (entry, ticket) = cache.remove_entry(&3, 3).ok_or("key")?;
-    assert_eq!(rt; cache.send(ticket), Ok(()));
-    assert!(rt; cache.is_removal_notifier_enabled());
-    assert_eq!(rt; cache.notify_invalidate(&entry, Instant(0)), Ok(()));
-
-    settle(&mut cache, 4, 40)?;
-    assert!(rt; cache.contains_key_with_hash(&4, 4, Instant(99)));
-    assert!(rt; !cache.contains_key_with_hash(&4, 4, Instant(100)));
-    assert!(rt; !run(&mut cache, Instant(100)));
-
-    settle(&mut cache, 4, 41)?;
-    cache.invalidate_all(Instant(1));
-    assert!(rt; !cache.contains_key_with_hash(&4, 4, Instant(0)));
-    assert!(rt; !run(&mut cache, Instant(0)));
-
-    let recorder = cache.listener().ok_or("listener")?;
-    let told = [
-        (1, 10, RemovalCause::Replaced),
-        (5, 50, RemovalCause::Size),
-        (1, 11, RemovalCause::Size),
-        (2, 20, RemovalCause::Size),
-        (3, 30, RemovalCause::Explicit),
-        (4, 40, RemovalCause::Expired),
-        (4, 41, RemovalCause::Explicit),
-    ];
-    assert_eq!(rt; recorder.told.as_slice(), told.as_slice());
-    Ok(())
+    Ok(cache)
 }
 
 #[test]
 fn lets_go_of_all_it_holds(rt: HostRuntime) -> Result<(), Fail> {
     let value = Rc::new(rt.alloc(), 7u8)?;
     let told = Rc::new(rt.alloc(), Cell::new(0))?;
-    let listener = Counter {
-        told: told.clone()?,
-    };
-    let mut cache: TestCache<Rc<u8>, Counter, ByKey> = cache_of(
-        rt.alloc(),
-        Some(3),
-        None,
-        Some(listener),
-    )?;
-    for key in [1, 2, 2, 3, 4] {
-        settle(&mut cache, key, value.clone()?)?;
-    }
-    assert!(rt; !run(&mut cache, Instant(0)));
+    let mut cache = filled(rt.alloc(), &value, told.clone()?)?;
+    run(&mut cache, Instant(0));
     // One was replaced, and one evicted.
     assert_eq!(rt; (Rc::strong_count(&value), told.get()), (4, 2));
     drop(cache);
@@ -183,40 +130,71 @@ fn lets_go_of_all_it_holds(rt: HostRuntime) -> Result<(), Fail> {
     Ok(())
 }
 
-#[test]
-fn gives_rows_back(rt: HostRuntime) -> Result<(), Fail> {
-    let mut cache: TestCache<u64, NoListener, ByKey> = cache_of(rt.alloc(), Some(1), None, None)?;
-    for key in 0..1000 {
-        settle(&mut cache, key, key)?;
-        assert!(rt; !run(&mut cache, Instant(0)));
-        let (handle, _) = cache.inner.find(&key).ok_or("key")?;
-        assert!(rt; handle.place < 2);
-    }
+type NumberCache = TestCache<u64, NoListener, ByKey>;
+
+/// Puts one key in, and out it goes with the next: its row is one of two.
+fn pass_through(rt: &impl Abort, cache: &mut NumberCache, key: u64) -> Result<(), Fail> {
+    settle(cache, key, key)?;
+    assert!(rt; !run(cache, Instant(0)));
+    let (handle, _) = cache.inner.find(&key).ok_or("key")?;
+    assert!(rt; handle.place < 2);
     Ok(())
 }
 
 #[test]
-fn tells_of_itself(rt: HostRuntime) -> Result<(), Fail> {
-    let mut cache: TestCache<u64, NoListener, ByKey> = cache_of(rt.alloc(), None, None, None)?;
-    settle(&mut cache, 1, 10)?;
+fn gives_rows_back(rt: HostRuntime) -> Result<(), Fail> {
+    let mut cache: NumberCache = cache_of(rt.alloc(), Some(1), None, None)?;
+    for key in 0..1000 {
+        pass_through(&rt, &mut cache, key)?;
+    }
+    Ok(())
+}
+
+fn check_parts(rt: &impl Abort, cache: &NumberCache) {
     cache.invariant_holds();
     assert!(rt; cache.name().is_none() && cache.listener().is_none());
     assert!(rt; !cache.is_removal_notifier_enabled());
-    assert_eq!(rt; cache.policy().max_capacity(), None);
-    assert_eq!(rt;
-        cache.policy().time_to_idle(),
-        Some(Duration::from_nanos(100))
-    );
     assert_eq!(rt; cache.invalidation_predicate_count(), 0);
     assert_eq!(rt; cache.num_cht_segments(), 1);
     assert_eq!(rt; cache.hash(&1), cache.hash(&1));
-    assert_eq!(rt; cache.get_key_with_hash(&1, 1), Some(&1));
-    let keys = cache.keys(0).map_err(|_| Fail::from("memory"))?;
-    assert_eq!(rt; keys.ok_or("segment")?.as_slice(), [1].as_slice());
-    let mut clock = FixedClock(Instant(0));
-    let found = cache.get_with_hash(&1, 1, true, Instant(0), &mut clock);
-    let entry = found.map_err(|_| Fail::from("memory"))?.ok_or("entry")?;
-    assert_eq!(rt; (entry.key(), *entry.value()), (Some(&1), 10));
+}
+
+fn check_policy(rt: &impl Abort, policy: &Policy) {
+    assert_eq!(rt; policy.max_capacity(), None);
+    assert_eq!(rt; policy.time_to_idle(), Some(Duration::from_nanos(100)));
+}
+
+#[test]
+fn tells_of_itself(rt: HostRuntime) -> Result<(), Fail> {
+    let cache: NumberCache = cache_of(rt.alloc(), None, None, None)?;
+    check_parts(&rt, &cache);
+    check_policy(&rt, &cache.policy());
+    Ok(())
+}
+
+/// The value that a look-up finds of a key, unless it is 10, and how often the test was asked.
+fn get_unless_ten(cache: &mut NumberCache, key: u64) -> Result<(Option<u64>, u32), Fail> {
+    let (now, mut asked) = (Instant(0), 0u32);
+    let mut is_ten = |value: &u64| {
+        asked = asked.wrapping_add(1);
+        *value == 10
+    };
+    let test = Some(&mut is_ten);
+    let found = cache.get_with_hash_and_ignore_if(&key, key, test, true, now, &mut FixedClock(now));
+    let Ok(entry) = found else {
+        return Err("memory".into());
+    };
+    Ok((entry.map(|entry| entry.value), asked))
+}
+
+#[test]
+fn looks_up_what_a_test_lets_through(rt: HostRuntime) -> Result<(), Fail> {
+    let mut cache: NumberCache = cache_of(rt.alloc(), None, None, None)?;
+    settle(&mut cache, 1, 10)?;
+    settle(&mut cache, 2, 20)?;
+    for (key, answer) in [(1, (None, 1)), (2, (Some(20), 1)), (3, (None, 0))] {
+        assert_eq!(rt; get_unless_ten(&mut cache, key)?, answer);
+    }
     Ok(())
 }
 
