@@ -1,7 +1,7 @@
 //! Scripts: settings, and then calls on the cache, one a line.
 ghost use Rattle.std.specs.Prelude.{◌≡◌, ◌<◌, ◌^◌, length, option_map};
 ghost use Rattle.moka_replay.specs.Lex.{texts, words_of};
-ghost use Rattle.moka_replay.specs.Script.{line_text, asked_by, asked_by_few, asked_in, lines_of, IsParseOf};
+ghost use Rattle.moka_replay.specs.Script.{line_text, asked_by, asked_by_few, asked_in, IsParseOf};
 
 use crate::failure::Failure;
 use crate::lex::{first_words, is_printable};
