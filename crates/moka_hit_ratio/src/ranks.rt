@@ -1,24 +1,58 @@
-//! Ranks of keys by how often they are read.
-use rand::distr::weighted::{Error, WeightedIndex};
-use std::alloc::Global;
+//! Ranks of keys by a Zipf law.
+use rand::Rng;
 use std::num::saturating_f64_to_u64;
 
-/// The exponent of the Zipf law: a key of rank `r`, from 1 on, is read with a frequency in proportion to `r^-0.9`.
+/// The exponent of the law: a key of rank `r`, from 1 on, is read with a frequency in proportion to `r^-0.9`.
 const EXPONENT: f64 = 0.9;
 
-/// The weight of the first rank, 2^40. The others' are rounded down to whole numbers.
-const GREATEST: f64 = 1_099_511_627_776.0;
+/// 2^-53, by which a number of 53 bits becomes one from 0 to below 1.
+const UNIT: f64 = 1.0 / 9_007_199_254_740_992.0;
 
-/// So many ranks from 0 on, by a Zipf law.
-pub fn zipf(alloc: Global, count: u32) -> Result<WeightedIndex<u64, Global>, Error> {
-    let mut weights = Vec::with_capacity(alloc, count as usize)?;
-    for rank in 0..count {
-        weights.push(weight(rank))?;
-    }
-    WeightedIndex::new(alloc, &weights)
+/// Draws ranks, as Gray and others do in "Quickly generating billion-record synthetic databases": the first two with
+/// the frequencies of the law, and all others by a power of a random number, which comes near to it.
+#[derive(Clone, Copy)]
+pub struct Zipf {
+    /// How many ranks there are.
+    count: u32,
+    /// The sum of `r^-0.9` over all ranks.
+    total: f64,
+    /// What makes the law of the ranks behind the second one a whole.
+    scale: f64,
 }
 
-/// How often the key of a rank, from 0 on, is read.
-fn weight(rank: u32) -> u64 {
-    saturating_f64_to_u64(GREATEST / (f64::from(rank) + 1.0).powf(EXPONENT))
+impl Zipf {
+    /// So many ranks.
+    pub fn new(count: u32) -> Self {
+        let mut total = 0.0;
+        for rank in 1..=count {
+            total += f64::from(rank).powf(-EXPONENT);
+        }
+        let front = 1.0 + share_of_the_second();
+        let behind = 1.0 - (2.0 / f64::from(count)).powf(1.0 - EXPONENT);
+        Zipf {
+            count,
+            total,
+            scale: behind / (1.0 - front / total),
+        }
+    }
+
+    /// A rank, from 0 on.
+    pub fn draw<R: Rng>(&self, random: &mut R) -> u64 {
+        let drawn = ((random.next_u64() >> 11) as f64) * UNIT;
+        let height = drawn * self.total;
+        if height < 1.0 {
+            return 0;
+        }
+        if height < 1.0 + share_of_the_second() {
+            return 1;
+        }
+        let power = (self.scale * drawn - self.scale + 1.0).powf(1.0 / (1.0 - EXPONENT));
+        let rank = saturating_f64_to_u64(f64::from(self.count) * power);
+        rank.min(u64::from(self.count.saturating_sub(1)))
+    }
+}
+
+/// How often the second rank comes for each time that the first one does.
+fn share_of_the_second() -> f64 {
+    0.5f64.powf(EXPONENT)
 }

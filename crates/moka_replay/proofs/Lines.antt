@@ -7,7 +7,8 @@ use Rattle.std.proofs.lemmas.List.Sums.{count_by-le-length}
 use Rattle.moka_replay.specs.declared.script.Script.{Script}
 use Rattle.moka_replay.specs.declared.failure.Failure.{Failure}
 use Rattle.moka_replay.specs.declared.failure.Failure.TheVariants as failure
-use Rattle.moka_replay.specs.Script.{ScriptText, script_of, asks_for_memory, IsAdded, IsParseOf, asked_by, asked_in, is_call, has_call, with_line, lines_read, lines_of}
+use Rattle.moka_replay.specs.Clock.{is_clock}
+use Rattle.moka_replay.specs.Script.{ScriptText, script_of, asks_for_memory, IsAdded, IsParseOf, asked_by_few, asked_in, is_kept, keeps_some, with_line, lines_read, lines_of}
 
 -- the line of that index
 abbrev pub IsLineAt : List (List ℕ) → List ℕ → ℕ → Type 0
@@ -40,23 +41,23 @@ or_true : (b : Bool) → (b || true) ≡ true
 or_true true = refl
 or_true false = refl
 
--- the next line is a call, or it is right and one that follows is
+-- the next line is kept, or it is right and one that follows is
 module _ (n : ℕ) (script : ScriptText) (lines : List (List ℕ)) (line : List ℕ) (t : IsLineAt lines line n) where
-  has_call-turn : has_call script (drop n lines) ≡ (is_call (asked_in line) || option_map_or (λ more. has_call more (drop (n + 1) lines)) (with_line script line) false)
-  has_call-turn = at_drop_more (has_call script) lines n line t.0 ∙ ap (λ l. is_call (asked_in l) || option_map_or (λ more. has_call more (drop (n + 1) lines)) (with_line script l) false) (sym t.1)
+  keeps_some-turn : keeps_some script (drop n lines) ≡ (is_kept (asked_in line) || option_map_or (λ more. keeps_some more (drop (n + 1) lines)) (with_line script line) false)
+  keeps_some-turn = at_drop_more (keeps_some script) lines n line t.0 ∙ ap (λ l. is_kept (asked_in l) || option_map_or (λ more. keeps_some more (drop (n + 1) lines)) (with_line script l) false) (sym t.1)
 
-  -- it is a call
-  pub has_call_here : is_call (asked_in line) ≡ true → has_call script (drop n lines) ≡ true
-  has_call_here call = has_call-turn ∙ ap (λ b. b || option_map_or (λ more. has_call more (drop (n + 1) lines)) (with_line script line) false) call
+  -- it is kept
+  pub keeps_some_here : is_kept (asked_in line) ≡ true → keeps_some script (drop n lines) ≡ true
+  keeps_some_here call = keeps_some-turn ∙ ap (λ b. b || option_map_or (λ more. keeps_some more (drop (n + 1) lines)) (with_line script line) false) call
 
   -- it is right
-  pub has_call_more : (more : ScriptText) → with_line script line ≡ Some more → has_call more (drop (n + 1) lines) ≡ true → has_call script (drop n lines) ≡ true
-  has_call_more more right later = has_call-turn ∙ (ap (λ o. is_call (asked_in line) || option_map_or (λ more. has_call more (drop (n + 1) lines)) o false) right ∙ (ap (λ b. is_call (asked_in line) || b) later ∙ or_true (is_call (asked_in line))))
+  pub keeps_some_more : (more : ScriptText) → with_line script line ≡ Some more → keeps_some more (drop (n + 1) lines) ≡ true → keeps_some script (drop n lines) ≡ true
+  keeps_some_more more right later = keeps_some-turn ∙ (ap (λ o. is_kept (asked_in line) || option_map_or (λ more. keeps_some more (drop (n + 1) lines)) o false) right ∙ (ap (λ b. is_kept (asked_in line) || b) later ∙ or_true (is_kept (asked_in line))))
 
 -- reading stops where a line does
-pub stops_at : (n : ℕ) (script : ScriptText) (text line : List ℕ) (failure : Failure) (new : ScriptText) → IsLineAt (lines_of text) line n → IsAdded (n + 1) script line (Err failure) new → lines_read (n + 1) script (drop n (lines_of text)) ≡ script_of text → (has_call script (drop n (lines_of text)) ≡ true → asks_for_memory text ≡ true) → IsParseOf text (Err failure)
+pub stops_at : (n : ℕ) (script : ScriptText) (text line : List ℕ) (failure : Failure) (new : ScriptText) → IsLineAt (lines_of text) line n → IsAdded (n + 1) script line (Err failure) new → lines_read (n + 1) script (drop n (lines_of text)) ≡ script_of text → (keeps_some script (drop n (lines_of text)) ≡ true → asks_for_memory text ≡ true) → IsParseOf text (Err failure)
 stops_at n script text line (failure.BadLine number) new t stops left asks = rw stops.0 (sym left ∙ lines_read_bad n script (lines_of text) line t stops.1)
-stops_at n script text line failure.OutOfMemory new t stops left asks = asks (has_call_here n script (lines_of text) line t stops)
+stops_at n script text line failure.OutOfMemory new t stops left asks = asks (keeps_some_here n script (lines_of text) line t stops)
 stops_at n script text line failure.Usage new t stops left asks = stops
 stops_at n script text line failure.CannotRead new t stops left asks = stops
 
@@ -67,12 +68,18 @@ passed_on text (Err passed) failure same p = rw same p
 
 -- ---- words
 
--- no line with a meaning has more than five words, but a comment
-pub asked_by-take : (words : List (List ℕ)) → asked_by (take 6 words) ≡ asked_by words
-asked_by-take [] = refl
-asked_by-take (a ∷ []) = refl
-asked_by-take (a ∷ b ∷ []) = refl
-asked_by-take (a ∷ b ∷ c ∷ []) = refl
-asked_by-take (a ∷ b ∷ c ∷ d ∷ []) = refl
-asked_by-take (a ∷ b ∷ c ∷ d ∷ e ∷ []) = refl
-asked_by-take (a ∷ b ∷ c ∷ d ∷ e ∷ f ∷ rest) = refl
+-- no line with a meaning has more than five words, but a clock and a comment
+pub asked_by_few-take : (words : List (List ℕ)) → asked_by_few (take 6 words) ≡ asked_by_few words
+asked_by_few-take [] = refl
+asked_by_few-take (a ∷ []) = refl
+asked_by_few-take (a ∷ b ∷ []) = refl
+asked_by_few-take (a ∷ b ∷ c ∷ []) = refl
+asked_by_few-take (a ∷ b ∷ c ∷ d ∷ []) = refl
+asked_by_few-take (a ∷ b ∷ c ∷ d ∷ e ∷ []) = refl
+asked_by_few-take (a ∷ b ∷ c ∷ d ∷ e ∷ f ∷ rest) = refl
+
+-- the first two tell whether the clock is set
+pub is_clock-take : (words : List (List ℕ)) → is_clock (take 6 words) ≡ is_clock words
+is_clock-take [] = refl
+is_clock-take (a ∷ []) = refl
+is_clock-take (a ∷ b ∷ rest) = refl

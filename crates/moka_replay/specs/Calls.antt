@@ -4,7 +4,7 @@ use Rattle.std.specs.Duration.{as_nanos}
 use Rattle.std.specs.declared.time.Duration.{Duration}
 use Rattle.std.specs.Str.{bytes_eq}
 use Rattle.moka_parts.specs.declared.calls.Call.{Call}
-use Rattle.moka_parts.specs.declared.calls.Call.TheVariants.{Insert, Send, Get, GetUnrecorded, Scan, Contains, Key, Remove, InvalidateAll, Run, Keys, Report, Pending}
+use Rattle.moka_parts.specs.declared.calls.Call.TheVariants.{Insert, Send, Get, GetUnrecorded, Scan, Contains, Key, Remove, InvalidateAll, Run, RunIfDue, Keys, Report, Pending}
 use Rattle.moka_parts.specs.declared.policy.Instant.{Instant}
 use Rattle.moka_replay.specs.declared.key_range.KeyRange.{KeyRange}
 use Rattle.moka_replay.specs.declared.script.calls.LineCall.{LineCall}
@@ -113,6 +113,12 @@ run_of (now ∷ batch ∷ limit ∷ []) = do
   Some (Run (record { 0 = n }) (Some (duration_of l)) 4 b)
 run_of _ = None
 
+-- `due NOW`
+abbrev pub due_of : List (List ℕ) → Option CallText
+due_of arguments = do
+  n ← lone_number arguments
+  Some (RunIfDue (record { 0 = n }))
+
 -- the call of that name; `keys` asks for those of the one segment
 abbrev pub call_of : List ℕ → List (List ℕ) → Option CallText
 call_of name arguments =
@@ -126,7 +132,8 @@ call_of name arguments =
     else (if bytes_eq name (codes "key") then key_of arguments
     else (if bytes_eq name (codes "remove") then remove_of arguments
     else (if bytes_eq name (codes "invall") then invall_of arguments
+    else (if bytes_eq name (codes "due") then due_of arguments
     else (if bytes_eq name (codes "keys") then alone (Keys 0) arguments
     else (if bytes_eq name (codes "report") then alone Report arguments
     else (if bytes_eq name (codes "pending") then alone Pending arguments
-    else None))))))))))))
+    else None)))))))))))))

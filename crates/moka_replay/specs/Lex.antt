@@ -1,5 +1,5 @@
 -- The words and the numbers of a line.
-use Rattle.std.specs.Prelude.{ℕ, ◌^◌, Bool, ◌&&◌, ◌==◌, nat_le, nat_lt, not, List, [], ◌∷◌, length, filter, map, Option, Some, None, option_and_then, unwrap_or, if◌then◌else◌}
+use Rattle.std.specs.Prelude.{ℕ, ◌^◌, Bool, ◌&&◌, ◌==◌, nat_le, nat_lt, not, List, [], ◌∷◌, length, filter, map, Option, Some, None, option_and_then, is_some, unwrap_or, if◌then◌else◌}
 use Rattle.std.specs.Borrow.{Bor}
 use Rattle.std.specs.List.{slice_split, list_all}
 use Rattle.std.specs.Char.{is_ascii_digit}
@@ -24,6 +24,10 @@ is_numeral word = not (length word == 0) && (nat_le (length word) 20 && list_all
 -- the number that a word says, if it is below a power of two
 abbrev pub number_of : ℕ → List ℕ → Option ℕ
 number_of bits word = if is_numeral word && nat_lt (digits_value 10 word) (2 ^ bits) then Some (digits_value 10 word) else None
+
+-- whether a word says a number that fits in 64 bits
+abbrev pub is_number : List ℕ → Bool
+is_number word = is_some (number_of 64 word)
 
 -- what comes next, where there was something to read
 infixl 10 ◌>>=◌

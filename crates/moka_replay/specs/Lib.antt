@@ -1,6 +1,7 @@
 pub mod Lex
 pub mod Settings
 pub mod Calls
+pub mod Clock
 pub mod Script
 pub mod Notices
 pub mod Text

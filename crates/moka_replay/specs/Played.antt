@@ -7,16 +7,16 @@ use Rattle.moka_parts.specs.declared.policy.EvictionPolicy.TheVariants.{TinyLfu}
 use Rattle.moka_parts.specs.declared.policy.NoExpiry.{NoExpiry}
 use Rattle.moka_parts.specs.Policy.{Expirations}
 use Rattle.moka_parts.specs.State.{State, Meaning, new_state}
-use Rattle.moka_parts.specs.Housekeeping.{new_housekeeping, without_automatic}
+use Rattle.moka_parts.specs.Housekeeping.{new_housekeeping}
 use Rattle.moka_parts.specs.Runs.{Step, calls_of, replies_of, notices_of, readings_of, last_state, AreSteps, Leads, PromisedRun}
 use Rattle.moka_replay.specs.declared.key_range.KeyRange.{KeyRange}
 use Rattle.moka_replay.specs.declared.print.Total.{Total}
 use Rattle.moka_replay.specs.declared.script.settings.KeeperTerms.{KeeperTerms}
 use Rattle.moka_replay.specs.declared.script.settings.Settings.{Settings}
 use Rattle.moka_replay.specs.declared.sources.CountedIds.{CountedIds}
-use Rattle.moka_replay.specs.declared.sources.StoppedClock.{StoppedClock}
 use Rattle.moka_replay.specs.declared.weigher.NumberWeigher.{NumberWeigher}
 use Rattle.moka_replay.specs.Notices.{ScriptNotice, Kept, Keeps}
+use Rattle.moka_replay.specs.Clock.{next_reading, readings_left}
 use Rattle.moka_replay.specs.Calls.{told_call}
 use Rattle.moka_replay.specs.Script.{ScriptText}
 use Rattle.moka_replay.specs.Lex.{weight_of}
@@ -29,13 +29,13 @@ abbrev pub ScriptStep : Type 0
 ScriptStep = Step ℕ (List ℕ) NoExpiry KeyRange NumberWeigher
 
 -- what the parts of a script mean
-abbrev pub script_meaning : Meaning ℕ (List ℕ) NoExpiry Kept KeyRange NumberWeigher StoppedClock CountedIds
+abbrev pub script_meaning : Meaning ℕ (List ℕ) NoExpiry Kept KeyRange NumberWeigher (List ℕ) CountedIds
 script_meaning = record {
   eq = nat_eq;
   tells = Keeps;
   says = λ range key _ answer. answer ≡ (nat_le range.low key && nat_le key range.high);
   weighs = λ _ _ value weight. weight ≡ weight_of value;
-  observes = λ before moment after. (moment.0 ≡ 0) × (after ≡ before);
+  observes = λ before moment after. (moment.0 ≡ next_reading before) × (after ≡ readings_left before);
   gives = λ before id after. (after.given ≡ min (before.given + 1) (2 ^ 64 - 1)) × (id ≡ to_be_bytes w128 after.given);
   created = λ _ _ _ _. None;
   read = λ _ _ _ _ told _. told;
@@ -58,7 +58,7 @@ start_of settings = unwrap_or settings.start 0
 abbrev pub chosen_terms : Option KeeperTerms → KeeperTerms
 chosen_terms keeper = unwrap_or keeper (record { limit = 100000000; repeats = 4; batch = 384 })
 
--- the cache that a script begins with; no run starts by itself
+-- the cache that a script begins with; runs start by themselves where the script asks for it
 abbrev pub first_state : Settings → ScriptState
 first_state settings = record (new_state (record {
   policy = chosen_policy settings;
@@ -71,16 +71,16 @@ first_state settings = record (new_state (record {
   run_limit = (chosen_terms settings.keeper).limit;
   run_repeats = (chosen_terms settings.keeper).repeats;
   run_batch = (chosen_terms settings.keeper).batch;
-}) settings.capacity (start_of settings) (unwrap_or settings.first 1)) { housekeeping = without_automatic (new_housekeeping (start_of settings)) }
+}) settings.capacity (start_of settings) (unwrap_or settings.first 1)) { housekeeping = record (new_housekeeping (start_of settings)) { automatic = settings.automatic } }
 
 -- count and weight of the last run
 abbrev pub total_of : ScriptState → Total
 total_of state = record { count = state.count; weight = state.weight }
 
--- the calls, made one after the other on a new reference cache by a clock that stands at 0, give the replies, tell the notices and leave that total
+-- the calls, made one after the other on a new reference cache by the script's clock, give the replies, tell the notices and leave that total
 abbrev pub AreReplies : ScriptText → List (Reply ℕ (List ℕ) KeyRange) → List ScriptNotice → Total → Type 0
 AreReplies script replies notices total =
-    (steps : List ScriptStep) × (map told_call (calls_of steps) ≡ script.1) × (replies_of steps ≡ replies) × (notices_of steps ≡ notices)
+    (steps : List ScriptStep) × (map told_call (calls_of steps) ≡ script.2) × (replies_of steps ≡ replies) × (notices_of steps ≡ notices)
     × AreSteps script_meaning (PromisedRun script_meaning.says script_meaning.read) (first_state script.0) steps
-    × Leads script_meaning.observes (record {}) (readings_of steps) (record {})
+    × ((left : List ℕ) × Leads script_meaning.observes script.1 (readings_of steps) left)
     × (total ≡ total_of (last_state (first_state script.0) steps))

@@ -5,7 +5,7 @@ use Rattle.moka_parts.specs.declared.policy.EvictionPolicy.{EvictionPolicy}
 use Rattle.moka_parts.specs.declared.policy.EvictionPolicy.TheVariants.{TinyLfu, Lru}
 use Rattle.moka_replay.specs.declared.script.settings.Settings.{Settings}
 use Rattle.moka_replay.specs.declared.script.settings.Setting.{Setting}
-use Rattle.moka_replay.specs.declared.script.settings.Setting.TheVariants.{First, Capacity, Policy, TimeToIdle, Weigh, Listener, Start, Keeper}
+use Rattle.moka_replay.specs.declared.script.settings.Setting.TheVariants.{First, Capacity, Policy, TimeToIdle, Weigh, Listener, Start, Keeper, Auto}
 use Rattle.moka_replay.specs.Lex.{number_of, lone_number, alone, ◌>>=◌}
 
 -- the ticket of that number, which is not 0
@@ -46,11 +46,12 @@ setting_of name arguments =
     else (if bytes_eq name (codes "listener") then alone Listener arguments
     else (if bytes_eq name (codes "start") then option_map Start (lone_number arguments)
     else (if bytes_eq name (codes "keeper") then keeper_of arguments
-    else None)))))))
+    else (if bytes_eq name (codes "auto") then alone Auto arguments
+    else None))))))))
 
 -- nothing is set
 abbrev pub no_settings : Settings
-no_settings = record { first = None; capacity = None; policy = None; time_to_idle = None; weigher = None; listener = false; start = None; keeper = None }
+no_settings = record { first = None; capacity = None; policy = None; time_to_idle = None; weigher = None; listener = false; start = None; keeper = None; automatic = false }
 
 -- a place is filled at most once
 abbrev pub filled : {A : Type 0} → Option A → A → Option (Option A)
@@ -67,3 +68,4 @@ put_in settings (Weigh weigher) = option_map (λ place. record settings { weighe
 put_in settings Listener = if settings.listener then None else Some (record settings { listener = true })
 put_in settings (Start now) = option_map (λ place. record settings { start = place }) (filled settings.start now)
 put_in settings (Keeper keeper) = option_map (λ place. record settings { keeper = place }) (filled settings.keeper keeper)
+put_in settings Auto = if settings.automatic then None else Some (record settings { automatic = true })

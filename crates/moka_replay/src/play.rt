@@ -10,7 +10,7 @@ ghost use Rattle.moka_replay.specs.Played.{AreReplies, chosen_terms, expirations
 use crate::key_range::KeyRange;
 use crate::notices::{Notices, room_for};
 use crate::script::{KeeperTerms, Script, ScriptCall, ScriptReply, Settings};
-use crate::sources::{CountedIds, StoppedClock};
+use crate::sources::{CountedIds, ListedClock};
 use crate::weigher::NumberWeigher;
 use crate::word::Word;
 use moka_drive::drive;
@@ -51,7 +51,11 @@ pub fn play(alloc: Global, script: Script) -> Result<Played, OutOfMemory>
     requires served { AllByRecursion IsServed script.calls.items }
     ensures { IfOk result (λ played. AreReplies (text_of script) played.replies.items (told_of played.cache.listener) (total_of played.cache.state)) }
 {
-    let Script { settings, calls } = script;
+    let Script {
+        settings,
+        clock,
+        calls,
+    } = script;
     let listener = listener_for(alloc, settings.listener, &calls)?;
     let mut cache = new_cache(alloc, settings, listener)?;
     match drive(
@@ -59,7 +63,7 @@ pub fn play(alloc: Global, script: Script) -> Result<Played, OutOfMemory>
         &mut cache,
         calls,
         &mut CountedIds::new(),
-        &mut StoppedClock,
+        &mut ListedClock::new(clock),
     ) {
         Ok(replies) => Ok(Played { replies, cache }),
         Err(refused) => Err(refused.error),
@@ -110,6 +114,9 @@ fn new_cache(
         Instant(settings.start.unwrap_or(0)),
         first,
     )?;
+    if settings.automatic {
+        return Ok(cache);
+    }
     cache.disable_auto_run();
     Ok(cache)
 }

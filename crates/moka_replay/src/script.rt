@@ -1,16 +1,18 @@
 //! Scripts: settings, and then calls on the cache, one a line.
 ghost use Rattle.std.specs.Prelude.{◌≡◌, ◌<◌, ◌^◌, length, option_map};
 ghost use Rattle.moka_replay.specs.Lex.{texts, words_of};
-ghost use Rattle.moka_replay.specs.Script.{line_text, asked_by, asked_in, lines_of, IsParseOf};
+ghost use Rattle.moka_replay.specs.Script.{line_text, asked_by, asked_by_few, asked_in, IsParseOf};
 
 use crate::failure::Failure;
 use crate::lex::{first_words, is_printable};
 use calls::{LineCall, parse_call};
+use clock::{Readings, is_clock};
 use moka_parts::calls::Call;
 use settings::{Setting, parse_setting};
 use std::alloc::Global;
 
 mod calls;
+mod clock;
 mod settings;
 
 pub use calls::{ScriptCall, ScriptReply};
@@ -20,6 +22,8 @@ pub use settings::{KeeperTerms, Settings};
 #[derive(Drop)]
 pub struct Script {
     pub settings: Settings,
+    /// What the clock tells, one reading after the other; empty where the script sets no clock.
+    pub clock: Vec<u64>,
     pub calls: Vec<ScriptCall>,
 }
 
@@ -33,12 +37,13 @@ impl Script {
     {
         Script {
             settings: Settings::new(),
+            clock: Vec::new(alloc),
             calls: Vec::new(alloc),
         }
     }
 
     /// Reads the line of that number, and adds what it asks for. Settings come before the first call, each at most once.
-    /// Only a call needs memory.
+    /// Only a clock and a call need memory.
     fn read(&mut self, alloc: Global, number: u64, line: &[u8]) -> Result<(), Failure>
         ensures { IsAdded number (text_of self.old) line.now result (text_of self.new) }
     {
@@ -51,23 +56,33 @@ impl Script {
                 }
                 self.settings = self.settings.with(setting).ok_or(fault)?;
             }
+            Line::Clock(readings) => {
+                if !self.calls.is_empty() || !self.clock.is_empty() {
+                    return Err(fault);
+                }
+                self.clock = readings.collect(alloc)?;
+            }
             Line::Call(call) => self.calls.push(call.into_call(alloc)?)?,
         }
         Ok(())
     }
 }
 
-/// What a line asks for, with its call, if it has one, as a `C`.
+/// What a line asks for: the readings of a clock as an `R`, and a call as a `C`.
 #[derive(Drop)]
-enum Line<C> {
+enum Line<R, C> {
     Nothing,
     Setting(Setting),
+    Clock(R),
     Call(C),
 }
 
-/// What the words ask for.
-fn parse_words<'a>(words: &[&'a str]) -> Option<Line<LineCall<'a>>>
-    ensures { option_map line_text result ≡ asked_by (texts words.now) }
+/// A line whose words still stand in it, so that reading it needs no memory.
+type ReadLine<'a> = Line<Readings<'a>, LineCall<'a>>;
+
+/// What the words ask for, which set no clock.
+fn parse_words<'a>(words: &[&'a str]) -> Option<ReadLine<'a>>
+    ensures { option_map line_text result ≡ asked_by_few (texts words.now) }
 {
     let Some((name, arguments)) = words.split_first() else {
         return Some(Line::Nothing);
@@ -82,15 +97,19 @@ fn parse_words<'a>(words: &[&'a str]) -> Option<Line<LineCall<'a>>>
 }
 
 /// What a text asks for.
-fn parse_text(text: &str) -> Option<Line<LineCall<'_>>>
+fn parse_text(text: &str) -> Option<ReadLine<'_>>
     ensures { option_map line_text result ≡ asked_by (words_of text.now) }
 {
     let (words, count) = first_words(text);
-    parse_words(&words[..count])
+    let words = &words[..count];
+    if is_clock(words) {
+        return Some(Line::Clock(Readings::new(text)?));
+    }
+    parse_words(words)
 }
 
 /// What a line asks for.
-fn parse_line(line: &[u8]) -> Option<Line<LineCall<'_>>>
+fn parse_line(line: &[u8]) -> Option<ReadLine<'_>>
     ensures { option_map line_text result ≡ asked_in line.now }
 {
     if !is_printable(line) {
@@ -105,7 +124,7 @@ fn parse_line(line: &[u8]) -> Option<Line<LineCall<'_>>>
 /// Reads a script, shorter than 2^63 bytes as all that a `Vec` holds. The first faulty line is named.
 ///
 /// # Errors
-/// `BadLine` where a line is faulty, and `OutOfMemory` where memory is refused to a call in front of the first such line.
+/// `BadLine` where a line is faulty, and `OutOfMemory` where memory is refused to a clock or a call in front of the first such line.
 pub fn parse(alloc: Global, text: &[u8]) -> Result<Script, Failure>
     requires { length text.now < 2 ^ 63 }
     ensures { IsParseOf text.now result }

@@ -2,19 +2,50 @@
 use moka_parts::housekeeper::Clock;
 use moka_parts::invalidator::{IdSource, PredicateId};
 use moka_parts::policy::Instant;
+use std::marker::Model;
 use uuid::Uuid;
 
-/// A clock that stands at 0.
-#[derive(Clone, Copy)]
-pub struct StoppedClock;
+/// A clock that tells listed readings, one after the other, and the last one again and again. Without any it stands at 0.
+#[derive(Drop)]
+pub struct ListedClock {
+    readings: Vec<u64>,
+    next: usize,
+}
 
-impl Clock for StoppedClock {
+impl Model for ListedClock {
+    ghost use Rattle.std.specs.Prelude.{ℕ, List, drop};
+
+    ghost Value = { List ℕ };
+
+    ghost view = { λ c. drop c.next c.readings.items };
+}
+
+impl ListedClock {
     ghost use Rattle.std.specs.Prelude.{◌≡◌};
 
-    ghost reads = { λ before moment after. (moment.0 ≡ 0) × (after ≡ before) };
+    /// A clock that tells these readings.
+    pub fn new(readings: Vec<u64>) -> Self
+        ensures { result ≡ readings.items }
+    {
+        ListedClock { readings, next: 0 }
+    }
+}
+
+impl Clock for ListedClock {
+    ghost use Rattle.std.specs.Prelude.{◌≡◌};
+    ghost use Rattle.moka_replay.specs.Clock.{next_reading, readings_left};
+
+    ghost reads = { λ before moment after. (moment.0 ≡ next_reading before) × (after ≡ readings_left before) };
 
     fn now(&mut self) -> Instant {
-        Instant(0)
+        let Some(reading) = self.readings.get(self.next) else {
+            return Instant(0);
+        };
+        let now = Instant(*reading);
+        if self.next + 1 < self.readings.len() {
+            self.next += 1;
+        }
+        now
     }
 }
 

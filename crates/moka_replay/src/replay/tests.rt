@@ -327,6 +327,29 @@ fn replays_scripts(rt: HostRuntime) -> Result<(), Fail> {
             ticket 12\nticket 13\nsent\ndone\nkeys 1 2 3 4 5 7 8\ncount 7 weight 7\n",
         ),
         (
+            "capacity 1\npolicy lru\nlistener\nclock 0 100000000\ninsert 1 a 0\ninsert 2 b 0\n\
+            insert 3 c 0\nsend 1\nsend 2\nsend 3\nrun 0 1 100000000\nreport\n\
+            run 0 1 100000000\nreport\n",
+            "ticket 1\nticket 2\nticket 3\nsent\nsent\nsent\nmore\ncount 2 weight 2 predicates 0\n\
+            done\ncount 1 weight 1 predicates 0\nnotice 1 a Size\nnotice 2 b Size\ncount 1 weight 1\n",
+        ),
+        (
+            "auto\ninsert 1 a 0\nsend 1\ndue 299999999\nreport\ndue 300000000\nreport\n",
+            "ticket 1\nsent\nok\ncount 0 weight 0 predicates 0\nok\ncount 1 weight 1 predicates 0\n\
+            count 1 weight 1\n",
+        ),
+        (
+            "auto\ncapacity 1\npolicy lru\nlistener\nkeeper 100 4 1\nclock 0 100\ninsert 1 a 0\n\
+            insert 2 b 0\ninsert 3 c 0\nsend 1\nsend 2\nsend 3\ndue 300000000\nreport\n\
+            due 300000000\nreport\n",
+            "ticket 1\nticket 2\nticket 3\nsent\nsent\nsent\nok\ncount 2 weight 2 predicates 0\n\
+            ok\ncount 1 weight 1 predicates 0\nnotice 1 a Size\nnotice 2 b Size\ncount 1 weight 1\n",
+        ),
+        (
+            "clock 7 0 0 0 00000000000000000001 18446744073709551615 \ndue 300000000\n",
+            "ok\ncount 0 weight 0\n",
+        ),
+        (
             "capacity 0\npeek 1 0\nscan 1 0\n",
             "none\nnone\ncount 0 weight 0\n",
         ),
@@ -396,9 +419,27 @@ fn fills_the_queue<R: Abort + AllocGlobal>(
     check(rt, script.as_str(), printed.as_str(), "", 0)
 }
 
+/// The read that finds 64 others queued starts a run.
+fn runs_where_64_reads_wait<R: Abort + AllocGlobal>(rt: &R) -> Result<(), Fail> {
+    let mut script = String::new(rt.alloc());
+    let mut printed = String::new(rt.alloc());
+    script.push_str("auto\ninsert 1 a 0\nsend 1\n")?;
+    printed.push_str("ticket 1\nsent\n")?;
+    for _ in 0..64 {
+        script.push_str("get 9 1\n")?;
+        printed.push_str("none\n")?;
+    }
+    script.push_str("report\nget 9 1\nreport\n")?;
+    printed.push_str(
+        "count 0 weight 0 predicates 0\nnone\ncount 1 weight 1 predicates 0\ncount 1 weight 1\n",
+    )?;
+    check(rt, script.as_str(), printed.as_str(), "", 0)
+}
+
 #[test]
 fn replays_long_scripts(rt: HostRuntime) -> Result<(), Fail> {
     keeps_the_latest_of_many(&rt)?;
+    runs_where_64_reads_wait(&rt)?;
     fills_the_queue(&rt, false, 384)?;
     fills_the_queue(&rt, true, 1)
 }
@@ -431,6 +472,11 @@ fn names_the_first_faulty_line(rt: HostRuntime) -> Result<(), Fail> {
         ("start 1\nstart 1\n", 2),
         ("keeper 1 2 3\n\nkeeper 1 2 3\n", 3),
         ("report\nkeeper 1 2 3\n", 2),
+        ("auto\nauto\n", 2),
+        ("report\nauto\n", 2),
+        ("clock 1 2\n\nclock 3\n", 3),
+        ("report\nclock 1\n", 2),
+        ("clock 1 2 3 4 5 6 7 8 9 18446744073709551616\n", 1),
         ("report\ntti 1\n", 2),
         ("listener\nlistener\n", 2),
         ("listener 1\n", 1),
@@ -478,6 +524,11 @@ fn finds_each_fault(rt: HostRuntime) -> Result<(), Fail> {
         "start",
         "start x",
         "start 0 0",
+        "auto 1",
+        "clock",
+        "clock x",
+        "clock 1 x",
+        "clock 1 18446744073709551616 1",
         "keeper 1 2",
         "keeper 1 2 3 4",
         "keeper x 2 3",
@@ -519,6 +570,9 @@ fn finds_each_fault(rt: HostRuntime) -> Result<(), Fail> {
         "invall",
         "invall x",
         "invall 0 0",
+        "due",
+        "due x",
+        "due 0 0",
         "run 0",
         "run x 1",
         "run 0 x",

@@ -1,7 +1,7 @@
 //! The calls of a script.
 ghost use Rattle.std.specs.Prelude.{◌≡◌, option_map};
 ghost use Rattle.moka_replay.specs.Lex.{texts};
-ghost use Rattle.moka_replay.specs.Calls.{call_of, call_text, key_and_moment, insert_of, send_of, get_of, peek_of, scan_of, contains_of, key_of, remove_of, invall_of, run_of};
+ghost use Rattle.moka_replay.specs.Calls.{call_of, call_text, key_and_moment, insert_of, send_of, get_of, peek_of, scan_of, contains_of, key_of, remove_of, invall_of, run_of, due_of};
 
 use crate::key_range::KeyRange;
 use crate::lex::{alone, lone_number, number, small_number};
@@ -191,6 +191,14 @@ fn run<'a>(arguments: &[&'a str]) -> Option<LineCall<'a>>
     Some(LineCall::Run { now, limit, batch })
 }
 
+/// `due NOW`
+fn due(arguments: &[&str]) -> Option<ScriptCall>
+    ensures { result ≡ due_of (texts arguments.now) }
+{
+    let now = Instant(lone_number(arguments)?);
+    Some(Call::RunIfDue { now })
+}
+
 /// The call of that name, if there is one.
 pub fn parse_call<'a>(name: &str, arguments: &[&'a str]) -> Option<LineCall<'a>>
     ensures { option_map call_text result ≡ call_of name.now (texts arguments.now) }
@@ -206,6 +214,7 @@ pub fn parse_call<'a>(name: &str, arguments: &[&'a str]) -> Option<LineCall<'a>>
         "key" => key(arguments)?,
         "remove" => remove(arguments)?,
         "invall" => invall(arguments)?,
+        "due" => due(arguments)?,
         "keys" => alone(Call::Keys { segment: 0 }, arguments)?,
         "report" => alone(Call::Report, arguments)?,
         "pending" => alone(Call::Pending, arguments)?,

@@ -27,6 +27,8 @@ pub struct Settings {
     pub start: Option<u64>,
     /// What the housekeeper gives to its runs.
     pub keeper: Option<KeeperTerms>,
+    /// Whether runs start by themselves.
+    pub automatic: bool,
 }
 
 /// What the housekeeper gives to each run: its time limit in nanoseconds, its repeats and its batch.
@@ -54,6 +56,7 @@ impl Settings {
             listener: false,
             start: None,
             keeper: None,
+            automatic: false,
         }
     }
 
@@ -94,6 +97,10 @@ impl Settings {
                 keeper: Some(keeper),
                 ..self
             }),
+            Setting::Auto if !self.automatic => Some(Settings {
+                automatic: true,
+                ..self
+            }),
             _ => None,
         }
     }
@@ -110,6 +117,7 @@ pub enum Setting {
     Listener,
     Start(u64),
     Keeper(KeeperTerms),
+    Auto,
 }
 
 /// `keeper LIMIT REPEATS BATCH`
@@ -165,6 +173,7 @@ pub fn parse_setting(name: &str, arguments: &[&str]) -> Option<Setting>
         "listener" => alone(Setting::Listener, arguments),
         "start" => lone_number(arguments).map(Setting::Start),
         "keeper" => keeper(arguments),
+        "auto" => alone(Setting::Auto, arguments),
         _ => None,
     }
 }
