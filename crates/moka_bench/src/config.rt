@@ -1,5 +1,5 @@
 //! What a caller sets, as 16 words.
-ghost use Rattle.std.specs.Prelude.{◌≡◌, ◌<◌, length};
+ghost use Rattle.std.specs.Prelude.{◌≡◌, ◌<◌};
 ghost use Rattle.moka_bench.specs.Config.{is_served, word_at};
 
 // The number that stands for no capacity, no time to live and no time to idle.

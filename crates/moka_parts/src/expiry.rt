@@ -194,10 +194,8 @@ mod tests {
     #[test]
     fn renews(rt: HostRuntime) {
         let expires = deadline_of(seconds(8), at(0));
-        assert_eq!(rt; expires, Some(at(8_000)));
-
         let left = remaining(expires, at(0), at(0), seconds(16), seconds(7), at(5_000));
-        assert_eq!(rt; left, seconds(2));
+        assert_eq!(rt; (expires, left), (Some(at(8_000)), seconds(2)));
         let (expires, is_changed) = renewed(expires, left, seconds(9), at(5_000));
         assert_eq!(rt; (expires, is_changed), (Some(at(14_000)), true));
 
@@ -209,13 +207,13 @@ mod tests {
             seconds(7),
             at(11_000),
         );
-        assert_eq!(rt; left, seconds(1));
-        assert_eq!(rt;
-            renewed(expires, left, seconds(1), at(11_000)),
-            (expires, false)
-        );
+        let kept = renewed(expires, left, seconds(1), at(11_000));
+        assert_eq!(rt; (left, kept), (seconds(1), (expires, false)));
         assert_eq!(rt; renewed(expires, left, None, at(11_000)), (None, true));
-        assert_eq!(rt; remaining(None, at(0), at(0), None, None, at(1)), None);
-        assert_eq!(rt; renewed(None, None, None, at(1)), (None, false));
+        let left = remaining(None, at(0), at(0), None, None, at(1));
+        assert_eq!(rt;
+            (left, renewed(None, left, None, at(1))),
+            (None, (None, false))
+        );
     }
 }

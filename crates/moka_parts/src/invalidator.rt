@@ -315,8 +315,8 @@ mod tests {
                 ),
                 Err(refused) => {
                     assert_eq!(rt; refused.error, PredicateError::OutOfMemory);
-                    assert_eq!(rt; refused.predicate.value, value);
-                    assert_eq!(rt; (ids.given, registry.len()), (asked, len));
+                    let after = (refused.predicate.value, ids.given, registry.len());
+                    assert_eq!(rt; after, (value, asked, len));
                     let again = registry.register_predicate(
                         refused.predicate,
                         Instant(1),

@@ -159,7 +159,7 @@ mod tests {
     }
 
     #[test]
-    fn hold_of_plain_types(_rt: HostRuntime) {
+    fn hold_of_states(_rt: HostRuntime) {
         gets_what_is_contained::<u8, char, NoExpiry, NoPredicate, NoWeigher>();
         removes_just_one::<u8, char, NoExpiry, NoPredicate, NoWeigher>();
         peeks_quietly::<u8, char, NoExpiry, NoPredicate, NoWeigher>();
@@ -170,6 +170,10 @@ mod tests {
         starts_valid::<u8, char, NoExpiry, NoPredicate, NoWeigher>();
         ends_exact::<u8, char, NoExpiry, NoPredicate, NoWeigher>();
         counts_nearly::<u8, char, NoExpiry, NoPredicate, NoWeigher>();
+    }
+
+    #[test]
+    fn hold_of_lists_of_calls(_rt: HostRuntime) {
         stays_hidden::<u8, char, NoExpiry, NoListener, NoPredicate, NoWeigher, FixedClock, OneId>();
         stays_valid::<u8, char, NoExpiry, NoListener, NoPredicate, NoWeigher, FixedClock, OneId>();
         stays_in_order::<

@@ -247,9 +247,11 @@ mod tests {
     fn gives_what_was_set(rt: HostRuntime) -> Result<(), Fail> {
         let second = Duration::from_secs(1);
         let mut expiration = ExpirationPolicy::<BySeconds>::default();
-        assert_eq!(rt; expiration.time_to_live(), None);
-        assert_eq!(rt; expiration.time_to_idle(), None);
-        assert!(rt; expiration.expiry().is_none());
+        let (live, idle) = (expiration.time_to_live(), expiration.time_to_idle());
+        assert_eq!(rt;
+            (live, idle, expiration.expiry().is_none()),
+            (None, None, true)
+        );
         expiration.set_time_to_live(second);
         expiration.set_time_to_idle(Duration::MAX);
         expiration.set_expiry(BySeconds);
@@ -262,10 +264,12 @@ mod tests {
             expiration.time_to_idle(),
         )
         .clone()?;
-        assert_eq!(rt; policy.max_capacity(), Some(7));
-        assert_eq!(rt; policy.num_segments(), 1);
-        assert_eq!(rt; policy.time_to_live(), Some(second));
-        assert_eq!(rt; policy.time_to_idle(), Some(Duration::MAX));
+        assert_eq!(rt;
+            (policy.max_capacity(), policy.num_segments()),
+            (Some(7), 1)
+        );
+        let (live, idle) = (policy.time_to_live(), policy.time_to_idle());
+        assert_eq!(rt; (live, idle), (Some(second), Some(Duration::MAX)));
         Ok(())
     }
 
@@ -273,17 +277,19 @@ mod tests {
     fn adds_and_subtracts(rt: HostRuntime) {
         let second = Duration::from_secs(1);
         let last = Instant(u64::MAX);
-        assert_eq!(rt; Instant(5).saturating_add(second), Instant(1_000_000_005));
-        assert_eq!(rt; Instant(5).saturating_add(Duration::MAX), last);
-        assert_eq!(rt; last.saturating_add(second), last);
-        assert_eq!(rt;
-            Instant(1_000_000_005).saturating_duration_since(Instant(5)),
-            second
-        );
-        assert_eq!(rt;
-            Instant(5).saturating_duration_since(Instant(6)),
-            Duration::ZERO
-        );
+        for (moment, duration, sum) in [
+            (Instant(5), second, Instant(1_000_000_005)),
+            (Instant(5), Duration::MAX, last),
+            (last, second, last),
+        ] {
+            assert_eq!(rt; moment.saturating_add(duration), sum);
+        }
+        for (moment, earlier, duration) in [
+            (Instant(1_000_000_005), Instant(5), second),
+            (Instant(5), Instant(6), Duration::ZERO),
+        ] {
+            assert_eq!(rt; moment.saturating_duration_since(earlier), duration);
+        }
     }
 
     #[test]
@@ -294,22 +300,16 @@ mod tests {
             update: NoExpiry,
         };
         let (now, second) = (Instant(0), Duration::from_secs(1));
-        assert_eq!(rt; expiry.expire_after_create(&1, &1, now), Some(second));
-        assert_eq!(rt;
-            Expiry::expire_after_create(&NoExpiry, &1u8, &1u64, now),
-            None
-        );
+        let none = Expiry::expire_after_create(&NoExpiry, &1u8, &1u64, now);
+        let created = expiry.expire_after_create(&1, &1, now);
+        assert_eq!(rt; (none, created), (None, Some(second)));
         for left in [None, Some(second)] {
-            assert_eq!(rt; expiry.expire_after_read(&1, &1, now, left, now), left);
-            assert_eq!(rt; expiry.expire_after_update(&1, &1, now, left), left);
-            assert_eq!(rt;
-                Expiry::expire_after_read(&NoExpiry, &1u8, &1u64, now, left, now),
-                left
-            );
-            assert_eq!(rt;
-                Expiry::expire_after_update(&NoExpiry, &1u8, &1u64, now, left),
-                left
-            );
+            let read = expiry.expire_after_read(&1, &1, now, left, now);
+            let updated = expiry.expire_after_update(&1, &1, now, left);
+            assert_eq!(rt; (read, updated), (left, left));
+            let read = Expiry::expire_after_read(&NoExpiry, &1u8, &1u64, now, left, now);
+            let updated = Expiry::expire_after_update(&NoExpiry, &1u8, &1u64, now, left);
+            assert_eq!(rt; (read, updated), (left, left));
         }
     }
 }

@@ -16,7 +16,7 @@ use Rattle.std.specs.Ordering.{nat_cmp, eq_by_cmp, is_lt}
 use Rattle.std.specs.declared.cmp.Ordering.TheVariants.{Less}
 use Rattle.moka_structures.specs.Tickets.{items_of, slot_of, IsBelowAll, AreRising, IsTied}
 use Rattle.moka_structures.specs.declared.older.Waiting.{Waiting}
-use Rattle.moka_structures.proofs.Linked.{linked-same, linked-added, linked-removed}
+use Rattle.moka_structures.proofs.Linked.{linked-added, linked-removed}
 
 -- a ticket ties with itself
 eq_self : (n : ℕ) → eq_by_cmp nat_cmp n n ≡ true
@@ -137,10 +137,6 @@ module _ {T S : Type 0} (m : HashMap ℕ (Waiting T) S) where
   -- no item, no slot
   pub none-slot : (q : ℕ) → (IsSome (map.get (items_of m) q) → ⊥) → slot_of m q ≡ None
   none-slot q h = none-from (get nat_eq m q) (sym (get-items q) ∙ not-some (map.get (items_of m) q) h)
-
-  -- no entries, no items
-  pub items-none : m.entries ≡ [] → items_of m ≡ empty
-  items-none e = ap (λ es. from_entries {R = nat_cmp} (map (λ e. (e.0, e.1.item)) es)) e
 
   module _ (n : HashMap ℕ (Waiting T) S) where
     -- the same look-ups, the same items
@@ -325,13 +321,6 @@ module _ {T S : Type 0} (ms : List (ℕ × ℕ)) (m : HashMap ℕ (Waiting T) S)
 
 -- what the calls leave
 module _ {T S : Type 0} (ms ns : List (ℕ × ℕ)) (m n : HashMap ℕ (Waiting T) S) (tied : IsTied ms m) where
-  -- nothing changed
-  pub tied-same : ns ≡ ms → ((q : ℕ) → get nat_eq n q ≡ get nat_eq m q) → IsTied ns n
-  tied-same e h = record {
-    linked = linked-same (slot_of m) (slot_of n) (λ s. lookup (nat_eq s) ms) (λ s. lookup (nat_eq s) ns) tied.linked (λ q. ap (option_map (λ w. w.slot)) (h q)) (λ s. ap (lookup (nat_eq s)) e);
-    rising = subst AreRising (sym e) tied.rising;
-  }
-
   -- after `hand_out`
   pub tied-handed : (slot ticket : ℕ) (w : Waiting T) → w.slot ≡ slot → IsDistinct nat_eq (keys_of ms)
       → ((q : ℕ) → IsSome (map.get (items_of m) q) → q < ticket)

@@ -294,14 +294,16 @@ mod tests {
         };
         for additional in [1, 2, 100, usize::MAX] {
             let grown = list.reserve(additional).is_ok();
-            assert!(rt; list.is_empty());
-            assert_eq!(rt; list.front(), None);
+            assert_eq!(rt; (list.is_empty(), list.front()), (true, None));
             if grown {
                 let slot = list.push_back(7);
-                assert!(rt; list.reserve(usize::MAX).is_err());
-                assert_eq!(rt; list.front(), Some((slot, 7)));
-                assert_eq!(rt; list.next(slot), None);
-                assert_eq!(rt; list.unlink(slot), 7);
+                let grown = list.reserve(usize::MAX).is_ok();
+                let (front, next) = (list.front(), list.next(slot));
+                let number = list.unlink(slot);
+                assert_eq!(rt;
+                    (grown, front, next, number),
+                    (false, Some((slot, 7)), None, 7)
+                );
             }
         }
         Ok(())

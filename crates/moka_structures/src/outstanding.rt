@@ -159,21 +159,18 @@ mod tests {
     #[test]
     fn hands_out_and_takes(rt: HostRuntime) -> Result<(), Fail> {
         let mut out: Outstanding<u32> = Outstanding::new(rt.alloc())?;
-        assert!(rt; out.is_empty());
-        assert_eq!(rt; out.oldest(), None);
+        assert_eq!(rt; (out.is_empty(), out.oldest()), (true, None));
         out.reserve(3)?;
         out.hand_out(4, 40);
         out.hand_out(7, 70);
         out.hand_out(9, 90);
-        assert_eq!(rt; out.len(), 3);
-        assert_eq!(rt; out.oldest(), Some(4));
-        assert_eq!(rt; out.get(7), Some(70));
-        assert_eq!(rt; out.take(4), Some(40));
-        assert_eq!(rt; out.take(4), None);
-        assert!(rt; !out.contains(4));
-        assert_eq!(rt; out.oldest(), Some(7));
-        assert_eq!(rt; out.take(9), Some(90));
-        assert_eq!(rt; out.len(), 1);
+        assert_eq!(rt;
+            (out.len(), out.oldest(), out.get(7)),
+            (3, Some(4), Some(70))
+        );
+        assert_eq!(rt; (out.take(4), out.take(4)), (Some(40), None));
+        assert_eq!(rt; (out.contains(4), out.oldest()), (false, Some(7)));
+        assert_eq!(rt; (out.take(9), out.len()), (Some(90), 1));
         Ok(())
     }
 
@@ -184,13 +181,14 @@ mod tests {
         };
         for additional in [1, 2, 100, usize::MAX] {
             let grown = out.reserve(additional).is_ok();
-            assert!(rt; out.is_empty());
-            assert_eq!(rt; out.oldest(), None);
+            assert_eq!(rt; (out.is_empty(), out.oldest()), (true, None));
             if grown {
                 out.hand_out(7, 70);
-                assert!(rt; out.reserve(usize::MAX).is_err());
-                assert_eq!(rt; out.oldest(), Some(7));
-                assert_eq!(rt; out.take(7), Some(70));
+                let grown = out.reserve(usize::MAX).is_ok();
+                assert_eq!(rt;
+                    (grown, out.oldest(), out.take(7)),
+                    (false, Some(7), Some(70))
+                );
             }
         }
         Ok(())

@@ -383,16 +383,19 @@ mod tests {
         table.reserve(2)?;
         let first = table.insert(7, 70);
         let second = table.insert(8, 80);
-        assert_eq!(rt; table.len(), 2);
-        assert!(rt; first.max(second) < table.capacity());
-        assert_eq!(rt; table.find(first, 7).copied(), Some(70));
-        assert_eq!(rt; table.find(first, 8).copied(), None);
+        assert!(rt; table.len() == 2 && first.max(second) < table.capacity());
+        assert_eq!(rt;
+            (table.find(first, 7), table.find(first, 8)),
+            (Some(&70), None)
+        );
         assert_eq!(rt; table.row(second).map(|row| row.number), Some(8));
         if let Some(stored) = table.record_mut(second) {
             *stored = 81;
         }
-        assert_eq!(rt; table.find(second, 8).copied(), Some(81));
-        assert_eq!(rt; table.record(second).copied(), Some(81));
+        assert_eq!(rt;
+            (table.find(second, 8), table.record(second)),
+            (Some(&81), Some(&81))
+        );
         Ok(())
     }
 
@@ -410,18 +413,16 @@ mod tests {
                 written: None,
             },
         );
-        assert!(rt; before.is_none());
         table.set_counted(place, 4);
-        assert_eq!(rt; table.counted(place), Some(4));
-        assert_eq!(rt; table.set_timer(place, Some(5)), None);
-        assert_eq!(rt; table.take(place), 70);
-        let membership = table.clear_membership(place);
-        assert_eq!(rt; membership.map(|m| m.access), Some(1));
-        assert_eq!(rt; table.set_timer(place, None), Some(5));
+        assert_eq!(rt; (before.is_none(), table.counted(place)), (true, Some(4)));
+        let before = table.set_timer(place, Some(5));
+        assert_eq!(rt; (before, table.take(place)), (None, 70));
+        let access = table.clear_membership(place).map(|m| m.access);
+        assert_eq!(rt; (access, table.set_timer(place, None)), (Some(1), Some(5)));
         table.forget(place);
-        assert_eq!(rt; table.len(), 0);
-        assert_eq!(rt; table.insert(8, 80), place);
-        assert_eq!(rt; table.find(place, 7).copied(), None);
+        let len = table.len();
+        assert_eq!(rt; (len, table.insert(8, 80)), (0, place));
+        assert!(rt; table.find(place, 7).is_none());
         Ok(())
     }
 
@@ -434,9 +435,11 @@ mod tests {
             assert_eq!(rt; table.len(), 0);
             if grown {
                 let place = table.insert(7, 70);
-                assert!(rt; table.reserve(usize::MAX).is_err());
-                assert_eq!(rt; table.len(), 1);
-                assert_eq!(rt; table.find(place, 7).copied(), Some(70));
+                let grown = table.reserve(usize::MAX).is_ok();
+                assert_eq!(rt;
+                    (grown, table.len(), table.find(place, 7)),
+                    (false, 1, Some(&70))
+                );
             }
         }
         Ok(())
