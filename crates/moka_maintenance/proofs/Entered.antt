@@ -6,7 +6,7 @@ use Rattle.moka_parts.specs.Records.{member, without_member}
 use Rattle.moka_parts.specs.Writes.{entered}
 use Rattle.moka_store.specs.Store.{Kept}
 use Rattle.moka_sketch.specs.Frequency.{Table}
-use Rattle.moka_maintenance.specs.Steps.{contents_in, contents_with, LeavesNoRow}
+use Rattle.moka_maintenance.specs.Steps.{contents_with, LeavesNoRow}
 use Rattle.moka_maintenance.proofs.Placed.{rows-changed}
 
 module _ {K V : Type 0} (old mid new : Kept K V) (n generation weight : ℕ) (r : Record K V) (seen : mid ≡ record old { records = insert old.records n (record r { applied = generation }) }) where

@@ -1,5 +1,5 @@
 -- How the parts of a `Store` hold together. No public clause cites this module.
-use Rattle.std.specs.Prelude.{◌≡◌, ℕ, ◌+◌, ◌^◌, ◌-◌, ◌<◌, ◌≤◌, min, Bool, true, List, Option, Some, None, IsSome, is_some, count_by, length, map, nat_eq}
+use Rattle.std.specs.Prelude.{◌≡◌, ℕ, ◌+◌, ◌^◌, ◌-◌, ◌<◌, ◌≤◌, min, Bool, true, List, Option, Some, IsSome, is_some, count_by, length, map, nat_eq}
 use Rattle.std.specs.FinMap.{FinMap, get, len}
 use Rattle.std.specs.List.{IsDistinct}
 use Rattle.std.specs.Map.{lookup, keys_of}

@@ -1,4 +1,4 @@
-use Rattle.std.proofs.Common.{length, count_by, is_some, ap, arith, sym, ◌∙◌, subst}
+use Rattle.std.proofs.Common.{length, count_by, is_some, ap, arith, sym, subst}
 use Rattle.moka_store.proofs.Orders.{written-grown}
 use Rattle.moka_store.proofs.Slots.{slots-within}
 use Rattle.moka_store.specs.StoreRows.{access_in}
