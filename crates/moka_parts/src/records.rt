@@ -5,25 +5,26 @@ use crate::policy::Instant;
 /// What the cache keeps of a key. moka: `common::concurrent::ValueEntry` with its `EntryInfo`.
 #[derive(Drop)]
 pub struct Record<K, V> {
-    /// Counts up from 1; no number is used twice.
-    pub number: u64,
+    // First what a look-up reads, side by side.
     /// The key of the first insert.
     pub key: K,
     /// The hash that came with the first insert.
     pub hash: u64,
     pub value: V,
-    /// When it was last inserted.
-    pub written: Instant,
     /// When it was last inserted or read.
     pub read: Instant,
     /// When it expires by itself, if it does.
     pub expires: Option<Instant>,
-    /// The weight of the value that stands there, whether it is counted yet or not.
-    pub weight: u32,
+    /// Counts up from 1; no number is used twice.
+    pub number: u64,
+    /// When it was last inserted.
+    pub written: Instant,
     /// Counts the writes of the key, from 1.
     pub generation: u64,
     /// The highest generation of which an operation was applied, 0 before the first.
     pub applied: u64,
+    /// The weight of the value that stands there, whether it is counted yet or not.
+    pub weight: u32,
 }
 
 /// A record's number in the access list, with the weight that is counted for it.

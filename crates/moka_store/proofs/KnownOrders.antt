@@ -7,8 +7,8 @@ use Rattle.std.specs.Map.{keys_of}
 use Rattle.std.specs.Option.{option_map, option_and_then}
 use Rattle.moka_structures.proofs.TableCalls.{get-places, placed_row}
 use Rattle.moka_structures.proofs.TableMaps.{option-cases, remove-none}
-use Rattle.moka_structures.specs.declared.record_table.Membership.{Membership}
-use Rattle.moka_structures.specs.declared.record_table.Row.{Row}
+use Rattle.moka_structures.specs.declared.row.Membership.{Membership}
+use Rattle.moka_structures.specs.RecordTable.{Row}
 use Rattle.moka_structures.specs.RecordTable.{row_at, number_at, places_of}
 use Rattle.moka_store.proofs.Nodes.{any-none, here, later, node-in}
 use Rattle.moka_store.proofs.Slots.{slot-row, no-node, one-node}

@@ -8,8 +8,8 @@ use Rattle.std.specs.Ordering.{nat_cmp}
 use Rattle.std.specs.Prelude.{IfSome, IfNone}
 use Rattle.moka_structures.proofs.TableMaps.{option-cases, remove-none}
 use Rattle.moka_structures.proofs.TableCalls.{get-places}
-use Rattle.moka_structures.specs.declared.record_table.Membership.{Membership}
-use Rattle.moka_structures.specs.declared.record_table.Row.{Row}
+use Rattle.moka_structures.specs.declared.row.Membership.{Membership}
+use Rattle.moka_structures.specs.RecordTable.{Row}
 use Rattle.moka_structures.specs.RecordTable.{row_at, number_at, membership_at, places_of, IsNumbered, ChangesAt}
 use Rattle.moka_wheel.specs.Wheel.{Timer}
 use Rattle.moka_store.proofs.Nodes.{map-all, node-in}

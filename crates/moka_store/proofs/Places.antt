@@ -2,7 +2,7 @@
 use Rattle.std.proofs.Common.{◌≡◌, ℕ, ◌==◌, Bool, true, false, cond, List, [], ◌∷◌, map, Option, Some, IsSome, is_some, refl, sym, ap, ◌∙◌, Contains, arith}
 use Rattle.std.proofs.lemmas.List.Elements.{Contains-append_right}
 use Rattle.std.specs.FinMap.{get}
-use Rattle.moka_structures.specs.declared.record_table.Row.{Row}
+use Rattle.moka_structures.specs.RecordTable.{Row}
 use Rattle.moka_structures.specs.RecordTable.{row_at, records_of, places_of}
 use Rattle.moka_structures.proofs.TableCalls.{record_row, placed_row, get-places}
 use Rattle.moka_parts.specs.declared.records.Record.{Record}

@@ -130,11 +130,11 @@ impl<K: Eq + Hash, V, S: BuildHasher> Store<K, V, S> {
         let Some(row) = table.row(place) else {
             unreachable!()
         };
-        let Some(stored) = &row.stored else {
+        let Some(stored) = row.stored() else {
             unreachable!()
         };
         let handle = Handle {
-            number: row.number,
+            number: row.number(),
             place,
         };
         Some((handle, stored))
@@ -159,7 +159,7 @@ impl<K: Eq + Hash, V, S: BuildHasher> Store<K, V, S> {
         ensures members { (n : ℕ) → IsSome (counted_of n self.now.access) → IsSome (finite.get self.now.places n) }
     {
         match self.table.row(handle.place) {
-            Some(row) => row.number == handle.number,
+            Some(row) => row.number() == handle.number,
             None => false,
         }
     }

@@ -3,6 +3,7 @@ ghost use Rattle.std.specs.Prelude.{◌≡◌, ◌+◌, ◌<◌, ◌≤◌, ◌&
 ghost use Rattle.std.specs.FinMap.{empty, get, len};
 ghost use Rattle.moka_parts.specs.Time.{moment_of};
 ghost use Rattle.moka_store.specs.Timing.{timer_after};
+ghost use Rattle.moka_structures.specs.Slots.{IsSlot};
 ghost use Rattle.moka_wheel.specs.Wheel.{Timer};
 
 use moka_parts::policy::Instant;
@@ -61,6 +62,8 @@ impl Timers {
     pub fn set(&mut self, before: Option<u32>, place: u64, at: Option<Instant>) -> Option<u32>
         requires held { IfSome before (λ slot. option_map (λ (t : Timer). t.number) (get self.old.timers slot) ≡ Some place) }
         requires room { IfNone before (IfSome at (λ _. len self.old.timers < self.old.most)) }
+        requires slot { IsSlot before }
+        ensures slot { IsSlot result }
         ensures kept { is_some result ≡ (self.old.timed && is_some at) }
         ensures fresh { IfSome result (λ slot. (before ≡ Some slot) ⊎ (get self.old.timers slot ≡ None)) }
         ensures lookups { (other : ℕ) → get self.new.timers other ≡ timer_after self.old.timers before result place (moment_of at) other }
@@ -99,6 +102,8 @@ fn set_in(
 ) -> Option<u32>
     requires held { IfSome before (λ slot. option_map (λ (t : Timer). t.number) (get wheel.old.timers slot) ≡ Some place) }
     requires room { IfNone before (IfSome at (λ _. 0 < wheel.old.room)) }
+    requires slot { IsSlot before }
+    ensures slot { IsSlot result }
     ensures kept { is_some result ≡ is_some at }
     ensures fresh { IfSome result (λ slot. (before ≡ Some slot) ⊎ (get wheel.old.timers slot ≡ None)) }
     ensures lookups { (other : ℕ) → get wheel.new.timers other ≡ timer_after wheel.old.timers before result place (moment_of at) other }

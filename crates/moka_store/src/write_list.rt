@@ -3,6 +3,7 @@ ghost use Rattle.std.specs.Prelude.{◌≡◌, ◌<◌, ◌≤◌, ◌⊎◌, �
 ghost use Rattle.std.specs.Map.{lookup, remove_entry};
 ghost use Rattle.moka_store.specs.Listing.{node_past, IsCursor};
 ghost use Rattle.moka_structures.specs.Order.{next_after};
+ghost use Rattle.moka_structures.specs.Slots.{IsSlot};
 
 use moka_structures::OrderList;
 use std::alloc::{AllocError, Global};
@@ -64,6 +65,7 @@ impl WriteList {
         requires { length self.old.nodes < self.old.most }
         ensures kept { is_some result ≡ self.old.ordered }
         ensures fresh { IfSome result (λ slot. lookup (nat_eq slot) self.old.nodes ≡ None) }
+        ensures slot { IsSlot result }
         ensures nodes { IfSome result (λ slot. self.new.nodes ≡ self.old.nodes ++ (slot, place) ∷ []) }
         ensures lookups { IfSome result (λ slot. (s : ℕ) → lookup (nat_eq s) self.new.nodes ≡ (if nat_eq s slot then Some place else lookup (nat_eq s) self.old.nodes)) }
         ensures rest { self.new ≡ record self.old { nodes = self.new.nodes } }

@@ -260,6 +260,13 @@ free-fresh ns len free o more =
     ap (lookup (nat_eq free)) (members-are ns len free o)
     ∙ lookup-fresh ns o.slots free (λ k l z. o.apart (k + 1) 0 (omega arith) some (ring-next o.slots k ∙ z ∙ o.chain.first some))
 
+-- and none is the sentinel's
+pub free-positive : (ns : List Node) (len free : ℕ) (o : IsOrder ns len free) → len + 1 < length ns → 0 < free
+free-positive ns len free o more =
+    let some : 0 < length o.frees = omega (arith, o.total, o.counted) in
+    let apart : free ≢ 0 = (λ z. o.apart 0 0 (omega arith) some (o.ring.start ∙ sym z ∙ o.chain.first some)) in
+    omega arith
+
 -- the same of a new slot
 pub new-fresh : (ns : List Node) (len free : ℕ) (o : IsOrder ns len free) → lookup (nat_eq (length ns)) (members_of ns len) ≡ None
 new-fresh ns len free o =

@@ -7,8 +7,8 @@ use Rattle.std.specs.Prelude.{slice_index_or, slice_set}
 use Rattle.std.specs.FinMap.{FinMap, empty, get, insert, remove}
 use Rattle.std.specs.Option.{option_map, option_and_then}
 use Rattle.std.specs.Ordering.{nat_cmp}
-use Rattle.moka_structures.specs.declared.record_table.Membership.{Membership}
-use Rattle.moka_structures.specs.declared.record_table.Row.{Row}
+use Rattle.moka_structures.specs.declared.row.Membership.{Membership}
+use Rattle.moka_structures.specs.RecordTable.{Row}
 use Rattle.moka_structures.specs.RecordTable.{row_at, stored_at, membership_at, stored_if, find_at, with_stored, counted_in, records_of, counted_of, places_of, IsNumbered, ChangesAt}
 use Rattle.moka_structures.proofs.TableMaps.{row_at-within, option-cases, some_is, get-map, map-found, numbered-set, map-set, map-unset, map-kept, numbered-added, map-added, map-not_added, numbered-gone, map-gone, map-not_gone}
 

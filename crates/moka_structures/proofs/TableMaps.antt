@@ -6,7 +6,7 @@ use Rattle.std.specs.Prelude.{slice_index_or, IsSome}
 use Rattle.std.specs.FinMap.{FinMap, get, insert, remove, get-empty, get-insert, get-remove, same_map, nat_cmp-IsAntisymmetric}
 use Rattle.std.specs.Ordering.{nat_cmp, eq_by_cmp}
 use Rattle.std.specs.Cmp.{nat_cmp_total}
-use Rattle.moka_structures.specs.declared.record_table.Row.{Row}
+use Rattle.moka_structures.specs.RecordTable.{Row}
 use Rattle.moka_structures.specs.RecordTable.{put_some, put_row, upto, map_of, row_at, IsNumbered, ChangesAt}
 
 pub option-cases : {X : Type 0} (o : Option X) → (o ≡ None) ⊎ ((x : X) × (o ≡ Some x))

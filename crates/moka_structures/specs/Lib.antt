@@ -6,5 +6,6 @@ pub mod Order
 pub mod Pending
 pub mod RecordTable
 pub mod Rings
+pub mod Slots
 pub mod TableRows
 pub mod Tickets

@@ -4,8 +4,15 @@ use Rattle.std.specs.Coded.{Coded, code_by, coded×, coded_ℕ, coded_list, code
 use Rattle.std.specs.FinMap.{FinMap, empty, insert}
 use Rattle.std.specs.Option.{option_map, option_map_or, option_and_then}
 use Rattle.std.specs.Ordering.{nat_cmp}
-use Rattle.moka_structures.specs.declared.record_table.Membership.{Membership}
-use Rattle.moka_structures.specs.declared.record_table.Row.{Row}
+use Rattle.moka_structures.specs.declared.row.Membership.{Membership}
+
+-- what stands under a number: what is stored, until it leaves the map; its membership, while it is a member; its slot among
+-- the timers, while it has one
+pub record Row (R : Type 0) : Type 0 where
+  pub number : ℕ
+  pub stored : Option R
+  pub membership : Option Membership
+  pub timer : Option ℕ
 
 -- the row or nothing at each place from 0 on, and how many more rows fit with no memory
 pub record Table (R : Type 0) : Type 0 where

@@ -1,6 +1,6 @@
 -- What is true of each `RecordTable`'s rows. No public clause cites this module.
 use Rattle.std.specs.Prelude.{ℕ, ◌≤◌, Option}
-use Rattle.moka_structures.specs.declared.record_table.Row.{Row}
+use Rattle.moka_structures.specs.RecordTable.{Row}
 use Rattle.moka_structures.specs.RecordTable.{IsNumbered}
 
 -- no number stands in two rows, and there is room for the rows

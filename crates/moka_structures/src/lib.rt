@@ -7,7 +7,9 @@ pub mod outstanding;
 #[cfg(test)]
 mod plain_order;
 pub mod record_table;
+pub mod row;
 
 pub use order_list::OrderList;
 pub use outstanding::Outstanding;
-pub use record_table::{Membership, RecordTable, Row};
+pub use record_table::RecordTable;
+pub use row::{Membership, Row};

@@ -159,14 +159,15 @@ impl OrderList {
         self.nodes.reserve(more)
     }
 
-    /// Puts a number behind all others, where there is room. The answer is its slot, which no other number has
-    /// while it is in.
+    /// Puts a number behind all others, where there is room. The answer is its slot, which is not 0, and which no
+    /// other number has while it is in.
     ///
     /// moka: `Deque::push_back`.
     #[inline(always)]
     pub fn push_back(&mut self, number: u64) -> u32
         requires { 0 < self.old.room }
         ensures fresh { lookup (nat_eq result) self.old.members ≡ None }
+        ensures positive { 0 < result }
         ensures members { self.new.members ≡ self.old.members ++ (result, number) ∷ [] }
         ensures len { length self.new.members ≡ length self.old.members + 1 }
         ensures few { length self.new.members < 2 ^ 32 }

@@ -1,40 +1,18 @@
 //! Rows for the cache's entries, each at a place that the table picks.
-ghost use Rattle.std.specs.Prelude.{◌≡◌, ◌≢◌, ◌+◌, ◌<◌, ◌≤◌, [], length, OnOk, IsOk, IsSome, None, Some, is_some, count_by, option_copied};
+ghost use Rattle.std.specs.Prelude.{◌≡◌, ◌≢◌, ◌+◌, ◌<◌, ◌≤◌, [], length, OnOk, IsOk, IfSome, IsSome, None, Some, is_some, count_by, option_copied};
 ghost use Rattle.std.specs.Borrow.{sem};
 ghost use Rattle.std.specs.FinMap as map;
 ghost use Rattle.std.specs.Option.{option_copied_mut, option_map, option_and_then};
-ghost use Rattle.moka_structures.specs.declared.record_table.Membership.{Membership};
-ghost use Rattle.moka_structures.specs.declared.record_table.Row.{Row};
+ghost use Rattle.moka_structures.specs.declared.row.Membership.{Membership};
+ghost use Rattle.moka_structures.specs.RecordTable.{Row};
 ghost use Rattle.moka_structures.specs.RecordTable.{row_at, number_at, stored_at, membership_at, find_at, ChangesAt, ChangesRow, RecountsRow, records_of, counted_of, places_of};
+ghost use Rattle.moka_structures.specs.Slots.{IsSlot, HasSlots};
 ghost use Rattle.slab.specs.Slab.{slab_len};
 
+use crate::row::{Membership, Row};
 use slab::Slab;
 use std::alloc::{AllocError, Global};
 use std::marker::Model;
-use std::mem;
-
-/// A row's place in the cache's order.
-#[derive(Clone, Copy)]
-pub struct Membership {
-    /// The weight that is counted for it.
-    pub counted: u32,
-    /// Its handle in the access list.
-    pub access: u32,
-    /// Its handle in the write list, where that list is kept.
-    pub written: Option<u32>,
-}
-
-/// What the table keeps under a number.
-#[derive(Drop)]
-pub struct Row<R> {
-    pub number: u64,
-    /// The record, until it leaves the map.
-    pub stored: Option<R>,
-    /// Its place in the order, while it is a member.
-    pub membership: Option<Membership>,
-    /// Its handle in the timers, while it has one.
-    pub timer: Option<u32>,
-}
 
 /// Rows of records by place.
 ///
@@ -118,12 +96,7 @@ impl<R> RecordTable<R> {
         ensures len { count_by is_some self.new.rows ≡ count_by is_some self.old.rows + 1 }
         ensures room { self.old.room ≡ self.new.room + 1 }
     {
-        self.rows.slab.insert_reserved(Row {
-            number,
-            stored: Some(stored),
-            membership: None,
-            timer: None,
-        })
+        self.rows.slab.insert_reserved(Row::new(number, stored))
     }
 
     /// The row at this place.
@@ -139,7 +112,7 @@ impl<R> RecordTable<R> {
     pub fn record(&self, place: usize) -> Option<&R>
         ensures { option_copied result ≡ stored_at self.now.rows place }
     {
-        self.row(place)?.stored.as_ref()
+        self.row(place)?.stored()
     }
 
     /// The record at this place, if it is the one of this number.
@@ -182,7 +155,7 @@ impl<R> RecordTable<R> {
     pub fn membership(&self, place: usize) -> Option<Membership>
         ensures { result ≡ membership_at self.now.rows place }
     {
-        self.row(place)?.membership
+        self.row(place)?.membership()
     }
 
     /// The weight that is counted for the member at this place.
@@ -210,7 +183,8 @@ impl<R> RecordTable<R> {
     /// The row at this place becomes a member, or gets another membership. The answer is the one that it had.
     #[inline(always)]
     pub fn set_membership(&mut self, place: usize, membership: Membership) -> Option<Membership>
-        requires { IsSome (row_at self.old.rows place) }
+        requires row { IsSome (row_at self.old.rows place) }
+        requires slots { HasSlots membership }
         ensures old { result ≡ membership_at self.old.rows place }
         ensures changes { ChangesRow self.old.rows self.new.rows place (λ row. record row { membership = Some membership }) }
         ensures records { records_of self.new.rows ≡ records_of self.old.rows }
@@ -240,8 +214,10 @@ impl<R> RecordTable<R> {
     /// Another timer, or none, for the row at this place. The answer is the one that it had.
     #[inline(always)]
     pub fn set_timer(&mut self, place: usize, timer: Option<u32>) -> Option<u32>
-        requires { IsSome (row_at self.old.rows place) }
+        requires row { IsSome (row_at self.old.rows place) }
+        requires slot { IsSlot timer }
         ensures old { result ≡ option_and_then (λ row. row.timer) (row_at self.old.rows place) }
+        ensures slot { IsSlot result }
         ensures changes { ChangesRow self.old.rows self.new.rows place (λ row. record row { timer = timer }) }
         ensures records { records_of self.new.rows ≡ records_of self.old.rows }
         ensures counted { counted_of self.new.rows ≡ counted_of self.old.rows }
@@ -284,7 +260,7 @@ impl<R> Rows<R> {
         ensures { option_copied result ≡ find_at self.now.slab.slots place number }
     {
         match self.slab.get(place) {
-            Some(row) if row.number == number => row.stored.as_ref(),
+            Some(row) if row.number() == number => row.stored(),
             _ => None,
         }
     }
@@ -296,7 +272,7 @@ impl<R> Rows<R> {
         ensures value { option_copied_mut result ≡ stored_at self.old.slab.slots place }
     {
         match self.slab.get_mut(place) {
-            Some(row) => row.stored.as_mut(),
+            Some(row) => row.stored_mut(),
             None => None,
         }
     }
@@ -313,7 +289,7 @@ impl<R> Rows<R> {
         let Some(row) = self.slab.get_mut(place) else {
             unreachable!()
         };
-        let Some(taken) = row.stored.take() else {
+        let Some(taken) = row.take() else {
             unreachable!()
         };
         taken
@@ -330,10 +306,7 @@ impl<R> Rows<R> {
         let Some(row) = self.slab.get_mut(place) else {
             unreachable!()
         };
-        let Some(membership) = &mut row.membership else {
-            unreachable!()
-        };
-        membership.counted = weight;
+        row.set_counted(weight);
     }
 
     // Another membership, or none, for the row at this place. The answer is the old one.
@@ -343,7 +316,8 @@ impl<R> Rows<R> {
         place: usize,
         membership: Option<Membership>,
     ) -> Option<Membership>
-        requires { IsSome (row_at self.old.slab.slots place) }
+        requires row { IsSome (row_at self.old.slab.slots place) }
+        requires slots { IfSome membership HasSlots }
         ensures old { result ≡ membership_at self.old.slab.slots place }
         ensures changes { ChangesRow self.old.slab.slots self.new.slab.slots place (λ row. record row { membership = membership }) }
         ensures len { slab_len self.new.slab ≡ slab_len self.old.slab }
@@ -352,14 +326,18 @@ impl<R> Rows<R> {
         let Some(row) = self.slab.get_mut(place) else {
             unreachable!()
         };
-        mem::replace(&mut row.membership, membership)
+        let old = row.membership();
+        row.set_membership(membership);
+        old
     }
 
     // Another timer, or none, for the row at this place. The answer is the old one.
     #[inline(always)]
     fn replace_timer(&mut self, place: usize, timer: Option<u32>) -> Option<u32>
-        requires { IsSome (row_at self.old.slab.slots place) }
+        requires row { IsSome (row_at self.old.slab.slots place) }
+        requires slot { IsSlot timer }
         ensures old { result ≡ option_and_then (λ row. row.timer) (row_at self.old.slab.slots place) }
+        ensures slot { IsSlot result }
         ensures changes { ChangesRow self.old.slab.slots self.new.slab.slots place (λ row. record row { timer = timer }) }
         ensures len { slab_len self.new.slab ≡ slab_len self.old.slab }
         ensures capacity { self.new.slab.capacity ≡ self.old.slab.capacity }
@@ -367,7 +345,9 @@ impl<R> Rows<R> {
         let Some(row) = self.slab.get_mut(place) else {
             unreachable!()
         };
-        mem::replace(&mut row.timer, timer)
+        let old = row.timer();
+        row.set_timer(timer);
+        old
     }
 }
 
@@ -388,7 +368,7 @@ mod tests {
             (table.find(first, 7), table.find(first, 8)),
             (Some(&70), None)
         );
-        assert_eq!(rt; table.row(second).map(|row| row.number), Some(8));
+        assert_eq!(rt; table.row(second).map(|row| row.number()), Some(8));
         if let Some(stored) = table.record_mut(second) {
             *stored = 81;
         }

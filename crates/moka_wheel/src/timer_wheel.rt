@@ -91,10 +91,11 @@ impl TimerWheel {
         self.buckets.nodes.reserve(more)
     }
 
-    /// Starts a timer. The answer is its slot.
+    /// Starts a timer. The answer is its slot, which is not 0.
     pub fn schedule(&mut self, number: u64, at: u64) -> u32
         requires { 0 < self.old.room }
         ensures fresh { get self.old.timers result ≡ None }
+        ensures positive { 0 < result }
         ensures timers { self.new.timers ≡ insert self.old.timers result (record { number = number; at = at }) }
         ensures lookups { (other : ℕ) → get self.new.timers other ≡ (if nat_eq other result then Some (record { number = number; at = at }) else get self.old.timers other) }
         ensures room { self.new.room + 1 ≡ self.old.room }

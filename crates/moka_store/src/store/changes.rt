@@ -4,8 +4,9 @@ ghost use Rattle.moka_store.specs.StoreRows.{has_key_at, member_in, row_room, ti
 ghost use Rattle.moka_store.specs.Updates.{updated};
 ghost use Rattle.moka_parts.specs.declared.records.Record.{Record};
 ghost use Rattle.moka_parts.specs.Records.{member};
-ghost use Rattle.moka_structures.specs.declared.record_table.Row.{Row};
+ghost use Rattle.moka_structures.specs.RecordTable.{Row};
 ghost use Rattle.moka_structures.specs.RecordTable.{row_at, stored_at, with_stored};
+ghost use Rattle.moka_structures.specs.Slots.{IsSlot};
 
 use super::{Handle, Update};
 use moka_parts::policy::Instant;
@@ -139,10 +140,10 @@ pub(crate) fn member_at<K, V>(table: &RecordTable<Record<K, V>>, place: usize) -
         unreachable!()
     };
     let handle = Handle {
-        number: row.number,
+        number: row.number(),
         place,
     };
-    (handle, row.membership.map_or(0, |m| m.counted))
+    (handle, row.membership().map_or(0, |m| m.counted))
 }
 
 // The handle of the row at this place.
@@ -155,7 +156,7 @@ pub(crate) fn handle_at<K, V>(table: &RecordTable<Record<K, V>>, place: usize) -
         unreachable!()
     };
     Handle {
-        number: row.number,
+        number: row.number(),
         place,
     }
 }
@@ -184,14 +185,15 @@ pub(crate) fn timing_at<K, V>(
     place: usize,
 ) -> (Option<u32>, Option<Instant>)
     ensures timer { result.0 ≡ timer_at table.now.rows place }
+    ensures slot { IsSlot result.0 }
     ensures expires { (r : Record K V) → stored_at table.now.rows place ≡ Some r → result.1 ≡ r.expires }
 {
     let Some(row) = table.row(place) else {
         return (None, None);
     };
-    let expires = match &row.stored {
+    let expires = match row.stored() {
         Some(stored) => stored.expires,
         None => None,
     };
-    (row.timer, expires)
+    (row.timer(), expires)
 }

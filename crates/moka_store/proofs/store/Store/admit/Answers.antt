@@ -2,7 +2,7 @@ use Rattle.std.specs.FinMap as finite
 use Rattle.std.proofs.Common.{◌<◌, ◌^◌, ◌≡◌, ◌+◌, map, length, refl, arith, sym, ap, ◌∙◌, subst}
 use Rattle.moka_store.proofs.Members.{counted-admitted}
 use Rattle.std.specs.Option.{option_map, option_and_then}
-use Rattle.moka_structures.specs.declared.record_table.Membership.{Membership}
+use Rattle.moka_structures.specs.declared.row.Membership.{Membership}
 use Rattle.moka_store.specs.StoreRows.{access_in, written_in}
 use Rattle.moka_store.proofs.Slots.{slots-below}
 use Rattle.moka_store.proofs.Orders.{enters}
@@ -34,7 +34,7 @@ push_back-written-requires g c =
 pub set_membership-none-requires : goal.set_membership-none-requires
 set_membership-none-requires g c =
     let w = placed _ _ _ _ c.self.invariant.tied _ _ (rw (← c.self.view_is) at c.requires.placed) in
-    rw w.at_is refl
+    record { row = rw w.at_is refl; slots = record { access = c.push_back-access.ensures.positive; written = c.push_back-written.ensures.slot } }
 
 pub invariant_of-self : goal.invariant_of-self
 invariant_of-self g c =

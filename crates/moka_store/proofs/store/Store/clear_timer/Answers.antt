@@ -1,7 +1,7 @@
 use Rattle.std.specs.FinMap as finite
 use Rattle.std.specs.Option.{option_and_then}
 use Rattle.std.proofs.Common.{None, refl, sym, ◌∙◌, arith, ap, subst}
-use Rattle.moka_structures.specs.declared.record_table.Row.{Row}
+use Rattle.moka_structures.specs.RecordTable.{Row}
 use Rattle.moka_parts.specs.declared.records.Record.{Record}
 use Rattle.moka_store.proofs.Orders.{untimes}
 use Rattle.moka_store.proofs.Steps.{placed, retimed}
@@ -13,7 +13,7 @@ use Rattle.moka_store.proofs.store.Store.clear_timer.Goals as goal
 pub set_timer-timer-requires : goal.set_timer-timer-requires
 set_timer-timer-requires g c =
     let w = placed _ _ _ _ c.self.invariant.tied _ _ (rw (← c.self.view_is) at c.requires) in
-    rw w.at_is refl
+    record { row = rw w.at_is refl; slot = tt }
 
 pub set-none-requires-clause-held : goal.set-none-requires-clause-held
 set-none-requires-clause-held g c =

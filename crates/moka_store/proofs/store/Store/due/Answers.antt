@@ -14,7 +14,7 @@ returns-in_err-due-clause-none g c = rw (c.from_residual.ensures, ← c.self.vie
 pub set_timer-slot-requires : goal.set_timer-slot-requires
 set_timer-slot-requires g c =
     let r = timer-row c.self.inside.table.rows c.self.inside.timers.timers c.self.invariant.timed c.self.invariant.tied.numbered _ _ _ c.in_ok-due.ensures.due in
-    rw r.at_is refl
+    record { row = rw r.at_is refl; slot = tt }
 
 pub handle_at-requires : goal.handle_at-requires
 handle_at-requires g c =

@@ -18,20 +18,20 @@ returns-in_default-clause-one_each g c =
 pub returns-clause-handle : goal.returns-clause-handle
 returns-clause-handle g c =
     let at_is = sym c.in-Some-row.ensures in
-    rw (← c.self.view_is) (record {
+    rw (c.number.ensures, ← c.self.view_is) (record {
       placed = get-places _ c.self.invariant.tied.numbered _ _ at_is;
-      stored = rw (get-records _ c.self.invariant.tied.numbered _ _ at_is, c.in-Some-stored.is) refl;
+      stored = rw (get-records _ c.self.invariant.tied.numbered _ _ at_is, ← c.in-Some-stored.ensures) refl;
     })
 
 pub returns-clause-found : goal.returns-clause-found
 returns-clause-found g c =
-    rw (← c.self.view_is) (get-records _ c.self.invariant.tied.numbered _ _ (sym c.in-Some-row.ensures) ∙ c.in-Some-stored.is)
+    rw (c.number.ensures, ← c.self.view_is) (get-records _ c.self.invariant.tied.numbered _ _ (sym c.in-Some-row.ensures) ∙ sym c.in-Some-stored.ensures)
 
 pub returns-clause-value : goal.returns-clause-value
 returns-clause-value g c =
     let test : has_key_at g.K.PartialEq.eq c.self.inside.table.rows c.args.key.now c.in-Some.place ≡ true = search (rules, c.in-Some.ensures.passes) in
     let w = key-present _ _ _ _ c.self.invariant.tied c.args.key.now c.in-Some.place test in
-    let same : Some w.stored ≡ Some c.in-Some-stored.stored = (let x = w.at_is in let y = c.in-Some-row.ensures in let z = w.stored_is in let e = c.in-Some-stored.is in cc) in
+    let same : Some w.stored ≡ Some c.in-Some-stored.stored.now = (let x = w.at_is in let y = c.in-Some-row.ensures in let z = w.stored_is in let e = c.in-Some-stored.ensures in cc) in
     rw (← c.self.view_is) (sym same ∙ sym (record-of-present _ _ _ _ c.self.invariant.tied g.met.K.Eq.laws _ _ w))
 
 pub returns-clause-one_each : goal.returns-clause-one_each

@@ -4,7 +4,7 @@ use Rattle.std.specs.FinMap.{get, remove}
 use Rattle.moka_structures.specs.RecordTable.{places_of}
 use Rattle.moka_structures.proofs.TableMaps.{get-past_remove}
 use Rattle.std.specs.Option.{option_and_then}
-use Rattle.moka_structures.specs.declared.record_table.Row.{Row}
+use Rattle.moka_structures.specs.RecordTable.{Row}
 use Rattle.moka_parts.specs.declared.records.Record.{Record}
 use Rattle.moka_store.proofs.Orders.{stays-bare}
 use Rattle.moka_store.proofs.Steps.{placed, bare-row, forgotten}

@@ -13,8 +13,8 @@ returns-in-Some-clause-placed g c =
     let row = c.in-Some.row.now in
     let at_is : row_at rows c.args.handle.place ≡ Some row = sym c.in-Some.ensures in
     rw (← c.self.view_is) (
-      (λ same. ap (finite.get (places_of rows)) (sym (eqb-true row.number c.args.handle.number same)) ∙ get-places rows tied.numbered c.args.handle.place row at_is),
-      (λ there. eq-eqb row.number c.args.handle.number (other-row g.K.PartialEq.eq rows _ _ tied c.args.handle.place c.args.handle.number row at_is there)),
+      (λ same. ap (finite.get (places_of rows)) (sym (sym c.number.ensures ∙ eqb-true c.number.result c.args.handle.number same)) ∙ get-places rows tied.numbered c.args.handle.place row at_is),
+      (λ there. eq-eqb c.number.result c.args.handle.number (c.number.ensures ∙ other-row g.K.PartialEq.eq rows _ _ tied c.args.handle.place c.args.handle.number row at_is there)),
     )
 
 pub returns-in-Some-clause-records : goal.returns-in-Some-clause-records

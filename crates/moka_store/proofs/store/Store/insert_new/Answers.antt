@@ -1,6 +1,6 @@
 use Rattle.moka_store.proofs.Orders.{stays-bare}
 use Rattle.std.specs.Option.{option_and_then}
-use Rattle.moka_structures.specs.declared.record_table.Row.{Row}
+use Rattle.moka_structures.specs.RecordTable.{Row}
 use Rattle.moka_parts.specs.declared.records.Record.{Record}
 use Rattle.std.specs.FinMap as finite
 use Rattle.std.proofs.Common.{◌≢◌, ◌+◌, refl, sym, ap, ◌∙◌, arith, subst}

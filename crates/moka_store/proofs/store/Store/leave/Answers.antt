@@ -1,7 +1,7 @@
 use Rattle.std.specs.FinMap as finite
 use Rattle.std.specs.Option.{option_and_then}
 use Rattle.std.proofs.Common.{◌-◌, ◌==◌, cond, None, ◌≡◌, ◌+◌, IsSome, map, length, refl, sym, ◌∙◌, arith, ap, subst}
-use Rattle.moka_structures.specs.declared.record_table.Membership.{Membership}
+use Rattle.moka_structures.specs.declared.row.Membership.{Membership}
 use Rattle.moka_structures.proofs.TableMaps.{get-removed}
 use Rattle.moka_store.proofs.Members.{counted-without}
 use Rattle.moka_store.proofs.Orders.{slot-there, leaves}

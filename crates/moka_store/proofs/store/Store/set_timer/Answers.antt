@@ -1,7 +1,7 @@
 use Rattle.std.specs.FinMap as finite
 use Rattle.std.specs.Option.{option_and_then}
 use Rattle.std.proofs.Common.{◌&&◌, map, is_some, refl, sym, ◌∙◌, arith, ap, subst}
-use Rattle.moka_structures.specs.declared.record_table.Row.{Row}
+use Rattle.moka_structures.specs.RecordTable.{Row}
 use Rattle.moka_parts.specs.declared.records.Record.{Record}
 use Rattle.moka_parts.specs.Records.{counted_of}
 use Rattle.moka_parts.specs.Time.{moment_of}
@@ -29,7 +29,7 @@ set-timer-requires-clause-room g c =
 pub set_timer-before-requires : goal.set_timer-before-requires
 set_timer-before-requires g c =
     let h = handled _ _ _ _ c.self.invariant.tied _ _ (rw (← c.self.view_is) at c.requires.handle.placed) (rw (← c.self.view_is) at c.requires.handle.stored) in
-    rw h.at_is refl
+    record { row = rw h.at_is refl; slot = c.set-timer.ensures.slot }
 
 pub invariant_of-self : goal.invariant_of-self
 invariant_of-self g c =

@@ -1,5 +1,5 @@
 use Rattle.std.proofs.Common.{◌≡◌, ◌<◌, ◌^◌, length, nat_eq, arith, ap, ◌∙◌, refl}
-use Rattle.moka_structures.proofs.Orders.{reuse-leaves, fresh-leaves, added-reuse, added-fresh, free-fresh, new-fresh, length-members, distinct-members}
+use Rattle.moka_structures.proofs.Orders.{reuse-leaves, fresh-leaves, added-reuse, added-fresh, free-fresh, free-positive, fits, new-fresh, length-members, distinct-members}
 use Rattle.moka_structures.proofs.Lookups.{lookup-pushed}
 use Rattle.std.specs.Map.{lookup}
 use Rattle.moka_structures.specs.declared.order_list.Node.{Node}
@@ -86,3 +86,9 @@ returns-clause-few c =
     let v : Node = record { number = c.args.number; before = 0; behind = 0 } in
     rw (c.attach.ensures.nodes, c.push_reserved.ensures.items, slot)
     (omega (arith, small, length-members _ _ _ (fresh-leaves _ _ _ c.args.number i v small refl).order, i.counted, i.total))
+
+pub returns-then-self-len-clause-positive : goal.returns-then-self-len-clause-positive
+returns-then-self-len-clause-positive c = free-positive _ _ _ c.self.invariant (omega arith)
+
+pub returns-clause-positive : goal.returns-clause-positive
+returns-clause-positive c = omega (arith, fits _ _ _ c.self.invariant)
