@@ -8,18 +8,16 @@ use Rattle.std.specs.FinMap.{FinMap, get, insert, remove, values}
 use Rattle.std.specs.Ordering.{nat_cmp}
 use Rattle.moka_parts.specs.declared.notification.RemovalCause.{RemovalCause}
 use Rattle.moka_parts.specs.declared.notification.RemovalCause.TheVariants.{Expired}
-use Rattle.moka_parts.specs.declared.policy.Instant.{Instant}
 use Rattle.moka_parts.specs.declared.records.Record.{Record}
 use Rattle.moka_parts.specs.Records.{is_applied, is_member, is_settled}
 use Rattle.moka_parts.specs.Time.{has_passed, moment_of}
 use Rattle.moka_parts.specs.Maintenance.{Choice, Removes, MovesToBack, Drops}
-use Rattle.moka_parts.specs.Bounds.{removed_by}
 use Rattle.moka_parts.proofs.AccessList.{counted-to_back}
 use Rattle.moka_parts.proofs.Values.{remove_absent, values_inserted, values_removed}
 use Rattle.moka_store.specs.Store.{Kept, with_timer}
 use Rattle.moka_store.proofs.Gets.{after_remove, get-past_insert, get-past_remove}
 use Rattle.moka_maintenance.specs.declared.sweep.Tests.{Tests}
-use Rattle.moka_maintenance.specs.Steps.{Stock, Told, IsStepped, after_step, after_steps, left_by_step, stock_in, MayStep, MayAll}
+use Rattle.moka_maintenance.specs.Steps.{Stock, Told, after_step, after_steps, left_by_step, stock_in, MayStep, MayAll}
 use Rattle.moka_maintenance.specs.Sweeps.{tests_in, MayExpire, ExpiresDue}
 use Rattle.moka_maintenance.specs.Timers.{IsReset, KeepsTimers}
 use Rattle.moka_maintenance.proofs.Stepped.{removed-on, shrinks, stepped-none, stepped-one, stepped-on}

@@ -1,6 +1,5 @@
 -- Passes one after the other.
-use Rattle.std.proofs.Common.{◌≡◌, refl, ℕ, ◌+◌, ◌*◌, ◌/◌, ◌≤◌, ◌⊎◌, Bool, true, false, true≢false, cond, not, ◌==◌, ◌&&◌, List, [], ◌∷◌, ◌++◌, length, Option, Some, None, is_some, inl, inr, ap, sym, subst, ◌∙◌, arith, append_assoc, if◌then◌else◌}
-use Rattle.std.proofs.lemmas.Bool.{cases_eq}
+use Rattle.std.proofs.Common.{◌≡◌, refl, ℕ, ◌+◌, ◌*◌, ◌/◌, ◌≤◌, ◌⊎◌, Bool, true, false, true≢false, List, [], ◌++◌, length, Option, inl, inr, ap, sym, subst, ◌∙◌, arith, append_assoc, if◌then◌else◌}
 use Rattle.std.proofs.lemmas.Nat.{div-mul-add}
 use Rattle.std.specs.List.{list_all}
 use Rattle.moka_parts.specs.declared.notification.RemovalCause.{RemovalCause}

@@ -1,5 +1,5 @@
 -- Turns in a row that removed nothing, along either order.
-use Rattle.std.proofs.Common.{◌≡◌, refl, ℕ, ◌+◌, ◌⊎◌, Bool, true, false, true≢false, cond, not, ◌==◌, ◌&&◌, ◌||◌, List, [], ◌∷◌, ◌++◌, length, Option, Some, None, is_some, map, slice_get, inl, inr, ap, sym, subst, ◌∙◌, arith, append_assoc, append-nil, if◌then◌else◌}
+use Rattle.std.proofs.Common.{◌≡◌, refl, ℕ, ◌+◌, ◌⊎◌, Bool, true, false, true≢false, not, ◌==◌, ◌&&◌, ◌||◌, List, [], ◌∷◌, ◌++◌, length, Some, None, is_some, slice_get, inl, inr, ap, sym, subst, ◌∙◌, arith, append_assoc, append-nil, if◌then◌else◌}
 use Rattle.std.proofs.lemmas.Bool.{cond-true, cond-false}
 use Rattle.std.proofs.lemmas.List.Folds.{list_all-append}
 use Rattle.std.specs.List.{IsDistinct, AllByRecursion, list_all}
@@ -8,7 +8,7 @@ use Rattle.moka_parts.specs.Records.{Records, counted_of, is_listed, is_member, 
 use Rattle.moka_parts.specs.declared.notification.RemovalCause.TheVariants.{Expired}
 use Rattle.moka_parts.specs.Maintenance.{Choice, Removes, MovesToBack, Drops, is_front, is_over}
 use Rattle.moka_parts.specs.Order.{IsListOf}
-use Rattle.moka_parts.proofs.AccessList.{distinct_taken_out, distinct-to_back}
+use Rattle.moka_parts.proofs.AccessList.{distinct_taken_out}
 use Rattle.moka_parts.proofs.Maps.{same_by_test, itself_tested}
 use Rattle.moka_parts.proofs.OrderedList.{choice_listed}
 use Rattle.moka_parts.proofs.WriteList.{unlisted_taken_out}

@@ -1,5 +1,5 @@
 -- Steps of a stock are those of the reference cache, whatever sketch its contents have; the write list goes along.
-use Rattle.std.proofs.Common.{◌≡◌, refl, ℕ, List, [], ◌∷◌, ◌++◌, inl, ap, sym, ◌∙◌, Option}
+use Rattle.std.proofs.Common.{◌≡◌, refl, ℕ, Bool, List, [], ◌∷◌, ◌++◌, inl, ap, sym, ◌∙◌, Option}
 use Rattle.moka_sketch.specs.Frequency.{Table}
 use Rattle.moka_parts.specs.declared.notification.RemovalCause.TheVariants.{Expired, Explicit, Replaced, Size}
 use Rattle.moka_parts.specs.declared.records.Registered.{Registered}

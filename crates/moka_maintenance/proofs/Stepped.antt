@@ -47,6 +47,10 @@ module _ {K V : Type 0} where
     may-append c [] ys first then = then
     may-append c (x ∷ xs) ys first then = (first.0, may-append (after_step c x) xs ys first.1 then)
 
+    pub may-second : (c : Stock K V) (xs ys : List Choice) → MayAll May c (xs ++ ys) → MayAll May (after_steps c xs) ys
+    may-second c [] ys may = may
+    may-second c (x ∷ xs) ys may = may-second (after_step c x) xs ys may.1
+
     -- what one rule allows, another does
     pub may-also : (Other : Stock K V → Choice → Type 0) → ((c : Stock K V) (x : Choice) → May c x → Other c x) → (c : Stock K V) (xs : List Choice) → MayAll May c xs → MayAll Other c xs
     may-also Other also c [] may = tt

@@ -1,5 +1,5 @@
 -- Where a sweep stands between two turns.
-use Rattle.std.proofs.Common.{◌≡◌, refl, ℕ, ◌+◌, ◌*◌, ◌/◌, ◌%◌, ◌<◌, ◌≤◌, ◌⊎◌, Bool, true, false, true≢false, ◌==◌, ◌&&◌, List, [], ◌∷◌, ◌++◌, length, Option, inl, inr, ap, sym, subst, ◌∙◌, arith}
+use Rattle.std.proofs.Common.{◌≡◌, refl, ℕ, ◌+◌, ◌*◌, ◌/◌, ◌%◌, ◌<◌, ◌≤◌, ◌⊎◌, Bool, true, false, true≢false, ◌==◌, ◌&&◌, [], ◌∷◌, ◌++◌, length, Option, inl, inr, ap, sym, subst, ◌∙◌, arith}
 use Rattle.std.proofs.lemmas.Nat.{div-add-mod'}
 use Rattle.std.specs.List.{IsDistinct}
 use Rattle.moka_parts.specs.declared.notification.RemovalCause.{RemovalCause}
@@ -10,8 +10,8 @@ use Rattle.moka_parts.proofs.AccessList.{distinct_taken_out, distinct-to_back}
 use Rattle.moka_maintenance.specs.declared.sweep.Tests.{Tests}
 use Rattle.moka_maintenance.specs.declared.sweep.Sweep.{Sweep}
 use Rattle.moka_maintenance.specs.declared.sweep.Turn.TheVariants.{Removed, Passed, Ended}
-use Rattle.moka_maintenance.specs.Steps.{Stock, Told, HasUnsettled, HasNoSettled, IsStepped, after_step}
-use Rattle.moka_maintenance.specs.Sweeps.{tests_in, IsNext, MayTurn, TakesTurn, IsSwept}
+use Rattle.moka_maintenance.specs.Steps.{Stock, Told, HasUnsettled, HasNoSettled, IsStepped}
+use Rattle.moka_maintenance.specs.Sweeps.{tests_in, MayTurn, TakesTurn, IsSwept}
 use Rattle.moka_maintenance.proofs.Told.{told-none}
 use Rattle.moka_maintenance.proofs.Stepped.{length-on, removed-on, stepped-none, stepped-one, stepped-on, unsettled-step, unsettled-passed}
 use Rattle.moka_maintenance.proofs.Fronts.{length-to_back, none-to_back, none_settled}

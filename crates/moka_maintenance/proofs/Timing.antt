@@ -1,15 +1,16 @@
 -- Timers are set where records are, and stay where members move or leave.
-use Rattle.std.proofs.Common.{◌≡◌, ◌≢◌, refl, ℕ, ◌<◌, ◌⊎◌, Bool, true, false, true≢false, Option, Some, None, IsSome, is_some, inl, inr, ap, sym, subst, ◌∙◌, if◌then◌else◌}
+use Rattle.std.proofs.Common.{◌≡◌, ◌≢◌, refl, ℕ, true, false, true≢false, Option, Some, None, is_some, inl, inr, ap, sym, ◌∙◌, arith, if◌then◌else◌}
 use Rattle.std.proofs.lemmas.Bool.{cases_eq}
-use Rattle.std.specs.FinMap.{FinMap, get, insert, remove}
+use Rattle.std.specs.FinMap.{FinMap, get, remove}
 use Rattle.std.specs.Ordering.{nat_cmp}
 use Rattle.moka_parts.specs.declared.records.Record.{Record}
-use Rattle.moka_parts.specs.Records.{counted_of, is_applied, is_member, to_back, without_member}
-use Rattle.moka_parts.specs.Time.{moment_of}
-use Rattle.moka_parts.proofs.AccessList.{counted_taken_out, counted-to_back, uncounted_taken_out}
-use Rattle.moka_store.specs.Store.{Kept, with_timer}
-use Rattle.moka_store.proofs.Gets.{get-inserted, get-past_insert, get-removed, get-past_remove, after_remove, none-of}
-use Rattle.moka_maintenance.specs.Timers.{DropsTimers, HasNoneDue, KeepsTimers, SetsTimers, StandsAtExpiry}
+use Rattle.moka_parts.specs.Records.{counted_of, is_applied, is_member, without_member, without_number}
+use Rattle.moka_parts.specs.Time.{has_passed, moment_of}
+use Rattle.moka_parts.specs.Visibility.{is_expired}
+use Rattle.moka_parts.proofs.AccessList.{counted_taken_out, uncounted_taken_out}
+use Rattle.moka_store.specs.Store.{Kept, cursor_past, with_timer}
+use Rattle.moka_store.proofs.Gets.{get-inserted, get-past_insert, get-removed, get-past_remove, after_remove}
+use Rattle.moka_maintenance.specs.Timers.{AreTimed, DropsTimers, HasNoneDue, KeepsTimers, StandsAtExpiry}
 
 -- who is a member once one was taken out was one before
 pub member-was : (n k : ℕ) (access : _) → is_member k (without_member n access) ≡ true → is_member k access ≡ true
@@ -90,6 +91,17 @@ module _ {K V : Type 0} where
       fewer = λ k t there. (after_remove old.timers n k t (sym (ap (λ m. get m k) timers) ∙ there)).1;
     }
 
+  -- a number leaves the orders and the timers, and perhaps its row goes
+  pub keeps-left : (old mid new : Kept K V) (n : ℕ) (places : FinMap nat_cmp ℕ) → mid ≡ record old { access = without_member n old.access; written = without_number n old.written; timers = remove old.timers n; cursor = cursor_past n old.written old.cursor } → new ≡ record mid { places = places; room = new.room } → KeepsTimers old new
+  keeps-left old mid new n places left rest =
+      keeps-outside old new
+      (ap (λ (k : Kept K V). k.ordered) rest ∙ ap (λ (k : Kept K V). k.ordered) left)
+      (ap (λ (k : Kept K V). k.timed) rest ∙ ap (λ (k : Kept K V). k.timed) left) n
+      (ap (λ (k : Kept K V). counted_of n k.access) rest ∙ ap (λ (k : Kept K V). counted_of n k.access) left ∙ counted_taken_out n old.access)
+      (λ k _. ap (λ (s : Kept K V). get s.records k) rest ∙ ap (λ (s : Kept K V). get s.records k) left)
+      (λ k is_in. member-was n k old.access (sym (ap (λ (s : Kept K V). is_member k s.access) rest ∙ ap (λ (s : Kept K V). is_member k s.access) left) ∙ is_in))
+      (λ k other. ap (λ (s : Kept K V). get s.timers k) rest ∙ ap (λ (s : Kept K V). get s.timers k) left ∙ get-past_remove old.timers n k other)
+
   -- the timer of a number is set to its record's expiry, and other records, members and timers stay
   pub keeps-set : (old mid new : Kept K V) (n : ℕ) (r : Record K V) → get mid.records n ≡ Some r → mid.ordered ≡ old.ordered → mid.timed ≡ old.timed → mid.timers ≡ old.timers
       → ((k : ℕ) → k ≢ n → get mid.records k ≡ get old.records k) → ((k : ℕ) → k ≢ n → counted_of k mid.access ≡ counted_of k old.access)
@@ -143,3 +155,21 @@ module _ {K V : Type 0} where
   -- no member has no timer to stand anywhere
   pub stands-outside : (k : Kept K V) (n : ℕ) → is_member n k.access ≡ false → StandsAtExpiry n k
   stands-outside k n out kept p there is_in = absurd (true≢false (sym is_in ∙ out))
+
+-- ---- what is past its own expiry
+
+module _ {K V : Type 0} where
+  -- timers stay at their records' expiries
+  pub still-timed : (old new : Kept K V) → old.timed ≡ true → KeepsTimers old new → AreTimed old → AreTimed new
+  still-timed old new kept h timed n r there is_in applied = elim (h.set kept n r there is_in applied) [
+    | inl same ↦ same.2 ∙ timed n r same.0 same.1 applied
+    | inr at ↦ at
+  ]
+
+  -- where none is due, no settled member has expired
+  pub lasts-timed : (now : ℕ) (k : Kept K V) → AreTimed k → HasNoneDue now k → (n : ℕ) (r : Record K V) → get k.records n ≡ Some r → is_member n k.access ≡ true → is_applied r ≡ true → is_expired r now ≡ false
+  lasts-timed now k timed none n r there is_in applied = go (moment_of r.expires) (timed n r there is_in applied)
+    where
+      go : (o : Option ℕ) → get k.timers n ≡ o → has_passed o now ≡ false
+      go None e = refl
+      go (Some t) e = let later = none n t e in grind (arith, later)

@@ -1,12 +1,11 @@
 -- The steps by which maintenance removes records, what they leave in a store, and what the listener is told of them.
-use Rattle.std.specs.Prelude.{◌≡◌, ℕ, Bool, true, false, ◌&&◌, ◌≤◌, ◌<◌, ◌⊎◌, not, List, [], ◌∷◌, ◌++◌, Option, Some, None, is_some}
+use Rattle.std.specs.Prelude.{◌≡◌, ℕ, Bool, true, false, ◌&&◌, not, List, [], ◌∷◌, ◌++◌, Option, Some, None, is_some}
 use Rattle.std.specs.FinMap.{get, remove}
 use Rattle.moka_parts.specs.declared.notification.RemovalCause.{RemovalCause}
 use Rattle.moka_parts.specs.declared.notification.RemovalCause.TheVariants.{Expired, Explicit, Replaced, Size}
 use Rattle.moka_parts.specs.declared.records.Record.{Record}
 use Rattle.moka_parts.specs.declared.records.Member.{Member}
-use Rattle.moka_parts.specs.Time.{moment_of}
-use Rattle.moka_parts.specs.Records.{Records, Notice, when_listening, is_applied, is_member, is_settled, settled_members, without_member, to_back, without_number, number_to_back}
+use Rattle.moka_parts.specs.Records.{Records, Notice, when_listening, is_member, is_settled, settled_members, without_member, to_back, without_number, number_to_back}
 use Rattle.moka_parts.specs.State.{Contents}
 use Rattle.moka_parts.specs.Surroundings.{Heard}
 use Rattle.moka_parts.specs.Maintenance.{Choice, Removes, MovesToBack, Drops, Tests, HasGround, left_by_choice}

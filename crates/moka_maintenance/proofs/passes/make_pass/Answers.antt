@@ -1,4 +1,4 @@
-use Rattle.std.proofs.Common.{Bool, ℕ, ◌+◌, ◌||◌, sym, subst}
+use Rattle.std.proofs.Common.{Bool, ℕ, ◌+◌, sym, subst}
 use Rattle.moka_maintenance.specs.Steps.{stock_in}
 use Rattle.moka_maintenance.specs.Passes.{IsPass}
 use Rattle.moka_maintenance.proofs.PassSteps.{pass-four}
