@@ -2,6 +2,7 @@ pub mod ValuesLemmas
 pub mod Fewer
 pub mod InnerLemmas
 pub mod InnerRuns
+pub mod Stocked
 pub mod CacheSteps
 pub mod NewSteps
 pub mod SendSteps

@@ -506,8 +506,10 @@ impl<K: Eq + Hash, V, S: BuildHasher> Store<K, V, S> {
         ensures members { (n : ℕ) → IsSome (counted_of n self.now.access) → IsSome (finite.get self.now.places n) }
         ensures distinct { IsDistinct (◌==◌) (numbers_of self.now.access) }
         ensures listed { self.now.ordered ≡ true → IsListOf self.now.access self.now.written }
+        ensures unlisted { self.now.ordered ≡ false → self.now.written ≡ [] }
     {
         let _weight = self.weight;
+        self.written.invariant_holds();
     }
 
     /// The first of the access list, with its weight.

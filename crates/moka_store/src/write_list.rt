@@ -112,6 +112,16 @@ impl WriteList {
         }
     }
 
+    /// What always holds of the list: one that is not kept is empty. It does nothing when it runs.
+    pub fn invariant_holds(&self)
+        ensures { self.now.ordered ≡ false → self.now.nodes ≡ [] }
+    {
+        match &self.list {
+            Some(_) => {}
+            None => {}
+        }
+    }
+
     /// The slot of the first place, and that place.
     #[inline(always)]
     pub fn front(&self) -> Option<(u32, u64)>

@@ -42,15 +42,15 @@ impl<
     /// - `limit`: after this time no further pass is made, and more is left.
     /// - `repeats`: how often a run may go back to its queues. With one owner nothing is queued meanwhile, so it has no
     ///   effect.
-    /// - `batch`: how many records a step of a pass looks at. With 0 nothing is removed, and more is left where there is
-    ///   anything to test records by.
+    /// - `batch`: how many records a sweep of a pass looks at. With 0 only what has expired by itself is removed, and more is
+    ///   left where there is anything to test records by.
     ///
     /// Once every operation was sent, a run leaves count and weight exactly the records', and one that was not cut short,
     /// with a `batch` of at least 1, also the weight within the capacity.
     ///
     /// If the cache was empty at first, and all calls since were made in the order of time, such a run also leaves no
     /// record past its time to live, and none written before the last invalidation of all. This applies to caches with
-    /// a time to live or with predicates; so far there are none.
+    /// a time to live or with predicates.
     pub fn run_pending_tasks<C: Clock>(
         &mut self,
         now: Instant,
