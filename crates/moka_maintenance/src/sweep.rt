@@ -16,7 +16,7 @@ ghost use Rattle.moka_maintenance.specs.Timers.{DropsTimers};
 ghost use Rattle.moka_maintenance.specs.Sweeps.{tests_in, is_by_moment, IsNext, IsAtRest, TakesTurn, IsSwept};
 
 use crate::expel::expel;
-use moka_parts::expiry::{is_expired_by_ttl, is_expired_by_tti, is_invalid_entry};
+use moka_parts::expiry::{is_expired_by_tti, is_expired_by_ttl, is_invalid_entry};
 use moka_parts::notification::{Listener, RemovalCause, RemovalNotifier};
 use moka_parts::policy::Instant;
 use moka_parts::records::Record;

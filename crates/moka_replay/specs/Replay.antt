@@ -27,7 +27,7 @@ abbrev pub Says : Reading → ScriptText → Type 0
 Says (Ok text) script = script_of text.items ≡ Ok script
 Says (Err error) script = ⊥
 
--- memory may be refused to the calls in front of the first faulty line, and to the play of a right script
+-- memory may be refused to the rules, the clock and the calls in front of the first faulty line, and to the play of a right script
 abbrev pub MayRunOutOfMemory : List ℕ → Type 0
 MayRunOutOfMemory text = (asks_for_memory text ≡ true) ⊎ IsOk (script_of text)
 

@@ -5,10 +5,11 @@ ghost use Rattle.moka_replay.specs.Script.{line_text, asked_by, asked_by_few, as
 
 use crate::failure::Failure;
 use crate::lex::{first_words, is_printable};
+use crate::rules::Rule;
 use calls::{LineCall, parse_call};
 use clock::{Readings, is_clock};
 use moka_parts::calls::Call;
-use settings::{Setting, parse_setting};
+use settings::{Setting, parse_rule, parse_setting};
 use std::alloc::Global;
 
 mod calls;
@@ -18,10 +19,11 @@ mod settings;
 pub use calls::{ScriptCall, ScriptReply};
 pub use settings::{KeeperTerms, Settings};
 
-/// A script: what it sets, and then its calls in order.
+/// A script: what it sets, the rules of its expiry, and then its calls in order.
 #[derive(Drop)]
 pub struct Script {
     pub settings: Settings,
+    pub rules: Vec<Rule>,
     /// What the clock tells, one reading after the other; empty where the script sets no clock.
     pub clock: Vec<u64>,
     pub calls: Vec<ScriptCall>,
@@ -37,13 +39,14 @@ impl Script {
     {
         Script {
             settings: Settings::new(),
+            rules: Vec::new(alloc),
             clock: Vec::new(alloc),
             calls: Vec::new(alloc),
         }
     }
 
-    /// Reads the line of that number, and adds what it asks for. Settings come before the first call, each at most once.
-    /// Only a clock and a call need memory.
+    /// Reads the line of that number, and adds what it asks for. Settings, each at most once, rules and the clock come
+    /// before the first call. Only a rule, a clock and a call need memory.
     fn read(&mut self, alloc: Global, number: u64, line: &[u8]) -> Result<(), Failure>
         ensures { IsAdded number (text_of self.old) line.now result (text_of self.new) }
     {
@@ -55,6 +58,12 @@ impl Script {
                     return Err(fault);
                 }
                 self.settings = self.settings.with(setting).ok_or(fault)?;
+            }
+            Line::Rule(rule) => {
+                if !self.calls.is_empty() {
+                    return Err(fault);
+                }
+                self.rules.push(rule)?;
             }
             Line::Clock(readings) => {
                 if !self.calls.is_empty() || !self.clock.is_empty() {
@@ -73,6 +82,7 @@ impl Script {
 enum Line<R, C> {
     Nothing,
     Setting(Setting),
+    Rule(Rule),
     Clock(R),
     Call(C),
 }
@@ -92,6 +102,9 @@ fn parse_words<'a>(words: &[&'a str]) -> Option<ReadLine<'a>>
     }
     if let Some(setting) = parse_setting(name, arguments) {
         return Some(Line::Setting(setting));
+    }
+    if let Some(rule) = parse_rule(name, arguments) {
+        return Some(Line::Rule(rule));
     }
     Some(Line::Call(parse_call(name, arguments)?))
 }
@@ -124,7 +137,8 @@ fn parse_line(line: &[u8]) -> Option<ReadLine<'_>>
 /// Reads a script, shorter than 2^63 bytes as all that a `Vec` holds. The first faulty line is named.
 ///
 /// # Errors
-/// `BadLine` where a line is faulty, and `OutOfMemory` where memory is refused to a clock or a call in front of the first such line.
+/// `BadLine` where a line is faulty, and `OutOfMemory` where memory is refused to a rule, a clock or a call in front of the first
+/// such line.
 pub fn parse(alloc: Global, text: &[u8]) -> Result<Script, Failure>
     requires { length text.now < 2 ^ 63 }
     ensures { IsParseOf text.now result }
