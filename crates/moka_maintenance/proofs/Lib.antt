@@ -17,3 +17,8 @@ pub mod PassSteps
 pub mod Clocked
 pub mod Passing
 pub mod Promises
+pub mod Dropping
+pub mod Walked
+pub mod Turning
+pub mod Rounds
+pub mod Scanned

@@ -31,7 +31,7 @@ length-without n (a ∷ xs) = let rest = length-without n xs in elim (a.number =
   | false ↦ omega arith
 ]
 
-length-removed : (n : ℕ) (xs : List Member) → is_member n xs ≡ true → length (without_member n xs) + 1 ≤ length xs
+pub length-removed : (n : ℕ) (xs : List Member) → is_member n xs ≡ true → length (without_member n xs) + 1 ≤ length xs
 length-removed n [] e = cc
 length-removed n (a ∷ xs) e = go (a.number == n) (λ e. length-removed n xs e) e
   where

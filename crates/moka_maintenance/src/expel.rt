@@ -5,6 +5,7 @@ ghost use Rattle.std.specs.Prelude.{◌≡◌, ◌≤◌};
 ghost use Rattle.std.specs.FinMap as finite;
 ghost use Rattle.moka_parts.specs.Maintenance.{Removes, after_choice, left_by_choice};
 ghost use Rattle.moka_store.specs.Store.{IsHandle};
+ghost use Rattle.moka_maintenance.specs.Expelled.{without_record};
 ghost use Rattle.moka_maintenance.specs.Steps.{contents_in, Told};
 
 use moka_parts::notification::{Listener, RemovalCause, RemovalNotifier};
@@ -23,6 +24,7 @@ pub(crate) fn expel<K: Eq + Hash + Drop, V: Drop, S: BuildHasher, L: Listener<K,
     ensures step { contents_in store.new ≡ after_choice (contents_in store.old) (Removes handle.number cause) }
     ensures told { Told L.tells notifier.old (left_by_choice (contents_in store.old) (Removes handle.number cause)) notifier.new }
     ensures places { store.new.places ≡ finite.remove store.old.places handle.number }
+    ensures whole { store.new ≡ without_record handle.number store.new.room store.old }
     ensures room { store.old.room ≤ store.new.room }
 {
     let Record { key, value, .. } = store.take_out(handle);

@@ -6,5 +6,6 @@ mod choice;
 mod expel;
 pub mod passes;
 pub mod queued;
+pub mod scan;
 pub mod sketch;
 pub mod sweep;

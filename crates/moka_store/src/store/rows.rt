@@ -7,9 +7,10 @@ use moka_parts::records::Record;
 use std::hash::{BuildHasher, Hash};
 
 impl<K: Eq + Hash, V, S: BuildHasher> Store<K, V, S> {
-    /// Each row's place is less than this.
+    /// Each row's place is less than this, and each record has a row.
     pub fn place_count(&self) -> usize
-        ensures { (n place : ℕ) → finite.get self.now.places n ≡ Some place → place < result }
+        ensures places { (n place : ℕ) → finite.get self.now.places n ≡ Some place → place < result }
+        ensures rowed { (n : ℕ) → IsSome (finite.get self.now.records n) → IsSome (finite.get self.now.places n) }
     {
         self.table.capacity()
     }
@@ -18,7 +19,6 @@ impl<K: Eq + Hash, V, S: BuildHasher> Store<K, V, S> {
     pub fn record_at(&self, place: usize) -> Option<&Record<K, V>>
         ensures found { (n : ℕ) → finite.get self.now.places n ≡ Some place → option_copied result ≡ finite.get self.now.records n }
         ensures stored { IfSome result (λ r. finite.get self.now.records r.now.number ≡ Some r.now) }
-        ensures rowed { (n : ℕ) → IsSome (finite.get self.now.records n) → IsSome (finite.get self.now.places n) }
     {
         self.table.record(place)
     }

@@ -5,7 +5,7 @@ use Rattle.moka_structures.specs.declared.record_table.Row.{Row}
 use Rattle.moka_structures.specs.RecordTable.{records_of}
 use Rattle.moka_structures.proofs.TableCalls.{get-records, placed_row}
 use Rattle.moka_parts.specs.declared.records.Record.{Record}
-use Rattle.moka_store.proofs.Places.{record-placed, stored-own}
+use Rattle.moka_store.proofs.Places.{stored-own}
 use Rattle.moka_store.proofs.store.Store.record_at.Goals as goal
 
 pub returns-clause-found : goal.returns-clause-found
@@ -18,6 +18,3 @@ returns-clause-found g c =
 
 pub returns-clause-stored : goal.returns-clause-stored
 returns-clause-stored g c = rw (← c.self.view_is) (stored-own g.K.PartialEq.eq c.self.inside.table.rows _ _ c.self.invariant.tied c.args.place c.record.result c.record.ensures)
-
-pub returns-clause-rowed : goal.returns-clause-rowed
-returns-clause-rowed g c = rw (← c.self.view_is) (record-placed g.K.PartialEq.eq c.self.inside.table.rows _ _ c.self.invariant.tied)
