@@ -68,7 +68,7 @@ module _ {K V X L P W : Type 0} {eq : K → K → Bool} {l : Option L} {s : Stat
     served = record {
       no_live = h.served.no_live;
       no_expiry = h.served.no_expiry;
-      no_predicates = h.served.no_predicates;
+      unsupported = h.served.unsupported;
       no_invalidator = h.served.no_invalidator;
       unexpiring = none;
     };

@@ -44,7 +44,7 @@ cache-housekept {eq = eq} s housekeeping h = record {
   served = record {
     no_live = h.served.no_live;
     no_expiry = h.served.no_expiry;
-    no_predicates = h.served.no_predicates;
+    unsupported = h.served.unsupported;
     no_invalidator = h.served.no_invalidator;
     unexpiring = h.served.unexpiring;
   };

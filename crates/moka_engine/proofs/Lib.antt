@@ -14,3 +14,4 @@ pub mod RunSteps
 pub mod IdleRuns
 pub mod KeeperSteps
 pub mod HitSteps
+pub mod Registering

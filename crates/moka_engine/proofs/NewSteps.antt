@@ -22,7 +22,7 @@ cache-new {K} {V} {X} {L} {P} {W} eq listener i first_ticket empty predicates no
       served = record {
         no_live = no_live;
         no_expiry = no_expiry;
-        no_predicates = refl;
+        unsupported = λ off. refl;
         no_invalidator = no_invalidator;
         unexpiring = λ _ n r there. absurd (nothing_at n r there);
       };

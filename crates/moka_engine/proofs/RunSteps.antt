@@ -30,7 +30,7 @@ use Rattle.moka_engine.specs.BaseCache.{state_of, IsCache}
 pub simple_of : {K V X L P W : Type 0} {eq : K → K → Bool} {l : Option L} (s : State K V X P W) → IsCache eq l s → is_disabled s.capacity ≡ false → IsSimple s
 simple_of s h enabled = record {
   enabled = enabled;
-  unregistered = h.served.no_predicates;
+  unregistered = h.served.unsupported h.served.no_invalidator;
   unordered = ap (λ o. is_some o || s.settings.invalidator) h.served.no_live ∙ h.served.no_invalidator;
   consistent = h.valid.consistent;
   lasting = h.served.unexpiring h.served.no_expiry;
@@ -77,7 +77,7 @@ module _ {K V X L P W C : Type 0} {tells : L → K → V → RemovalCause → L 
     served = record {
       no_live = h.served.no_live;
       no_expiry = h.served.no_expiry;
-      no_predicates = h.served.no_predicates;
+      unsupported = h.served.unsupported;
       no_invalidator = h.served.no_invalidator;
       unexpiring = λ _. (run_leaves_simple s simple terms by_state refl applied limited refl sketched ran).lasting;
     };

@@ -75,7 +75,7 @@ NoneExpires records = (n : ℕ) (r : Record _ _) → get records n ≡ Some r �
 pub record IsServed {K V X P W : Type 0} (s : State K V X P W) : Type 0 where
   pub no_live : s.settings.time_to_live ≡ None
   pub no_expiry : s.settings.expiry ≡ None
-  pub no_predicates : s.predicates ≡ []
+  pub unsupported : s.settings.invalidator ≡ false → s.predicates ≡ []
   pub no_invalidator : s.settings.invalidator ≡ false
   pub unexpiring : s.settings.expiry ≡ None → NoneExpires s.records
 

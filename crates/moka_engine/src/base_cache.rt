@@ -18,9 +18,9 @@ use moka_parts::calls::{Entry, KvEntry, Ticket};
 use moka_parts::closures::{NoTest, PredicateFn, Weigher};
 use moka_parts::error::{InsertRefused, OutOfMemory, SendError};
 use moka_parts::housekeeper::{Clock, Housekeeper, HousekeeperConfig};
+use moka_parts::invalidator::Invalidator;
 use moka_parts::notification::{Listener, RemovalNotifier};
 use moka_parts::policy::{EvictionPolicy, ExpirationPolicy, Expiry, Instant, Policy};
-use moka_parts::records::Registered;
 use moka_store::Update;
 use std::alloc::Global;
 use std::hash::{BuildHasher, Hash};
@@ -29,6 +29,7 @@ use std::marker::Model;
 mod causes;
 mod gets;
 mod inserts;
+mod invalidation;
 mod looks;
 mod reports;
 mod runs;
@@ -62,7 +63,7 @@ pub struct BaseCache<
     invalidator_enabled: bool,
     // Records written or read before this moment are invalid.
     valid_after: Option<Instant>,
-    predicates: Vec<Registered<P>>,
+    invalidator: Invalidator<P>,
     // The report of the last run.
     entry_count: u64,
     weighted_size: u64,
@@ -94,13 +95,13 @@ impl<
     ghost view = { λ c. record {
       name = option_map string_bytes c.name;
       hasher = c.build_hasher;
-      state = state_of c.inner c.valid_after c.predicates.items c.entry_count c.weighted_size c.housekeeper c.max_capacity (settings_of c.eviction_policy c.expiration_policy c.weigher c.invalidator_enabled c.housekeeper);
+      state = state_of c.inner c.valid_after c.invalidator c.entry_count c.weighted_size c.housekeeper c.max_capacity (settings_of c.eviction_policy c.expiration_policy c.weigher c.invalidator_enabled c.housekeeper);
       listener = c.notifier;
       write_list = [];
       passes = c.passes;
     } };
 
-    ghost invariant = { λ c. IsCache K.eq c.notifier (state_of c.inner c.valid_after c.predicates.items c.entry_count c.weighted_size c.housekeeper c.max_capacity (settings_of c.eviction_policy c.expiration_policy c.weigher c.invalidator_enabled c.housekeeper)) };
+    ghost invariant = { λ c. IsCache K.eq c.notifier (state_of c.inner c.valid_after c.invalidator c.entry_count c.weighted_size c.housekeeper c.max_capacity (settings_of c.eviction_policy c.expiration_policy c.weigher c.invalidator_enabled c.housekeeper)) };
 }
 
 impl<
@@ -202,7 +203,7 @@ impl<
             weigher,
             invalidator_enabled,
             valid_after: None,
-            predicates: Vec::new(alloc),
+            invalidator: Invalidator::new(alloc),
             entry_count: 0,
             weighted_size: 0,
             passes: 0,
@@ -269,7 +270,7 @@ impl<
     pub fn invalidation_predicate_count(&self) -> u64
         ensures { result ≡ length self.now.state.predicates }
     {
-        self.predicates.len() as u64
+        self.invalidator.len() as u64
     }
 
     /// Whether a listener is set.
@@ -432,7 +433,8 @@ impl<
         ensures { ContainsStep P.says K.eq self.now.state key.now now.0 result }
     {
         let (policy, valid_after) = (&self.expiration_policy, self.valid_after);
-        gets::find_shown(&self.inner, policy, valid_after, key, now).is_some()
+        let invalidator = &self.invalidator;
+        gets::find_shown(&self.inner, policy, valid_after, invalidator, key, now).is_some()
     }
 
     /// The key that the cache keeps for an equal one, visible or not. Nothing is recorded.

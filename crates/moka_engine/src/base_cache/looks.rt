@@ -91,7 +91,16 @@ impl<
             return Ok(None);
         }
         let policy = &self.expiration_policy;
-        let shown = gets::find_unless(&self.inner, policy, valid_after, key, test, now);
+        let invalidator = &self.invalidator;
+        let shown = gets::find_unless(
+            &self.inner,
+            policy,
+            valid_after,
+            invalidator,
+            key,
+            test,
+            now,
+        );
         let Some((handle, found)) = shown else {
             self.record_miss(hash, now, clock);
             return Ok(None);
@@ -166,7 +175,16 @@ impl<
             return Ok(None);
         }
         let policy = &self.expiration_policy;
-        let shown = gets::find_unless(&self.inner, policy, valid_after, key, test, now);
+        let invalidator = &self.invalidator;
+        let shown = gets::find_unless(
+            &self.inner,
+            policy,
+            valid_after,
+            invalidator,
+            key,
+            test,
+            now,
+        );
         let Some((handle, found)) = shown else {
             return Ok(None);
         };
@@ -190,7 +208,8 @@ impl<
         ensures { ScanStep P.says K.eq self.now.state key.now now.0 result }
     {
         let (policy, valid_after) = (&self.expiration_policy, self.valid_after);
-        let shown = gets::find_shown(&self.inner, policy, valid_after, key, now);
+        let invalidator = &self.invalidator;
+        let shown = gets::find_shown(&self.inner, policy, valid_after, invalidator, key, now);
         let Some((_, found)) = shown else {
             return Ok(None);
         };
