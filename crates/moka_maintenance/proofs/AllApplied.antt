@@ -1,36 +1,41 @@
 -- Operations applied one after the other.
-use Rattle.std.proofs.Common.{◌≡◌, refl, ℕ, Bool, List, [], ◌∷◌, ◌++◌, Option, ap, subst, ◌∙◌}
+use Rattle.std.proofs.Common.{◌≡◌, refl, ℕ, Bool, true, List, [], ◌∷◌, ◌++◌, Option, ap, subst, ◌∙◌}
 use Rattle.moka_parts.specs.declared.notification.RemovalCause.{RemovalCause}
 use Rattle.moka_parts.specs.declared.policy.EvictionPolicy.{EvictionPolicy}
 use Rattle.moka_parts.specs.declared.records.Operation.{Operation}
 use Rattle.moka_parts.specs.declared.records.Ticketed.{Ticketed}
 use Rattle.moka_parts.specs.State.{Contents}
-use Rattle.moka_parts.specs.Writes.{after_writes, left_by_write, left_by_writes, AreAllMoves}
+use Rattle.moka_parts.specs.Writes.{after_write, after_writes, left_by_write, left_by_writes, AreAllMoves}
 use Rattle.moka_parts.specs.Maintenance.{with_sketch}
+use Rattle.moka_parts.specs.Order.{written_after_writes}
 use Rattle.moka_maintenance.specs.Steps.{Told}
 use Rattle.moka_maintenance.specs.Queues.{IsApplied, AreApplied, ArePrepared}
 use Rattle.moka_maintenance.proofs.Told.{told-none, told-on}
 
-module _ {K V L : Type 0} (tells : L → K → V → RemovalCause → L → Type 0) (capacity : Option ℕ) (policy : EvictionPolicy) where
+module _ {K V L : Type 0} (tells : L → K → V → RemovalCause → L → Type 0) (capacity : Option ℕ) (policy : EvictionPolicy) (ordered : Bool) where
   -- no operation
-  pub applied-none : (c : Contents K V) (l : Option L) → AreApplied tells capacity policy c c [] l l
-  applied-none c l = record { moves = []; may = tt; led = refl; told = told-none tells l }
+  pub applied-none : (c : Contents K V) (ns : List ℕ) (l : Option L) → AreApplied tells capacity policy ordered c c ns ns [] l l
+  applied-none c ns l = record { moves = []; may = tt; led = refl; listed = λ kept. refl; told = told-none tells l }
 
   -- one operation and then others
-  pub applied-then : (a b c : Contents K V) (o : Operation) (ticket : ℕ) (os : List Ticketed) (l m k : Option L) → IsApplied tells capacity policy a b o l m → AreApplied tells capacity policy b c os m k → AreApplied tells capacity policy a c (record { ticket = ticket; operation = o } ∷ os) l k
-  applied-then a b c o ticket os l m k h j = record {
+  pub applied-then : (a b c : Contents K V) (ns ms ks : List ℕ) (o : Operation) (ticket : ℕ) (os : List Ticketed) (l m k : Option L) → IsApplied tells capacity policy ordered a b ns ms o l m → AreApplied tells capacity policy ordered b c ms ks os m k → AreApplied tells capacity policy ordered a c ns ks (record { ticket = ticket; operation = o } ∷ os) l k
+  applied-then a b c ns ms ks o ticket os l m k h j = record {
     moves = h.moved ∷ j.moves;
     may = (h.may, subst (λ x. AreAllMoves capacity policy x os j.moves) h.led j.may);
     led = j.led ∙ ap (λ x. after_writes capacity policy x os j.moves) h.led;
+    listed = λ kept.
+        j.listed kept ∙ ap (λ x. written_after_writes true capacity policy x ms os j.moves) h.led
+        ∙ ap (λ x. written_after_writes true capacity policy (after_write capacity policy a o h.moved) x os j.moves) (h.listed kept);
     told = subst (λ x. Told tells l (left_by_write capacity policy a o ++ left_by_writes capacity policy x os j.moves) k) h.led (told-on tells l m k (left_by_write capacity policy a o) (left_by_writes capacity policy b os j.moves) h.told j.told);
   }
 
 -- and then the sketch is enabled
-pub prepared : {K V L : Type 0} (tells : L → K → V → RemovalCause → L → Type 0) (capacity : Option ℕ) (policy : EvictionPolicy) (has_weigher is_short : Bool) (a b c : Contents K V) (os : List Ticketed) (l m : Option L) → AreApplied tells capacity policy a b os l m → c ≡ with_sketch capacity policy has_weigher is_short b → ArePrepared tells capacity policy has_weigher a c os l m
-prepared tells capacity policy has_weigher is_short a b c os l m h on = record {
+pub prepared : {K V L : Type 0} (tells : L → K → V → RemovalCause → L → Type 0) (capacity : Option ℕ) (policy : EvictionPolicy) (ordered has_weigher is_short : Bool) (a b c : Contents K V) (ns ms : List ℕ) (os : List Ticketed) (l m : Option L) → AreApplied tells capacity policy ordered a b ns ms os l m → c ≡ with_sketch capacity policy has_weigher is_short b → ArePrepared tells capacity policy ordered has_weigher a c ns ms os l m
+prepared tells capacity policy ordered has_weigher is_short a b c ns ms os l m h on = record {
   moves = h.moves;
   is_short = is_short;
   may = h.may;
   led = on ∙ ap (with_sketch capacity policy has_weigher is_short) h.led;
+  listed = h.listed;
   told = h.told;
 }

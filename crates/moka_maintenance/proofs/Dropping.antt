@@ -3,21 +3,12 @@ use Rattle.std.proofs.Common.{◌≡◌, refl, ℕ, ◌+◌, ◌-◌, Bool, List
 use Rattle.std.proofs.lemmas.List.Edits.{remove-append_right}
 use Rattle.moka_parts.specs.declared.records.Registered.{Registered}
 use Rattle.moka_parts.specs.State.{Contents}
-use Rattle.moka_parts.specs.Maintenance.{Choice, Removes, MovesToBack, Drops, Tests, CoversNothing, after_choices, left_by_choices, kept_by_choice, kept_by_choices, AreJustified}
-use Rattle.moka_parts.specs.Bounds.{removed_by}
-use Rattle.moka_parts.specs.Order.{written_after_choices}
+use Rattle.moka_parts.specs.Maintenance.{Choice, Removes, MovesToBack, Drops, Tests, CoversNothing, after_choices, kept_by_choice, kept_by_choices, AreJustified}
 use Rattle.moka_parts.proofs.OneMore.{AreJustified_push}
-use Rattle.moka_maintenance.specs.Scanning.{CoversSome, AreDropped}
+use Rattle.moka_maintenance.specs.Scanning.{AreDrops, CoversSome, AllDropped}
 use Rattle.moka_maintenance.proofs.Popped.{first_or_rest}
 
 -- ---- steps that are drops alone
-
--- each step drops a predicate
-abbrev pub AreDrops : List Choice → Type 0
-AreDrops [] = Unit {0}
-AreDrops (Removes n cause ∷ xs) = ⊥
-AreDrops (MovesToBack n ∷ xs) = ⊥
-AreDrops (Drops i ∷ xs) = AreDrops xs
 
 drops_push : (xs : List Choice) (i : ℕ) → AreDrops xs → AreDrops (xs ++ Drops i ∷ [])
 drops_push [] i h = tt
@@ -31,24 +22,6 @@ module _ {K V : Type 0} (c : Contents K V) where
   drops_stay (Removes n cause ∷ xs) h = absurd h
   drops_stay (MovesToBack n ∷ xs) h = absurd h
   drops_stay (Drops i ∷ xs) h = drops_stay xs h
-
-  pub drops_silent : (xs : List Choice) → AreDrops xs → left_by_choices c xs ≡ []
-  drops_silent [] h = refl
-  drops_silent (Removes n cause ∷ xs) h = absurd h
-  drops_silent (MovesToBack n ∷ xs) h = absurd h
-  drops_silent (Drops i ∷ xs) h = drops_silent xs h
-
-pub drops_remove_none : (xs : List Choice) → AreDrops xs → removed_by xs ≡ []
-drops_remove_none [] h = refl
-drops_remove_none (Removes n cause ∷ xs) h = absurd h
-drops_remove_none (MovesToBack n ∷ xs) h = absurd h
-drops_remove_none (Drops i ∷ xs) h = drops_remove_none xs h
-
-pub drops_unlisted : (xs : List Choice) → AreDrops xs → (ns : List ℕ) → written_after_choices ns xs ≡ ns
-drops_unlisted [] h ns = refl
-drops_unlisted (Removes n cause ∷ xs) h ns = absurd h
-drops_unlisted (MovesToBack n ∷ xs) h ns = absurd h
-drops_unlisted (Drops i ∷ xs) h ns = drops_unlisted xs h ns
 
 pub kept-append : {P : Type 0} (ps : List (Registered P)) (xs ys : List Choice) → kept_by_choices ps (xs ++ ys) ≡ kept_by_choices (kept_by_choices ps xs) ys
 kept-append ps [] ys = refl
@@ -133,15 +106,9 @@ module _ {K V P : Type 0} (says : P → K → V → Bool → Type 0) (c : Conten
       used = h.used;
     }
 
-  pub dropping-done : (qs : List (Registered P)) → Dropping qs 0 → AreDropped says c ps qs
+  pub dropping-done : (qs : List (Registered P)) → Dropping qs 0 → AllDropped says c ps qs
   dropping-done qs h = record {
-    steps = h.steps;
-    justified = h.justified;
-    kept = h.kept;
-    stays = drops_stay c h.steps h.drops;
-    silent = drops_silent c h.steps h.drops;
-    removes_none = drops_remove_none h.steps h.drops;
-    unlisted = drops_unlisted h.steps h.drops;
+    dropped = record { steps = h.steps; drops = h.drops; justified = h.justified; kept = h.kept };
     used = λ p there. h.used p (subst (λ xs. Contains xs p) (h.split ∙ ap (λ xs. xs ++ h.behind) (none h.ahead h.count)) there);
   }
     where

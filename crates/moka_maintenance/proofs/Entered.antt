@@ -1,13 +1,18 @@
 -- A record that enters the access list, or stays in it with another weight.
-use Rattle.std.proofs.Common.{◌≡◌, ℕ, Option, ◌≤◌, [], ◌∷◌, ◌++◌, ap, ◌∙◌, arith}
-use Rattle.std.specs.FinMap.{insert}
+use Rattle.std.proofs.Common.{◌≡◌, ℕ, ◌==◌, Option, Some, ◌≤◌, [], ◌∷◌, ◌++◌, ap, ◌∙◌, arith, if◌then◌else◌}
+use Rattle.std.proofs.lemmas.Bool.{cond-false, ne_eqb}
+use Rattle.std.specs.FinMap.{get, insert}
 use Rattle.moka_parts.specs.declared.records.Record.{Record}
-use Rattle.moka_parts.specs.Records.{member, without_member}
+use Rattle.moka_parts.specs.Time.{moment_of}
+use Rattle.moka_parts.specs.Records.{counted_of, member, without_member}
 use Rattle.moka_parts.specs.Writes.{entered}
-use Rattle.moka_store.specs.Store.{Kept}
+use Rattle.moka_store.specs.Store.{Kept, with_timer}
+use Rattle.moka_store.proofs.Gets.{get-inserted, get-past_insert}
 use Rattle.moka_sketch.specs.Frequency.{Table}
 use Rattle.moka_maintenance.specs.Steps.{contents_with, LeavesNoRow}
+use Rattle.moka_maintenance.specs.Timers.{KeepsTimers}
 use Rattle.moka_maintenance.proofs.Placed.{rows-changed}
+use Rattle.moka_maintenance.proofs.Timing.{keeps-set}
 
 module _ {K V : Type 0} (old mid new : Kept K V) (n generation weight : ℕ) (r : Record K V) (seen : mid ≡ record old { records = insert old.records n (record r { applied = generation }) }) where
   -- the record has seen the operation, and then its member goes to the back with another weight
@@ -20,3 +25,17 @@ module _ {K V : Type 0} (old mid new : Kept K V) (n generation weight : ℕ) (r 
 
   pub entered-room : new.room ≡ mid.room → old.room ≤ new.room
   entered-room same = let room = same ∙ ap (λ (m : Kept K V). m.room) seen in omega arith
+
+  -- its timer is set
+  pub entered-timers : (last : Kept K V) → new.records ≡ mid.records → new.ordered ≡ mid.ordered → new.timed ≡ mid.timed → new.timers ≡ mid.timers → ((k : ℕ) → counted_of k new.access ≡ (if k == n then Some weight else counted_of k mid.access))
+      → ((p : Record K V) → get new.records n ≡ Some p → last ≡ record new { timers = if new.timed then with_timer new.timers n (moment_of p.expires) else new.timers }) → KeepsTimers old last
+  entered-timers last records ordered timed timers counted set =
+      let all : new.records ≡ insert old.records n (record r { applied = generation }) = records ∙ ap (λ (k : Kept K V). k.records) seen in
+      let found = ap (λ m. get m n) all ∙ get-inserted old.records n (record r { applied = generation }) in
+      keeps-set old new last n (record r { applied = generation }) found
+      (ordered ∙ ap (λ (k : Kept K V). k.ordered) seen)
+      (timed ∙ ap (λ (k : Kept K V). k.timed) seen)
+      (timers ∙ ap (λ (k : Kept K V). k.timers) seen)
+      (λ k other. ap (λ m. get m k) all ∙ get-past_insert old.records n (record r { applied = generation }) k other)
+      (λ k other. counted k ∙ cond-false (k == n) (Some weight) (counted_of k mid.access) (ne_eqb k n other) ∙ ap (λ (s : Kept K V). counted_of k s.access) seen)
+      (set (record r { applied = generation }) found)

@@ -6,7 +6,7 @@ use Rattle.std.specs.List.{IsDistinct, list_all}
 use Rattle.moka_parts.specs.declared.notification.RemovalCause.{RemovalCause}
 use Rattle.moka_parts.specs.declared.notification.RemovalCause.TheVariants.{Size}
 use Rattle.moka_parts.specs.declared.records.Member.{Member}
-use Rattle.moka_parts.specs.Records.{Records, counted_of, is_applied, is_settled, numbers_of, without_member}
+use Rattle.moka_parts.specs.Records.{Records, counted_of, is_applied, is_settled, numbers_of, without_member, without_number, without_numbers}
 use Rattle.moka_parts.specs.State.{Contents}
 use Rattle.moka_parts.specs.Writes.{left_with, without_victims}
 use Rattle.moka_parts.specs.Maintenance.{Removes, after_choice, left_by_choice}
@@ -18,6 +18,12 @@ use Rattle.moka_maintenance.specs.Chosen.{AreSettled}
 use Rattle.moka_maintenance.specs.Steps.{Told}
 use Rattle.moka_maintenance.proofs.Told.{told-on}
 use Rattle.moka_maintenance.proofs.Walk.{front_counted}
+
+-- of no members none is taken
+pub none_taken : (k : ℕ) (xs : List Member) → xs ≡ [] → take k xs ≡ []
+none_taken zero xs none = refl
+none_taken (suc k) [] none = refl
+none_taken (suc k) (x ∷ xs) none = cc
 
 -- the first of some members, and those behind it
 take_first : (a : Member) (xs : List Member) (left : ℕ) → 0 < left → take left (a ∷ xs) ≡ a ∷ take (left - 1) xs
@@ -68,6 +74,11 @@ module _ {K V : Type 0} (c d : Contents K V) (a : Member) (left : ℕ) (once : I
   -- what is left of them leaves then
   pub victims_step : without_victims (take (left - 1) d.access) d ≡ without_victims (take left c.access) c
   victims_step = ap (λ (d : Contents K V). without_victims (take (left - 1) d.access) d) step ∙ ap (λ xs. without_victims xs c) (sym first_is)
+
+  pub victims_written : (ns ms : List ℕ) → ms ≡ without_number a.number ns → without_numbers (take (left - 1) d.access) ms ≡ without_numbers (take left c.access) ns
+  victims_written ns ms out =
+      ap (λ (d : Contents K V). without_numbers (take (left - 1) d.access) ms) step ∙ ap (without_numbers (take (left - 1) (without_member a.number c.access))) out
+      ∙ ap (λ xs. without_numbers xs ns) (sym first_is)
 
   pub victims_told : {L : Type 0} (tells : L → K → V → RemovalCause → L → Type 0) (l m k : Option L) → Told tells l (left_by_choice c (Removes a.number Size)) m → Told tells m (left_with (take (left - 1) d.access) d.records) k → Told tells l (left_with (take left c.access) c.records) k
   victims_told tells l m k one rest =

@@ -1,7 +1,7 @@
 -- What becomes of an upsert, by its fate.
-use Rattle.std.proofs.Common.{◌≡◌, refl, ℕ, ◌<◌, ◌≤◌, Bool, true, false, List, [], ◌∷◌, Option, Some, None, ◌⊎◌, inl, inr, nat_lt, ap, sym, ◌∙◌, subst, arith, if◌then◌else◌}
+use Rattle.std.proofs.Common.{◌≡◌, refl, ℕ, ◌<◌, ◌≤◌, Bool, true, false, List, [], ◌∷◌, ◌++◌, Option, Some, None, ◌⊎◌, inl, inr, nat_lt, ap, sym, ◌∙◌, subst, arith, if◌then◌else◌}
 use Rattle.std.specs.Option.{option_map_or}
-use Rattle.std.proofs.lemmas.Bool.{eq-eqb}
+use Rattle.std.proofs.lemmas.Bool.{cond-false, eq-eqb}
 use Rattle.std.specs.FinMap.{get, remove}
 use Rattle.moka_parts.specs.declared.notification.RemovalCause.{RemovalCause}
 use Rattle.moka_parts.specs.declared.notification.RemovalCause.TheVariants.{Size}
@@ -9,12 +9,13 @@ use Rattle.moka_parts.specs.declared.policy.EvictionPolicy.{EvictionPolicy}
 use Rattle.moka_parts.specs.declared.policy.EvictionPolicy.TheVariants.{TinyLfu}
 use Rattle.moka_parts.specs.declared.records.Record.{Record}
 use Rattle.moka_parts.specs.declared.records.Member.{Member}
-use Rattle.moka_parts.specs.declared.records.Operation.TheVariants.{Upsert}
-use Rattle.moka_parts.specs.Records.{counted_of, has_room, is_member, to_back, total_weight, without_member}
+use Rattle.moka_parts.specs.declared.records.Operation.TheVariants.{Removal, Upsert}
+use Rattle.moka_parts.specs.Records.{counted_of, entered_by, has_room, is_listed, is_member, number_to_back, to_back, total_weight, without_member, without_number}
 use Rattle.moka_parts.specs.State.{Contents}
 use Rattle.moka_parts.specs.Candidates.{are_unsettled, is_preferred, victims_for}
 use Rattle.moka_parts.specs.Writes.{AreMoves, Fate, Ignored, Overtaken, Counted, Admitted, TooHeavy, Preferred, Refused, is_compared, fate, fate_of_record, fate_of_newcomer, fate_by_policy, fate_by_frequency, after_fate, left_by_fate, left_by_rejection, entered, rejected, with_applied}
 use Rattle.moka_parts.specs.Maintenance.{Removes, after_choice}
+use Rattle.moka_parts.specs.Order.{IsListOf, written_after_fate}
 use Rattle.moka_parts.proofs.AccessList.{absent_taken_out}
 use Rattle.moka_store.proofs.Gets.{none-of}
 use Rattle.moka_store.proofs.Members.{absent_to_back}
@@ -48,30 +49,37 @@ compared c hash (Some victims) = go (is_preferred c hash victims)
     go true = refl
     go false = refl
 
-module _ {K V L : Type 0} (tells : L → K → V → RemovalCause → L → Type 0) (capacity : Option ℕ) (policy : EvictionPolicy) (c : Contents K V) (number generation weight hash : ℕ) where
+-- a removal of a number
+pub applied-removal : {K V L : Type 0} (tells : L → K → V → RemovalCause → L → Type 0) (capacity : Option ℕ) (policy : EvictionPolicy) (ordered : Bool) (c d : Contents K V) (ns ms : List ℕ) (number generation : ℕ) (l : Option L) →
+    d ≡ record c { access = without_member number c.access } → (ordered ≡ true → ms ≡ without_number number ns) → IsApplied tells capacity policy ordered c d ns ms (Removal number generation) l l
+applied-removal tells capacity policy ordered c d ns ms number generation l led listed = record { moved = []; may = tt; led = led; listed = listed; told = told-none tells l }
+
+module _ {K V L : Type 0} (tells : L → K → V → RemovalCause → L → Type 0) (capacity : Option ℕ) (policy : EvictionPolicy) (ordered : Bool) (c : Contents K V) (number generation weight hash : ℕ) where
   -- a record that left the map
-  pub applied-absent : (l : Option L) → get c.records number ≡ None → IsApplied tells capacity policy c c (Upsert number generation weight hash) l l
-  applied-absent l none = record {
+  pub applied-absent : (ns : List ℕ) (l : Option L) → get c.records number ≡ None → IsApplied tells capacity policy ordered c c ns ns (Upsert number generation weight hash) l l
+  applied-absent ns l none = record {
     moved = [];
     may = tt;
     led = sym (ap (λ o. option_map_or (λ r. after_fate c number generation weight [] r (fate capacity policy c (Upsert number generation weight hash))) o c) none);
+    listed = λ kept. sym (ap (λ o. written_after_fate true number ns (option_map_or (fate_of_record capacity policy c number generation weight hash) o Ignored)) none);
     told = subst (λ ns. Told tells l ns l) (sym (ap (λ o. option_map_or (λ r. left_by_fate c generation r (fate capacity policy c (Upsert number generation weight hash))) o []) none)) (told-none tells l);
   }
 
-  module _ (d : Contents K V) (r : Record K V) (found : get c.records number ≡ Some r) (l m : Option L) where
+  module _ (d : Contents K V) (ns ms : List ℕ) (r : Record K V) (found : get c.records number ≡ Some r) (l m : Option L) where
     moves_by_fate : (moved : List ℕ) (f : Fate) → fate capacity policy c (Upsert number generation weight hash) ≡ f → (moved ≡ []) ⊎ ((is_compared f ≡ true) × (are_unsettled c.records moved ≡ true)) → AreMoves capacity policy c (Upsert number generation weight hash) moved
     moves_by_fate [] f is may = tt
     moves_by_fate (n ∷ moved) f is (inl none) = cc
     moves_by_fate (n ∷ moved) f is (inr may) = (ap is_compared is ∙ may.0, may.1)
 
     -- a record with that fate
-    by_fate : (moved : List ℕ) (f : Fate) → fate_of_record capacity policy c number generation weight hash r ≡ f → (moved ≡ []) ⊎ ((is_compared f ≡ true) × (are_unsettled c.records moved ≡ true)) → d ≡ after_fate c number generation weight moved r f → Told tells l (left_by_fate c generation r f) m → IsApplied tells capacity policy c d (Upsert number generation weight hash) l m
-    by_fate moved f is may led told =
+    by_fate : (moved : List ℕ) (f : Fate) → fate_of_record capacity policy c number generation weight hash r ≡ f → (moved ≡ []) ⊎ ((is_compared f ≡ true) × (are_unsettled c.records moved ≡ true)) → d ≡ after_fate c number generation weight moved r f → (ordered ≡ true → ms ≡ written_after_fate true number ns f) → Told tells l (left_by_fate c generation r f) m → IsApplied tells capacity policy ordered c d ns ms (Upsert number generation weight hash) l m
+    by_fate moved f is may led listed told =
         let is' : fate capacity policy c (Upsert number generation weight hash) ≡ f = ap (λ o. option_map_or (fate_of_record capacity policy c number generation weight hash) o Ignored) found ∙ is in
         record {
           moved = moved;
           may = moves_by_fate moved f is' may;
           led = led ∙ sym (ap (λ o. option_map_or (λ r. after_fate c number generation weight moved r (fate capacity policy c (Upsert number generation weight hash))) o c) found ∙ ap (after_fate c number generation weight moved r) is');
+          listed = λ kept. listed kept ∙ sym (ap (written_after_fate true number ns) is');
           told = subst (λ ns. Told tells l ns m) (sym (ap (λ o. option_map_or (λ r. left_by_fate c generation r (fate capacity policy c (Upsert number generation weight hash))) o []) found ∙ ap (left_by_fate c generation r) is')) told;
         }
 
@@ -92,32 +100,35 @@ module _ {K V L : Type 0} (tells : L → K → V → RemovalCause → L → Type
     none same = subst (λ k. Told {K = K} {V = V} tells l [] k) (sym same) (told-none tells l)
 
     -- it saw an operation as new
-    pub applied-overtaken : generation ≤ r.applied → d ≡ record c { access = to_back number c.access } → m ≡ l → IsApplied tells capacity policy c d (Upsert number generation weight hash) l m
-    applied-overtaken seen led same = go (is_member number c.access) refl
+    pub applied-overtaken : generation ≤ r.applied → d ≡ record c { access = to_back number c.access } → (ordered ≡ true → ms ≡ number_to_back number ns) → (ordered ≡ true → IsListOf c.access ns) → m ≡ l → IsApplied tells capacity policy ordered c d ns ms (Upsert number generation weight hash) l m
+    applied-overtaken seen led listed order same = go (is_member number c.access) refl
       where
-        go : (b : Bool) → is_member number c.access ≡ b → IsApplied tells capacity policy c d (Upsert number generation weight hash) l m
-        go true there = by_fate [] Overtaken (fate_older seen ∙ ap older there) (inl refl) led (none same)
-        go false there = by_fate [] Ignored (fate_older seen ∙ ap older there) (inl refl) (led ∙ ap (λ xs. record c { access = xs }) (absent_to_back number c.access (none-of (counted_of number c.access) there))) (none same)
+        unmoved : ordered ≡ true → is_member number c.access ≡ false → number_to_back number ns ≡ ns
+        unmoved kept out = cond-false (is_listed number ns) (without_number number ns ++ number ∷ []) ns ((order kept).1 number ∙ out)
+
+        go : (b : Bool) → is_member number c.access ≡ b → IsApplied tells capacity policy ordered c d ns ms (Upsert number generation weight hash) l m
+        go true there = by_fate [] Overtaken (fate_older seen ∙ ap older there) (inl refl) led listed (none same)
+        go false there = by_fate [] Ignored (fate_older seen ∙ ap older there) (inl refl) (led ∙ ap (λ xs. record c { access = xs }) (absent_to_back number c.access (none-of (counted_of number c.access) there))) (λ kept. listed kept ∙ unmoved kept there) (none same)
 
     -- its member goes to the back with the new weight
-    pub applied-counted : r.applied < generation → is_member number c.access ≡ true → d ≡ entered number generation weight r (record c { access = without_member number c.access }) → m ≡ l → IsApplied tells capacity policy c d (Upsert number generation weight hash) l m
-    applied-counted new there led same = by_fate [] Counted (fate_newer new ∙ ap newer there) (inl refl) led (none same)
+    pub applied-counted : r.applied < generation → is_member number c.access ≡ true → d ≡ entered number generation weight r (record c { access = without_member number c.access }) → (ordered ≡ true → ms ≡ number_to_back number ns) → m ≡ l → IsApplied tells capacity policy ordered c d ns ms (Upsert number generation weight hash) l m
+    applied-counted new there led listed same = by_fate [] Counted (fate_newer new ∙ ap newer there) (inl refl) led listed (none same)
 
     module _ (new : r.applied < generation) (apart : is_member number c.access ≡ false) where
       outside : (f : Fate) → fate_of_newcomer capacity policy c weight hash ≡ f → fate_of_record capacity policy c number generation weight hash r ≡ f
       outside f is = fate_newer new ∙ ap newer apart ∙ is
 
       -- it enters
-      pub applied-admitted : fate_of_newcomer capacity policy c weight hash ≡ Admitted → d ≡ entered number generation weight r c → m ≡ l → IsApplied tells capacity policy c d (Upsert number generation weight hash) l m
-      applied-admitted is led same = by_fate [] Admitted (outside Admitted is) (inl refl) led (none same)
+      pub applied-admitted : fate_of_newcomer capacity policy c weight hash ≡ Admitted → d ≡ entered number generation weight r c → (ordered ≡ true → ms ≡ entered_by true number ns) → m ≡ l → IsApplied tells capacity policy ordered c d ns ms (Upsert number generation weight hash) l m
+      applied-admitted is led listed same = by_fate [] Admitted (outside Admitted is) (inl refl) led listed (none same)
 
       -- it is rejected
-      pub applied-rejected : fate_of_newcomer capacity policy c weight hash ≡ TooHeavy → d ≡ rejected number generation r c → Told tells l (left_by_rejection generation r) m → IsApplied tells capacity policy c d (Upsert number generation weight hash) l m
-      applied-rejected is led told = by_fate [] TooHeavy (outside TooHeavy is) (inl refl) led told
+      pub applied-rejected : fate_of_newcomer capacity policy c weight hash ≡ TooHeavy → d ≡ rejected number generation r c → (ordered ≡ true → ms ≡ ns) → Told tells l (left_by_rejection generation r) m → IsApplied tells capacity policy ordered c d ns ms (Upsert number generation weight hash) l m
+      applied-rejected is led listed told = by_fate [] TooHeavy (outside TooHeavy is) (inl refl) led listed told
 
       -- TinyLFU has compared it
-      pub applied-compared : fate_of_newcomer capacity policy c weight hash ≡ fate_by_policy TinyLfu c weight hash → IsCompared tells c d number generation weight hash r l m → IsApplied tells capacity policy c d (Upsert number generation weight hash) l m
-      applied-compared is by = by_fate by.moved (fate_by_frequency c hash (victims_for c weight)) (outside (fate_by_frequency c hash (victims_for c weight)) is) (inr (compared c hash (victims_for c weight), by.unsettled)) by.led by.told
+      pub applied-compared : fate_of_newcomer capacity policy c weight hash ≡ fate_by_policy TinyLfu c weight hash → IsCompared tells ordered c d ns ms number generation weight hash r l m → IsApplied tells capacity policy ordered c d ns ms (Upsert number generation weight hash) l m
+      applied-compared is by = by_fate by.moved (fate_by_frequency c hash (victims_for c weight)) (outside (fate_by_frequency c hash (victims_for c weight)) is) (inr (compared c hash (victims_for c weight), by.unsettled)) by.led by.listed by.told
 
 -- a record that no list has leaves as one that is rejected
 pub rejected-gone : {K V : Type 0} (c d : Contents K V) (number generation : ℕ) (r : Record K V) → r.generation ≡ generation → counted_of number c.access ≡ None → d ≡ after_choice c (Removes number Size) → d ≡ rejected number generation r c

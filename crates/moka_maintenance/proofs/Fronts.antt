@@ -1,5 +1,5 @@
 -- The front of the access list, and what it is once the front went to the back.
-use Rattle.std.proofs.Common.{◌≡◌, refl, ℕ, Bool, true, false, cond, not, ◌==◌, List, [], ◌∷◌, ◌++◌, length, Option, Some, None, IsSome, is_some, option_map, option_to_list, ◌&&◌, ap, sym, subst, ◌∙◌, arith}
+use Rattle.std.proofs.Common.{◌≡◌, refl, ℕ, ◌+◌, Bool, true, false, cond, not, ◌==◌, List, [], ◌∷◌, ◌++◌, length, Option, Some, None, IsSome, is_some, option_map, option_to_list, ◌&&◌, ap, sym, subst, ◌∙◌, arith}
 use Rattle.std.proofs.lemmas.Bool.{cond-true, cond-false}
 use Rattle.std.proofs.lemmas.List.Elements.{filter-append}
 use Rattle.std.specs.List.{IsDistinct}
@@ -7,9 +7,9 @@ use Rattle.moka_parts.specs.declared.records.Member.{Member}
 use Rattle.moka_parts.specs.Records.{Records, counted_of, is_member, is_settled, member, numbers_of, settled_members, to_back, without_member}
 use Rattle.moka_parts.specs.Maintenance.{is_front, is_over}
 use Rattle.moka_parts.specs.Exact.{IsWithin}
-use Rattle.moka_parts.proofs.AccessList.{absent_taken_out}
+use Rattle.moka_parts.proofs.AccessList.{absent_taken_out, counted-to_back}
 use Rattle.moka_parts.proofs.Counting.{front_once}
-use Rattle.moka_parts.proofs.Maps.{same_by_test}
+use Rattle.moka_parts.proofs.Maps.{itself_tested, same_by_test}
 use Rattle.moka_maintenance.proofs.Stepped.{length-on}
 
 -- where the capacity is not exceeded, the list is within it
@@ -41,12 +41,26 @@ front_of n (a ∷ xs) once e =
       moved = ap (λ ys. ys ++ option_to_list (option_map (member n) (counted_of n (a ∷ xs)))) out ∙ ap (λ o. xs ++ option_to_list (option_map (member n) o)) counted ∙ ap (λ m. xs ++ m ∷ []) itself;
     }
 
+-- a removal makes the list shorter by one
+pub length-without : (n : ℕ) (xs : List Member) → IsDistinct (◌==◌) (numbers_of xs) → is_member n xs ≡ true → length (without_member n xs) + 1 ≡ length xs
+unfolding IsDistinct
+length-without n [] once there = cc
+length-without n (a ∷ xs) once there = go (a.number == n) refl (length-without n xs once.1) there
+  where
+    go : (b : Bool) → (a.number == n) ≡ b → (is_member n xs ≡ true → length (without_member n xs) + 1 ≡ length xs) → is_some (cond b (Some a.counted) (counted_of n xs)) ≡ true → length (cond (not b) (a ∷ without_member n xs) (without_member n xs)) + 1 ≡ length (a ∷ xs)
+    go true e later there = let out = ap length (absent_taken_out n xs (subst (λ k. counted_of k xs ≡ None) (same_by_test a.number n e) (front_once a xs once))) in omega arith
+    go false e later there = let rest = later there in omega arith
+
 -- a move changes no length
-pub length-moved : (n : ℕ) (xs : List Member) → Front n xs → length (to_back n xs) ≡ length xs
-length-moved n xs f =
-    let moved = ap length f.moved ∙ length-on f.behind (f.first ∷ []) in
-    let split = ap length f.split in
-    omega arith
+pub length-to_back : (n : ℕ) (xs : List Member) → IsDistinct (◌==◌) (numbers_of xs) → is_member n xs ≡ true → length (to_back n xs) ≡ length xs
+length-to_back n xs once there = go (counted_of n xs) refl there
+  where
+    go : (o : Option ℕ) → counted_of n xs ≡ o → is_some o ≡ true → length (to_back n xs) ≡ length xs
+    go None e is = cc
+    go (Some w) e is =
+        let less = length-without n xs once there in
+        let plus = ap (λ o. length (without_member n xs ++ option_to_list (option_map (member n) o))) e ∙ length-on (without_member n xs) (member n w ∷ []) in
+        omega arith
 
 -- ---- settled members
 
@@ -81,6 +95,21 @@ module _ {K V : Type 0} (records : Records K V) where
       go : (is_member n xs ≡ true → is_settled records n ≡ false) → (b : Bool) → (a.number == n) ≡ b → is_some (cond b (Some a.counted) (counted_of n xs)) ≡ true → is_settled records n ≡ false
       go behind true same there = ap (is_settled records) (sym (same_by_test a.number n same)) ∙ first_unsettled a xs none
       go behind false other there = behind there
+
+  -- and where each is not, none is settled
+  pub all_unsettled : (xs : List Member) → ((n : ℕ) → is_member n xs ≡ true → is_settled records n ≡ false) → settled_members records xs ≡ []
+  all_unsettled [] h = refl
+  all_unsettled (a ∷ xs) h =
+      cond-false (is_settled records a.number) (a ∷ settled_members records xs) (settled_members records xs) (h a.number (ap (λ b. is_some (cond b (Some a.counted) (counted_of a.number xs))) (itself_tested a.number)))
+      ∙ all_unsettled xs (λ n there. h n (later (a.number == n) n there))
+    where
+      later : (b : Bool) (n : ℕ) → is_member n xs ≡ true → is_some (cond b (Some a.counted) (counted_of n xs)) ≡ true
+      later true n there = refl
+      later false n there = there
+
+  -- one that is not settled goes to the back of such members
+  pub none-to_back : (n : ℕ) (xs : List Member) → is_settled records n ≡ false → settled_members records xs ≡ [] → settled_members records (to_back n xs) ≡ []
+  none-to_back n xs waiting none = all_unsettled (to_back n xs) (λ k there. none_settled k xs none (sym (ap is_some (counted-to_back n k xs)) ∙ there))
 
 -- a settled member
 pub settled_member : {K V : Type 0} (records : Records K V) (xs : List Member) (n : ℕ) → IsSome (counted_of n xs) → is_settled records n ≡ true → (is_member n xs && is_settled records n) ≡ true

@@ -6,13 +6,16 @@ pub mod Entered
 pub mod Compared
 pub mod AllApplied
 pub mod Stepped
-pub mod Unseen
+pub mod Seen
+pub mod Timing
 pub mod Enabled
 pub mod Fronts
 pub mod Walk
 pub mod Walking
 pub mod Expelling
+pub mod Rows
 pub mod Sweeping
+pub mod Expiring
 pub mod PassSteps
 pub mod Clocked
 pub mod Passing

@@ -1,29 +1,28 @@
 -- The steps of a pass joined, and passes one after the other.
-use Rattle.std.proofs.Common.{◌≡◌, refl, ℕ, ◌+◌, ◌*◌, ◌<◌, ◌≤◌, ◌⊎◌, Bool, true, false, true≢false, not, ◌&&◌, ◌||◌, List, [], ◌∷◌, ◌++◌, length, Option, Some, None, is_some, inl, inr, ap, sym, subst, ◌∙◌, arith}
+use Rattle.std.proofs.Common.{◌≡◌, refl, ℕ, ◌+◌, ◌*◌, ◌<◌, ◌≤◌, ◌⊎◌, Bool, true, false, true≢false, not, ◌&&◌, ◌||◌, List, [], ◌∷◌, ◌++◌, length, Option, Some, None, is_some, inl, inr, ap, sym, subst, ◌∙◌, arith, append_assoc}
 use Rattle.std.proofs.lemmas.Bool.{cases_eq}
 use Rattle.std.proofs.lemmas.List.Folds.{list_all-append}
 use Rattle.std.specs.List.{list_all}
 use Rattle.std.specs.Duration.{as_nanos}
 use Rattle.std.specs.Option.{option_map}
 use Rattle.moka_parts.specs.declared.notification.RemovalCause.{RemovalCause}
-use Rattle.moka_parts.specs.State.{Contents}
 use Rattle.moka_parts.specs.Time.{deadline, has_passed, is_before, moment_of}
 use Rattle.moka_parts.specs.declared.policy.Instant.{Instant}
-use Rattle.moka_parts.specs.Maintenance.{Choice, Removes, MovesToBack, Drops, after_choices, is_over}
+use Rattle.moka_parts.specs.Maintenance.{Choice, Removes, MovesToBack, Drops, is_over}
 use Rattle.moka_parts.specs.Bounds.{removed_by}
 use Rattle.moka_maintenance.specs.declared.sweep.Tests.{Tests}
 use Rattle.moka_maintenance.specs.declared.sweep.Sweep.{Sweep}
-use Rattle.moka_maintenance.specs.declared.sweep.Sweep.TheVariants.{Read, Surplus}
-use Rattle.moka_maintenance.specs.Steps.{MayStep, MayAll, IsStepped, is_timely, makes_room}
-use Rattle.moka_maintenance.specs.Sweeps.{tests_in, IsAtRest, IsDone, AreAllTurns, MayTurn, IsSwept}
-use Rattle.moka_maintenance.specs.Passes.{is_taken, sweeps_reads, IsPass}
+use Rattle.moka_maintenance.specs.declared.sweep.Sweep.TheVariants.{Written, Read, Surplus}
+use Rattle.moka_maintenance.specs.Steps.{Stock, MayStep, MayAll, HasUnsettled, IsStepped, after_step, after_steps, is_timely, makes_room}
+use Rattle.moka_maintenance.specs.Sweeps.{tests_in, is_by_moment, IsAtRest, IsDone, AreAllTurns, MayTurn, MayExpire, IsSwept, ExpiresDue}
+use Rattle.moka_maintenance.specs.Passes.{is_taken, sweeps_reads, sweeps_writes, IsPass}
 use Rattle.moka_maintenance.proofs.Fronts.{within-not_over}
-use Rattle.moka_maintenance.proofs.Stepped.{length-on, removed-on, removed-few, stepped-none, stepped-on, stepped-also}
+use Rattle.moka_maintenance.proofs.Stepped.{length-on, removed-on, removed-few, shrinks, stepped-none, stepped-on, stepped-also}
 
 -- ---- a step that is not taken
 
 module _ {K V L : Type 0} (tells : L → K → V → RemovalCause → L → Type 0) (q : Tests) where
-  pub swept-none : (sweep : Sweep) (batch : ℕ) (c : Contents K V) (l : Option L) → IsAtRest q sweep c → IsSwept tells q sweep batch c c l l 0 false
+  pub swept-none : (sweep : Sweep) (batch : ℕ) (c : Stock K V) (l : Option L) → IsAtRest q sweep c → IsSwept tells q sweep batch c c l l 0 false
   unfolding stepped-none
   swept-none sweep batch c l rest = record {
     by = stepped-none tells (MayTurn q sweep) c l;
@@ -36,11 +35,11 @@ module _ {K V L : Type 0} (tells : L → K → V → RemovalCause → L → Type
   }
 
   -- one that is taken with a batch of 0
-  pub left-idle : (sweep : Sweep) (batch : ℕ) (a b : Contents K V) (l m : Option L) (removed : ℕ) (left : Bool) → IsSwept tells q sweep batch a b l m removed left → batch ≡ 0 → removed ≡ batch
+  pub left-idle : (sweep : Sweep) (batch : ℕ) (a b : Stock K V) (l m : Option L) (removed : ℕ) (left : Bool) → IsSwept tells q sweep batch a b l m removed left → batch ≡ 0 → removed ≡ batch
   left-idle sweep batch a b l m removed left h none = let few = h.few in let less = removed-few h.by.steps in let count = h.count in omega arith
 
   -- what a sweep comes to
-  pub swept-done : (sweep : Sweep) (batch : ℕ) (a b : Contents K V) (l m : Option L) (removed : ℕ) (left : Bool) (h : IsSwept tells q sweep batch a b l m removed left) → IsDone q sweep batch (length h.by.steps) b
+  pub swept-done : (sweep : Sweep) (batch : ℕ) (a b : Stock K V) (l m : Option L) (removed : ℕ) (left : Bool) (h : IsSwept tells q sweep batch a b l m removed left) → IsDone q sweep batch (length h.by.steps) b
   swept-done sweep batch a b l m removed left h = go h.turns
     where
       all : (s a : ℕ) → s + a ≡ batch → a ≡ 0 → batch ≤ s
@@ -64,27 +63,50 @@ neither : (a b : Bool) → (a || b) ≡ false → (a ≡ false) × (b ≡ false)
 neither true b e = cc
 neither false b e = (refl, e)
 
-pub not_taken : {K V : Type 0} (q : Tests) (sweep : Sweep) (c : Contents K V) → is_taken q sweep c.access ≡ false → IsAtRest q sweep c
+three : (a b c : Bool) → (a || b || c) ≡ false → (a ≡ false) × (c ≡ false)
+three a b c e = (let both = neither (a || b) c e in ((neither a b both.0).0, both.1))
+
+pub not_taken : {K V : Type 0} (q : Tests) (sweep : Sweep) (c : Stock K V) → is_taken q sweep c.access ≡ false → IsAtRest q sweep c
 not_taken q Read c e = λ n r front there. (let both = neither (is_some q.time_to_idle) (is_some q.valid_after) e in (no_duration as_nanos q.time_to_idle r.read.0 q.now.0 both.0, no_bound q.valid_after r.read.0 both.1))
+not_taken q Written c e = λ n r front there. (let both = three (is_some q.time_to_live) (is_some q.time_to_idle) (is_some q.valid_after) e in (no_duration as_nanos q.time_to_live r.written.0 q.now.0 both.0, no_bound q.valid_after r.written.0 both.1))
 not_taken q Surplus c e = within-not_over q.capacity c.access e
 
--- ---- two steps
+-- ---- steps by moments
 
 -- a turn of a sweep is a step that these tests allow
-turn_allowed : {K V : Type 0} (q : Tests) (sweep : Sweep) (c : Contents K V) (x : Choice) → MayTurn q sweep c x → MayStep (tests_in q) c x
+turn_allowed : {K V : Type 0} (q : Tests) (sweep : Sweep) (c : Stock K V) (x : Choice) → MayTurn q sweep c x → MayStep (tests_in q) c x
 turn_allowed q sweep c (Removes n cause) may = may.1
 turn_allowed q sweep c (MovesToBack n) may = may.1
 turn_allowed q sweep c (Drops i) may = absurd may
 
--- a sweep by moments makes no room
+-- and so is a removal by a timer
+expiry_allowed : {K V : Type 0} (q : Tests) (c : Stock K V) (x : Choice) → MayExpire q c x → MayStep (tests_in q) c x
+expiry_allowed q c (Removes n cause) may = may.0
+expiry_allowed q c (MovesToBack n) may = absurd may
+expiry_allowed q c (Drops i) may = absurd may
+
+-- neither makes room
 no_room : (cause : RemovalCause) → is_timely cause ≡ true → not (is_timely cause) ≡ false
 no_room cause e = ap not e
 
-none_makes_room : {K V : Type 0} (q : Tests) (c : Contents K V) (xs : List Choice) → MayAll (MayTurn q Read) c xs → list_all makes_room xs ≡ true → xs ≡ []
-none_makes_room q c [] may all = refl
-none_makes_room q c (Removes n cause ∷ xs) may all = absurd (true≢false (sym all ∙ ap (λ b. b && list_all makes_room xs) (no_room cause (may.0.2 refl))))
-none_makes_room q c (MovesToBack n ∷ xs) may all = absurd (true≢false (sym all))
-none_makes_room q c (Drops i ∷ xs) may all = absurd may.0
+none_makes_room : {K V : Type 0} (q : Tests) (sweep : Sweep) → is_by_moment sweep ≡ true → (c : Stock K V) (xs : List Choice) → MayAll (MayTurn q sweep) c xs → list_all makes_room xs ≡ true → xs ≡ []
+none_makes_room q sweep timely c [] may all = refl
+none_makes_room q sweep timely c (Removes n cause ∷ xs) may all = absurd (true≢false (sym all ∙ ap (λ b. b && list_all makes_room xs) (no_room cause (may.0.2 timely))))
+none_makes_room q sweep timely c (MovesToBack n ∷ xs) may all = absurd (true≢false (sym all))
+none_makes_room q sweep timely c (Drops i ∷ xs) may all = absurd may.0
+
+none_by_timers : {K V : Type 0} (q : Tests) (c : Stock K V) (xs : List Choice) → MayAll (MayExpire q) c xs → list_all makes_room xs ≡ true → xs ≡ []
+none_by_timers q c [] may all = refl
+none_by_timers q c (Removes n cause ∷ xs) may all = absurd (true≢false (sym all ∙ ap (λ b. b && list_all makes_room xs) (ap (λ k. not (is_timely k)) may.0.1)))
+none_by_timers q c (MovesToBack n ∷ xs) may all = absurd may.0
+none_by_timers q c (Drops i ∷ xs) may all = absurd may.0
+
+-- so each is a removal
+all_removals : {K V : Type 0} (q : Tests) (c : Stock K V) (xs : List Choice) → MayAll (MayExpire q) c xs → length xs ≡ length (removed_by xs)
+all_removals q c [] may = refl
+all_removals q c (Removes n cause ∷ xs) may = let rest = all_removals q (after_step c (Removes n cause)) xs may.1 in omega arith
+all_removals q c (MovesToBack n ∷ xs) may = absurd may.0
+all_removals q c (Drops i ∷ xs) may = absurd may.0
 
 pub both_make_room : (xs ys : List Choice) → list_all makes_room (xs ++ ys) ≡ true → (list_all makes_room xs ≡ true) × (list_all makes_room ys ≡ true)
 both_make_room xs ys all = go (list_all makes_room xs) (list_all makes_room ys) (sym (list_all-append makes_room xs ys) ∙ all)
@@ -97,87 +119,190 @@ empty_list : {A : Type 0} (xs : List A) → length xs ≤ 0 → xs ≡ []
 empty_list [] h = refl
 empty_list (x ∷ xs) h = absurd (omega arith)
 
-module _ {K V L : Type 0} (tells : L → K → V → RemovalCause → L → Type 0) (q : Tests) (batch : ℕ) (a b c : Contents K V) (l m k : Option L) (r s : ℕ) (x y : Bool) (first : IsSwept tells q Read batch a b l m r x) (second : IsSwept tells q Surplus batch b c m k s y) where
-  by_first : IsStepped tells (MayStep (tests_in q)) a b l m
+-- steps that make no room, of at most so many turns beside timers, each of which removed a batch where it left more
+pub record AreTimely {K V L : Type 0} (tells : L → K → V → RemovalCause → L → Type 0) (q : Tests) (batch turns : ℕ) (a b : Stock K V) (l m : Option L) (removed : ℕ) (left : Bool) : Type 0 where
+  pub by : IsStepped tells (MayStep (tests_in q)) a b l m
+  pub count : removed ≡ length (removed_by by.steps)
+  pub many : length by.steps + length b.access ≤ turns + length a.access
+  pub full : left ≡ true → batch ≤ removed
+  pub none : list_all makes_room by.steps ≡ true → by.steps ≡ []
+
+module _ {K V L : Type 0} (tells : L → K → V → RemovalCause → L → Type 0) (q : Tests) (batch : ℕ) where
+  shorter : (a b : Stock K V) (l m : Option L) (h : IsStepped tells (MayStep (tests_in q)) a b l m) → length b.access + length (removed_by h.steps) ≤ length a.access
+  shorter a b l m h = subst (λ (x : Stock K V). length x.access + length (removed_by h.steps) ≤ length a.access) (sym h.led) (shrinks (tests_in q) a h.steps h.may)
+
+  -- those of the timers
+  pub timely-due : (a b : Stock K V) (l m : Option L) (removed : ℕ) → ExpiresDue tells q a b l m removed → AreTimely tells q batch 0 a b l m removed false
   unfolding stepped-also
-  by_first = stepped-also tells (MayTurn q Read) (MayStep (tests_in q)) (turn_allowed q Read) a b l m first.by
+  timely-due a b l m removed h =
+      let by = stepped-also tells (MayExpire q) (MayStep (tests_in q)) (expiry_allowed q) a b l m h.by in
+      record {
+        by = by;
+        count = h.count;
+        many = (let less = shorter a b l m by in let all = all_removals q a h.by.steps h.by.may in omega arith);
+        full = λ is. absurd (true≢false (sym is));
+        none = none_by_timers q a h.by.steps h.by.may;
+      }
 
-  some : x || y ≡ true → 1 ≤ batch → 1 ≤ r + s
-  some = go x first.full
+  -- those of a sweep by moments
+  pub timely-swept : (sweep : Sweep) → is_by_moment sweep ≡ true → (a b : Stock K V) (l m : Option L) (removed : ℕ) (left : Bool) → IsSwept tells q sweep batch a b l m removed left → AreTimely tells q batch batch a b l m removed left
+  unfolding stepped-also
+  timely-swept sweep timely a b l m removed left h =
+      let by = stepped-also tells (MayTurn q sweep) (MayStep (tests_in q)) (turn_allowed q sweep) a b l m h.by in
+      record {
+        by = by;
+        count = h.count;
+        many = (let less = shorter a b l m by in let few = h.few in omega arith);
+        full = λ is. (let used = h.full is in omega arith);
+        none = none_makes_room q sweep timely a h.by.steps h.by.may;
+      }
+
+  -- some, and then others
+  pub timely-on : (j k : ℕ) (a b c : Stock K V) (l m n : Option L) (r s : ℕ) (x y : Bool) → AreTimely tells q batch j a b l m r x → AreTimely tells q batch k b c m n s y → AreTimely tells q batch (j + k) a c l n (r + s) (x || y)
+  unfolding stepped-on
+  timely-on j k a b c l m n r s x y first second = record {
+    by = stepped-on tells (MayStep (tests_in q)) a b c l m n first.by second.by;
+    count = (let e = first.count in let f = second.count in let both = removed-on first.by.steps second.by.steps in omega arith);
+    many = (let few = first.many in let fewer = second.many in let both = length-on first.by.steps second.by.steps in omega arith);
+    full = full x first.full;
+    none = λ all.
+        (let rooms = both_make_room first.by.steps second.by.steps all in
+        ap (λ zs. zs ++ second.by.steps) (first.none rooms.0) ∙ second.none rooms.1);
+  }
     where
-      go : (x : Bool) → (x ≡ true → r ≡ batch) → x || y ≡ true → 1 ≤ batch → 1 ≤ r + s
+      full : (x : Bool) → (x ≡ true → batch ≤ r) → (x || y) ≡ true → batch ≤ r + s
+      full true f is = (let e = f refl in omega arith)
+      full false f is = (let e = second.full is in omega arith)
+
+-- ---- a pass
+
+-- done after more turns
+still_done : {K V : Type 0} (q : Tests) (sweep : Sweep) (batch some more : ℕ) (c : Stock K V) → some ≤ more → IsDone q sweep batch some c → IsDone q sweep batch more c
+still_done q sweep batch some more c le (inl rest) = inl rest
+still_done q sweep batch some more c le (inr (inl none)) = inr (inl none)
+still_done q sweep batch some more c le (inr (inr all)) = inr (inr (omega arith))
+
+idle_sweeps : (live idle invalid over : Bool) → ((live || idle || invalid) || (idle || invalid)) || over ≡ (live || idle || invalid) || over
+idle_sweeps true idle invalid over = refl
+idle_sweeps false true invalid over = refl
+idle_sweeps false false true over = refl
+idle_sweeps false false false over = refl
+
+module _ {K V L : Type 0} (tells : L → K → V → RemovalCause → L → Type 0) (q : Tests) (batch : ℕ) (a b c d e : Stock K V) (l m n o p : Option L) (due wrote read room : ℕ) (x y z : Bool)
+    (by_timers : ExpiresDue tells q a b l m due) (by_write : IsSwept tells q Written batch b c m n wrote x) (by_read : IsSwept tells q Read batch c d n o read y) (surplus : IsSwept tells q Surplus batch d e o p room z) where
+  first : AreTimely tells q batch (0 + batch) a c l n (due + wrote) (false || x)
+  first = timely-on tells q batch 0 batch a b c l m n due wrote false x (timely-due tells q batch a b l m due by_timers) (timely-swept tells q batch Written refl b c m n wrote x by_write)
+
+  moments : AreTimely tells q batch (0 + batch + batch) a d l o (due + wrote + read) (x || y)
+  moments = timely-on tells q batch (0 + batch) batch a c d l n o (due + wrote) read x y first (timely-swept tells q batch Read refl c d n o read y by_read)
+
+  last : IsStepped tells (MayStep (tests_in q)) d e o p
+  last = stepped-also tells (MayTurn q Surplus) (MayStep (tests_in q)) (turn_allowed q Surplus) d e o p surplus.by
+
+  some : (x || y || z) ≡ true → 1 ≤ batch → 1 ≤ due + wrote + read + room
+  some = go (x || y) moments.full
+    where
+      go : (t : Bool) → (t ≡ true → batch ≤ due + wrote + read) → (t || z) ≡ true → 1 ≤ batch → 1 ≤ due + wrote + read + room
       go true f is more = (let e = f refl in omega arith)
-      go false f is more = (let e = second.full is in omega arith)
+      go false f is more = (let e = surplus.full is in omega arith)
 
-  -- where all its steps make room, only the second made any
-  only_second : x || y ≡ true → 1 ≤ r + s → list_all makes_room (first.by.steps ++ second.by.steps) ≡ true → r + s ≡ batch
-  only_second is removed all =
-      let none = none_makes_room q a first.by.steps first.by.may (both_make_room first.by.steps second.by.steps all).0 in
-      let nothing : r ≡ 0 = first.count ∙ ap (λ xs. length (removed_by xs)) none in
-      go x first.full nothing is
+  -- where all its steps make room, only the last made any
+  only_last : (x || y || z) ≡ true → 1 ≤ due + wrote + read + room → list_all makes_room (moments.by.steps ++ last.steps) ≡ true → due + wrote + read + room ≡ batch
+  only_last is removed all =
+      let none = moments.none (both_make_room moments.by.steps last.steps all).0 in
+      let nothing : due + wrote + read ≡ 0 = moments.count ∙ ap (λ xs. length (removed_by xs)) none in
+      go (x || y) moments.full nothing is
     where
-      go : (x : Bool) → (x ≡ true → r ≡ batch) → r ≡ 0 → x || y ≡ true → r + s ≡ batch
-      go true f none is = (let e = f refl in let few = second.few in let less = removed-few second.by.steps in let count = second.count in omega arith)
-      go false f none is = (let e = second.full is in omega arith)
+      go : (t : Bool) → (t ≡ true → batch ≤ due + wrote + read) → due + wrote + read ≡ 0 → (t || z) ≡ true → due + wrote + read + room ≡ batch
+      go true f none is = (let e = f refl in let few = surplus.few in let less = removed-few surplus.by.steps in let count = surplus.count in omega arith)
+      go false f none is = (let e = surplus.full is in omega arith)
 
-  last_left : x || y ≡ false → y ≡ false
-  last_left = go x
+  last_left : (x || y || z) ≡ false → z ≡ false
+  last_left = go (x || y)
     where
-      go : (x : Bool) → x || y ≡ false → y ≡ false
+      go : (t : Bool) → (t || z) ≡ false → z ≡ false
       go true is = cc
       go false is = is
 
+  first_left : (x || y || z) ≡ false → x ≡ false
+  first_left = go x
+    where
+      go : (t : Bool) → (t || y || z) ≡ false → t ≡ false
+      go true is = cc
+      go false is = refl
+
   -- and that made less than a batch where it left nothing
-  less : x || y ≡ false → 1 ≤ batch → list_all makes_room (first.by.steps ++ second.by.steps) ≡ true → r + s < batch
+  less : (x || y || z) ≡ false → 1 ≤ batch → list_all makes_room (moments.by.steps ++ last.steps) ≡ true → due + wrote + read + room < batch
   less is batch_made all =
-      let none = none_makes_room q a first.by.steps first.by.may (both_make_room first.by.steps second.by.steps all).0 in
-      let nothing : r ≡ 0 = first.count ∙ ap (λ xs. length (removed_by xs)) none in
-      let few = second.few in
-      let fewer = removed-few second.by.steps in
-      let count = second.count in
-      elim (cases_eq s batch) as (λ _. r + s < batch) [
-        | inl used ↦ absurd (true≢false (sym (second.more used batch_made) ∙ last_left is))
+      let none = moments.none (both_make_room moments.by.steps last.steps all).0 in
+      let nothing : due + wrote + read ≡ 0 = moments.count ∙ ap (λ xs. length (removed_by xs)) none in
+      let few = surplus.few in
+      let fewer = removed-few surplus.by.steps in
+      let count = surplus.count in
+      elim (cases_eq room batch) as (λ _. due + wrote + read + room < batch) [
+        | inl used ↦ absurd (true≢false (sym (surplus.more used batch_made) ∙ last_left is))
         | inr other ↦ omega arith
       ]
 
+  many_steps : length (moments.by.steps ++ last.steps) ≡ length moments.by.steps + length surplus.by.steps
+  unfolding last stepped-also
+  many_steps = length-on moments.by.steps last.steps
+
   -- each of a batch of turns was made
-  used_up : x || y ≡ true → batch ≤ length (first.by.steps ++ second.by.steps)
-  used_up = go x first.full
+  used_up : (x || y || z) ≡ true → batch ≤ length (moments.by.steps ++ last.steps)
+  used_up = go (x || y) moments.full
     where
-      many : length (first.by.steps ++ second.by.steps) ≡ length first.by.steps + length second.by.steps
-      many = length-on first.by.steps second.by.steps
+      go : (t : Bool) → (t ≡ true → batch ≤ due + wrote + read) → (t || z) ≡ true → batch ≤ length (moments.by.steps ++ last.steps)
+      go true f is = (let e = f refl in let less = removed-few moments.by.steps in let count = moments.count in let all = many_steps in omega arith)
+      go false f is = (let e = surplus.full is in let less = removed-few surplus.by.steps in let count = surplus.count in let all = many_steps in omega arith)
 
-      go : (x : Bool) → (x ≡ true → r ≡ batch) → x || y ≡ true → batch ≤ length (first.by.steps ++ second.by.steps)
-      go true f is = (let e = f refl in let less = removed-few first.by.steps in let count = first.count in let all = many in omega arith)
-      go false f is = (let e = second.full is in let less = removed-few second.by.steps in let count = second.count in let all = many in omega arith)
+  first_are : first.by.steps ≡ by_timers.by.steps ++ by_write.by.steps
+  unfolding first timely-on timely-due timely-swept stepped-on stepped-also
+  first_are = refl
 
-  used_last : IsDone q Surplus batch (length (first.by.steps ++ second.by.steps)) c
-  used_last = elim (swept-done tells q Surplus batch b c m k s y second) [
-    | inl rest ↦ inl rest
-    | inr (inl none) ↦ inr (inl none)
-    | inr (inr all) ↦ inr (inr (let many = length-on first.by.steps second.by.steps in omega arith))
-  ]
+  moments_are : moments.by.steps ≡ first.by.steps ++ by_read.by.steps
+  unfolding first moments timely-on timely-swept stepped-on stepped-also
+  moments_are = refl
 
-  idle : (x ≡ is_taken q Read a.access) → (y ≡ is_taken q Surplus b.access) → batch ≡ 0 → (c ≡ a) × ((x || y) ≡ (sweeps_reads q || is_over q.capacity c.access))
-  idle due over none =
-      let kept : b ≡ a = first.by.led ∙ ap (after_choices a) (empty_list first.by.steps (let few = first.few in omega arith)) in
-      let last : c ≡ b = second.by.led ∙ ap (after_choices b) (empty_list second.by.steps (let few = second.few in omega arith)) in
-      (last ∙ kept, ap (λ x. x || y) due ∙ ap (λ y. sweeps_reads q || y) (over ∙ ap (λ (d : Contents K V). is_over q.capacity d.access) (sym last)))
+  wrote_steps : length by_write.by.steps ≤ length first.by.steps
+  wrote_steps = let both = ap length first_are ∙ length-on by_timers.by.steps by_write.by.steps in omega arith
 
-  pub pass-two : (batch ≡ 0 → x ≡ is_taken q Read a.access) → (batch ≡ 0 → y ≡ is_taken q Surplus b.access) → IsPass tells q batch a c l k (r + s) (x || y)
-  unfolding stepped-on stepped-also
-  pass-two due over = record {
-    by = stepped-on tells (MayStep (tests_in q)) a b c l m k
-        (stepped-also tells (MayTurn q Read) (MayStep (tests_in q)) (turn_allowed q Read) a b l m first.by)
-        (stepped-also tells (MayTurn q Surplus) (MayStep (tests_in q)) (turn_allowed q Surplus) b c m k second.by);
-    count = (let e = first.count in let f = second.count in let both = removed-on first.by.steps second.by.steps in omega arith);
+  read_steps : length by_read.by.steps ≤ length moments.by.steps
+  read_steps = let both = ap length moments_are ∙ length-on first.by.steps by_read.by.steps in omega arith
+
+  writes_done : IsDone q Written batch (length first.by.steps) (after_steps a first.by.steps) × ((x || y || z) ≡ false → HasUnsettled (after_steps a first.by.steps) ⊎ IsAtRest q Written (after_steps a first.by.steps))
+  writes_done = (
+    subst (λ s. IsDone q Written batch (length first.by.steps) s) first.by.led (still_done q Written batch (length by_write.by.steps) (length first.by.steps) c wrote_steps (swept-done tells q Written batch b c m n wrote x by_write)),
+    λ is. subst (λ s. HasUnsettled s ⊎ IsAtRest q Written s) first.by.led (by_write.rest (first_left is)),
+  )
+
+  reads_done : IsDone q Read batch (length moments.by.steps) (after_steps a moments.by.steps)
+  reads_done = subst (λ s. IsDone q Read batch (length moments.by.steps) s) moments.by.led (still_done q Read batch (length by_read.by.steps) (length moments.by.steps) d read_steps (swept-done tells q Read batch c d n o read y by_read))
+
+  used_last : IsDone q Surplus batch (length (moments.by.steps ++ last.steps)) e
+  used_last = still_done q Surplus batch (length surplus.by.steps) (length (moments.by.steps ++ last.steps)) e (let all = many_steps in omega arith) (swept-done tells q Surplus batch d e o p room z surplus)
+
+  many_turns : length (moments.by.steps ++ last.steps) + length e.access ≤ batch + batch + batch + length a.access
+  many_turns = let few = moments.many in let fewer = surplus.few in let shorter = shorter tells q batch d e o p last in let all = many_steps in omega arith
+
+  unmoved : batch ≡ 0 → d.access ≡ e.access
+  unmoved none = ap (λ (s : Stock K V). s.access) (sym (surplus.by.led ∙ ap (after_steps d) (empty_list surplus.by.steps (let few = surplus.few in omega arith))))
+
+  pub pass-four : (batch ≡ 0 → x ≡ is_taken q Written b.access) → (batch ≡ 0 → y ≡ is_taken q Read c.access) → (batch ≡ 0 → z ≡ is_taken q Surplus d.access) → IsPass tells q batch a e l p (due + wrote + read + room) (x || y || z)
+  unfolding last stepped-on stepped-also
+  pass-four wrote_due read_due over = record {
+    by = stepped-on tells (MayStep (tests_in q)) a d e l o p moments.by last;
+    count = (let k = moments.count in let f : room ≡ length (removed_by last.steps) = surplus.count in let both = removed-on moments.by.steps last.steps in omega arith);
     more = some;
-    many = (let few = first.few in let fewer = second.few in let both = length-on first.by.steps second.by.steps in omega arith);
+    many = many_turns;
     fewer = less;
-    batch_used = only_second;
-    rest = λ is. second.rest (last_left is);
+    batch_used = only_last;
+    rest = λ is. surplus.rest (last_left is);
     turned = used_up;
     used = used_last;
-    reads_swept = (first.by.steps, second.by.steps, refl, subst (λ d. IsDone q Read batch (length first.by.steps) d) first.by.led (swept-done tells q Read batch a b l m r x first));
-    idle = λ none. idle (due none) (over none) none;
+    writes_swept = (first.by.steps, by_read.by.steps ++ last.steps, ap (λ zs. zs ++ last.steps) moments_are ∙ append_assoc first.by.steps by_read.by.steps last.steps, writes_done.0, writes_done.1);
+    reads_swept = (moments.by.steps, last.steps, refl, reads_done);
+    idle = λ none.
+        ap (λ t. t || y || z) (wrote_due none) ∙ ap (λ t. sweeps_writes q || t || z) (read_due none) ∙ ap (λ t. sweeps_writes q || sweeps_reads q || t) (over none ∙ ap (is_over q.capacity) (unmoved none))
+        ∙ idle_sweeps (is_some q.time_to_live) (is_some q.time_to_idle) (is_some q.valid_after) (is_over q.capacity e.access);
   }

@@ -29,3 +29,7 @@ first_or_rest x y xs h = at_cases x y xs h.0 h.1 h.2
 pub none_first : {A : Type 0} (xs : List A) → None ≡ slice_get xs 0 → xs ≡ []
 none_first [] e = refl
 none_first (a ∷ xs) e = cc
+
+-- nothing is in a list of none
+pub nothing_there : {A : Type 0} (x : A) → Contains [] x → ⊥
+nothing_there x h = (let lt = h.1 in omega arith)

@@ -1,5 +1,5 @@
 -- What applying the queues and the passes make of a state is a run of the reference cache that keeps its promises.
-use Rattle.std.proofs.Common.{◌≡◌, refl, ℕ, ◌+◌, ◌-◌, ◌<◌, Bool, true, false, true≢false, not, ◌==◌, ◌&&◌, ◌||◌, List, [], ◌∷◌, length, ◌⊎◌, inl, inr, Option, Some, None, is_some, option_map, ap, sym, subst, ◌∙◌, arith, eqb→eq, if◌then◌else◌}
+use Rattle.std.proofs.Common.{◌≡◌, refl, ℕ, ◌+◌, ◌-◌, ◌*◌, ◌<◌, ◌≤◌, ◌++◌, Bool, true, false, true≢false, not, ◌==◌, ◌&&◌, ◌||◌, List, [], ◌∷◌, length, ◌⊎◌, inl, inr, Option, Some, None, is_some, option_map, ap, sym, subst, ◌∙◌, arith, eqb→eq, if◌then◌else◌}
 use Rattle.std.specs.Bool.{passes}
 use Rattle.std.specs.Prelude.{Contains, take}
 use Rattle.std.specs.List.{list_any}
@@ -9,32 +9,37 @@ use Rattle.moka_parts.specs.declared.notification.RemovalCause.{RemovalCause}
 use Rattle.moka_parts.specs.declared.policy.Instant.{Instant}
 use Rattle.moka_parts.specs.declared.records.Record.{Record}
 use Rattle.moka_parts.specs.declared.records.Member.{Member}
-use Rattle.moka_parts.specs.Time.{has_passed, moment_of}
-use Rattle.moka_parts.specs.Records.{Records, when_listening, is_settled, is_member, counted_of, numbers_of, total_weight}
+use Rattle.moka_parts.specs.declared.records.Operation.{Operation}
+use Rattle.moka_parts.specs.declared.records.Operation.TheVariants.{Upsert}
+use Rattle.moka_parts.specs.Visibility.{is_expired}
+use Rattle.moka_parts.specs.Records.{Records, when_listening, is_applied, is_settled, is_member, counted_of, numbers_of, total_weight}
 use Rattle.moka_parts.specs.State.{State, Contents, with_contents, is_disabled, keeps_write_list}
 use Rattle.moka_parts.specs.Surroundings.{Heard}
 use Rattle.moka_parts.specs.Writes.{left_by_writes}
 use Rattle.moka_parts.specs.Candidates.{prefix}
 use Rattle.moka_parts.specs.Maintenance as parts
-use Rattle.moka_parts.specs.Maintenance.{Terms, Course, Freedom, after_choices, left_by_choices, after_queued_reads, before_steps, at_end, after_run, left_in_run, is_over, is_cut, is_late, is_timed, tests_of, AreJustified, AreFree}
+use Rattle.moka_parts.specs.Maintenance.{Choice, Terms, Course, Freedom, after_choices, left_by_choices, after_queued_reads, before_steps, at_end, after_run, left_in_run, is_over, is_cut, is_late, is_timed, tests_of, AreJustified, AreFree}
 use Rattle.moka_parts.specs.Bounds.{removed_by, IsPlainSurplus, IsBounded}
 use Rattle.moka_parts.specs.Exact.{IsExact, IsWithin}
-use Rattle.moka_parts.specs.Settling.{IsAllSent, IsWaitingIn, IsWhole, IsConsistentState, IsValid, LeavesBehind, Settles, leaves_more_idle}
-use Rattle.moka_parts.specs.Runs.{PromisedRun}
+use Rattle.moka_parts.specs.Settling.{IsAllSent, IsWaitingIn, IsWhole, IsConsistentState, IsSound, IsValid, LeavesBehind, NeverRenewsOnRead, Settles, leaves_more_idle}
+use Rattle.moka_parts.specs.Listed.{LeavesList, ListedRun}
+use Rattle.moka_parts.specs.Order.{ComesToRest, IsAtRestByWrite, write_list_at_end, write_list_before_steps, written_after_choices, written_after_writes}
+use Rattle.moka_parts.proofs.Maps.{same_or_apart}
 use Rattle.moka_parts.proofs.RunKeeps.{run_keeps}
 use Rattle.moka_parts.proofs.RunKeepsSound.{run_kept}
 use Rattle.moka_parts.proofs.StepsKeep.{run_valid}
 use Rattle.moka_parts.proofs.AtEnd.{nothing_waits, all_settled, count_is_near, run_is_exact}
-use Rattle.moka_parts.proofs.RunReturns.{IsPromised, promised_is_listed}
+use Rattle.moka_parts.proofs.RunReturns.{IsPromised}
 use Rattle.moka_parts.proofs.Surplus.{removes_enough, removes_first, removes_for_size_alone, leaves_settled}
 use Rattle.moka_maintenance.specs.declared.sweep.Tests.{Tests}
-use Rattle.moka_maintenance.specs.Steps.{HasUnsettled, Told, makes_room, unseen}
+use Rattle.moka_maintenance.specs.declared.sweep.Sweep.TheVariants.{Written}
+use Rattle.moka_maintenance.specs.Steps.{Stock, stock_of, after_steps, left_by_steps, MayStep, MayAll, HasUnsettled, Told, makes_room}
 use Rattle.moka_maintenance.specs.Queues.{ArePrepared}
-use Rattle.moka_maintenance.specs.Sweeps.{tests_in}
-use Rattle.moka_maintenance.specs.Passes.{IsRan, sweeps_reads}
+use Rattle.moka_maintenance.specs.Sweeps.{tests_in, IsAtRest, IsDone}
+use Rattle.moka_maintenance.specs.Passes.{IsRan, sweeps_writes}
 use Rattle.moka_maintenance.proofs.Told.{told_same, told-on}
-use Rattle.moka_maintenance.proofs.Stepped.{steps_justified, steps_keep_predicates}
-use Rattle.moka_maintenance.proofs.Unseen.{may-seen, led-seen, left-seen}
+use Rattle.moka_maintenance.proofs.Stepped.{may-second, steps-append, unsettled-steps}
+use Rattle.moka_maintenance.proofs.Seen.{steps-seen, led-seen, listed-seen, left-seen, steps_justified, steps_keep_predicates}
 
 -- ---- small facts
 
@@ -57,20 +62,21 @@ some_unsettled records (a ∷ access) n there waiting = at (λ later. some_unset
     at later true same there = ap (λ k. not (is_settled records k) || list_any (λ a. not (is_settled records a.number)) access) (eqb→eq a.number n (passes _ same)) ∙ ap (λ b. not b || list_any (λ a. not (is_settled records a.number)) access) waiting
     at later false same there = behind (not (is_settled records a.number)) (list_any (λ a. not (is_settled records a.number)) access) (later there)
 
--- where no order of writing is kept there is no time to live
-no_time_to_live : (a b : Bool) → (a || b) ≡ false → a ≡ false
-no_time_to_live true b e = e
-no_time_to_live false b e = refl
+-- where nothing waits, a record in the map is a settled member
+same_by_order : (a b : ℕ) → a ≤ b → (a < b → ⊥) → (a == b) ≡ true
+same_by_order a b le differ = elim (same_or_apart a b) [ inl e ↦ grind (arith, e) | inr apart ↦ let d = apart.forth in absurd (differ (grind (arith, le, d))) ]
+
+record_settled : {K V : Type 0} (Waits : Operation → Type 0) (none : (o : Operation) → Waits o → ⊥) (k : ℕ) (r : Record K V) (counted : Option ℕ) → IsSound Waits k (Some r) counted → (is_some counted ≡ true) × (is_applied r ≡ true)
+record_settled Waits none k r None s = let p = s.pending (s.outside refl) in absurd (none (Upsert k r.generation r.weight p.0) p.1)
+record_settled Waits none k r (Some w) s = (refl, same_by_order r.applied r.generation s.applied (λ below. let p = s.pending below in none (Upsert k r.generation r.weight p.0) p.1))
 
 mapped_is_some : {A B : Type 0} (f : A → B) (o : Option A) → is_some (option_map f o) ≡ is_some o
 mapped_is_some f None = refl
 mapped_is_some f (Some x) = refl
 
--- the tests that leave more with a batch of 0, of a run without a time to live
-joined : (live idle invalid over a b c : Bool) → live ≡ false → idle ≡ a → invalid ≡ b → over ≡ c → ((idle || invalid) || over) ≡ (live || a || b || c)
-joined live true invalid over a b c off e f g = rw (off, ← e) refl
-joined live false true over a b c off e f g = rw (off, ← e, ← f) refl
-joined live false false over a b c off e f g = rw (off, ← e, ← f) g
+-- the tests that leave more with a batch of 0
+joined : (live idle invalid over a b c d : Bool) → live ≡ a → idle ≡ b → invalid ≡ c → over ≡ d → ((live || idle || invalid) || over) ≡ (a || b || c || d)
+joined live idle invalid over a b c d e f g h = rw (e, f, g, h) refl
 
 -- late by the limit of a run that has one only where a listener is set
 late_where_listening : (b : Bool) (limit : Option ℕ) (readings : List Instant) → (b && is_late limit readings) ≡ is_late (if b then limit else None) readings
@@ -88,15 +94,11 @@ limited_where_listening false limit = refl
 pub record IsSimple {K V X P W : Type 0} (s : State K V X P W) : Type 0 where
   pub enabled : is_disabled s.capacity ≡ false
   pub unregistered : s.predicates ≡ []
-  -- no order of writing is kept
-  pub unordered : keeps_write_list s.settings ≡ false
   pub consistent : IsConsistentState s
-  -- no record has an expiry of its own
-  pub lasting : (n : ℕ) (r : Record K V) → get s.records n ≡ Some r → r.expires ≡ None
 
 module _ {K V X P W L C : Type 0} {tells : L → K → V → RemovalCause → L → Type 0} {reads : C → Instant → C → Type 0} (s : State K V X P W) (simple : IsSimple s) (terms : Terms) (q : Tests) (by_state : tests_in q ≡ tests_of s terms.now)
-    {c d : Contents K V} {l m n : Option L} (applied : ArePrepared tells s.capacity s.settings.policy (is_some s.settings.weigher) (after_queued_reads s) c s.writes l m)
-    {clock clock_after : C} {passes : ℕ} {left : Bool} (sketched : d.sketch ≡ c.sketch) (ran : IsRan tells q reads (if s.settings.listening then terms.limit else None) terms.batch (unseen c) (unseen d) m n clock clock_after passes left) where
+    {c d : Contents K V} {ns ms ks : List ℕ} {l m n : Option L} (applied : ArePrepared tells s.capacity s.settings.policy (keeps_write_list s.settings) (is_some s.settings.weigher) (after_queued_reads s) c ns ms s.writes l m)
+    {clock clock_after : C} {passes : ℕ} {left : Bool} (sketched : d.sketch ≡ c.sketch) (ran : IsRan tells q reads (if s.settings.listening then terms.limit else None) terms.batch (stock_of c ms) (stock_of d ks) m n clock clock_after passes left) where
   -- what the run chose
   abbrev pub choices : Freedom
   choices = record { moves = applied.moves; is_short = applied.is_short; steps = ran.by.steps }
@@ -113,11 +115,11 @@ module _ {K V X P W L C : Type 0} {tells : L → K → V → RemovalCause → L 
   before_same = sym applied.led
 
   end_same : at_end s choices ≡ d
-  end_same = ap (λ c. after_choices c ran.by.steps) before_same ∙ sym (led-seen c d ran.by.steps sketched ran.by.led)
+  end_same = ap (λ c. after_choices c ran.by.steps) before_same ∙ sym (led-seen c d ms ks ran.by.steps ran.by.led sketched)
 
   -- it is the reference cache's
   pub run_same : after_run s choices ≡ left_state
-  run_same = ap (with_contents s (at_end s choices)) (steps_keep_predicates (tests_in q) (λ (p : P) (k : K) (v : V) (b : Bool). Unit {0}) s.predicates c ran.by.steps (may-seen (tests_in q) c ran.by.steps ran.by.may)) ∙ ap (λ c. with_contents s c s.predicates) end_same
+  run_same = ap (with_contents s (at_end s choices)) (steps_keep_predicates (tests_in q) s.predicates (stock_of c ms) ran.by.steps ran.by.may) ∙ ap (λ c. with_contents s c s.predicates) end_same
 
   -- afterwards only what was not sent waits
   pub end_consistent : IsConsistentState left_state
@@ -127,11 +129,11 @@ module _ {K V X P W L C : Type 0} {tells : L → K → V → RemovalCause → L 
   pub end_valid : (eq : K → K → Bool) → IsValid eq s → IsValid eq left_state
   end_valid eq valid = subst (IsValid eq) run_same (run_valid eq s choices simple.enabled valid)
 
-  -- no record has an expiry of its own
-  pub end_lasting : (k : ℕ) (r : Record K V) → get d.records k ≡ Some r → r.expires ≡ None
-  end_lasting k r there =
+  -- where no record has an expiry of its own, none has one
+  pub end_lasting : ((k : ℕ) (r : Record K V) → get s.records k ≡ Some r → r.expires ≡ None) → (k : ℕ) (r : Record K V) → get d.records k ≡ Some r → r.expires ≡ None
+  end_lasting lasting k r there =
       let old = run_keeps s choices k r (ap (λ (c : Contents K V). get c.records k) end_same ∙ there) in
-      ap (λ (q : Record K V). q.expires) {y = record old.0 { applied = old.2.0 }} old.2.1 ∙ simple.lasting k old.0 old.1
+      ap (λ (q : Record K V). q.expires) {y = record old.0 { applied = old.2.0 }} old.2.1 ∙ lasting k old.0 old.1
 
   -- once everything was sent, the report is exact, whatever the batch
   pub end_exact : IsAllSent s → IsExact left_state
@@ -150,18 +152,19 @@ module _ {K V X P W L C : Type 0} {tells : L → K → V → RemovalCause → L 
   same_capacity : q.capacity ≡ s.capacity
   same_capacity = ap (λ (t : parts.Tests). t.capacity) by_state
 
-  at_rest : IsWhole s terms course → HasUnsettled (unseen d) ⊎ IsWithin s.capacity d.access
+  at_rest : IsWhole s terms course → HasUnsettled (stock_of d ks) ⊎ IsWithin s.capacity d.access
   at_rest whole = elim (ran.rest (finished whole)) [
     | inl some ↦ inl some
     | inr within ↦ inr (subst (λ o. IsWithin o d.access) same_capacity within)
   ]
 
-  idle_by_state : (sweeps_reads q || is_over q.capacity d.access) ≡ leaves_more_idle left_state
+  idle_by_state : (sweeps_writes q || is_over q.capacity d.access) ≡ leaves_more_idle left_state
   idle_by_state =
+      let live : is_some q.time_to_live ≡ is_some s.settings.time_to_live = sym (mapped_is_some as_nanos q.time_to_live) ∙ ap (λ (t : parts.Tests). is_some t.time_to_live) by_state in
       let idle : is_some q.time_to_idle ≡ is_some s.settings.time_to_idle = sym (mapped_is_some as_nanos q.time_to_idle) ∙ ap (λ (t : parts.Tests). is_some t.time_to_idle) by_state in
       let invalid : is_some q.valid_after ≡ is_some s.invalid_before = ap (λ (t : parts.Tests). is_some t.invalid_before) by_state in
-      joined (is_some s.settings.time_to_live) (is_some q.time_to_idle) (is_some q.valid_after) (is_over q.capacity d.access) (is_some s.settings.time_to_idle) (is_some s.invalid_before) (is_over s.capacity d.access)
-      (no_time_to_live (is_some s.settings.time_to_live) s.settings.invalidator simple.unordered) idle invalid (ap (λ o. is_over o d.access) same_capacity)
+      joined (is_some q.time_to_live) (is_some q.time_to_idle) (is_some q.valid_after) (is_over q.capacity d.access) (is_some s.settings.time_to_live) (is_some s.settings.time_to_idle) (is_some s.invalid_before) (is_over s.capacity d.access)
+      live idle invalid (ap (λ o. is_over o d.access) same_capacity)
 
   leaves : LeavesBehind s terms course left_state
   leaves =
@@ -174,21 +177,57 @@ module _ {K V X P W L C : Type 0} {tells : L → K → V → RemovalCause → L 
         cut = λ cut. ran.cut (sym cut_late ∙ cut);
         more = λ whole is. absurd (true≢false (sym is ∙ finished whole));
         unfinished = λ whole some settled. absurd (not_empty s.predicates simple.unregistered some);
-        idle = λ enabled uncut none. (ran.idle none).1 ∙ idle_by_state;
+        idle = λ enabled uncut none. ran.idle none ∙ idle_by_state;
         count_high = near.0;
         count_low = near.1;
       }
 
   -- once everything was sent, no member is unsettled
-  none_unsettled : IsAllSent s → HasUnsettled (unseen d) → ⊥
+  none_unsettled : IsAllSent s → HasUnsettled (stock_of d ks) → ⊥
   none_unsettled all some = true≢false (sym (all_settled (IsWaitingIn s.outstanding []) d.records d.access end_consistent (nothing_waits s.outstanding all) some.number some.is_in) ∙ some.unsettled)
 
-  module _ (says : P → K → V → Bool → Type 0) (read : X → K → V → ℕ → Option ℕ → ℕ → Option ℕ) where
+  -- and each record is a settled member
+  pub each_settled : IsAllSent s → (k : ℕ) (r : Record K V) → get d.records k ≡ Some r → (is_member k d.access ≡ true) × (is_applied r ≡ true)
+  each_settled all k r there = record_settled (IsWaitingIn s.outstanding []) (nothing_waits s.outstanding all) k r (counted_of k d.access) (subst (λ o. IsSound (IsWaitingIn s.outstanding []) k o (counted_of k d.access)) there (end_consistent.sound k))
+
+  -- ---- the write list
+
+  list_before : keeps_write_list s.settings ≡ true → ms ≡ write_list_before_steps s ns choices
+  list_before kept = applied.listed kept ∙ ap (λ b. written_after_writes b s.capacity s.settings.policy (after_queued_reads s) ns s.writes applied.moves) (sym kept)
+
+  list_after : keeps_write_list s.settings ≡ true → ks ≡ write_list_at_end s ns choices
+  list_after kept = listed-seen c d ms ks ran.by.steps ran.by.led ∙ ap (λ xs. written_after_choices xs ran.by.steps) (list_before kept)
+
+  -- it came to rest by the write list
+  comes_to_rest : IsWhole s terms course → IsAllSent s → keeps_write_list s.settings ≡ true → ComesToRest s ns choices terms.now
+  comes_to_rest whole all kept = elim (swept.4 (finished whole)) [
+    | inl some ↦
+        let may = may-second (MayStep (tests_in q)) (stock_of c ms) swept.0 swept.1 (subst (MayAll (MayStep (tests_in q)) (stock_of c ms)) swept.2 ran.by.may) in
+        let last = unsettled-steps (tests_in q) (after_steps (stock_of c ms) swept.0) swept.1 may some in
+        let same : after_steps (after_steps (stock_of c ms) swept.0) swept.1 ≡ stock_of d ks = sym (steps-append (stock_of c ms) swept.0 swept.1) ∙ sym (ap (after_steps (stock_of c ms)) swept.2) ∙ sym ran.by.led in
+        absurd (none_unsettled all (subst (λ e. HasUnsettled e) same last))
+    | inr rest ↦ (swept.0, swept.1, swept.2, at_front rest)
+  ]
+    where
+      swept : (first second : List Choice) × (ran.by.steps ≡ first ++ second) × IsDone q Written (passes * terms.batch) (length first) (after_steps (stock_of c ms) first) × (left ≡ false → HasUnsettled (after_steps (stock_of c ms) first) ⊎ IsAtRest q Written (after_steps (stock_of c ms) first))
+      swept = ran.writes_swept
+
+      at_front : IsAtRest q Written (after_steps (stock_of c ms) swept.0) → IsAtRestByWrite (tests_of s terms.now) (after_choices (before_steps s choices) swept.0).records (written_after_choices (write_list_before_steps s ns choices) swept.0)
+      at_front rest =
+          subst (λ t. IsAtRestByWrite t (after_choices (before_steps s choices) swept.0).records (written_after_choices (write_list_before_steps s ns choices) swept.0)) by_state
+          (subst (λ b. IsAtRestByWrite (tests_in q) (after_choices b swept.0).records (written_after_choices (write_list_before_steps s ns choices) swept.0)) (sym before_same)
+          (subst (λ xs. IsAtRestByWrite (tests_in q) (after_choices c swept.0).records (written_after_choices xs swept.0)) (list_before kept)
+          (subst (λ (e : Stock K V). IsAtRestByWrite (tests_in q) e.records e.written) (steps-seen c ms swept.0) rest)))
+
+  leaves_list : LeavesList ns ks s terms choices course
+  leaves_list = record { list = list_after; rests = comes_to_rest }
+
+  module _ (says : P → K → V → Bool → Type 0) (read : X → K → V → ℕ → Option ℕ → ℕ → Option ℕ) (lasts : IsAllSent s → NeverRenewsOnRead read s → (k : ℕ) (r : Record K V) → get d.records k ≡ Some r → is_expired r terms.now ≡ false) where
     settles : Settles says read s terms course left_state
     settles = record {
       exact = λ whole all. end_exact all;
       within = λ whole all. elim (at_rest whole) [ inl some ↦ absurd (none_unsettled all some) | inr within ↦ within ];
-      expired = λ whole all never k r there. ap (λ e. has_passed (moment_of e) terms.now) (end_lasting k r there);
+      expired = λ whole all never k r there. lasts all never k r there;
       predicates = λ whole all enabled supported enough. simple.unregistered;
       covered = λ whole all enabled supported enough p k r is there covers. absurd (not_contained s.predicates p simple.unregistered is);
     }
@@ -196,7 +235,7 @@ module _ {K V X P W L C : Type 0} {tells : L → K → V → RemovalCause → L 
     justified : AreJustified says (tests_of s terms.now) (before_steps s choices) s.predicates ran.by.steps
     justified =
         subst (λ t. AreJustified says t (before_steps s choices) s.predicates ran.by.steps) by_state
-        (subst (λ b. AreJustified says (tests_in q) b s.predicates ran.by.steps) (sym before_same) (steps_justified (tests_in q) says s.predicates c ran.by.steps (may-seen (tests_in q) c ran.by.steps ran.by.may)))
+        (subst (λ b. AreJustified says (tests_in q) b s.predicates ran.by.steps) (sym before_same) (steps_justified (tests_in q) says s.predicates c ms ran.by.steps ran.by.may))
 
     is_free : AreFree says s terms.now choices
     is_free = (applied.may, justified)
@@ -231,52 +270,55 @@ module _ {K V X P W L C : Type 0} {tells : L → K → V → RemovalCause → L 
     }
 
     -- the run keeps its promises
-    pub promised : PromisedRun says read s terms course (when_listening s.settings.listening (left_in_run s choices)) left_state
-    promised = (rw simple.enabled (choices, (is_free, sym run_same, refl), bounded), (leaves, settles))
+    pub promised : ListedRun says read ns ks s terms course (when_listening s.settings.listening (left_in_run s choices)) left_state
+    promised = (rw simple.enabled (choices, (is_free, sym run_same, refl), (bounded, leaves_list)), ((leaves, settles), λ off. absurd (true≢false (sym off ∙ simple.enabled))))
 
   -- the listener is notified of what leaves
   pub promised_told : s.settings.listening ≡ is_some l → Heard tells l (when_listening s.settings.listening (left_in_run s choices)) n
   promised_told listening =
       subst (λ b. Heard tells l (when_listening b (left_in_run s choices)) n) (sym listening)
       (told-on tells l m n (left_by_writes s.capacity s.settings.policy (after_queued_reads s) s.writes applied.moves) (left_by_choices (before_steps s choices) ran.by.steps) applied.told
-      (subst (λ b. Told tells m (left_by_choices b ran.by.steps) n) (sym before_same) (subst (λ ns. Told tells m ns n) (left-seen c ran.by.steps) ran.by.told)))
+      (subst (λ b. Told tells m (left_by_choices b ran.by.steps) n) (sym before_same) (subst (λ xs. Told tells m xs n) (left-seen c ms ran.by.steps) ran.by.told)))
 
 -- ---- the run, with the premises as they come
 
 module _ {K V X P W L C : Type 0} {tells : L → K → V → RemovalCause → L → Type 0} {reads : C → Instant → C → Type 0} (s : State K V X P W) (simple : IsSimple s) (terms : Terms) {q : Tests} (by_state : tests_in q ≡ tests_of s terms.now)
-    {b c d : Contents K V} {l m n : Option L} (begun : b ≡ after_queued_reads s) (applied : ArePrepared tells s.capacity s.settings.policy (is_some s.settings.weigher) b c s.writes l m)
-    {limit : Option ℕ} {batch : ℕ} {clock clock_after : C} {passes : ℕ} {left : Bool} (limited : limit ≡ (if s.settings.listening then terms.limit else None)) (batched : batch ≡ terms.batch) (sketched : d.sketch ≡ c.sketch) (ran : IsRan tells q reads limit batch (unseen c) (unseen d) m n clock clock_after passes left) where
-  applied_to_state : ArePrepared tells s.capacity s.settings.policy (is_some s.settings.weigher) (after_queued_reads s) c s.writes l m
-  applied_to_state = subst (λ b. ArePrepared tells s.capacity s.settings.policy (is_some s.settings.weigher) b c s.writes l m) begun applied
+    {b c d : Contents K V} {ordered : Bool} (kept : ordered ≡ keeps_write_list s.settings) {ns ms ks : List ℕ} {l m n : Option L} (begun : b ≡ after_queued_reads s) (applied : ArePrepared tells s.capacity s.settings.policy ordered (is_some s.settings.weigher) b c ns ms s.writes l m)
+    {limit : Option ℕ} {batch : ℕ} {clock clock_after : C} {passes : ℕ} {left : Bool} (limited : limit ≡ (if s.settings.listening then terms.limit else None)) (batched : batch ≡ terms.batch) (sketched : d.sketch ≡ c.sketch) (ran : IsRan tells q reads limit batch (stock_of c ms) (stock_of d ks) m n clock clock_after passes left) where
+  applied_to_state : ArePrepared tells s.capacity s.settings.policy (keeps_write_list s.settings) (is_some s.settings.weigher) (after_queued_reads s) c ns ms s.writes l m
+  applied_to_state =
+      subst (λ o. ArePrepared tells s.capacity s.settings.policy o (is_some s.settings.weigher) (after_queued_reads s) c ns ms s.writes l m) kept
+      (subst (λ b. ArePrepared tells s.capacity s.settings.policy ordered (is_some s.settings.weigher) b c ns ms s.writes l m) begun applied)
 
-  ran_by_terms : IsRan tells q reads (if s.settings.listening then terms.limit else None) terms.batch (unseen c) (unseen d) m n clock clock_after passes left
-  ran_by_terms = subst (λ o. IsRan tells q reads o terms.batch (unseen c) (unseen d) m n clock clock_after passes left) limited (subst (λ k. IsRan tells q reads limit k (unseen c) (unseen d) m n clock clock_after passes left) batched ran)
+  ran_by_terms : IsRan tells q reads (if s.settings.listening then terms.limit else None) terms.batch (stock_of c ms) (stock_of d ks) m n clock clock_after passes left
+  ran_by_terms = subst (λ o. IsRan tells q reads o terms.batch (stock_of c ms) (stock_of d ks) m n clock clock_after passes left) limited (subst (λ k. IsRan tells q reads limit k (stock_of c ms) (stock_of d ks) m n clock clock_after passes left) batched ran)
 
-  -- it keeps all promises, and any write list, as none is kept
-  pub run_promised : (says : P → K → V → Bool → Type 0) (read : X → K → V → ℕ → Option ℕ → ℕ → Option ℕ) (ns : List ℕ) → s.settings.listening ≡ is_some l → IsPromised says read tells reads ns ns s terms left passes (with_contents s d s.predicates) l n clock clock_after
-  run_promised says read ns listening = record {
+  -- it keeps all promises, from one write list to the other
+  pub run_promised : (says : P → K → V → Bool → Type 0) (read : X → K → V → ℕ → Option ℕ → ℕ → Option ℕ) → (IsAllSent s → NeverRenewsOnRead read s → (k : ℕ) (r : Record K V) → get d.records k ≡ Some r → is_expired r terms.now ≡ false)
+      → s.settings.listening ≡ is_some l → IsPromised says read tells reads ns ks s terms left passes (with_contents s d s.predicates) l n clock clock_after
+  run_promised says read lasts listening = record {
     readings = ran_by_terms.readings;
     notices = when_listening s.settings.listening (left_in_run s (choices s simple terms q by_state applied_to_state sketched ran_by_terms));
-    run =
-        promised_is_listed says read ns s terms _ _ (with_contents s d s.predicates) simple.unordered
-        (promised s simple terms q by_state applied_to_state sketched ran_by_terms says read);
+    run = promised s simple terms q by_state applied_to_state sketched ran_by_terms says read lasts;
     heard = promised_told s simple terms q by_state applied_to_state sketched ran_by_terms listening;
     led = ran_by_terms.read;
   }
 
   -- a listener stays set
   pub run_keeps_listening : is_some n ≡ is_some l
-  run_keeps_listening = told_same tells m n (left_by_choices (unseen c) ran.by.steps) ran.by.told ∙ told_same tells l m (left_by_writes s.capacity s.settings.policy b s.writes applied.moves) applied.told
+  run_keeps_listening = told_same tells m n (left_by_steps (stock_of c ms) ran.by.steps) ran.by.told ∙ told_same tells l m (left_by_writes s.capacity s.settings.policy b s.writes applied.moves) applied.told
 
-  -- it leaves a state from which the next may start
-  pub run_leaves_simple : IsSimple (with_contents s d s.predicates)
-  run_leaves_simple = record {
-    enabled = simple.enabled;
-    unregistered = simple.unregistered;
-    unordered = simple.unordered;
-    consistent = end_consistent s simple terms q by_state applied_to_state sketched ran_by_terms;
-    lasting = end_lasting s simple terms q by_state applied_to_state sketched ran_by_terms;
-  }
+  -- afterwards only what was not sent waits
+  pub run_leaves_consistent : IsConsistentState (with_contents s d s.predicates)
+  run_leaves_consistent = end_consistent s simple terms q by_state applied_to_state sketched ran_by_terms
+
+  -- where no record has an expiry of its own, none has one
+  pub run_leaves_lasting : ((k : ℕ) (r : Record K V) → get s.records k ≡ Some r → r.expires ≡ None) → (k : ℕ) (r : Record K V) → get d.records k ≡ Some r → r.expires ≡ None
+  run_leaves_lasting = end_lasting s simple terms q by_state applied_to_state sketched ran_by_terms
+
+  -- once everything was sent, each record is a settled member
+  pub run_settles_each : IsAllSent s → (k : ℕ) (r : Record K V) → get d.records k ≡ Some r → (is_member k d.access ≡ true) × (is_applied r ≡ true)
+  run_settles_each = each_settled s simple terms q by_state applied_to_state sketched ran_by_terms
 
   -- the state is as valid as before
   pub run_leaves_valid : (eq : K → K → Bool) → IsValid eq s → IsValid eq (with_contents s d s.predicates)

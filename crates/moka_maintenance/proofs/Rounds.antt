@@ -8,9 +8,8 @@ use Rattle.moka_parts.specs.declared.records.Member.{Member}
 use Rattle.moka_parts.specs.declared.records.Record.{Record}
 use Rattle.moka_parts.specs.declared.records.Registered.{Registered}
 use Rattle.moka_parts.specs.Records.{Records, counted_of, is_listed, is_member, is_settled, settled_members, without_member}
-use Rattle.moka_parts.specs.State.{Contents}
-use Rattle.moka_parts.specs.Maintenance.{Choice, Removes, MovesToBack, Drops, after_choice, after_choices}
-use Rattle.moka_parts.specs.Order.{IsListOf, written_after_choices}
+use Rattle.moka_parts.specs.Maintenance.{Choice, Removes, MovesToBack, Drops}
+use Rattle.moka_parts.specs.Order.{IsListOf}
 use Rattle.moka_parts.specs.Scan.{AreUncovered}
 use Rattle.moka_parts.proofs.Maps.{itself_tested}
 use Rattle.moka_parts.proofs.Scanned.{uncovered-append, uncovered-kept}
@@ -19,10 +18,9 @@ use Rattle.moka_store.specs.Store.{Kept}
 use Rattle.moka_store.proofs.Gets.{after_remove}
 use Rattle.moka_store.proofs.Members.{counted-without}
 use Rattle.moka_maintenance.specs.Scanning.{MayScan, IsWalked, IsRound}
-use Rattle.moka_maintenance.specs.Steps.{contents_in}
-use Rattle.moka_maintenance.proofs.Passing.{length-removed}
-use Rattle.moka_maintenance.proofs.Stepped.{length-on, stepped-on}
-use Rattle.moka_maintenance.proofs.Walked.{no_steps, split_at, unlisted_all, written-append}
+use Rattle.moka_maintenance.specs.Steps.{Stock, after_step, after_steps, stock_in}
+use Rattle.moka_maintenance.proofs.Stepped.{length-on, length-removed, stepped-on}
+use Rattle.moka_maintenance.proofs.Walked.{no_steps, split_at, unlisted_all}
 
 -- ---- lists
 
@@ -78,10 +76,10 @@ none_settled records (a ∷ access) all =
     later a access n there = elim (a.number == n) as (λ b. is_some (cond b (Some a.counted) (counted_of n access)) ≡ true) [ true ↦ refl | false ↦ there ]
 
 -- what is left by steps was there before
-pub still_there : {K V : Type 0} (c : Contents K V) (xs : List Choice) (n : ℕ) (r : Record K V) → get (after_choices c xs).records n ≡ Some r → get c.records n ≡ Some r
+pub still_there : {K V : Type 0} (c : Stock K V) (xs : List Choice) (n : ℕ) (r : Record K V) → get (after_steps c xs).records n ≡ Some r → get c.records n ≡ Some r
 still_there c [] n r at = at
-still_there c (Removes m cause ∷ xs) n r at = (after_remove c.records m n r (still_there (after_choice c (Removes m cause)) xs n r at)).1
-still_there c (MovesToBack m ∷ xs) n r at = still_there (after_choice c (MovesToBack m)) xs n r at
+still_there c (Removes m cause ∷ xs) n r at = (after_remove c.records m n r (still_there (after_step c (Removes m cause)) xs n r at)).1
+still_there c (MovesToBack m ∷ xs) n r at = still_there (after_step c (MovesToBack m)) xs n r at
 still_there c (Drops i ∷ xs) n r at = still_there c xs n r at
 
 -- where a walk starts
@@ -122,7 +120,6 @@ module _ {K V L P : Type 0} (tells : L → K → V → RemovalCause → L → Ty
   pub round-part : is_none mid.cursor ≡ false → (length old.access ≤ passed) ⊎ (batch ≤ looked) → (end : Bool) → end ≡ false → IsRound tells says ps batch old mid l m looked end
   round-part on stopped end part = record {
     by = h.by;
-    course = h.course;
     few = h.few;
     most = most;
     unlooked = λ ordered some none. elim stopped [ inl all ↦ absurd (beyond ordered all) | inr used ↦ absurd (omega arith) ];
@@ -176,8 +173,7 @@ module _ {K V L P : Type 0} (tells : L → K → V → RemovalCause → L → Ty
     pub round-whole : (end : Bool) → end ≡ true → IsRound tells says ps batch old new l k (looked + looked_then) end
     unfolding stepped-on
     round-whole end over_all = record {
-      by = stepped-on tells (MayScan says ps) (contents_in old) (contents_in mid) (contents_in new) l m k h.by j.by;
-      course = j.course ∙ ap (λ ns. written_after_choices ns j.by.steps) h.course ∙ sym (written-append old.written h.by.steps j.by.steps);
+      by = stepped-on tells (MayScan says ps) (stock_in old) (stock_in mid) (stock_in new) l m k h.by j.by;
       few = (let both = length-on h.by.steps j.by.steps in let f = h.few in let g = j.few in omega arith);
       most = omega arith;
       unlooked = λ ordered some none. none_settled old.records old.access (λ n member. unsettled ordered some none n (known_listed ordered n member));
@@ -188,7 +184,7 @@ module _ {K V L P : Type 0} (tells : L → K → V → RemovalCause → L → Ty
         known_listed ordered n member = ap (is_listed n) (sym list) ∙ (known ordered).1 n ∙ member
 
         same_records : looked + looked_then ≡ 0 → mid.records ≡ old.records
-        same_records none = ap (λ (c : Contents K V). c.records) (h.by.led ∙ ap (after_choices (contents_in old)) (no_steps h.by.steps (let f = h.few in omega arith)))
+        same_records none = ap (λ (c : Stock K V). c.records) (h.by.led ∙ ap (after_steps (stock_in old)) (no_steps h.by.steps (let f = h.few in omega arith)))
 
         unsettled : old.ordered ≡ true → 1 ≤ batch → looked + looked_then ≡ 0 → (n : ℕ) → is_listed n (before ++ rest) ≡ true → is_settled old.records n ≡ false
         unsettled ordered some none n there = elim (listed_joined n before rest there) [
@@ -200,4 +196,4 @@ module _ {K V L P : Type 0} (tells : L → K → V → RemovalCause → L → Ty
         first enough = record { settled = λ n r listed at applied. j.uncovered.settled n r (met enough n listed) at applied }
 
         second : AreUncovered says ps new.records rest
-        second = subst (AreUncovered says ps new.records) (sym all_walked) (uncovered-kept says ps mid.records new.records h.walked (λ n r at. still_there (contents_in mid) j.by.steps n r (sym (ap (λ (c : Contents K V). get c.records n) j.by.led) ∙ at)) h.uncovered)
+        second = subst (AreUncovered says ps new.records) (sym all_walked) (uncovered-kept says ps mid.records new.records h.walked (λ n r at. still_there (stock_in mid) j.by.steps n r (sym (ap (λ (c : Stock K V). get c.records n) j.by.led) ∙ at)) h.uncovered)

@@ -1,19 +1,18 @@
 -- Steps one after the other, what they tell, and what they leave.
-use Rattle.std.proofs.Common.{◌≡◌, ◌≢◌, refl, ℕ, ◌+◌, ◌≤◌, Bool, true, false, true≢false, ◌==◌, ◌&&◌, List, [], ◌∷◌, ◌++◌, length, Option, None, is_some, inl, ap, sym, subst, ◌∙◌, arith, append_assoc, append-nil}
+use Rattle.std.proofs.Common.{◌≡◌, ◌≢◌, refl, ℕ, ◌+◌, ◌≤◌, Bool, true, false, true≢false, cond, not, ◌==◌, ◌&&◌, List, [], ◌∷◌, ◌++◌, length, Option, Some, None, is_some, ap, sym, subst, ◌∙◌, arith, append_assoc, append-nil}
 use Rattle.std.proofs.lemmas.Bool.{ne_eqb, cond-false}
-use Rattle.std.specs.Option.{option_map_or}
+use Rattle.std.specs.Option.{option_map, option_map_or}
+use Rattle.std.specs.Prelude.{option_to_list}
 use Rattle.moka_parts.specs.declared.notification.RemovalCause.{RemovalCause}
-use Rattle.moka_parts.specs.declared.notification.RemovalCause.TheVariants.{Expired, Explicit, Replaced, Size}
-use Rattle.moka_parts.specs.declared.records.Registered.{Registered}
-use Rattle.moka_parts.specs.Records.{counted_of, is_applied, is_member, is_settled}
-use Rattle.moka_parts.specs.State.{Contents}
-use Rattle.moka_parts.specs.Maintenance.{Choice, Removes, MovesToBack, Drops, Tests, after_choice, after_choices, left_by_choice, left_by_choices, kept_by_choices, IsJustified, AreJustified}
+use Rattle.moka_parts.specs.declared.records.Member.{Member}
+use Rattle.moka_parts.specs.Records.{counted_of, is_applied, is_member, is_settled, member, without_member, to_back}
+use Rattle.moka_parts.specs.Maintenance.{Choice, Removes, MovesToBack, Drops, Tests}
 use Rattle.moka_parts.specs.Bounds.{removed_by}
 use Rattle.moka_parts.proofs.OneMore.{removed_by_append}
 use Rattle.moka_store.proofs.Gets.{get-past_remove}
 use Rattle.moka_parts.proofs.AccessList.{counted-to_back}
 use Rattle.moka_store.proofs.Members.{counted-without}
-use Rattle.moka_maintenance.specs.Steps.{MayStep, MayAll, HasUnsettled, Told, IsStepped}
+use Rattle.moka_maintenance.specs.Steps.{Stock, after_step, after_steps, left_by_step, left_by_steps, MayStep, MayAll, HasUnsettled, Told, IsStepped}
 use Rattle.moka_maintenance.proofs.Told.{told-none, told-on}
 
 pub length-on : {A : Type 0} (xs ys : List A) → length (xs ++ ys) ≡ length xs + length ys
@@ -35,30 +34,70 @@ right true b e = e
 right false b e = cc
 
 module _ {K V : Type 0} where
-  pub choices-append : (c : Contents K V) (xs ys : List Choice) → after_choices c (xs ++ ys) ≡ after_choices (after_choices c xs) ys
-  choices-append c [] ys = refl
-  choices-append c (x ∷ xs) ys = choices-append (after_choice c x) xs ys
+  pub steps-append : (c : Stock K V) (xs ys : List Choice) → after_steps c (xs ++ ys) ≡ after_steps (after_steps c xs) ys
+  steps-append c [] ys = refl
+  steps-append c (x ∷ xs) ys = steps-append (after_step c x) xs ys
 
-  pub left-append : (c : Contents K V) (xs ys : List Choice) → left_by_choices c (xs ++ ys) ≡ left_by_choices c xs ++ left_by_choices (after_choices c xs) ys
+  pub left-append : (c : Stock K V) (xs ys : List Choice) → left_by_steps c (xs ++ ys) ≡ left_by_steps c xs ++ left_by_steps (after_steps c xs) ys
   left-append c [] ys = refl
-  left-append c (x ∷ xs) ys = ap (λ ns. left_by_choice c x ++ ns) (left-append (after_choice c x) xs ys) ∙ sym (append_assoc (left_by_choice c x) (left_by_choices (after_choice c x) xs) (left_by_choices (after_choices (after_choice c x) xs) ys))
+  left-append c (x ∷ xs) ys = ap (λ ns. left_by_step c x ++ ns) (left-append (after_step c x) xs ys) ∙ sym (append_assoc (left_by_step c x) (left_by_steps (after_step c x) xs) (left_by_steps (after_steps (after_step c x) xs) ys))
 
-  module _ (May : Contents K V → Choice → Type 0) where
-    pub may-append : (c : Contents K V) (xs ys : List Choice) → MayAll May c xs → MayAll May (after_choices c xs) ys → MayAll May c (xs ++ ys)
+  module _ (May : Stock K V → Choice → Type 0) where
+    pub may-append : (c : Stock K V) (xs ys : List Choice) → MayAll May c xs → MayAll May (after_steps c xs) ys → MayAll May c (xs ++ ys)
     may-append c [] ys first then = then
-    may-append c (x ∷ xs) ys first then = (first.0, may-append (after_choice c x) xs ys first.1 then)
+    may-append c (x ∷ xs) ys first then = (first.0, may-append (after_step c x) xs ys first.1 then)
+
+    pub may-second : (c : Stock K V) (xs ys : List Choice) → MayAll May c (xs ++ ys) → MayAll May (after_steps c xs) ys
+    may-second c [] ys may = may
+    may-second c (x ∷ xs) ys may = may-second (after_step c x) xs ys may.1
 
     -- what one rule allows, another does
-    pub may-also : (Other : Contents K V → Choice → Type 0) → ((c : Contents K V) (x : Choice) → May c x → Other c x) → (c : Contents K V) (xs : List Choice) → MayAll May c xs → MayAll Other c xs
+    pub may-also : (Other : Stock K V → Choice → Type 0) → ((c : Stock K V) (x : Choice) → May c x → Other c x) → (c : Stock K V) (xs : List Choice) → MayAll May c xs → MayAll Other c xs
     may-also Other also c [] may = tt
-    may-also Other also c (x ∷ xs) may = (also c x may.0, may-also Other also (after_choice c x) xs may.1)
+    may-also Other also c (x ∷ xs) may = (also c x may.0, may-also Other also (after_step c x) xs may.1)
+
+first : (a b : Bool) → (a && b) ≡ true → a ≡ true
+first true b e = refl
+first false b e = cc
+
+-- ---- each removal makes the access list shorter
+
+length-without : (n : ℕ) (xs : List Member) → length (without_member n xs) ≤ length xs
+length-without n [] = omega arith
+length-without n (a ∷ xs) = let rest = length-without n xs in elim (a.number == n) as (λ b. length (cond (not b) (a ∷ without_member n xs) (without_member n xs)) ≤ length (a ∷ xs)) [
+  | true ↦ omega arith
+  | false ↦ omega arith
+]
+
+pub length-removed : (n : ℕ) (xs : List Member) → is_member n xs ≡ true → length (without_member n xs) + 1 ≤ length xs
+length-removed n [] e = cc
+length-removed n (a ∷ xs) e = go (a.number == n) (λ e. length-removed n xs e) e
+  where
+    go : (b : Bool) → (is_member n xs ≡ true → length (without_member n xs) + 1 ≤ length xs) → is_some (cond b (Some a.counted) (counted_of n xs)) ≡ true → length (cond (not b) (a ∷ without_member n xs) (without_member n xs)) + 1 ≤ length (a ∷ xs)
+    go true later e = let rest = length-without n xs in omega arith
+    go false later e = let rest = later e in omega arith
+
+one_at_most : (n : ℕ) (o : Option ℕ) → length (option_to_list (option_map (member n) o)) ≤ 1
+one_at_most n None = omega arith
+one_at_most n (Some w) = omega arith
+
+length-back : (n : ℕ) (xs : List Member) → is_member n xs ≡ true → length (to_back n xs) ≤ length xs
+length-back n xs e = let less = length-removed n xs e in let plus = length-on (without_member n xs) (option_to_list (option_map (member n) (counted_of n xs))) in let one = one_at_most n (counted_of n xs) in omega arith
+
+pub shrinks : {K V : Type 0} (q : Tests) (c : Stock K V) (xs : List Choice) → MayAll (MayStep q) c xs → length (after_steps c xs).access + length (removed_by xs) ≤ length c.access
+shrinks q c [] may = omega arith
+shrinks q c (Removes n cause ∷ xs) may = let rest = shrinks q (after_step c (Removes n cause)) xs may.1 in let less = length-removed n c.access (first (is_member n c.access) (is_settled c.records n) may.0.2) in omega arith
+shrinks q c (MovesToBack n ∷ xs) may = let rest = shrinks q (after_step c (MovesToBack n)) xs may.1 in let less = length-back n c.access may.0.0 in omega arith
+shrinks q c (Drops i ∷ xs) may = absurd may.0
+
+-- ---- members that are not settled
 
 module _ {K V : Type 0} (q : Tests) where
-  apart : {n m : ℕ} (c : Contents K V) → is_settled c.records n ≡ true → is_settled c.records m ≡ false → m ≢ n
+  apart : {n m : ℕ} (c : Stock K V) → is_settled c.records n ≡ true → is_settled c.records m ≡ false → m ≢ n
   apart c settled unsettled same = true≢false (sym settled ∙ (ap (is_settled c.records) (sym same) ∙ unsettled))
 
   -- a member that is not settled stays
-  pub unsettled-step : (c : Contents K V) (x : Choice) → MayStep q c x → HasUnsettled c → HasUnsettled (after_choice c x)
+  pub unsettled-step : (c : Stock K V) (x : Choice) → MayStep q c x → HasUnsettled c → HasUnsettled (after_step c x)
   unsettled-step c (Removes n cause) may u =
       let other = apart {n = n} {m = u.number} c (right (is_member n c.access) (is_settled c.records n) may.2) u.unsettled in
       record {
@@ -70,54 +109,31 @@ module _ {K V : Type 0} (q : Tests) where
   unsettled-step c (Drops i) may u = absurd may
 
   -- nor does one that goes to the back leave
-  pub unsettled-passed : (c : Contents K V) (n : ℕ) → MayStep q c (MovesToBack n) → HasUnsettled (after_choice c (MovesToBack n))
+  pub unsettled-passed : (c : Stock K V) (n : ℕ) → MayStep q c (MovesToBack n) → HasUnsettled (after_step c (MovesToBack n))
   unsettled-passed c n may = unsettled-step c (MovesToBack n) may (record { number = n; is_in = may.0; unsettled = may.1 })
 
-  pub unsettled-steps : (c : Contents K V) (xs : List Choice) → MayAll (MayStep q) c xs → HasUnsettled c → HasUnsettled (after_choices c xs)
+  pub unsettled-steps : (c : Stock K V) (xs : List Choice) → MayAll (MayStep q) c xs → HasUnsettled c → HasUnsettled (after_steps c xs)
   unsettled-steps c [] may u = u
-  unsettled-steps c (x ∷ xs) may u = unsettled-steps (after_choice c x) xs may.1 (unsettled-step c x may.0 u)
+  unsettled-steps c (x ∷ xs) may u = unsettled-steps (after_step c x) xs may.1 (unsettled-step c x may.0 u)
 
-  module _ {P : Type 0} (says : P → K → V → Bool → Type 0) (ps : List (Registered P)) where
-    step_justified : (c : Contents K V) (x : Choice) → MayStep q c x → IsJustified says q c ps x
-    step_justified c (Removes n Expired) may = may
-    step_justified c (Removes n Explicit) may = (may.0, may.1, may.2, inl may.3)
-    step_justified c (Removes n Size) may = may
-    step_justified c (Removes n Replaced) may = absurd may.3
-    step_justified c (MovesToBack n) may = may
-    step_justified c (Drops i) may = absurd may
-
-    -- steps that these tests allow are justified, whatever predicates there are
-    pub steps_justified : (c : Contents K V) (xs : List Choice) → MayAll (MayStep q) c xs → AreJustified says q c ps xs
-    steps_justified c [] may = tt
-    steps_justified c (Removes n cause ∷ xs) may = (step_justified c (Removes n cause) may.0, steps_justified (after_choice c (Removes n cause)) xs may.1)
-    steps_justified c (MovesToBack n ∷ xs) may = (may.0, steps_justified (after_choice c (MovesToBack n)) xs may.1)
-    steps_justified c (Drops i ∷ xs) may = absurd may.0
-
-    -- and leave all predicates
-    pub steps_keep_predicates : (c : Contents K V) (xs : List Choice) → MayAll (MayStep q) c xs → kept_by_choices ps xs ≡ ps
-    steps_keep_predicates c [] may = refl
-    steps_keep_predicates c (Removes n cause ∷ xs) may = steps_keep_predicates (after_choice c (Removes n cause)) xs may.1
-    steps_keep_predicates c (MovesToBack n ∷ xs) may = steps_keep_predicates (after_choice c (MovesToBack n)) xs may.1
-    steps_keep_predicates c (Drops i ∷ xs) may = absurd may.0
-
-module _ {K V L : Type 0} (tells : L → K → V → RemovalCause → L → Type 0) (May : Contents K V → Choice → Type 0) where
+module _ {K V L : Type 0} (tells : L → K → V → RemovalCause → L → Type 0) (May : Stock K V → Choice → Type 0) where
   -- no step
-  unfoldable pub stepped-none : (c : Contents K V) (l : Option L) → IsStepped tells May c c l l
+  unfoldable pub stepped-none : (c : Stock K V) (l : Option L) → IsStepped tells May c c l l
   stepped-none c l = record { steps = []; may = tt; led = refl; told = told-none tells l }
 
   -- some steps and then others
-  unfoldable pub stepped-on : (a b c : Contents K V) (l m k : Option L) → IsStepped tells May a b l m → IsStepped tells May b c m k → IsStepped tells May a c l k
+  unfoldable pub stepped-on : (a b c : Stock K V) (l m k : Option L) → IsStepped tells May a b l m → IsStepped tells May b c m k → IsStepped tells May a c l k
   stepped-on a b c l m k h j = record {
     steps = h.steps ++ j.steps;
     may = may-append May a h.steps j.steps h.may (subst (λ x. MayAll May x j.steps) h.led j.may);
-    led = j.led ∙ (ap (λ x. after_choices x j.steps) h.led ∙ sym (choices-append a h.steps j.steps));
-    told = subst (λ ns. Told tells l ns k) (ap (λ x. left_by_choices a h.steps ++ left_by_choices x j.steps) h.led ∙ sym (left-append a h.steps j.steps)) (told-on tells l m k (left_by_choices a h.steps) (left_by_choices b j.steps) h.told j.told);
+    led = j.led ∙ (ap (λ x. after_steps x j.steps) h.led ∙ sym (steps-append a h.steps j.steps));
+    told = subst (λ ns. Told tells l ns k) (ap (λ x. left_by_steps a h.steps ++ left_by_steps x j.steps) h.led ∙ sym (left-append a h.steps j.steps)) (told-on tells l m k (left_by_steps a h.steps) (left_by_steps b j.steps) h.told j.told);
   }
 
   -- one step
-  unfoldable pub stepped-one : (a b : Contents K V) (l m : Option L) (x : Choice) → May a x → b ≡ after_choice a x → Told tells l (left_by_choice a x) m → IsStepped tells May a b l m
-  stepped-one a b l m x may led told = record { steps = x ∷ []; may = (may, tt); led = led; told = subst (λ ns. Told tells l ns m) (sym (append-nil (left_by_choice a x))) told }
+  unfoldable pub stepped-one : (a b : Stock K V) (l m : Option L) (x : Choice) → May a x → b ≡ after_step a x → Told tells l (left_by_step a x) m → IsStepped tells May a b l m
+  stepped-one a b l m x may led told = record { steps = x ∷ []; may = (may, tt); led = led; told = subst (λ ns. Told tells l ns m) (sym (append-nil (left_by_step a x))) told }
 
   -- the same steps by another rule
-  unfoldable pub stepped-also : (Other : Contents K V → Choice → Type 0) → ((c : Contents K V) (x : Choice) → May c x → Other c x) → (a b : Contents K V) (l m : Option L) → IsStepped tells May a b l m → IsStepped tells Other a b l m
+  unfoldable pub stepped-also : (Other : Stock K V → Choice → Type 0) → ((c : Stock K V) (x : Choice) → May c x → Other c x) → (a b : Stock K V) (l m : Option L) → IsStepped tells May a b l m → IsStepped tells Other a b l m
   stepped-also Other also a b l m h = record { steps = h.steps; may = may-also May Other also a h.steps h.may; led = h.led; told = h.told }

@@ -1,23 +1,21 @@
 -- Where a sweep stands between two turns.
-use Rattle.std.proofs.Common.{◌≡◌, refl, ℕ, ◌+◌, ◌*◌, ◌/◌, ◌%◌, ◌<◌, ◌≤◌, ◌⊎◌, Bool, true, false, true≢false, ◌==◌, ◌&&◌, List, [], ◌∷◌, ◌++◌, length, Option, inl, inr, ap, sym, subst, ◌∙◌, arith, append_assoc, append-nil}
+use Rattle.std.proofs.Common.{◌≡◌, refl, ℕ, ◌+◌, ◌*◌, ◌/◌, ◌%◌, ◌<◌, ◌≤◌, ◌⊎◌, Bool, true, false, true≢false, ◌==◌, ◌&&◌, [], ◌∷◌, ◌++◌, length, Option, inl, inr, ap, sym, subst, ◌∙◌, arith}
 use Rattle.std.proofs.lemmas.Nat.{div-add-mod'}
 use Rattle.std.specs.List.{IsDistinct}
 use Rattle.moka_parts.specs.declared.notification.RemovalCause.{RemovalCause}
-use Rattle.moka_parts.specs.declared.records.Member.{Member}
-use Rattle.moka_parts.specs.Records.{is_member, is_settled, numbers_of, settled_members}
-use Rattle.moka_parts.specs.State.{Contents}
-use Rattle.moka_parts.specs.Maintenance.{Choice, Removes, MovesToBack, after_choice, is_front, is_over}
+use Rattle.moka_parts.specs.Records.{is_member, is_settled, numbers_of}
+use Rattle.moka_parts.specs.Maintenance.{Choice, Removes, MovesToBack}
 use Rattle.moka_parts.specs.Bounds.{removed_by}
 use Rattle.moka_parts.proofs.AccessList.{distinct_taken_out, distinct-to_back}
 use Rattle.moka_maintenance.specs.declared.sweep.Tests.{Tests}
 use Rattle.moka_maintenance.specs.declared.sweep.Sweep.{Sweep}
-use Rattle.moka_maintenance.specs.declared.sweep.Sweep.TheVariants.{Read, Surplus}
 use Rattle.moka_maintenance.specs.declared.sweep.Turn.TheVariants.{Removed, Passed, Ended}
-use Rattle.moka_maintenance.specs.Steps.{Told, HasUnsettled, HasNoSettled, IsStepped}
-use Rattle.moka_maintenance.specs.Sweeps.{tests_in, IsNext, MayTurn, TakesTurn, IsSwept}
+use Rattle.moka_maintenance.specs.Steps.{Stock, Told, HasUnsettled, HasNoSettled, IsStepped}
+use Rattle.moka_maintenance.specs.Sweeps.{tests_in, MayTurn, TakesTurn, IsSwept}
 use Rattle.moka_maintenance.proofs.Told.{told-none}
 use Rattle.moka_maintenance.proofs.Stepped.{length-on, removed-on, stepped-none, stepped-one, stepped-on, unsettled-step, unsettled-passed}
-use Rattle.moka_maintenance.proofs.Fronts.{Front, front_of, length-moved, settled-pushed, settled-behind, none_settled}
+use Rattle.moka_maintenance.proofs.Fronts.{length-to_back, none-to_back, none_settled}
+use Rattle.moka_maintenance.proofs.Rows.{along, IsAlong, EndsUnsettled, row-start, row-whole, row-passed, along-step}
 
 left : (a b : Bool) → (a && b) ≡ true → a ≡ true
 left true b e = refl
@@ -27,66 +25,15 @@ right : (a b : Bool) → (a && b) ≡ true → b ≡ true
 right true b e = e
 right false b e = cc
 
--- ---- turns in a row that removed nothing
-
-module _ {K V : Type 0} where
-  -- the last so many members are not settled
-  pub record EndsUnsettled (c : Contents K V) (many : ℕ) : Type 0 where
-    pub before : List Member
-    pub end : List Member
-    pub split : c.access ≡ before ++ end
-    pub count : length end ≡ many
-    pub none : settled_members c.records end ≡ []
-
-  row-start : (c : Contents K V) → EndsUnsettled c 0
-  row-start c = record { before = c.access; end = []; split = sym (append-nil c.access); count = refl; none = refl }
-
-  -- where that is all members, none is settled
-  row-whole : (c : Contents K V) (many : ℕ) → EndsUnsettled c many → many ≡ length c.access → HasNoSettled c
-  row-whole c many h all = go h.before h.split
-    where
-      go : (xs : List Member) → c.access ≡ xs ++ h.end → HasNoSettled c
-      go [] e = ap (settled_members c.records) e ∙ h.none
-      go (x ∷ xs) e = (let more : length c.access ≡ length (x ∷ xs) + length h.end = ap length e ∙ length-on (x ∷ xs) h.end in let count = h.count in absurd (omega arith))
-
-  module _ (c : Contents K V) (n : ℕ) (f : Front n c.access) (is : is_settled c.records n ≡ false) where
-    unsettled_first : is_settled c.records f.first.number ≡ false
-    unsettled_first = ap (is_settled c.records) f.number ∙ is
-
-    -- the front goes to the back, where none is settled
-    none-passed : HasNoSettled c → HasNoSettled (after_choice c (MovesToBack n))
-    none-passed none = ap (settled_members c.records) f.moved ∙ settled-pushed c.records f.behind f.first (settled-behind c.records f.first f.behind (ap (settled_members c.records) (sym f.split) ∙ none)) unsettled_first
-
-    -- and where some may be
-    row-passed : (many : ℕ) → EndsUnsettled c many → HasNoSettled (after_choice c (MovesToBack n)) ⊎ EndsUnsettled (after_choice c (MovesToBack n)) (many + 1)
-    row-passed many h = go h.before h.split
-      where
-        go : (xs : List Member) → c.access ≡ xs ++ h.end → HasNoSettled (after_choice c (MovesToBack n)) ⊎ EndsUnsettled (after_choice c (MovesToBack n)) (many + 1)
-        go [] e = inl (none-passed (ap (settled_members c.records) e ∙ h.none))
-        go (x ∷ xs) e =
-            let same : f.behind ≡ xs ++ h.end = (let t = sym f.split ∙ e in cc) in
-            inr (record {
-              before = xs;
-              end = h.end ++ f.first ∷ [];
-              split = f.moved ∙ ap (λ ys. ys ++ f.first ∷ []) same ∙ append_assoc xs h.end (f.first ∷ []);
-              count = (let plus = length-on h.end (f.first ∷ []) in let count = h.count in omega arith);
-              none = settled-pushed c.records h.end f.first h.none unsettled_first;
-            })
-
--- ---- a sweep
-
-front_next : {K V : Type 0} (q : Tests) (sweep : Sweep) (c : Contents K V) (n : ℕ) → IsNext q sweep c n → is_front n c.access ≡ true
-front_next q Read c n e = e
-front_next q Surplus c n e = left (is_front n c.access) (is_over q.capacity c.access) e
-
 -- where a sweep stands that has so many turns left, after so many in a row that removed nothing
-pub record Sweeping {K V L : Type 0} (tells : L → K → V → RemovalCause → L → Type 0) (q : Tests) (sweep : Sweep) (batch : ℕ) (first now : Contents K V) (l m : Option L) (removed turns passed : ℕ) (all : Bool) : Type 0 where
+pub record Sweeping {K V L : Type 0} (tells : L → K → V → RemovalCause → L → Type 0) (q : Tests) (sweep : Sweep) (batch : ℕ) (first now : Stock K V) (l m : Option L) (removed turns passed : ℕ) (all : Bool) : Type 0 where
   pub by : IsStepped tells (MayTurn q sweep) first now l m
   pub count : removed ≡ length (removed_by by.steps)
   pub rounds : ℕ
   pub made : length by.steps + turns + rounds * length now.access ≡ batch
   pub round : (rounds ≡ 0) ⊎ HasNoSettled now
-  pub row : HasNoSettled now ⊎ EndsUnsettled now passed
+  pub row : HasNoSettled now ⊎ EndsUnsettled now.records (along sweep now) passed
+  pub order : IsAlong sweep now
   pub once : IsDistinct (◌==◌) (numbers_of now.access)
   pub most : removed + turns ≤ batch
   pub few : passed + turns ≤ batch
@@ -95,15 +42,16 @@ pub record Sweeping {K V L : Type 0} (tells : L → K → V → RemovalCause →
 
 module _ {K V L : Type 0} (tells : L → K → V → RemovalCause → L → Type 0) (q : Tests) (sweep : Sweep) (batch : ℕ) where
   -- no turn was taken
-  pub sweeping-none : (c : Contents K V) (l : Option L) → IsDistinct (◌==◌) (numbers_of c.access) → Sweeping tells q sweep batch c c l l 0 batch 0 true
+  pub sweeping-none : (c : Stock K V) (l : Option L) → IsDistinct (◌==◌) (numbers_of c.access) → IsAlong sweep c → Sweeping tells q sweep batch c c l l 0 batch 0 true
   unfolding stepped-none
-  sweeping-none c l once = record {
+  sweeping-none c l once order = record {
     by = stepped-none tells (MayTurn q sweep) c l;
     count = refl;
     rounds = 0;
     made = omega arith;
     round = inl refl;
-    row = inr (row-start c);
+    row = inr (row-start c.records (along sweep c));
+    order = order;
     once = once;
     most = omega arith;
     few = omega arith;
@@ -111,7 +59,7 @@ module _ {K V L : Type 0} (tells : L → K → V → RemovalCause → L → Type
     unsettled = λ is. absurd (true≢false is);
   }
 
-module _ {K V L : Type 0} (tells : L → K → V → RemovalCause → L → Type 0) (q : Tests) (sweep : Sweep) (batch : ℕ) (first now next : Contents K V) (l m k : Option L) (removed turns passed : ℕ) (all : Bool) (h : Sweeping tells q sweep batch first now l m removed turns passed all) where
+module _ {K V L : Type 0} (tells : L → K → V → RemovalCause → L → Type 0) (q : Tests) (sweep : Sweep) (batch : ℕ) (first now next : Stock K V) (l m k : Option L) (removed turns passed : ℕ) (all : Bool) (h : Sweeping tells q sweep batch first now l m removed turns passed all) where
   one-on : (x : Choice) → length (h.by.steps ++ x ∷ []) ≡ length h.by.steps + 1
   one-on x = length-on h.by.steps (x ∷ [])
 
@@ -130,8 +78,9 @@ module _ {K V L : Type 0} (tells : L → K → V → RemovalCause → L → Type
     rounds = 0;
     made = (let made = no_rounds t.0 t.2.1.2 in let one = one-on (Removes t.0 t.1) in omega arith);
     round = inl refl;
-    row = inr (row-start next);
-    once = subst (λ (c : Contents K V). IsDistinct (◌==◌) (numbers_of c.access)) (sym t.3) (distinct_taken_out t.0 now.access h.once);
+    row = inr (row-start next.records (along sweep next));
+    order = subst (λ c. IsAlong sweep c) (sym t.3) (along-step sweep now (Removes t.0 t.1) h.once h.order);
+    once = subst (λ (c : Stock K V). IsDistinct (◌==◌) (numbers_of c.access)) (sym t.3) (distinct_taken_out t.0 now.access h.once);
     most = (let most = h.most in omega arith);
     few = (let few = h.few in omega arith);
     settled = λ is. (let s = h.settled is in omega arith);
@@ -142,17 +91,20 @@ module _ {K V L : Type 0} (tells : L → K → V → RemovalCause → L → Type
   unfolding stepped-on stepped-one
   sweeping-passed less e t =
       let n = t.0 in
-      let f = front_of n now.access h.once (front_next q sweep now n t.1.0) in
       let told = subst (λ k. Told {K = K} {V = V} tells m [] k) (sym t.3) (told-none tells m) in
-      let same : length next.access ≡ length now.access = ap (λ (c : Contents K V). length c.access) t.2 ∙ length-moved n now.access f in
+      let same : length next.access ≡ length now.access = ap (λ (c : Stock K V). length c.access) t.2 ∙ length-to_back n now.access h.once t.1.1.0 in
       record {
         by = stepped-on tells (MayTurn q sweep) first now next l m k h.by (stepped-one tells (MayTurn q sweep) now next m k (MovesToBack n) t.1 t.2 told);
         count = (let count = h.count in let more = removed-on h.by.steps (MovesToBack n ∷ []) in omega arith);
         rounds = h.rounds;
         made = (let made = h.made in let one = one-on (MovesToBack n) in let all_same : h.rounds * length next.access ≡ h.rounds * length now.access = ap (λ a. h.rounds * a) same in joined (length h.by.steps) turns less (h.rounds * length now.access) (length (h.by.steps ++ MovesToBack n ∷ [])) (h.rounds * length next.access) made one e all_same);
-        round = elim h.round [ inl none ↦ inl none | inr none ↦ inr (subst (λ c. HasNoSettled c) (sym t.2) (none-passed now n f t.1.1.1 none)) ];
-        row = elim h.row [ inl none ↦ inl (subst (λ c. HasNoSettled c) (sym t.2) (none-passed now n f t.1.1.1 none)) | inr row ↦ subst (λ c. HasNoSettled c ⊎ EndsUnsettled c (passed + 1)) (sym t.2) (row-passed now n f t.1.1.1 passed row) ];
-        once = subst (λ (c : Contents K V). IsDistinct (◌==◌) (numbers_of c.access)) (sym t.2) (distinct-to_back n now.access h.once);
+        round = elim h.round [ inl none ↦ inl none | inr none ↦ inr (subst (λ c. HasNoSettled c) (sym t.2) (none-to_back now.records n now.access t.1.1.1 none)) ];
+        row = elim h.row [
+          | inl none ↦ inl (subst (λ c. HasNoSettled c) (sym t.2) (none-to_back now.records n now.access t.1.1.1 none))
+          | inr row ↦ subst (λ c. HasNoSettled c ⊎ EndsUnsettled c.records (along sweep c) (passed + 1)) (sym t.2) (row-passed sweep now h.once h.order q n t.1.0 t.1.1.1 passed row)
+        ];
+        order = subst (λ c. IsAlong sweep c) (sym t.2) (along-step sweep now (MovesToBack n) h.once h.order);
+        once = subst (λ (c : Stock K V). IsDistinct (◌==◌) (numbers_of c.access)) (sym t.2) (distinct-to_back n now.access h.once);
         most = (let most = h.most in omega arith);
         few = (let few = h.few in omega arith);
         settled = λ is. absurd (true≢false (sym is));
@@ -180,7 +132,7 @@ module _ {K V L : Type 0} (tells : L → K → V → RemovalCause → L → Type
       at_most : (s t a : ℕ) → s + t + a ≡ batch → s ≤ batch
       at_most s t a e = omega arith
 
-module _ {K V L : Type 0} (tells : L → K → V → RemovalCause → L → Type 0) (q : Tests) (sweep : Sweep) (batch : ℕ) (first now : Contents K V) (l m : Option L) (removed turns passed : ℕ) where
+module _ {K V L : Type 0} (tells : L → K → V → RemovalCause → L → Type 0) (q : Tests) (sweep : Sweep) (batch : ℕ) (first now : Stock K V) (l m : Option L) (removed turns passed : ℕ) where
   -- whole rounds over unsettled members are left out
   pub sweeping-rounds : (less : ℕ) → passed ≡ length now.access → less ≡ turns % passed → Sweeping tells q sweep batch first now l m removed turns passed false → Sweeping tells q sweep batch first now l m removed less passed false
   sweeping-rounds less whole e h = record {
@@ -190,6 +142,7 @@ module _ {K V L : Type 0} (tells : L → K → V → RemovalCause → L → Type
     made = rw (← whole) (joined (length h.by.steps) turns h.rounds (turns / passed) passed less (ap (λ a. length h.by.steps + turns + h.rounds * a) whole ∙ h.made) parts);
     round = inr none;
     row = inl none;
+    order = h.order;
     once = h.once;
     most = (let most = h.most in let fewer = at_most (turns / passed * passed) less turns parts in omega arith);
     few = (let few = h.few in let fewer = at_most (turns / passed * passed) less turns parts in omega arith);
@@ -201,7 +154,7 @@ module _ {K V L : Type 0} (tells : L → K → V → RemovalCause → L → Type
       joined s t r d p u made e = grind (arith, made, e)
 
       none : HasNoSettled now
-      none = elim h.row [ inl is ↦ is | inr row ↦ row-whole now passed row whole ]
+      none = elim h.row [ inl is ↦ is | inr row ↦ row-whole sweep now h.once h.order passed row whole ]
 
       parts : turns / passed * passed + less ≡ turns
       parts = ap (λ u. turns / passed * passed + u) e ∙ div-add-mod' turns passed

@@ -14,7 +14,9 @@ use Rattle.moka_store.proofs.Members.{counted-without}
 use Rattle.moka_maintenance.specs.Expelled.{without_record}
 use Rattle.moka_maintenance.specs.Scanning.{LooksAt}
 use Rattle.moka_maintenance.specs.Steps.{AddsNoPlace, LeavesNoRow}
+use Rattle.moka_maintenance.specs.Timers.{DropsTimers}
 use Rattle.moka_maintenance.proofs.Placed.{places-gone, rows-gone}
+use Rattle.moka_maintenance.proofs.Timing.{drops-gone, drops-none}
 
 -- what stands behind a number is another
 pub next_other : (ns : List ℕ) (n m : ℕ) → IsDistinct (◌==◌) ns → number_after n ns ≡ Some m → m ≢ n
@@ -40,14 +42,14 @@ pub record KeepsOthers {K V : Type 0} (old new : Kept K V) (n : ℕ) : Type 0 wh
   pub members : (k : ℕ) → k ≢ n → IsSome (counted_of k old.access) → IsSome (counted_of k new.access)
   pub listed : (k : ℕ) → k ≢ n → is_listed k old.written ≡ true → is_listed k new.written ≡ true
   pub once : IsDistinct (◌==◌) old.written → IsDistinct (◌==◌) new.written
-  pub ordered : new.ordered ≡ old.ordered
+  pub timers : DropsTimers old new
   pub places : AddsNoPlace old new
   pub rows : LeavesNoRow old new
   pub room : old.room ≤ new.room
 
 module _ {K V : Type 0} where
   keeps_same : (old : Kept K V) (n : ℕ) → KeepsOthers old old n
-  keeps_same old n = record { placed = λ h other at. at; members = λ k other there. there; listed = λ k other there. there; once = λ o. o; ordered = refl; places = λ k p at. at; rows = λ k p at gone. gone; room = omega arith }
+  keeps_same old n = record { placed = λ h other at. at; members = λ k other there. there; listed = λ k other there. there; once = λ o. o; timers = drops-none old; places = λ k p at. at; rows = λ k p at gone. gone; room = omega arith }
 
   keeps_past : (old : Kept K V) (n room : ℕ) → old.room ≤ room → KeepsOthers old (without_record n room old) n
   keeps_past old n room more = record {
@@ -55,7 +57,7 @@ module _ {K V : Type 0} where
     members = λ k other there. subst (λ o. is_some o ≡ true) (sym (counted-without n k old.access ∙ cond-false (k == n) None (counted_of k old.access) (ne_eqb k n other))) there;
     listed = λ k other there. elim (same_or_apart k n) [ inl same ↦ absurd (other same) | inr apart ↦ listed_past_taken_out n k old.written apart ∙ there ];
     once = λ o. once_taken_out n old.written o;
-    ordered = refl;
+    timers = drops-gone old (without_record n room old) refl refl n refl refl refl;
     places = places-gone old (without_record n room old) n refl;
     rows = rows-gone old (without_record n room old) n refl refl;
     room = more;

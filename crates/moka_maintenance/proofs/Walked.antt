@@ -9,17 +9,15 @@ use Rattle.moka_parts.specs.declared.notification.RemovalCause.TheVariants.{Expl
 use Rattle.moka_parts.specs.declared.records.Record.{Record}
 use Rattle.moka_parts.specs.declared.records.Registered.{Registered}
 use Rattle.moka_parts.specs.Records.{is_applied, is_listed, is_settled, without_number}
-use Rattle.moka_parts.specs.State.{Contents}
 use Rattle.moka_parts.specs.Visibility.{NoneCovers}
-use Rattle.moka_parts.specs.Maintenance.{Choice, Removes, after_choices}
-use Rattle.moka_parts.specs.Order.{written_after_choice, written_after_choices}
+use Rattle.moka_parts.specs.Maintenance.{Choice, Removes}
 use Rattle.moka_parts.proofs.Maps.{itself_tested, same_by_test, same_or_apart}
 use Rattle.moka_parts.proofs.Scanned.{uncovered-none, uncovered-push, uncovered-kept}
 use Rattle.moka_parts.proofs.WriteList.{listed_pushed, unlisted_taken_out}
 use Rattle.moka_store.specs.Store.{Kept, number_after}
 use Rattle.moka_store.proofs.Gets.{after_remove}
 use Rattle.moka_maintenance.specs.Scanning.{MayScan, LooksAt, IsWalked}
-use Rattle.moka_maintenance.specs.Steps.{contents_in}
+use Rattle.moka_maintenance.specs.Steps.{Stock, after_steps, stock_in}
 use Rattle.moka_maintenance.proofs.Stepped.{length-on, stepped-none, stepped-one, stepped-on}
 
 -- ---- a number between others, where none stands twice
@@ -70,10 +68,6 @@ head_of : (n : ℕ) (ns : List ℕ) → Some n ≡ slice_get ns 0 → Head n ns
 head_of n [] e = cc
 head_of n (m ∷ ns) e = let same : n ≡ m = cc in record { behind = ns; is = ap (λ k. k ∷ ns) (sym same) }
 
-pub written-append : (ns : List ℕ) (xs ys : List Choice) → written_after_choices ns (xs ++ ys) ≡ written_after_choices (written_after_choices ns xs) ys
-written-append ns [] ys = refl
-written-append ns (x ∷ xs) ys = written-append (written_after_choice ns x) xs ys
-
 pub no_steps : (xs : List Choice) → length xs ≤ 0 → xs ≡ []
 no_steps [] h = refl
 no_steps (x ∷ xs) h = absurd (omega arith)
@@ -91,8 +85,7 @@ module _ {K V L P : Type 0} (tells : L → K → V → RemovalCause → L → Ty
     list = list;
     at = at;
     count = refl;
-    by = stepped-none tells (MayScan says ps) (contents_in old) l;
-    course = refl;
+    by = stepped-none tells (MayScan says ps) (stock_in old) l;
     few = omega arith;
     fewer = omega arith;
     unlooked = λ _ n there. absurd (true≢false (sym there));
@@ -120,7 +113,7 @@ module _ {K V L P : Type 0} (tells : L → K → V → RemovalCause → L → Ty
 
     -- where none was looked at, nothing has changed
     unchanged : looked ≡ 0 → mid.records ≡ old.records
-    unchanged none = ap (λ (c : Contents K V). c.records) (h.by.led ∙ ap (after_choices (contents_in old)) (no_steps h.by.steps (let f = h.few in omega arith)))
+    unchanged none = ap (λ (c : Stock K V). c.records) (h.by.led ∙ ap (after_steps (stock_in old)) (no_steps h.by.steps (let f = h.few in omega arith)))
 
     listed_cases : (k : ℕ) → is_listed k (h.walked ++ n ∷ []) ≡ true → (is_listed k h.walked ≡ true → is_settled old.records k ≡ false) → is_settled old.records n ≡ false → is_settled old.records k ≡ false
     listed_cases k there earlier now = go (is_listed k h.walked) refl (n == k) refl (sym (listed_pushed k n h.walked) ∙ there)
@@ -141,7 +134,6 @@ module _ {K V L P : Type 0} (tells : L → K → V → RemovalCause → L → Ty
       at = next_is;
       count = count_is;
       by = h.by;
-      course = h.course;
       few = (let f = h.few in omega arith);
       fewer = most;
       unlooked = λ none k there. listed_cases k there (h.unlooked (omega arith) k) (unsettled none);
@@ -175,8 +167,7 @@ module _ {K V L P : Type 0} (tells : L → K → V → RemovalCause → L → Ty
             list = ap (λ (s : Kept K V). s.written) left.1 ∙ ap (without_number n) list_is ∙ without_split (before ++ h.kept) here.behind n once_there ∙ append_assoc before h.kept here.behind;
             at = next_is;
             count = count_is;
-            by = stepped-on tells (MayScan says ps) (contents_in old) (contents_in mid) (contents_in new) l m k h.by (stepped-one tells (MayScan says ps) (contents_in mid) (contents_in new) m k (Removes n Explicit) left.0 (ap contents_in left.1) left.3);
-            course = ap (λ (s : Kept K V). s.written) left.1 ∙ ap (without_number n) h.course ∙ sym (written-append old.written h.by.steps (Removes n Explicit ∷ []));
+            by = stepped-on tells (MayScan says ps) (stock_in old) (stock_in mid) (stock_in new) l m k h.by (stepped-one tells (MayScan says ps) (stock_in mid) (stock_in new) m k (Removes n Explicit) left.0 (ap stock_in left.1) left.3);
             few = (let f = h.few in let both = length-on h.by.steps (Removes n Explicit ∷ []) in omega arith);
             fewer = (let f = h.fewer in omega arith);
             unlooked = λ none. absurd (omega arith);
@@ -186,4 +177,4 @@ module _ {K V L P : Type 0} (tells : L → K → V → RemovalCause → L → Ty
 
   -- a cursor put elsewhere
   pub walked-cursor : (new : Kept K V) (m : Option L) (next at : Option ℕ) (looked passed : ℕ) → IsWalked tells says ps old new l m before rest next looked passed → IsWalked tells says ps old (record new { cursor = at }) l m before rest next looked passed
-  walked-cursor new m next at looked passed h = record { walked = h.walked; kept = h.kept; ahead = h.ahead; split = h.split; list = h.list; at = h.at; count = h.count; by = h.by; course = h.course; few = h.few; fewer = h.fewer; unlooked = h.unlooked; uncovered = h.uncovered }
+  walked-cursor new m next at looked passed h = record { walked = h.walked; kept = h.kept; ahead = h.ahead; split = h.split; list = h.list; at = h.at; count = h.count; by = h.by; few = h.few; fewer = h.fewer; unlooked = h.unlooked; uncovered = h.uncovered }

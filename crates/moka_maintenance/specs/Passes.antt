@@ -4,16 +4,15 @@ use Rattle.std.specs.List.{list_all}
 use Rattle.moka_parts.specs.declared.notification.RemovalCause.{RemovalCause}
 use Rattle.moka_parts.specs.declared.policy.Instant.{Instant}
 use Rattle.moka_parts.specs.declared.records.Member.{Member}
-use Rattle.moka_parts.specs.State.{Contents}
 use Rattle.moka_parts.specs.Surroundings.{Leads}
 use Rattle.moka_parts.specs.Exact.{IsWithin}
-use Rattle.moka_parts.specs.Maintenance.{Choice, is_over, is_late, after_choices}
+use Rattle.moka_parts.specs.Maintenance.{Choice, is_over, is_late}
 use Rattle.moka_parts.specs.Bounds.{removed_by}
 use Rattle.moka_maintenance.specs.declared.sweep.Tests.{Tests}
 use Rattle.moka_maintenance.specs.declared.sweep.Sweep.{Sweep}
-use Rattle.moka_maintenance.specs.declared.sweep.Sweep.TheVariants.{Read, Surplus}
-use Rattle.moka_maintenance.specs.Steps.{MayStep, HasUnsettled, IsStepped, makes_room}
-use Rattle.moka_maintenance.specs.Sweeps.{tests_in, IsDone}
+use Rattle.moka_maintenance.specs.declared.sweep.Sweep.TheVariants.{Written, Read, Surplus}
+use Rattle.moka_maintenance.specs.Steps.{Stock, MayStep, HasUnsettled, IsStepped, after_steps, makes_room}
+use Rattle.moka_maintenance.specs.Sweeps.{tests_in, IsAtRest, IsDone}
 
 module _ {C : Type 0} (reads : C → Instant → C → Type 0) where
   -- the clock is read once where a limit is given
@@ -27,22 +26,28 @@ module _ {C : Type 0} (reads : C → Instant → C → Type 0) where
   Checks (Some first) None c late d = (late ≡ false) × (d ≡ c)
   Checks (Some first) (Some limit) c late d = (r : Instant) × reads c r d × (late ≡ nat_le limit (r.0 - first.0))
 
+-- a sweep by the last write is made
+abbrev pub sweeps_writes : Tests → Bool
+sweeps_writes q = is_some q.time_to_live || is_some q.time_to_idle || is_some q.valid_after
+
 -- a sweep by the last read is made
 abbrev pub sweeps_reads : Tests → Bool
 sweeps_reads q = is_some q.time_to_idle || is_some q.valid_after
 
 -- the step is taken
 abbrev pub is_taken : Tests → Sweep → List Member → Bool
+is_taken q Written access = sweeps_writes q
 is_taken q Read access = sweeps_reads q
 is_taken q Surplus access = is_over q.capacity access
 
 module _ {K V L : Type 0} (tells : L → K → V → RemovalCause → L → Type 0) (q : Tests) where
   -- one pass: what it removed, and whether it left more
-  pub record IsPass (batch : ℕ) (before after : Contents K V) (l m : Option L) (removed : ℕ) (left : Bool) : Type 0 where
+  pub record IsPass (batch : ℕ) (before after : Stock K V) (l m : Option L) (removed : ℕ) (left : Bool) : Type 0 where
     pub by : IsStepped tells (MayStep (tests_in q)) before after l m
     pub count : removed ≡ length (removed_by by.steps)
     pub more : left ≡ true → 1 ≤ batch → 1 ≤ removed
-    pub many : length by.steps ≤ batch + batch
+    -- beside timers, each of its steps takes at most a batch of turns
+    pub many : length by.steps + length after.access ≤ batch + batch + batch + length before.access
     -- where all its steps make room, it removed a batch if it left more, and else less than that
     pub fewer : left ≡ false → 1 ≤ batch → list_all makes_room by.steps ≡ true → removed < batch
     pub batch_used : left ≡ true → 1 ≤ removed → list_all makes_room by.steps ≡ true → removed ≡ batch
@@ -50,18 +55,20 @@ module _ {K V L : Type 0} (tells : L → K → V → RemovalCause → L → Type
     -- unsettled members are passed over up to the last turn
     pub turned : left ≡ true → batch ≤ length by.steps
     pub used : IsDone q Surplus batch (length by.steps) after
-    -- after the first of its steps, the sweep by the last read is done
-    pub reads_swept : (first second : List Choice) × (by.steps ≡ first ++ second) × IsDone q Read batch (length first) (after_choices before first)
-    -- with a batch of 0 nothing is done, and more is left wherever a sweep is made
-    pub idle : batch ≡ 0 → (after ≡ before) × (left ≡ (sweeps_reads q || is_over q.capacity after.access))
+    -- after the first of its steps, the sweep by the last write is done, and came to rest where nothing is left
+    pub writes_swept : (first second : List Choice) × (by.steps ≡ first ++ second) × IsDone q Written batch (length first) (after_steps before first) × (left ≡ false → HasUnsettled (after_steps before first) ⊎ IsAtRest q Written (after_steps before first))
+    -- after more of its steps, the sweep by the last read is done
+    pub reads_swept : (first second : List Choice) × (by.steps ≡ first ++ second) × IsDone q Read batch (length first) (after_steps before first)
+    -- with a batch of 0 more is left wherever a sweep is made
+    pub idle : batch ≡ 0 → left ≡ (sweeps_writes q || is_over q.capacity after.access)
 
   module _ {C : Type 0} (reads : C → Instant → C → Type 0) (limit : Option ℕ) where
     -- passes one after the other, each but the last of which removed a record and left more
-    pub record IsRan (batch : ℕ) (before after : Contents K V) (l m : Option L) (c d : C) (passes : ℕ) (left : Bool) : Type 0 where
+    pub record IsRan (batch : ℕ) (before after : Stock K V) (l m : Option L) (c d : C) (passes : ℕ) (left : Bool) : Type 0 where
       pub by : IsStepped tells (MayStep (tests_in q)) before after l m
       pub made : 1 ≤ passes
       pub few : passes ≤ length (removed_by by.steps) + 1
-      pub many : length by.steps ≤ passes * (batch + batch)
+      pub many : length by.steps + length after.access ≤ passes * (batch + batch + batch) + length before.access
       pub readings : List Instant
       pub read : Leads reads c readings d
       pub timed : is_some limit ≡ true → length readings ≡ passes + (if is_late limit readings then 1 else 0)
@@ -73,10 +80,12 @@ module _ {K V L : Type 0} (tells : L → K → V → RemovalCause → L → Type
       pub rest : left ≡ false → HasUnsettled after ⊎ IsWithin q.capacity after.access
       -- unsettled members are passed over up to the last turn of each pass
       pub used : IsDone q Surplus (passes * batch) (length by.steps) after
-      -- after some of its steps, the last sweep by the last read is done
-      pub reads_swept : (first second : List Choice) × (by.steps ≡ first ++ second) × IsDone q Read (passes * batch) (length first) (after_choices before first)
-      -- with a batch of 0 nothing is done, and more is left wherever a sweep is made
-      pub idle : batch ≡ 0 → (after ≡ before) × (left ≡ (sweeps_reads q || is_over q.capacity after.access))
+      -- after some of its steps, the last sweep by the last write is done, and came to rest where nothing is left
+      pub writes_swept : (first second : List Choice) × (by.steps ≡ first ++ second) × IsDone q Written (passes * batch) (length first) (after_steps before first) × (left ≡ false → HasUnsettled (after_steps before first) ⊎ IsAtRest q Written (after_steps before first))
+      -- after more of its steps, the last sweep by the last read is done
+      pub reads_swept : (first second : List Choice) × (by.steps ≡ first ++ second) × IsDone q Read (passes * batch) (length first) (after_steps before first)
+      -- with a batch of 0 more is left wherever a sweep is made
+      pub idle : batch ≡ 0 → left ≡ (sweeps_writes q || is_over q.capacity after.access)
       -- where all its steps make room, each pass but the last of a whole run removed a batch
       pub exact : is_late limit readings ≡ false → 1 ≤ batch → list_all makes_room by.steps ≡ true → passes ≡ length (removed_by by.steps) / batch + 1
       -- one that was cut after its first pass, all of whose steps make room, removed a batch

@@ -11,40 +11,45 @@ use Rattle.moka_parts.specs.State.{Contents}
 use Rattle.moka_parts.specs.Candidates.{are_unsettled, victims_for}
 use Rattle.moka_parts.specs.Writes.{after_fate, left_by_fate, fate_by_frequency, after_write, after_writes, left_by_write, left_by_writes, AreMoves, AreAllMoves}
 use Rattle.moka_parts.specs.Maintenance.{with_sketch}
+use Rattle.moka_parts.specs.Order.{written_after_fate, written_after_write, written_after_writes}
 use Rattle.moka_store.specs.Store.{Kept}
 use Rattle.moka_maintenance.specs.Steps.{Told}
 
-module _ {K V L : Type 0} (tells : L → K → V → RemovalCause → L → Type 0) where
+module _ {K V L : Type 0} (tells : L → K → V → RemovalCause → L → Type 0) (ordered : Bool) where
   -- a candidate of this number was compared, as one for which there is no room, and has the fate that its frequency decides
-  pub record IsCompared (before after : Contents K V) (number generation weight hash : ℕ) (r : Record K V) (l m : Option L) : Type 0 where
+  pub record IsCompared (before after : Contents K V) (ns ms : List ℕ) (number generation weight hash : ℕ) (r : Record K V) (l m : Option L) : Type 0 where
     pub moved : List ℕ
     pub unsettled : are_unsettled before.records moved ≡ true
     pub led : after ≡ after_fate before number generation weight moved r (fate_by_frequency before hash (victims_for before weight))
+    pub listed : ordered ≡ true → ms ≡ written_after_fate true number ns (fate_by_frequency before hash (victims_for before weight))
     pub told : Told tells l (left_by_fate before generation r (fate_by_frequency before hash (victims_for before weight))) m
 
-module _ {K V L : Type 0} (tells : L → K → V → RemovalCause → L → Type 0) (capacity : Option ℕ) (policy : EvictionPolicy) where
-  -- one operation is applied
-  pub record IsApplied (before after : Contents K V) (o : Operation) (l m : Option L) : Type 0 where
+module _ {K V L : Type 0} (tells : L → K → V → RemovalCause → L → Type 0) (capacity : Option ℕ) (policy : EvictionPolicy) (ordered : Bool) where
+  -- one operation is applied; the order of writing goes from one list to the other, where it is kept
+  pub record IsApplied (before after : Contents K V) (ns ms : List ℕ) (o : Operation) (l m : Option L) : Type 0 where
     pub moved : List ℕ
     pub may : AreMoves capacity policy before o moved
     pub led : after ≡ after_write capacity policy before o moved
+    pub listed : ordered ≡ true → ms ≡ written_after_write true capacity policy before ns o
     pub told : Told tells l (left_by_write capacity policy before o) m
 
   -- the operations are applied in order, with a list of moves for each
-  pub record AreApplied (before after : Contents K V) (os : List Ticketed) (l m : Option L) : Type 0 where
+  pub record AreApplied (before after : Contents K V) (ns ms : List ℕ) (os : List Ticketed) (l m : Option L) : Type 0 where
     pub moves : List (List ℕ)
     pub may : AreAllMoves capacity policy before os moves
     pub led : after ≡ after_writes capacity policy before os moves
+    pub listed : ordered ≡ true → ms ≡ written_after_writes true capacity policy before ns os moves
     pub told : Told tells l (left_by_writes capacity policy before os moves) m
 
-module _ {K V L : Type 0} (tells : L → K → V → RemovalCause → L → Type 0) (capacity : Option ℕ) (policy : EvictionPolicy) (has_weigher : Bool) where
+module _ {K V L : Type 0} (tells : L → K → V → RemovalCause → L → Type 0) (capacity : Option ℕ) (policy : EvictionPolicy) (ordered has_weigher : Bool) where
   -- the operations are applied in order, and then the sketch is enabled where it is due
-  pub record ArePrepared (before after : Contents K V) (os : List Ticketed) (l m : Option L) : Type 0 where
+  pub record ArePrepared (before after : Contents K V) (ns ms : List ℕ) (os : List Ticketed) (l m : Option L) : Type 0 where
     pub moves : List (List ℕ)
     -- memory for a longer table of the sketch was refused
     pub is_short : Bool
     pub may : AreAllMoves capacity policy before os moves
     pub led : after ≡ with_sketch capacity policy has_weigher is_short (after_writes capacity policy before os moves)
+    pub listed : ordered ≡ true → ms ≡ written_after_writes true capacity policy before ns os moves
     pub told : Told tells l (left_by_writes capacity policy before os moves) m
 
 -- a number that has kept its row without a record had no record before, and the operation is no removal of it

@@ -1,28 +1,44 @@
--- The steps by which maintenance removes records, and what the listener is told of them.
-use Rattle.std.specs.Prelude.{◌≡◌, ℕ, Bool, true, false, ◌&&◌, not, List, [], ◌∷◌, Option, Some, None, is_some}
-use Rattle.std.specs.FinMap.{get}
+-- The steps by which maintenance removes records, what they leave in a store, and what the listener is told of them.
+use Rattle.std.specs.Prelude.{◌≡◌, ℕ, Bool, true, false, ◌&&◌, not, List, [], ◌∷◌, ◌++◌, Option, Some, None, is_some}
+use Rattle.std.specs.FinMap.{get, remove}
 use Rattle.moka_parts.specs.declared.notification.RemovalCause.{RemovalCause}
 use Rattle.moka_parts.specs.declared.notification.RemovalCause.TheVariants.{Expired, Explicit, Replaced, Size}
 use Rattle.moka_parts.specs.declared.records.Record.{Record}
-use Rattle.moka_parts.specs.Records.{Notice, when_listening, is_member, is_settled, settled_members}
+use Rattle.moka_parts.specs.declared.records.Member.{Member}
+use Rattle.moka_parts.specs.Records.{Records, Notice, when_listening, is_member, is_settled, settled_members, without_member, to_back, without_number, number_to_back}
 use Rattle.moka_parts.specs.State.{Contents}
 use Rattle.moka_parts.specs.Surroundings.{Heard}
-use Rattle.moka_parts.specs.Maintenance.{Choice, Removes, MovesToBack, Drops, Tests, HasGround, after_choices, left_by_choices, after_choice}
+use Rattle.moka_parts.specs.Maintenance.{Choice, Removes, MovesToBack, Drops, Tests, HasGround, left_by_choice}
 use Rattle.moka_sketch.specs.Frequency.{Table}
 use Rattle.moka_store.specs.Store.{Kept}
+
+-- what steps work on: they see no sketch, and the write list beside the rest
+pub record Stock (K V : Type 0) : Type 0 where
+  pub records : Records K V
+  pub access : List Member
+  -- the members' numbers in the order of writing, where that is kept
+  pub written : List ℕ
 
 module _ {K V : Type 0} where
   -- what queues work on, in a store with a sketch
   abbrev pub contents_with : Option Table → Kept K V → Contents K V
   contents_with sketch k = record { records = k.records; access = k.access; sketch = sketch }
 
-  -- what steps work on, in a store: they see no sketch
+  -- the same without a sketch
   abbrev pub contents_in : Kept K V → Contents K V
   contents_in k = contents_with None k
 
-  -- the contents with the sketch unseen
-  abbrev pub unseen : Contents K V → Contents K V
-  unseen c = record c { sketch = None }
+  -- what steps work on, in a store
+  abbrev pub stock_in : Kept K V → Stock K V
+  stock_in k = record { records = k.records; access = k.access; written = k.written }
+
+  -- of these contents, with a write list
+  abbrev pub stock_of : Contents K V → List ℕ → Stock K V
+  stock_of c ns = record { records = c.records; access = c.access; written = ns }
+
+  -- the contents of it, with no sketch
+  abbrev pub contents_of : Stock K V → Contents K V
+  contents_of c = record { records = c.records; access = c.access; sketch = None }
 
   -- no number gains a row, and none moves
   abbrev pub AddsNoPlace : Kept K V → Kept K V → Type 0
@@ -32,25 +48,49 @@ module _ {K V : Type 0} where
   abbrev pub LeavesNoRow : Kept K V → Kept K V → Type 0
   LeavesNoRow old new = (n p : ℕ) → get new.places n ≡ Some p → get new.records n ≡ None → get old.records n ≡ None
 
+  -- ---- one step
+
+  -- what a step leaves: a removed record leaves the map and both orders, another goes to the back of both
+  abbrev pub after_step : Stock K V → Choice → Stock K V
+  after_step c (Removes n cause) = record c { records = remove c.records n; access = without_member n c.access; written = without_number n c.written }
+  after_step c (MovesToBack n) = record c { access = to_back n c.access; written = number_to_back n c.written }
+  after_step c (Drops i) = c
+
+  -- what all steps leave
+  abbrev pub after_steps : Stock K V → List Choice → Stock K V
+  after_steps c [] = c
+  after_steps c (x ∷ xs) = after_steps (after_step c x) xs
+
+  -- what a step takes out of the map
+  abbrev pub left_by_step : Stock K V → Choice → List (Notice K V)
+  left_by_step c x = left_by_choice (contents_of c) x
+
+  -- what the steps take out of the map, in order
+  abbrev pub left_by_steps : Stock K V → List Choice → List (Notice K V)
+  left_by_steps c [] = []
+  left_by_steps c (x ∷ xs) = left_by_step c x ++ left_by_steps (after_step c x) xs
+
   -- a step may be taken by the tests: a settled member leaves on a ground of its own, an unsettled one goes to the back
-  abbrev pub MayStep : Tests → Contents K V → Choice → Type 0
-  MayStep q c (Removes n cause) = (r : Record K V) × (get c.records n ≡ Some r) × (is_member n c.access && is_settled c.records n ≡ true) × HasGround q c n r cause
+  abbrev pub MayStep : Tests → Stock K V → Choice → Type 0
+  MayStep q c (Removes n cause) = (r : Record K V) × (get c.records n ≡ Some r) × (is_member n c.access && is_settled c.records n ≡ true) × HasGround q (contents_of c) n r cause
   MayStep q c (MovesToBack n) = (is_member n c.access ≡ true) × (is_settled c.records n ≡ false)
   MayStep q c (Drops i) = ⊥
 
   -- each step may be taken when it is
-  abbrev pub MayAll : (Contents K V → Choice → Type 0) → Contents K V → List Choice → Type 0
+  abbrev pub MayAll : (Stock K V → Choice → Type 0) → Stock K V → List Choice → Type 0
   MayAll May c [] = Unit {0}
-  MayAll May c (x ∷ xs) = May c x × MayAll May (after_choice c x) xs
+  MayAll May c (x ∷ xs) = May c x × MayAll May (after_step c x) xs
+
+  -- ---- members
 
   -- a member is not settled
-  pub record HasUnsettled (c : Contents K V) : Type 0 where
+  pub record HasUnsettled (c : Stock K V) : Type 0 where
     pub number : ℕ
     pub is_in : is_member number c.access ≡ true
     pub unsettled : is_settled c.records number ≡ false
 
   -- no member is settled
-  abbrev pub HasNoSettled : Contents K V → Type 0
+  abbrev pub HasNoSettled : Stock K V → Type 0
   HasNoSettled c = settled_members c.records c.access ≡ []
 
 -- the cause is not that the capacity is exceeded
@@ -71,9 +111,9 @@ module _ {K V L : Type 0} (tells : L → K → V → RemovalCause → L → Type
   abbrev pub Told : Option L → List (Notice K V) → Option L → Type 0
   Told before left after = Heard tells before (when_listening (is_some before) left) after
 
-  -- steps that may be taken lead from the first contents to the second, and the listener is told what they take out
-  pub record IsStepped (May : Contents K V → Choice → Type 0) (before after : Contents K V) (l m : Option L) : Type 0 where
+  -- steps that may be taken lead from the first to the second, and the listener is told what they take out
+  pub record IsStepped (May : Stock K V → Choice → Type 0) (before after : Stock K V) (l m : Option L) : Type 0 where
     pub steps : List Choice
     pub may : MayAll May before steps
-    pub led : after ≡ after_choices before steps
-    pub told : Told l (left_by_choices before steps) m
+    pub led : after ≡ after_steps before steps
+    pub told : Told l (left_by_steps before steps) m

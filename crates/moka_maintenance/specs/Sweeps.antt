@@ -1,21 +1,22 @@
--- Sweeps along the access list.
-use Rattle.std.specs.Prelude.{◌≡◌, ℕ, ◌+◌, ◌*◌, Bool, true, false, ◌&&◌, ◌≤◌, ◌⊎◌, length, Option, Some, option_map}
+-- Sweeps along the orders of writing and of access, and timers that are due.
+use Rattle.std.specs.Prelude.{◌≡◌, ℕ, ◌+◌, ◌*◌, Bool, true, false, ◌&&◌, ◌≤◌, ◌⊎◌, length, Option, Some, option_map, slice_get}
 use Rattle.std.specs.Duration.{as_nanos}
 use Rattle.std.specs.FinMap.{get}
 use Rattle.moka_parts.specs.declared.notification.RemovalCause.{RemovalCause}
+use Rattle.moka_parts.specs.declared.notification.RemovalCause.TheVariants.{Expired}
 use Rattle.moka_parts.specs.declared.records.Record.{Record}
-use Rattle.moka_parts.specs.State.{Contents}
 use Rattle.moka_parts.specs.Exact.{IsWithin}
+use Rattle.moka_parts.specs.Order.{IsAtRestByWrite}
 use Rattle.moka_parts.specs.Visibility.{is_read_before}
 use Rattle.moka_parts.specs.Maintenance as parts
-use Rattle.moka_parts.specs.Maintenance.{Choice, Removes, MovesToBack, Drops, is_front, is_over, is_past_read, after_choice, left_by_choice}
+use Rattle.moka_parts.specs.Maintenance.{Choice, Removes, MovesToBack, Drops, is_front, is_over, is_past_read}
 use Rattle.moka_parts.specs.Bounds.{removed_by}
 use Rattle.moka_maintenance.specs.declared.sweep.Tests.{Tests}
 use Rattle.moka_maintenance.specs.declared.sweep.Sweep.{Sweep}
-use Rattle.moka_maintenance.specs.declared.sweep.Sweep.TheVariants.{Read, Surplus}
+use Rattle.moka_maintenance.specs.declared.sweep.Sweep.TheVariants.{Written, Read, Surplus}
 use Rattle.moka_maintenance.specs.declared.sweep.Turn.{Turn}
 use Rattle.moka_maintenance.specs.declared.sweep.Turn.TheVariants.{Removed, Passed, Ended}
-use Rattle.moka_maintenance.specs.Steps.{MayStep, HasUnsettled, HasNoSettled, IsStepped, Told, is_timely}
+use Rattle.moka_maintenance.specs.Steps.{Stock, MayStep, HasUnsettled, HasNoSettled, IsStepped, Told, after_step, left_by_step, is_timely}
 
 -- the reference cache's tests of these
 abbrev pub tests_in : Tests → parts.Tests
@@ -23,43 +24,52 @@ tests_in q = record { now = q.now.0; time_to_live = option_map as_nanos q.time_t
 
 -- the sweep looks at moments
 abbrev pub is_by_moment : Sweep → Bool
+is_by_moment Written = true
 is_by_moment Read = true
 is_by_moment Surplus = false
 
 module _ {K V : Type 0} (q : Tests) where
   -- the number is that of the front to which the sweep has come
-  abbrev pub IsNext : Sweep → Contents K V → ℕ → Type 0
+  abbrev pub IsNext : Sweep → Stock K V → ℕ → Type 0
+  IsNext Written c n = slice_get c.written 0 ≡ Some n
   IsNext Read c n = is_front n c.access ≡ true
   IsNext Surplus c n = (is_front n c.access && is_over q.capacity c.access) ≡ true
 
   -- the front is none that the sweep removes
-  abbrev pub IsAtRest : Sweep → Contents K V → Type 0
+  abbrev pub IsAtRest : Sweep → Stock K V → Type 0
+  IsAtRest Written c = IsAtRestByWrite (tests_in q) c.records c.written
   IsAtRest Read c = (n : ℕ) (r : Record K V) → is_front n c.access ≡ true → get c.records n ≡ Some r → (is_past_read (tests_in q) r ≡ false) × (is_read_before q.valid_after r ≡ false)
   IsAtRest Surplus c = IsWithin q.capacity c.access
 
   -- the step may be a turn of the sweep
-  abbrev pub MayTurn : Sweep → Contents K V → Choice → Type 0
+  abbrev pub MayTurn : Sweep → Stock K V → Choice → Type 0
   MayTurn sweep c (Removes n cause) = IsNext sweep c n × MayStep (tests_in q) c (Removes n cause) × (is_by_moment sweep ≡ true → is_timely cause ≡ true)
   MayTurn sweep c (MovesToBack n) = IsNext sweep c n × MayStep (tests_in q) c (MovesToBack n)
   MayTurn sweep c (Drops i) = ⊥
 
+  -- the step removes a settled member for one of its moments
+  abbrev pub MayExpire : Stock K V → Choice → Type 0
+  MayExpire c (Removes n cause) = MayStep (tests_in q) c (Removes n cause) × (cause ≡ Expired)
+  MayExpire c (MovesToBack n) = ⊥
+  MayExpire c (Drops i) = ⊥
+
   -- so many turns are all of the batch, but for whole rounds over members none of which is settled
-  abbrev pub AreAllTurns : ℕ → ℕ → Contents K V → Type 0
+  abbrev pub AreAllTurns : ℕ → ℕ → Stock K V → Type 0
   AreAllTurns batch turns c = (rounds : ℕ) × (turns + rounds * length c.access ≡ batch) × ((rounds ≡ 0) ⊎ HasNoSettled c)
 
   -- the sweep came to rest, or no member is settled, or all turns of the batch were made
-  abbrev pub IsDone : Sweep → ℕ → ℕ → Contents K V → Type 0
+  abbrev pub IsDone : Sweep → ℕ → ℕ → Stock K V → Type 0
   IsDone sweep batch turns c = IsAtRest sweep c ⊎ (HasNoSettled c ⊎ (batch ≤ turns))
 
 module _ {K V L : Type 0} (tells : L → K → V → RemovalCause → L → Type 0) (q : Tests) where
   -- one turn of a sweep
-  abbrev pub TakesTurn : Sweep → Contents K V → Contents K V → Option L → Option L → Turn → Type 0
-  TakesTurn sweep before after l m Removed = (n : ℕ) × (cause : RemovalCause) × MayTurn q sweep before (Removes n cause) × (after ≡ after_choice before (Removes n cause)) × Told tells l (left_by_choice before (Removes n cause)) m
-  TakesTurn sweep before after l m Passed = (n : ℕ) × MayTurn q sweep before (MovesToBack n) × (after ≡ after_choice before (MovesToBack n)) × (m ≡ l)
+  abbrev pub TakesTurn : Sweep → Stock K V → Stock K V → Option L → Option L → Turn → Type 0
+  TakesTurn sweep before after l m Removed = (n : ℕ) × (cause : RemovalCause) × MayTurn q sweep before (Removes n cause) × (after ≡ after_step before (Removes n cause)) × Told tells l (left_by_step before (Removes n cause)) m
+  TakesTurn sweep before after l m Passed = (n : ℕ) × MayTurn q sweep before (MovesToBack n) × (after ≡ after_step before (MovesToBack n)) × (m ≡ l)
   TakesTurn sweep before after l m Ended = IsAtRest q sweep before × (after ≡ before) × (m ≡ l)
 
   -- a sweep of so many turns: what it removed, and whether it left more
-  pub record IsSwept (sweep : Sweep) (batch : ℕ) (before after : Contents K V) (l m : Option L) (removed : ℕ) (left : Bool) : Type 0 where
+  pub record IsSwept (sweep : Sweep) (batch : ℕ) (before after : Stock K V) (l m : Option L) (removed : ℕ) (left : Bool) : Type 0 where
     pub by : IsStepped tells (MayTurn q sweep) before after l m
     pub few : length by.steps ≤ batch
     -- it makes all its turns, or comes to rest
@@ -70,3 +80,8 @@ module _ {K V L : Type 0} (tells : L → K → V → RemovalCause → L → Type
     pub more : removed ≡ batch → 1 ≤ batch → left ≡ true
     -- it came to rest, or met an unsettled member
     pub rest : left ≡ false → HasUnsettled after ⊎ IsAtRest q sweep after
+
+  -- so many records left by their timers
+  pub record ExpiresDue (before after : Stock K V) (l m : Option L) (removed : ℕ) : Type 0 where
+    pub by : IsStepped tells (MayExpire q) before after l m
+    pub count : removed ≡ length (removed_by by.steps)

@@ -1,12 +1,15 @@
 //! What queued reads and writes make of the records and their order.
 //!
 //! moka: `sync::base_cache::Inner::apply_reads`, `Inner::apply_writes`, `Inner::handle_upsert`.
-ghost use Rattle.std.specs.Prelude.{◌≡◌, ◌<◌, ◌≤◌, ℕ, [], None, Some, Contains};
+ghost use Rattle.std.specs.Prelude.{◌≡◌, ◌<◌, ◌≤◌, ℕ, IsSome, true, [], None, Some, Contains};
 ghost use Rattle.std.specs.FinMap as finite;
 ghost use Rattle.circular_buffer.specs.Buffer.{buffer};
 ghost use Rattle.moka_parts.specs.declared.records.Operation.TheVariants.{Upsert, Removal};
+ghost use Rattle.moka_parts.specs.declared.records.ReadOperation.{ReadOperation};
+ghost use Rattle.moka_parts.specs.declared.records.ReadOperation.TheVariants.{Hit};
 ghost use Rattle.moka_parts.specs.declared.records.Record.{Record};
-ghost use Rattle.moka_parts.specs.Records.{counted_of, has_room, to_back, without_member, number_to_back, without_number};
+ghost use Rattle.moka_parts.specs.Time.{moment_of};
+ghost use Rattle.moka_parts.specs.Records.{counted_of, entered_by, has_room, to_back, without_member, number_to_back, without_number};
 ghost use Rattle.moka_parts.specs.Reads.{after_read, after_reads};
 ghost use Rattle.moka_parts.specs.Settling.{number_of};
 ghost use Rattle.moka_parts.specs.Writes.{entered, rejected, left_by_rejection};
@@ -16,6 +19,7 @@ ghost use Rattle.moka_maintenance.specs.declared.queued.QueuedWrite.{QueuedWrite
 ghost use Rattle.moka_maintenance.specs.Queued.{IsAt, IsReadAt, reads_of, writes_of};
 ghost use Rattle.moka_maintenance.specs.Queues.{IsApplied, AreApplied, IsCompared, LeavesNoRowAfter, LeavesNoRowBy};
 ghost use Rattle.moka_maintenance.specs.Steps.{contents_in, contents_with, AddsNoPlace, LeavesNoRow, Told};
+ghost use Rattle.moka_maintenance.specs.Timers.{KeepsTimers, StandsAtExpiry};
 
 use crate::choice::{choose, expel_front};
 use crate::expel::expel;
@@ -45,7 +49,9 @@ pub fn apply_reads<K: Eq + Hash, V, S: BuildHasher>(
 )
     requires { (q : QueuedRead) → Contains reads.old.items q → IsReadAt store.old.places q.place q.read }
     ensures applied { contents_with sketch.new store.new ≡ after_reads (contents_with sketch.old store.old) (reads_of reads.old.items) }
-    ensures rest { store.new ≡ record store.old { access = store.new.access } }
+    ensures rest { store.new ≡ record store.old { access = store.new.access; timers = store.new.timers } }
+    ensures renewed { (q : QueuedRead) (n hash : ℕ) → Contains reads.old.items q → q.read ≡ Hit n hash true → StandsAtExpiry n store.new }
+    ensures timers { KeepsTimers store.old store.new }
     ensures reads { reads.new ≡ buffer [] reads.old.capacity }
 {
     while let Some(queued) = reads.pop_front() {
@@ -53,7 +59,8 @@ pub fn apply_reads<K: Eq + Hash, V, S: BuildHasher>(
     }
 }
 
-// Applies a read: its hash is counted, and the member of a record in the map comes to the back.
+// Applies a read: its hash is counted, and the member of a record in the map comes to the back. Where the read renewed the
+// expiry, the timer is set again.
 fn apply_read<K: Eq + Hash, V, S: BuildHasher>(
     store: &mut Store<K, V, S>,
     sketch: &mut FrequencySketch,
@@ -61,15 +68,22 @@ fn apply_read<K: Eq + Hash, V, S: BuildHasher>(
 )
     requires { IsReadAt store.old.places queued.place queued.read }
     ensures applied { contents_with sketch.new store.new ≡ after_read (contents_with sketch.old store.old) queued.read }
-    ensures rest { store.new ≡ record store.old { access = store.new.access } }
+    ensures rest { store.new ≡ record store.old { access = store.new.access; timers = store.new.timers } }
+    ensures renewed { (n hash : ℕ) → queued.read ≡ Hit n hash true → StandsAtExpiry n store.new }
+    ensures kept { (n : ℕ) → StandsAtExpiry n store.old → StandsAtExpiry n store.new }
+    ensures timers { KeepsTimers store.old store.new }
 {
     match queued.read {
-        ReadOperation::Hit { number, hash, .. } => {
+        ReadOperation::Hit {
+            number,
+            hash,
+            renewed,
+        } => {
             sketch.increment(hash);
             let place = queued.place;
             let handle = Handle { number, place };
             if store.has_row(handle) && store.find(handle).is_some() {
-                pass_read(store, handle);
+                pass_read(store, handle, renewed);
             }
         }
         ReadOperation::Miss { hash } => sketch.increment(hash),
@@ -86,7 +100,8 @@ pub fn apply_writes<K: Eq + Hash + Drop, V: Drop, S: BuildHasher, L: Listener<K,
     writes: &mut HeapCircularBuffer<QueuedWrite>,
 )
     requires at { (q : QueuedWrite) → Contains writes.old.items q → IsAt store.old.places (number_of q.write.operation) q.write.place }
-    ensures applied { AreApplied L.tells capacity policy (contents_with sketch.now store.old) (contents_with sketch.now store.new) (writes_of writes.old.items) notifier.old notifier.new }
+    ensures applied { AreApplied L.tells capacity policy store.old.ordered (contents_with sketch.now store.old) (contents_with sketch.now store.new) store.old.written store.new.written (writes_of writes.old.items) notifier.old notifier.new }
+    ensures timers { KeepsTimers store.old store.new }
     ensures places { AddsNoPlace store.old store.new }
     ensures rows { LeavesNoRowBy (writes_of writes.old.items) store.old store.new }
     ensures room { store.old.room ≤ store.new.room }
@@ -107,7 +122,8 @@ fn apply_write<K: Eq + Hash + Drop, V: Drop, S: BuildHasher, L: Listener<K, V>>(
     write: PlacedWrite,
 )
     requires at { IsAt store.old.places (number_of write.operation) write.place }
-    ensures applied { IsApplied L.tells capacity policy (contents_with sketch.now store.old) (contents_with sketch.now store.new) write.operation notifier.old notifier.new }
+    ensures applied { IsApplied L.tells capacity policy store.old.ordered (contents_with sketch.now store.old) (contents_with sketch.now store.new) store.old.written store.new.written write.operation notifier.old notifier.new }
+    ensures timers { KeepsTimers store.old store.new }
     ensures places { AddsNoPlace store.old store.new }
     ensures rows { LeavesNoRowAfter write.operation store.old store.new }
     ensures room { store.old.room ≤ store.new.room }
@@ -143,12 +159,14 @@ fn apply_upsert<K: Eq + Hash + Drop, V: Drop, S: BuildHasher, L: Listener<K, V>>
     upsert: PlacedUpsert,
 )
     requires at { IsAt store.old.places upsert.handle.number upsert.handle.place }
-    ensures applied { IsApplied L.tells capacity policy (contents_with sketch.now store.old) (contents_with sketch.now store.new) (Upsert upsert.handle.number upsert.generation upsert.weight upsert.hash) notifier.old notifier.new }
+    ensures applied { IsApplied L.tells capacity policy store.old.ordered (contents_with sketch.now store.old) (contents_with sketch.now store.new) store.old.written store.new.written (Upsert upsert.handle.number upsert.generation upsert.weight upsert.hash) notifier.old notifier.new }
+    ensures timers { KeepsTimers store.old store.new }
     ensures places { AddsNoPlace store.old store.new }
     ensures rows { LeavesNoRow store.old store.new }
     ensures room { store.old.room ≤ store.new.room }
 {
     let handle = upsert.handle;
+    store.invariant_holds();
     if !store.has_row(handle) {
         return;
     }
@@ -160,6 +178,7 @@ fn apply_upsert<K: Eq + Hash + Drop, V: Drop, S: BuildHasher, L: Listener<K, V>>
     } else if store.is_member(handle) {
         store.set_applied(handle, upsert.generation);
         store.recount(handle, upsert.weight);
+        store.set_timer(handle);
     } else {
         admit_or_reject(store, sketch, notifier, capacity, policy, upsert);
     }
@@ -178,7 +197,8 @@ fn admit_or_reject<K: Eq + Hash + Drop, V: Drop, S: BuildHasher, L: Listener<K, 
     requires handle { IsHandle store.old upsert.handle }
     requires apart { counted_of upsert.handle.number store.old.access ≡ None }
     requires newer { (r : Record K V) → finite.get store.old.records upsert.handle.number ≡ Some r → r.applied < upsert.generation }
-    ensures applied { IsApplied L.tells capacity policy (contents_with sketch.now store.old) (contents_with sketch.now store.new) (Upsert upsert.handle.number upsert.generation upsert.weight upsert.hash) notifier.old notifier.new }
+    ensures applied { IsApplied L.tells capacity policy store.old.ordered (contents_with sketch.now store.old) (contents_with sketch.now store.new) store.old.written store.new.written (Upsert upsert.handle.number upsert.generation upsert.weight upsert.hash) notifier.old notifier.new }
+    ensures timers { KeepsTimers store.old store.new }
     ensures places { AddsNoPlace store.old store.new }
     ensures rows { LeavesNoRow store.old store.new }
     ensures room { store.old.room ≤ store.new.room }
@@ -205,7 +225,8 @@ fn compare<K: Eq + Hash + Drop, V: Drop, S: BuildHasher, L: Listener<K, V>>(
 )
     requires handle { IsHandle store.old candidate.handle }
     requires apart { counted_of candidate.handle.number store.old.access ≡ None }
-    ensures compared { (r : Record K V) → finite.get store.old.records candidate.handle.number ≡ Some r → IsCompared L.tells (contents_with sketch.now store.old) (contents_with sketch.now store.new) candidate.handle.number candidate.generation candidate.weight candidate.hash r notifier.old notifier.new }
+    ensures compared { (r : Record K V) → finite.get store.old.records candidate.handle.number ≡ Some r → IsCompared L.tells store.old.ordered (contents_with sketch.now store.old) (contents_with sketch.now store.new) store.old.written store.new.written candidate.handle.number candidate.generation candidate.weight candidate.hash r notifier.old notifier.new }
+    ensures timers { KeepsTimers store.old store.new }
     ensures places { AddsNoPlace store.old store.new }
     ensures rows { LeavesNoRow store.old store.new }
     ensures room { store.old.room ≤ store.new.room }
@@ -232,17 +253,20 @@ fn has_room(capacity: Option<u64>, total: u128, weight: u32) -> bool
     }
 }
 
-// The record has seen the operation, and enters the access list.
+// The record has seen the operation, and enters both orders with its timer.
 fn enter<K: Eq + Hash, V, S: BuildHasher>(store: &mut Store<K, V, S>, upsert: PlacedUpsert)
     requires handle { IsHandle store.old upsert.handle }
     requires apart { counted_of upsert.handle.number store.old.access ≡ None }
     ensures step { (r : Record K V) → finite.get store.old.records upsert.handle.number ≡ Some r → contents_in store.new ≡ entered upsert.handle.number upsert.generation upsert.weight r (contents_in store.old) }
+    ensures written { store.new.written ≡ entered_by store.old.ordered upsert.handle.number store.old.written }
+    ensures timers { KeepsTimers store.old store.new }
     ensures places { store.new.places ≡ store.old.places }
     ensures rows { LeavesNoRow store.old store.new }
     ensures room { store.old.room ≤ store.new.room }
 {
     store.set_applied(upsert.handle, upsert.generation);
     store.admit(upsert.handle, upsert.weight);
+    store.set_timer(upsert.handle);
 }
 
 // The record is not kept: it leaves the map, unless it was updated since.
@@ -256,10 +280,13 @@ fn reject<K: Eq + Hash + Drop, V: Drop, S: BuildHasher, L: Listener<K, V>>(
     requires apart { counted_of handle.number store.old.access ≡ None }
     ensures step { (r : Record K V) → finite.get store.old.records handle.number ≡ Some r → contents_in store.new ≡ rejected handle.number generation r (contents_in store.old) }
     ensures told { (r : Record K V) → finite.get store.old.records handle.number ≡ Some r → Told L.tells notifier.old (left_by_rejection generation r) notifier.new }
+    ensures written { store.old.ordered ≡ true → store.new.written ≡ store.old.written }
+    ensures timers { KeepsTimers store.old store.new }
     ensures places { AddsNoPlace store.old store.new }
     ensures rows { LeavesNoRow store.old store.new }
     ensures room { store.old.room ≤ store.new.room }
 {
+    store.invariant_holds();
     let Some(present) = store.find(handle) else {
         unreachable!()
     };
@@ -270,23 +297,36 @@ fn reject<K: Eq + Hash + Drop, V: Drop, S: BuildHasher, L: Listener<K, V>>(
     }
 }
 
-// The member of this number, if there is one, comes to the back of both orders.
+// The member of this number, if there is one, comes to the back of both orders, and its timer is set again.
 fn pass<K: Eq + Hash, V, S: BuildHasher>(store: &mut Store<K, V, S>, handle: Handle)
-    requires { IsPlaced store.old handle }
-    ensures { store.new ≡ record store.old { access = to_back handle.number store.old.access; written = number_to_back handle.number store.old.written; cursor = cursor_past handle.number store.old.written store.old.cursor } }
+    requires { IsHandle store.old handle }
+    ensures step { store.new ≡ record store.old { access = to_back handle.number store.old.access; written = number_to_back handle.number store.old.written; timers = store.new.timers; cursor = cursor_past handle.number store.old.written store.old.cursor } }
+    ensures timers { KeepsTimers store.old store.new }
 {
     if store.is_member(handle) {
         store.move_to_back(handle);
+        store.set_timer(handle);
     }
 }
 
-// The member of this number, if there is one, comes to the back of the access list alone.
-fn pass_read<K: Eq + Hash, V, S: BuildHasher>(store: &mut Store<K, V, S>, handle: Handle)
-    requires { IsPlaced store.old handle }
-    ensures { store.new ≡ record store.old { access = to_back handle.number store.old.access } }
+// The member of this number, if there is one, comes to the back of the access list alone. Its timer is set again where the
+// read renewed its expiry.
+fn pass_read<K: Eq + Hash, V, S: BuildHasher>(
+    store: &mut Store<K, V, S>,
+    handle: Handle,
+    renewed: bool,
+)
+    requires { IsHandle store.old handle }
+    ensures step { store.new ≡ record store.old { access = to_back handle.number store.old.access; timers = store.new.timers } }
+    ensures renewed { renewed ≡ true → StandsAtExpiry handle.number store.new }
+    ensures kept { (n : ℕ) → StandsAtExpiry n store.old → StandsAtExpiry n store.new }
+    ensures timers { KeepsTimers store.old store.new }
 {
     if store.is_member(handle) {
         store.move_in_access(handle);
+        if renewed {
+            store.set_timer(handle);
+        }
     }
 }
 
@@ -297,10 +337,13 @@ fn apply_removal<K: Eq + Hash + Drop, V: Drop, S: BuildHasher>(
 )
     requires { IsAt store.old.places handle.number handle.place }
     ensures step { contents_in store.new ≡ record (contents_in store.old) { access = without_member handle.number store.old.access } }
+    ensures written { store.old.ordered ≡ true → store.new.written ≡ without_number handle.number store.old.written }
+    ensures timers { KeepsTimers store.old store.new }
     ensures places { AddsNoPlace store.old store.new }
     ensures rows { (generation : ℕ) → LeavesNoRowAfter (Removal handle.number generation) store.old store.new }
     ensures room { store.old.room ≤ store.new.room }
 {
+    store.invariant_holds();
     if !store.has_row(handle) {
         return;
     }

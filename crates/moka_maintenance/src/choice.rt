@@ -5,11 +5,12 @@ ghost use Rattle.std.specs.Prelude.{◌≡◌, ◌≤◌, ◌+◌, ◌<◌, ◌^
 ghost use Rattle.std.specs.FinMap as finite;
 ghost use Rattle.moka_sketch.specs.Frequency.{frequency};
 ghost use Rattle.moka_parts.specs.Candidates.{hash_of};
-ghost use Rattle.moka_parts.specs.Records.{counted_of, is_settled, member};
+ghost use Rattle.moka_parts.specs.Records.{counted_of, is_settled, member, without_numbers};
 ghost use Rattle.moka_parts.specs.Writes.{left_with, without_victims};
 ghost use Rattle.moka_store.specs.Store.{IsPlaced};
 ghost use Rattle.moka_maintenance.specs.Chosen.{AreSettled, Chooses};
 ghost use Rattle.moka_maintenance.specs.Steps.{contents_in, contents_with, AddsNoPlace, LeavesNoRow, Told};
+ghost use Rattle.moka_maintenance.specs.Timers.{DropsTimers};
 
 use crate::expel::expel;
 use moka_parts::notification::{Listener, RemovalCause, RemovalNotifier};
@@ -108,8 +109,10 @@ pub(crate) fn expel_front<K: Eq + Hash + Drop, V: Drop, S: BuildHasher, L: Liste
 )
     requires { AreSettled (contents_in store.old) (take how_many store.old.access) }
     ensures step { contents_in store.new ≡ without_victims (take how_many store.old.access) (contents_in store.old) }
+    ensures written { store.new.written ≡ without_numbers (take how_many store.old.access) store.old.written }
     ensures told { Told L.tells notifier.old (left_with (take how_many store.old.access) store.old.records) notifier.new }
     ensures others { (n : ℕ) → counted_of n store.old.access ≡ None → (counted_of n store.new.access ≡ None) × (finite.get store.new.records n ≡ finite.get store.old.records n) × (finite.get store.new.places n ≡ finite.get store.old.places n) }
+    ensures timers { DropsTimers store.old store.new }
     ensures places { AddsNoPlace store.old store.new }
     ensures rows { LeavesNoRow store.old store.new }
     ensures room { store.old.room ≤ store.new.room }

@@ -3,17 +3,18 @@
 //! moka: `sync::base_cache::Inner::handle_remove`, `notification::notifier::RemovalNotifier::notify`.
 ghost use Rattle.std.specs.Prelude.{◌≡◌, ◌≤◌};
 ghost use Rattle.std.specs.FinMap as finite;
-ghost use Rattle.moka_parts.specs.Maintenance.{Removes, after_choice, left_by_choice};
+ghost use Rattle.moka_parts.specs.Maintenance.{Removes};
 ghost use Rattle.moka_store.specs.Store.{IsHandle};
 ghost use Rattle.moka_maintenance.specs.Expelled.{without_record};
-ghost use Rattle.moka_maintenance.specs.Steps.{contents_in, Told};
+ghost use Rattle.moka_maintenance.specs.Steps.{stock_in, after_step, left_by_step, Told};
+ghost use Rattle.moka_maintenance.specs.Timers.{DropsTimers};
 
 use moka_parts::notification::{Listener, RemovalCause, RemovalNotifier};
 use moka_parts::records::Record;
 use moka_store::{Handle, Store};
 use std::hash::{BuildHasher, Hash};
 
-/// The record leaves the map and the access list, its row is given back, and the listener is told.
+/// The record leaves the map, both orders and the timers, its row is given back, and the listener is told.
 pub(crate) fn expel<K: Eq + Hash + Drop, V: Drop, S: BuildHasher, L: Listener<K, V>>(
     store: &mut Store<K, V, S>,
     notifier: &mut RemovalNotifier<L>,
@@ -21,8 +22,10 @@ pub(crate) fn expel<K: Eq + Hash + Drop, V: Drop, S: BuildHasher, L: Listener<K,
     cause: RemovalCause,
 )
     requires { IsHandle store.old handle }
-    ensures step { contents_in store.new ≡ after_choice (contents_in store.old) (Removes handle.number cause) }
-    ensures told { Told L.tells notifier.old (left_by_choice (contents_in store.old) (Removes handle.number cause)) notifier.new }
+    ensures step { stock_in store.new ≡ after_step (stock_in store.old) (Removes handle.number cause) }
+    ensures told { Told L.tells notifier.old (left_by_step (stock_in store.old) (Removes handle.number cause)) notifier.new }
+    ensures taken { store.new.timers ≡ finite.remove store.old.timers handle.number }
+    ensures timers { DropsTimers store.old store.new }
     ensures places { store.new.places ≡ finite.remove store.old.places handle.number }
     ensures whole { store.new ≡ without_record handle.number store.new.room store.old }
     ensures room { store.old.room ≤ store.new.room }

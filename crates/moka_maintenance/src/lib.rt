@@ -3,6 +3,7 @@
 
 pub mod admission;
 mod choice;
+mod due;
 mod expel;
 pub mod passes;
 pub mod queued;

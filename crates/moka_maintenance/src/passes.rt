@@ -3,10 +3,12 @@
 //! moka: `sync::base_cache::Inner::do_run_pending_tasks`.
 ghost use Rattle.std.specs.Prelude.{◌≡◌, ◌≤◌, ◌+◌, ◌||◌, true, false, Some, option_map};
 ghost use Rattle.std.specs.Duration.{as_nanos};
-ghost use Rattle.moka_maintenance.specs.Steps.{contents_in, AddsNoPlace, LeavesNoRow};
+ghost use Rattle.moka_maintenance.specs.Steps.{stock_in, AddsNoPlace, LeavesNoRow};
 ghost use Rattle.moka_maintenance.specs.Sweeps.{IsSwept};
+ghost use Rattle.moka_maintenance.specs.Timers.{DropsTimers, HasNoneDue, KeepsTimers};
 ghost use Rattle.moka_maintenance.specs.Passes.{Starts, Checks, is_taken, IsPass, IsRan};
 
+use crate::due::expire_due;
 use crate::sweep::{Sweep, Swept, Tests, is_over, sweep_along};
 use moka_parts::housekeeper::Clock;
 use moka_parts::notification::{Listener, RemovalNotifier};
@@ -40,7 +42,9 @@ pub fn make_passes<K: Eq + Hash + Drop, V: Drop, S: BuildHasher, L: Listener<K, 
     limit: Option<Duration>,
     batch: u32,
 ) -> Ran
-    ensures ran { IsRan L.tells tests C.reads (option_map as_nanos limit) batch (contents_in store.old) (contents_in store.new) notifier.old notifier.new clock.old clock.new result.passes result.is_left }
+    ensures ran { IsRan L.tells tests C.reads (option_map as_nanos limit) batch (stock_in store.old) (stock_in store.new) notifier.old notifier.new clock.old clock.new result.passes result.is_left }
+    ensures none { HasNoneDue tests.now.0 store.new }
+    ensures timers { KeepsTimers store.old store.new }
     ensures places { AddsNoPlace store.old store.new }
     ensures rows { LeavesNoRow store.old store.new }
     ensures room { store.old.room ≤ store.new.room }
@@ -70,24 +74,29 @@ fn make_pass<K: Eq + Hash + Drop, V: Drop, S: BuildHasher, L: Listener<K, V>>(
     tests: Tests,
     batch: u32,
 ) -> Pass
-    ensures pass { IsPass L.tells tests batch (contents_in store.old) (contents_in store.new) notifier.old notifier.new result.removed result.is_left }
+    ensures pass { IsPass L.tells tests batch (stock_in store.old) (stock_in store.new) notifier.old notifier.new result.removed result.is_left }
+    ensures none { HasNoneDue tests.now.0 store.new }
+    ensures timers { KeepsTimers store.old store.new }
     ensures places { AddsNoPlace store.old store.new }
     ensures rows { LeavesNoRow store.old store.new }
     ensures room { store.old.room ≤ store.new.room }
 {
+    let due = expire_due(store, notifier, tests);
+    let by_write = take_step(store, notifier, tests, Sweep::Written, batch);
     let by_read = take_step(store, notifier, tests, Sweep::Read, batch);
     let surplus = take_step(store, notifier, tests, Sweep::Surplus, batch);
-    joined(by_read, surplus)
+    joined(due, by_write, by_read, surplus)
 }
 
-// What two steps came to.
-fn joined(first: Swept, second: Swept) -> Pass
-    ensures removed { result.removed ≡ first.removed + second.removed }
-    ensures left { result.is_left ≡ (first.is_left || second.is_left) }
+// What the steps came to, the first of which leaves nothing.
+fn joined(due: u32, by_write: Swept, by_read: Swept, surplus: Swept) -> Pass
+    ensures removed { result.removed ≡ due + by_write.removed + by_read.removed + surplus.removed }
+    ensures left { result.is_left ≡ (by_write.is_left || by_read.is_left || surplus.is_left) }
 {
+    let by_moment = u64::from(due) + u64::from(by_write.removed) + u64::from(by_read.removed);
     Pass {
-        removed: u64::from(first.removed) + u64::from(second.removed),
-        is_left: first.is_left || second.is_left,
+        removed: by_moment + u64::from(surplus.removed),
+        is_left: by_write.is_left || by_read.is_left || surplus.is_left,
     }
 }
 
@@ -99,8 +108,9 @@ fn take_step<K: Eq + Hash + Drop, V: Drop, S: BuildHasher, L: Listener<K, V>>(
     sweep: Sweep,
     batch: u32,
 ) -> Swept
-    ensures swept { IsSwept L.tells tests sweep batch (contents_in store.old) (contents_in store.new) notifier.old notifier.new result.removed result.is_left }
+    ensures swept { IsSwept L.tells tests sweep batch (stock_in store.old) (stock_in store.new) notifier.old notifier.new result.removed result.is_left }
     ensures idle { batch ≡ 0 → result.is_left ≡ is_taken tests sweep store.old.access }
+    ensures timers { DropsTimers store.old store.new }
     ensures places { AddsNoPlace store.old store.new }
     ensures rows { LeavesNoRow store.old store.new }
     ensures room { store.old.room ≤ store.new.room }
@@ -123,6 +133,11 @@ fn is_taken<K: Eq + Hash, V, S: BuildHasher>(
     ensures { result ≡ is_taken tests sweep store.now.access }
 {
     match sweep {
+        Sweep::Written => {
+            tests.time_to_live.is_some()
+                || tests.time_to_idle.is_some()
+                || tests.valid_after.is_some()
+        }
         Sweep::Read => tests.time_to_idle.is_some() || tests.valid_after.is_some(),
         Sweep::Surplus => is_over(tests.capacity, store.total_weight()),
     }

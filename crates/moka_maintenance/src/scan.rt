@@ -8,8 +8,9 @@ ghost use Rattle.moka_parts.specs.declared.records.Registered.{Registered};
 ghost use Rattle.moka_parts.specs.Maintenance.{CoversNothing};
 ghost use Rattle.moka_parts.specs.Records.{counted_of, is_listed};
 ghost use Rattle.moka_store.specs.Store.{IsPlaced};
-ghost use Rattle.moka_maintenance.specs.Scanning.{CoversSome, LooksAt, IsWalked, IsRound, AreDropped, IsScanned};
+ghost use Rattle.moka_maintenance.specs.Scanning.{CoversSome, LooksAt, IsWalked, IsRound, AllDropped, IsScanned};
 ghost use Rattle.moka_maintenance.specs.Steps.{contents_in, AddsNoPlace, LeavesNoRow};
+ghost use Rattle.moka_maintenance.specs.Timers.{DropsTimers};
 
 use crate::expel::expel;
 use moka_parts::closures::PredicateFn;
@@ -40,8 +41,8 @@ pub fn scan<K: Eq + Hash + Drop, V: Drop, S: BuildHasher, L: Listener<K, V>, P: 
 ) -> bool
 where
     P: PredicateFn<K, V>,
-    ensures scanned { IsScanned L.tells P.says batch store.old store.new invalidator.old invalidator.new notifier.old notifier.new result }
-    ensures ordered { store.new.ordered ≡ store.old.ordered }
+    ensures scanned { IsScanned L.tells P.says invalidator.old batch store.old store.new invalidator.new notifier.old notifier.new result }
+    ensures timers { DropsTimers store.old store.new }
     ensures places { AddsNoPlace store.old store.new }
     ensures rows { LeavesNoRow store.old store.new }
     ensures room { store.old.room ≤ store.new.room }
@@ -67,7 +68,7 @@ fn go_round<K: Eq + Hash + Drop, V: Drop, S: BuildHasher, L: Listener<K, V>, P>(
 where
     P: PredicateFn<K, V>,
     ensures round { IsRound L.tells P.says invalidator.now batch store.old store.new notifier.old notifier.new result.looked result.is_end }
-    ensures ordered { store.new.ordered ≡ store.old.ordered }
+    ensures timers { DropsTimers store.old store.new }
     ensures places { AddsNoPlace store.old store.new }
     ensures rows { LeavesNoRow store.old store.new }
     ensures room { store.old.room ≤ store.new.room }
@@ -124,7 +125,7 @@ where
     ensures stopped { result.is_end ≡ false → (most ≤ result.passed) ⊎ (batch ≤ result.looked) }
     ensures few { result.passed ≤ most }
     ensures looked { result.looked ≤ batch }
-    ensures ordered { store.new.ordered ≡ store.old.ordered }
+    ensures timers { DropsTimers store.old store.new }
     ensures once { IsDistinct (◌==◌) store.new.written }
     ensures places { AddsNoPlace store.old store.new }
     ensures rows { LeavesNoRow store.old store.new }
@@ -184,7 +185,7 @@ fn drop_idle<K: Eq + Hash, V, S: BuildHasher, P: Drop>(
 )
 where
     P: PredicateFn<K, V>,
-    ensures { AreDropped P.says (contents_in store.now) invalidator.old invalidator.new }
+    ensures { AllDropped P.says (contents_in store.now) invalidator.old invalidator.new }
 {
     let mut left = invalidator.len();
     while left > 0 {

@@ -1,21 +1,22 @@
-//! Sweeps along the access list: the front leaves where it has expired or is invalid, or the capacity is exceeded.
+//! Sweeps along the orders of writing and of access: the front leaves where it has expired or is invalid, or the capacity
+//! is exceeded.
 //!
-//! moka: `sync::base_cache::Inner::remove_expired_ao`, `Inner::evict_lru_entries`.
+//! moka: `sync::base_cache::Inner::remove_expired_wo`, `Inner::remove_expired_ao`, `Inner::evict_lru_entries`.
 ghost use Rattle.std.specs.Prelude.{◌≡◌, ◌≤◌, ◌&&◌, ℕ, true, false, [], Some, IfSome, IfNone, IsSome, List};
 ghost use Rattle.std.specs.FinMap as finite;
 ghost use Rattle.moka_parts.specs.declared.notification.RemovalCause.{RemovalCause};
 ghost use Rattle.moka_parts.specs.declared.records.Member.{Member};
-ghost use Rattle.moka_parts.specs.State.{Contents};
-ghost use Rattle.moka_parts.specs.Maintenance.{HasGround, is_front, is_over, is_past_read};
+ghost use Rattle.moka_parts.specs.Maintenance.{HasGround, is_front, is_over, is_past_read, is_past_write};
 ghost use Rattle.moka_parts.specs.Exact.{IsWithin};
-ghost use Rattle.moka_parts.specs.Visibility.{is_read_before};
+ghost use Rattle.moka_parts.specs.Visibility.{is_read_before, is_written_before};
 ghost use Rattle.moka_parts.specs.Records.{counted_of, total_weight};
 ghost use Rattle.moka_store.specs.Store.{IsPlaced};
-ghost use Rattle.moka_maintenance.specs.Steps.{contents_in, AddsNoPlace, LeavesNoRow, is_timely};
+ghost use Rattle.moka_maintenance.specs.Steps.{Stock, contents_of, stock_in, AddsNoPlace, LeavesNoRow, is_timely};
+ghost use Rattle.moka_maintenance.specs.Timers.{DropsTimers};
 ghost use Rattle.moka_maintenance.specs.Sweeps.{tests_in, is_by_moment, IsNext, IsAtRest, TakesTurn, IsSwept};
 
 use crate::expel::expel;
-use moka_parts::expiry::{is_expired_by_tti, is_invalid_entry};
+use moka_parts::expiry::{is_expired_by_tti, is_expired_by_ttl, is_invalid_entry};
 use moka_parts::notification::{Listener, RemovalCause, RemovalNotifier};
 use moka_parts::policy::Instant;
 use moka_parts::records::Record;
@@ -37,6 +38,8 @@ pub struct Tests {
 /// By what a sweep removes.
 #[derive(Clone, Copy)]
 pub(crate) enum Sweep {
+    /// By the last write.
+    Written,
     /// By the last read.
     Read,
     /// While the capacity is exceeded.
@@ -71,8 +74,9 @@ pub(crate) fn sweep_along<K: Eq + Hash + Drop, V: Drop, S: BuildHasher, L: Liste
     sweep: Sweep,
     batch: u32,
 ) -> Swept
-    ensures swept { IsSwept L.tells tests sweep batch (contents_in store.old) (contents_in store.new) notifier.old notifier.new result.removed result.is_left }
+    ensures swept { IsSwept L.tells tests sweep batch (stock_in store.old) (stock_in store.new) notifier.old notifier.new result.removed result.is_left }
     ensures left { result.removed ≡ batch → result.is_left ≡ true }
+    ensures timers { DropsTimers store.old store.new }
     ensures places { AddsNoPlace store.old store.new }
     ensures rows { LeavesNoRow store.old store.new }
     ensures room { store.old.room ≤ store.new.room }
@@ -115,7 +119,8 @@ fn take_turn<K: Eq + Hash + Drop, V: Drop, S: BuildHasher, L: Listener<K, V>>(
     tests: Tests,
     sweep: Sweep,
 ) -> Turn
-    ensures turn { TakesTurn L.tells tests sweep (contents_in store.old) (contents_in store.new) notifier.old notifier.new result }
+    ensures turn { TakesTurn L.tells tests sweep (stock_in store.old) (stock_in store.new) notifier.old notifier.new result }
+    ensures timers { DropsTimers store.old store.new }
     ensures places { AddsNoPlace store.old store.new }
     ensures rows { LeavesNoRow store.old store.new }
     ensures room { store.old.room ≤ store.new.room }
@@ -137,7 +142,7 @@ fn take_turn<K: Eq + Hash + Drop, V: Drop, S: BuildHasher, L: Listener<K, V>>(
     Turn::Removed
 }
 
-// The front of the access list, where the sweep still has to go on.
+// The front of the sweep's order, where the sweep still has to go on.
 fn next_of<K: Eq + Hash, V, S: BuildHasher>(
     store: &Store<K, V, S>,
     tests: Tests,
@@ -145,10 +150,11 @@ fn next_of<K: Eq + Hash, V, S: BuildHasher>(
 ) -> Option<Handle>
     ensures placed { IfSome result (λ h. IsPlaced store.now h) }
     ensures member { IfSome result (λ h. IsSome (counted_of h.number store.now.access)) }
-    ensures next { IfSome result (λ h. IsNext tests sweep (contents_in store.now) h.number) }
-    ensures none { IfNone result (IsAtRest tests sweep (contents_in store.now)) }
+    ensures next { IfSome result (λ h. IsNext tests sweep (stock_in store.now) h.number) }
+    ensures none { IfNone result (IsAtRest tests sweep (stock_in store.now)) }
 {
     match sweep {
+        Sweep::Written => store.front_written(),
         Sweep::Read => first_of(store),
         Sweep::Surplus => first_over(store, tests.capacity),
     }
@@ -195,19 +201,35 @@ pub(crate) fn is_over(capacity: Option<u64>, weight: u128) -> bool
 
 // Why a sweep removes a settled record that it has come to, if it does.
 fn cause_of<K, V>(tests: Tests, sweep: Sweep, found: &Record<K, V>) -> Option<RemovalCause>
-    ensures ground { IfSome result (λ cause. (c : Contents K V) (n : ℕ) → IsNext tests sweep c n → HasGround (tests_in tests) c n found.now cause) }
+    ensures ground { IfSome result (λ cause. (c : Stock K V) (n : ℕ) → IsNext tests sweep c n → HasGround (tests_in tests) (contents_of c) n found.now cause) }
     ensures timely { IfSome result (λ cause. is_by_moment sweep ≡ true → is_timely cause ≡ true) }
-    ensures none { IfNone result ((c : Contents K V) (n : ℕ) → finite.get c.records n ≡ Some found.now → IsNext tests sweep c n → IsAtRest tests sweep c) }
+    ensures none { IfNone result ((c : Stock K V) (n : ℕ) → finite.get c.records n ≡ Some found.now → IsNext tests sweep c n → IsAtRest tests sweep c) }
 {
     match sweep {
+        Sweep::Written => cause_by_write(tests, found),
         Sweep::Read => cause_by_read(tests, found),
         Sweep::Surplus => Some(RemovalCause::Size),
     }
 }
 
+// Why a record leaves by the moment of its last write, if it does.
+fn cause_by_write<K, V>(tests: Tests, found: &Record<K, V>) -> Option<RemovalCause>
+    ensures ground { IfSome result (λ cause. (c : Stock K V) (n : ℕ) → HasGround (tests_in tests) (contents_of c) n found.now cause) }
+    ensures timely { IfSome result (λ cause. is_timely cause ≡ true) }
+    ensures none { IfNone result ((is_past_write (tests_in tests) found.now ≡ false) × (is_written_before tests.valid_after found.now ≡ false)) }
+{
+    if is_expired_by_ttl(tests.time_to_live, found.written, tests.now) {
+        return Some(RemovalCause::Expired);
+    }
+    if is_invalid_entry(tests.valid_after, found.written) {
+        return Some(RemovalCause::Explicit);
+    }
+    None
+}
+
 // Why a record leaves by the moment of its last read, if it does.
 fn cause_by_read<K, V>(tests: Tests, found: &Record<K, V>) -> Option<RemovalCause>
-    ensures ground { IfSome result (λ cause. (c : Contents K V) (n : ℕ) → HasGround (tests_in tests) c n found.now cause) }
+    ensures ground { IfSome result (λ cause. (c : Stock K V) (n : ℕ) → HasGround (tests_in tests) (contents_of c) n found.now cause) }
     ensures timely { IfSome result (λ cause. is_timely cause ≡ true) }
     ensures none { IfNone result ((is_past_read (tests_in tests) found.now ≡ false) × (is_read_before tests.valid_after found.now ≡ false)) }
 {

@@ -1,9 +1,9 @@
 -- What comes of the calls of a script: a run of the reference cache.
-use Rattle.std.specs.Prelude.{◌≡◌, ℕ, ◌+◌, ◌-◌, ◌^◌, min, ◌&&◌, nat_eq, nat_le, false, List, map, Option, Some, None, unwrap_or, ◌⊎◌, ⊤}
+use Rattle.std.specs.Prelude.{◌≡◌, ℕ, ◌+◌, ◌-◌, ◌^◌, min, ◌&&◌, nat_eq, nat_le, false, List, map, Option, None, unwrap_or}
 use Rattle.std.specs.Int.{w128, to_be_bytes}
 use Rattle.moka_parts.specs.declared.calls.Reply.{Reply}
 use Rattle.moka_parts.specs.declared.policy.EvictionPolicy.{EvictionPolicy}
-use Rattle.moka_parts.specs.declared.policy.EvictionPolicy.TheVariants.{Lru, TinyLfu}
+use Rattle.moka_parts.specs.declared.policy.EvictionPolicy.TheVariants.{TinyLfu}
 use Rattle.moka_parts.specs.declared.policy.NoExpiry.{NoExpiry}
 use Rattle.moka_parts.specs.Policy.{Expirations}
 use Rattle.moka_parts.specs.State.{State, Meaning, new_state}

@@ -100,6 +100,11 @@ module _ {K V : Type 0} (eq : K → K → Bool) (rows : List (Option (Row (Recor
           let there = w.all ordered place (ap (λ o. is_some (option_and_then (λ (row : Row (Record K V)). row.membership) o)) at_is ∙ member) in
           sym (ap (λ o. is_some (option_and_then written_in o)) at_is) ∙ there ∙ sym (ap (λ o. is_some (option_map (λ (m : Membership). m.counted) o)) is)
 
+-- a list of no nodes has no numbers
+pub unkept-order : {K V : Type 0} (rows : List (Option (Row (Record K V)))) (nodes : List (ℕ × ℕ)) → nodes ≡ [] → written_of rows nodes ≡ []
+unfolding written_of
+unkept-order rows nodes none = ap (λ (ns : List (ℕ × ℕ)). map (λ node. number_at rows node.1) ns) none
+
 -- ---- what is no member's stays as a member leaves
 
 pub off-written : {K V : Type 0} (s : Kept K V) (n : ℕ) → IsOff s n → without_number n s.written ≡ s.written

@@ -488,8 +488,10 @@ impl<K: Eq + Hash, V, S: BuildHasher> Store<K, V, S> {
         ensures distinct { IsDistinct (◌==◌) (numbers_of self.now.access) }
         ensures once { IsDistinct (◌==◌) self.now.written }
         ensures listed { self.now.ordered ≡ true → IsListOf self.now.access self.now.written }
+        ensures unlisted { self.now.ordered ≡ false → self.now.written ≡ [] }
     {
         let _weight = self.weight;
+        self.written.invariant_holds();
     }
 
     /// The first of the access list, with its weight.

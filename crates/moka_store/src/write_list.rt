@@ -107,6 +107,16 @@ impl WriteList {
         }
     }
 
+    /// What always holds of the list: one that is not kept is empty. It does nothing when it runs.
+    pub fn invariant_holds(&self)
+        ensures { self.now.ordered ≡ false → self.now.nodes ≡ [] }
+    {
+        match &self.list {
+            Some(_) => {}
+            None => {}
+        }
+    }
+
     /// The slot of the first place, and that place.
     pub fn front(&self) -> Option<(u32, u64)>
         ensures front { result ≡ slice_get self.now.nodes 0 }

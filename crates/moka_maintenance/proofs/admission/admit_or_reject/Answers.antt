@@ -1,7 +1,7 @@
 use Rattle.std.proofs.Common.{refl, sym, ap, ◌∙◌, is_some}
 use Rattle.std.specs.FinMap as finite
 use Rattle.moka_parts.specs.declared.policy.EvictionPolicy.TheVariants.{TinyLfu, Lru}
-use Rattle.moka_parts.specs.Records.{has_room}
+use Rattle.moka_parts.specs.Records.{entered_by, has_room}
 use Rattle.moka_parts.specs.State.{Contents}
 use Rattle.moka_store.proofs.Gets.{some_is}
 use Rattle.moka_maintenance.specs.Steps.{contents_with}
@@ -14,9 +14,9 @@ returns-then-has_room-clause-applied g c =
     let k = contents_with c.args.sketch.now c.args.store.now in
     let found = some_is (finite.get c.args.store.now.records u.handle.number) c.requires.handle.stored in
     let fits = ap (λ w. has_room c.args.capacity w u.weight) (sym c.total_weight.ensures) ∙ sym c.has_room.ensures ∙ c.if-has_room.true in
-    applied-admitted g.L.Listener.tells c.args.capacity c.args.policy k u.handle.number u.generation u.weight u.hash (contents_with c.args.sketch.now c.enter.new.store) found.0 found.1 c.args.notifier.now c.args.notifier.now
+    applied-admitted g.L.Listener.tells c.args.capacity c.args.policy c.args.store.now.ordered k u.handle.number u.generation u.weight u.hash (contents_with c.args.sketch.now c.enter.new.store) c.args.store.now.written c.enter.new.store.written found.0 found.1 c.args.notifier.now c.args.notifier.now
     (c.requires.newer found.0 found.1) (ap is_some c.requires.apart) (newcomer-fits c.args.capacity c.args.policy k u.weight u.hash fits)
-    (ap (λ (d : Contents g.row.K.Denot g.row.V.Denot). record d { sketch = c.args.sketch.now }) (c.enter.ensures.step found.0 found.1)) refl
+    (ap (λ (d : Contents g.row.K.Denot g.row.V.Denot). record d { sketch = c.args.sketch.now }) (c.enter.ensures.step found.0 found.1)) (λ kept. c.enter.ensures.written ∙ ap (λ b. entered_by b u.handle.number c.args.store.now.written) kept) refl
 
 pub returns-then-not-has_room-clause-applied : goal.returns-then-not-has_room-clause-applied
 returns-then-not-has_room-clause-applied g c =
@@ -25,9 +25,9 @@ returns-then-not-has_room-clause-applied g c =
     let found = some_is (finite.get c.args.store.now.records u.handle.number) c.requires.handle.stored in
     let full = ap (λ w. has_room c.args.capacity w u.weight) (sym c.total_weight.ensures) ∙ sym c.has_room.ensures ∙ c.if-has_room.false in
     let heavy = sym c.has_room-else-has_room.ensures ∙ c.if-not-has_room.true in
-    applied-rejected g.L.Listener.tells c.args.capacity c.args.policy k u.handle.number u.generation u.weight u.hash (contents_with c.args.sketch.now c.reject.new.store) found.0 found.1 c.args.notifier.now c.reject.new.notifier
+    applied-rejected g.L.Listener.tells c.args.capacity c.args.policy c.args.store.now.ordered k u.handle.number u.generation u.weight u.hash (contents_with c.args.sketch.now c.reject.new.store) c.args.store.now.written c.reject.new.store.written found.0 found.1 c.args.notifier.now c.reject.new.notifier
     (c.requires.newer found.0 found.1) (ap is_some c.requires.apart) (newcomer-heavy c.args.capacity c.args.policy k u.weight u.hash full heavy)
-    (ap (λ (d : Contents g.row.K.Denot g.row.V.Denot). record d { sketch = c.args.sketch.now }) (c.reject.ensures.step found.0 found.1)) (c.reject.ensures.told found.0 found.1)
+    (ap (λ (d : Contents g.row.K.Denot g.row.V.Denot). record d { sketch = c.args.sketch.now }) (c.reject.ensures.step found.0 found.1)) c.reject.ensures.written (c.reject.ensures.told found.0 found.1)
 
 pub returns-in-Lru-clause-applied : goal.returns-in-Lru-clause-applied
 returns-in-Lru-clause-applied g c =
@@ -36,9 +36,9 @@ returns-in-Lru-clause-applied g c =
     let found = some_is (finite.get c.args.store.now.records u.handle.number) c.requires.handle.stored in
     let full = ap (λ w. has_room c.args.capacity w u.weight) (sym c.total_weight.ensures) ∙ sym c.has_room.ensures ∙ c.if-has_room.false in
     let fits = sym c.has_room-else-has_room.ensures ∙ c.if-not-has_room.false in
-    applied-admitted g.L.Listener.tells c.args.capacity c.args.policy k u.handle.number u.generation u.weight u.hash (contents_with c.args.sketch.now c.enter-in-Lru.new.store) found.0 found.1 c.args.notifier.now c.args.notifier.now
+    applied-admitted g.L.Listener.tells c.args.capacity c.args.policy c.args.store.now.ordered k u.handle.number u.generation u.weight u.hash (contents_with c.args.sketch.now c.enter-in-Lru.new.store) c.args.store.now.written c.enter-in-Lru.new.store.written found.0 found.1 c.args.notifier.now c.args.notifier.now
     (c.requires.newer found.0 found.1) (ap is_some c.requires.apart) (newcomer-by_policy c.args.capacity c.args.policy k u.weight u.hash full fits Lru c.in-Lru.is)
-    (ap (λ (d : Contents g.row.K.Denot g.row.V.Denot). record d { sketch = c.args.sketch.now }) (c.enter-in-Lru.ensures.step found.0 found.1)) refl
+    (ap (λ (d : Contents g.row.K.Denot g.row.V.Denot). record d { sketch = c.args.sketch.now }) (c.enter-in-Lru.ensures.step found.0 found.1)) (λ kept. c.enter-in-Lru.ensures.written ∙ ap (λ b. entered_by b u.handle.number c.args.store.now.written) kept) refl
 
 pub returns-in-TinyLfu-clause-applied : goal.returns-in-TinyLfu-clause-applied
 returns-in-TinyLfu-clause-applied g c =
@@ -47,6 +47,6 @@ returns-in-TinyLfu-clause-applied g c =
     let found = some_is (finite.get c.args.store.now.records u.handle.number) c.requires.handle.stored in
     let full = ap (λ w. has_room c.args.capacity w u.weight) (sym c.total_weight.ensures) ∙ sym c.has_room.ensures ∙ c.if-has_room.false in
     let fits = sym c.has_room-else-has_room.ensures ∙ c.if-not-has_room.false in
-    applied-compared g.L.Listener.tells c.args.capacity c.args.policy k u.handle.number u.generation u.weight u.hash (contents_with c.args.sketch.now c.compare.new.store) found.0 found.1 c.args.notifier.now c.compare.new.notifier
+    applied-compared g.L.Listener.tells c.args.capacity c.args.policy c.args.store.now.ordered k u.handle.number u.generation u.weight u.hash (contents_with c.args.sketch.now c.compare.new.store) c.args.store.now.written c.compare.new.store.written found.0 found.1 c.args.notifier.now c.compare.new.notifier
     (c.requires.newer found.0 found.1) (ap is_some c.requires.apart) (newcomer-by_policy c.args.capacity c.args.policy k u.weight u.hash full fits TinyLfu c.in-TinyLfu.is)
     (c.compare.ensures.compared found.0 found.1)

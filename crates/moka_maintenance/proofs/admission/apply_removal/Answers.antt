@@ -1,8 +1,10 @@
-use Rattle.std.proofs.Common.{◌≡◌, refl, sym, ap, ◌∙◌, true≢false}
+use Rattle.std.proofs.Common.{◌≡◌, is_some, refl, sym, ap, ◌∙◌, true≢false}
 use Rattle.std.specs.FinMap as finite
 use Rattle.moka_parts.specs.Records.{counted_of}
 use Rattle.moka_parts.proofs.AccessList.{absent_taken_out, counted_taken_out}
 use Rattle.moka_store.specs.Store.{Kept}
+use Rattle.moka_parts.proofs.WriteList.{unlisted_taken_out}
+use Rattle.moka_maintenance.proofs.Timing.{keeps-none, keeps-left}
 use Rattle.moka_maintenance.proofs.Placed.{no_row, places-gone, rows-unplaced, rows-forgotten}
 use Rattle.moka_maintenance.proofs.admission.apply_removal.Goals as goal
 
@@ -33,3 +35,22 @@ returns-then-is_none-clause-rows g c = λ generation.
     let left : finite.remove c.leave.new.store.places c.args.handle.number ≡ finite.remove c.args.store.now.places c.args.handle.number = ap (λ (k : Kept g.row.K.Denot g.row.V.Denot). finite.remove k.places c.args.handle.number) c.leave.ensures in
     let records = c.forget.ensures.records ∙ ap (λ (k : Kept g.row.K.Denot g.row.V.Denot). k.records) c.leave.ensures in
     rows-forgotten c.args.store.now c.forget.new.self c.args.handle.number generation records (step ∙ left)
+
+pub returns-then-not-has_row-clause-written : goal.returns-then-not-has_row-clause-written
+returns-then-not-has_row-clause-written g c = λ kept.
+    let n = c.args.handle.number in
+    let k = c.args.store.now in
+    let none = no_row k.places n c.args.handle.place (counted_of n k.access) c.requires (c.has_row.ensures.members n) (λ here. absurd (true≢false (sym (c.has_row.ensures.placed.1 here) ∙ c.if-not-has_row.true))) in
+    sym (unlisted_taken_out n k.written ((c.invariant_holds.ensures.listed kept).1 n ∙ ap is_some none))
+
+pub returns-then-not-has_row-clause-timers : goal.returns-then-not-has_row-clause-timers
+returns-then-not-has_row-clause-timers g c = keeps-none c.args.store.now
+
+pub returns-then-is_none-clause-written : goal.returns-then-is_none-clause-written
+returns-then-is_none-clause-written g c = λ _. ap (λ (k : Kept g.row.K.Denot g.row.V.Denot). k.written) c.forget.ensures.step ∙ ap (λ (k : Kept g.row.K.Denot g.row.V.Denot). k.written) c.leave.ensures
+
+pub returns-then-is_none-clause-timers : goal.returns-then-is_none-clause-timers
+returns-then-is_none-clause-timers g c = keeps-left c.args.store.now c.leave.new.store c.forget.new.self c.args.handle.number (finite.remove c.leave.new.store.places c.args.handle.number) c.leave.ensures c.forget.ensures.step
+
+pub returns-else-is_none-clause-timers : goal.returns-else-is_none-clause-timers
+returns-else-is_none-clause-timers g c = keeps-left c.args.store.now c.leave.new.store c.leave.new.store c.args.handle.number c.leave.new.store.places c.leave.ensures refl

@@ -1,4 +1,4 @@
-use Rattle.std.proofs.Common.{◌≡◌, ◌≤◌, Option, length, Contains}
+use Rattle.std.proofs.Common.{◌≡◌, ◌≤◌, ℕ, List, Option, length, Contains}
 use Rattle.moka_parts.specs.State.{Contents}
 use Rattle.moka_parts.specs.Settling.{number_of}
 use Rattle.moka_store.specs.Store.{Kept}
@@ -6,12 +6,14 @@ use Rattle.moka_maintenance.specs.declared.queued.QueuedWrite.{QueuedWrite}
 use Rattle.moka_maintenance.specs.Queued.{IsAt, writes_of}
 use Rattle.moka_maintenance.specs.Queues.{AreApplied, LeavesNoRowBy}
 use Rattle.moka_maintenance.specs.Steps.{contents_with, AddsNoPlace}
+use Rattle.moka_maintenance.specs.Timers.{KeepsTimers}
 use Rattle.moka_maintenance.proofs.admission.apply_writes.Given as goal
 
 abbrev pub invariant-loop-queued : goal.invariant-loop-queued
 invariant-loop-queued g l = record {
-  applied : (c : Contents g.row.K.Denot g.row.V.Denot) (m : Option g.row.L.Denot) → AreApplied g.L.Listener.tells l.capacity l.policy (contents_with l.sketch l.store) c (writes_of l.writes.items) l.notifier m
-      → AreApplied g.L.Listener.tells l.capacity l.policy (contents_with l.sketch l.initial.store) c (writes_of l.initial.writes.items) l.initial.notifier m;
+  applied : (c : Contents g.row.K.Denot g.row.V.Denot) (ks : List ℕ) (m : Option g.row.L.Denot) → AreApplied g.L.Listener.tells l.capacity l.policy l.initial.store.ordered (contents_with l.sketch l.store) c l.store.written ks (writes_of l.writes.items) l.notifier m
+      → AreApplied g.L.Listener.tells l.capacity l.policy l.initial.store.ordered (contents_with l.sketch l.initial.store) c l.initial.store.written ks (writes_of l.initial.writes.items) l.initial.notifier m;
+  timers : KeepsTimers l.initial.store l.store;
   rows : (k : Kept g.row.K.Denot g.row.V.Denot) → AddsNoPlace l.store k → LeavesNoRowBy (writes_of l.writes.items) l.store k → LeavesNoRowBy (writes_of l.initial.writes.items) l.initial.store k;
   places : AddsNoPlace l.initial.store l.store;
   room : l.initial.store.room ≤ l.store.room;

@@ -1,15 +1,17 @@
 use Rattle.std.proofs.Common.{arith, rules, ◌+◌, option_map}
 use Rattle.std.specs.Duration.{as_nanos}
-use Rattle.moka_maintenance.specs.Steps.{contents_in}
+use Rattle.moka_maintenance.specs.Steps.{stock_in}
 use Rattle.moka_maintenance.proofs.Clocked.{clocked-start, clocked-check, still_early}
 use Rattle.moka_maintenance.proofs.Passing.{moving-none, moving-few, moving-on, moving-less, ran-out, ran-late}
+use Rattle.moka_maintenance.proofs.Timing.{keeps-none, keeps-on}
 use Rattle.moka_maintenance.proofs.Placed.{places-on, rows-on}
 use Rattle.moka_maintenance.proofs.passes.make_passes.Goals as goal
 
 pub loop-tests-init : goal.loop-tests-init
 loop-tests-init g c = record {
-  moving = moving-none g.L.Listener.tells c.args.tests c.args.batch (contents_in c.args.store.now) c.args.notifier.now;
+  moving = moving-none g.L.Listener.tells c.args.tests c.args.batch (stock_in c.args.store.now) c.args.notifier.now;
   clocked = clocked-start g.C.Clock.reads (option_map as_nanos c.args.limit) c.start-started.result c.args.clock.now c.start-started.new.clock c.start-started.ensures;
+  timers = keeps-none c.args.store.now;
   places = λ n p at. at;
   rows = λ n p at gone. gone;
   room = omega arith;
@@ -43,6 +45,7 @@ loop-tests-preserved g c =
       moving = moving-on g.L.Listener.tells c.args.tests c.args.batch _ _ _ _ _ _ _ _ _ inv.moving made.pass on.1 on.0;
       clocked = still_early g.C.Clock.reads (option_map as_nanos c.args.limit) c.start-started.result c.args.clock.now c.is_late.new.clock (c.loop-tests.passes + 1)
           (clocked-check g.C.Clock.reads (option_map as_nanos c.args.limit) c.start-started.result c.args.clock.now c.loop-tests.clock c.is_late.new.clock c.loop-tests.passes _ inv.clocked c.if-is_late.ensures);
+      timers = keeps-on c.args.store.now c.loop-tests.store c.make_pass-pass.new.store inv.timers made.timers;
       places = places-on c.args.store.now c.loop-tests.store c.make_pass-pass.new.store inv.places made.places;
       rows = rows-on c.args.store.now c.loop-tests.store c.make_pass-pass.new.store made.places inv.rows made.rows;
       room = (let before = inv.room in let after = made.room in omega arith);

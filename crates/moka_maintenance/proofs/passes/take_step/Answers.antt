@@ -1,12 +1,16 @@
 use Rattle.std.proofs.Common.{sym, ◌∙◌}
-use Rattle.moka_maintenance.specs.Steps.{contents_in}
+use Rattle.moka_maintenance.specs.Steps.{stock_in}
 use Rattle.moka_maintenance.proofs.PassSteps.{swept-none, left-idle, not_taken}
+use Rattle.moka_maintenance.proofs.Timing.{drops-none}
 use Rattle.moka_maintenance.proofs.passes.take_step.Goals as goal
 
 pub returns-then-not-is_taken-clause-swept : goal.returns-then-not-is_taken-clause-swept
-returns-then-not-is_taken-clause-swept g c = swept-none g.L.Listener.tells c.args.tests c.args.sweep c.args.batch (contents_in c.args.store.now) c.args.notifier.now
-    (not_taken c.args.tests c.args.sweep (contents_in c.args.store.now) (sym c.is_taken.ensures ∙ c.if-not-is_taken.true))
+returns-then-not-is_taken-clause-swept g c = swept-none g.L.Listener.tells c.args.tests c.args.sweep c.args.batch (stock_in c.args.store.now) c.args.notifier.now
+    (not_taken c.args.tests c.args.sweep (stock_in c.args.store.now) (sym c.is_taken.ensures ∙ c.if-not-is_taken.true))
 
 pub returns-clause-idle : goal.returns-clause-idle
 returns-clause-idle g c = λ none.
     c.sweep_along.ensures.left (left-idle g.L.Listener.tells c.args.tests c.args.sweep c.args.batch _ _ _ _ _ _ c.sweep_along.ensures.swept none) ∙ sym (sym c.is_taken.ensures ∙ c.if-not-is_taken.false)
+
+pub returns-then-not-is_taken-clause-timers : goal.returns-then-not-is_taken-clause-timers
+returns-then-not-is_taken-clause-timers g c = drops-none c.args.store.now

@@ -1,8 +1,9 @@
-use Rattle.std.proofs.Common.{◌≡◌, ◌≢◌, ◌+◌, true, false, Some, option_map, refl, sym, ap, subst, ◌∙◌, arith}
+use Rattle.std.proofs.Common.{◌≡◌, ◌≢◌, ◌+◌, true, false, Some, option_map, sym, ap, subst, ◌∙◌, arith}
 use Rattle.moka_store.specs.declared.store.Handle.{Handle}
 use Rattle.moka_store.specs.Store.{Kept}
 use Rattle.moka_maintenance.specs.Scanning.{IsWalked}
 use Rattle.moka_maintenance.proofs.Placed.{places-on, rows-on}
+use Rattle.moka_maintenance.proofs.Timing.{drops-none, drops-on}
 use Rattle.moka_maintenance.proofs.Turning.{if_some, next_other, turn_keeps}
 use Rattle.moka_maintenance.proofs.Walked.{walked-none, walked-settled, walked-unsettled, walked-cursor}
 use Rattle.moka_maintenance.proofs.scan.scan_along.Goals as goal
@@ -17,7 +18,7 @@ loop-passed-init g c = record {
   most = omega arith;
   few = omega arith;
   batch = omega arith;
-  ordered = refl;
+  timers = drops-none c.args.store.now;
   places = λ n p at. at;
   rows = λ n p at gone. gone;
   room = omega arith;
@@ -50,7 +51,7 @@ loop-passed-preserved-then-look_at g c =
       most = (let some = c.loop-passed-test.true in omega arith);
       few = (let f = inv.few in omega arith);
       batch = (let some = c.if-looked-batch.true in omega arith);
-      ordered = keeps.ordered ∙ inv.ordered;
+      timers = drops-on old mid new inv.timers keeps.timers;
       places = places-on old mid new inv.places keeps.places;
       rows = rows-on old mid new keeps.places inv.rows keeps.rows;
       room = (let before = inv.room in let after = keeps.room in omega arith);
@@ -83,7 +84,7 @@ loop-passed-preserved g c =
       most = (let some = c.loop-passed-test.true in omega arith);
       few = (let f = inv.few in omega arith);
       batch = inv.batch;
-      ordered = keeps.ordered ∙ inv.ordered;
+      timers = drops-on old mid new inv.timers keeps.timers;
       places = places-on old mid new inv.places keeps.places;
       rows = rows-on old mid new keeps.places inv.rows keeps.rows;
       room = (let before = inv.room in let after = keeps.room in omega arith);

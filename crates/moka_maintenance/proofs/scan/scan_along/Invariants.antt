@@ -4,6 +4,7 @@ use Rattle.moka_parts.specs.Records.{counted_of, is_listed}
 use Rattle.moka_store.specs.Store.{IsPlaced}
 use Rattle.moka_maintenance.specs.Scanning.{IsWalked}
 use Rattle.moka_maintenance.specs.Steps.{AddsNoPlace, LeavesNoRow}
+use Rattle.moka_maintenance.specs.Timers.{DropsTimers}
 use Rattle.moka_maintenance.proofs.scan.scan_along.Given as goal
 
 abbrev pub invariant-loop-passed : goal.invariant-loop-passed
@@ -17,7 +18,7 @@ invariant-loop-passed g l = record {
   most : l.passed ≤ l.most;
   few : l.looked ≤ l.passed;
   batch : l.looked ≤ l.batch;
-  ordered : l.store.ordered ≡ l.initial.store.ordered;
+  timers : DropsTimers l.initial.store l.store;
   places : AddsNoPlace l.initial.store l.store;
   rows : LeavesNoRow l.initial.store l.store;
   room : l.initial.store.room ≤ l.store.room;

@@ -1,7 +1,8 @@
 use Rattle.std.proofs.Common.{sym, ap, ◌∙◌}
-use Rattle.moka_parts.specs.State.{Contents}
-use Rattle.moka_maintenance.specs.Steps.{contents_in}
+use Rattle.moka_maintenance.specs.Steps.{Stock, stock_in}
 use Rattle.moka_maintenance.proofs.Placed.{places-gone, rows-gone}
+use Rattle.moka_store.specs.Store.{Kept}
+use Rattle.moka_maintenance.proofs.Timing.{drops-moved}
 use Rattle.moka_maintenance.proofs.Fronts.{settled_member}
 use Rattle.moka_maintenance.proofs.sweep.take_turn.Goals as goal
 
@@ -14,7 +15,7 @@ returns-clause-turn g c =
       c.in-Some-cause_of.cause,
       (
         c.in-Some.ensures.next,
-        (r, found, settled_member c.args.store.now.records c.args.store.now.access n c.in-Some.ensures.member (sym c.is_settled.ensures ∙ c.if-not-is_settled.false), c.in-Some-cause_of.ensures.ground (contents_in c.args.store.now) n c.in-Some.ensures.next),
+        (r, found, settled_member c.args.store.now.records c.args.store.now.access n c.in-Some.ensures.member (sym c.is_settled.ensures ∙ c.if-not-is_settled.false), c.in-Some-cause_of.ensures.ground (stock_in c.args.store.now) n c.in-Some.ensures.next),
         c.in-Some-cause_of.ensures.timely,
       ),
       c.expel.ensures.step,
@@ -25,4 +26,10 @@ pub returns-clause-places : goal.returns-clause-places
 returns-clause-places g c = places-gone c.args.store.now c.expel.new.store c.in-Some.handle.number c.expel.ensures.places
 
 pub returns-clause-rows : goal.returns-clause-rows
-returns-clause-rows g c = rows-gone c.args.store.now c.expel.new.store c.in-Some.handle.number (ap (λ (s : Contents g.row.K.Denot g.row.V.Denot). s.records) c.expel.ensures.step) c.expel.ensures.places
+returns-clause-rows g c = rows-gone c.args.store.now c.expel.new.store c.in-Some.handle.number (ap (λ (s : Stock g.row.K.Denot g.row.V.Denot). s.records) c.expel.ensures.step) c.expel.ensures.places
+
+pub returns-then-not-is_settled-clause-timers : goal.returns-then-not-is_settled-clause-timers
+returns-then-not-is_settled-clause-timers g c =
+    let step = c.move_to_back.ensures.step in
+    drops-moved c.args.store.now c.move_to_back.new.self (ap (λ (k : Kept g.row.K.Denot g.row.V.Denot). k.ordered) step) (ap (λ (k : Kept g.row.K.Denot g.row.V.Denot). k.timed) step) c.move_to_back.ensures.records c.move_to_back.ensures.counted
+    (ap (λ (k : Kept g.row.K.Denot g.row.V.Denot). k.timers) step)

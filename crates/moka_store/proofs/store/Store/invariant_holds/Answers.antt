@@ -1,4 +1,4 @@
-use Rattle.moka_store.proofs.KnownOrders.{each-once, known-order}
+use Rattle.moka_store.proofs.KnownOrders.{each-once, known-order, unkept-order}
 use Rattle.moka_store.proofs.Places.{record-placed, member-placed}
 use Rattle.moka_store.proofs.Steps.{one-each}
 use Rattle.moka_store.proofs.store.Store.invariant_holds.Goals as goal
@@ -17,3 +17,6 @@ returns-clause-listed g c = rw (← c.self.view_is) (known-order _ _ _ _ c.self.
 
 pub returns-clause-once : goal.returns-clause-once
 returns-clause-once g c = rw (← c.self.view_is) (each-once _ _ _ _ c.self.invariant.tied c.self.inside.written c.self.invariant.written)
+
+pub returns-clause-unlisted : goal.returns-clause-unlisted
+returns-clause-unlisted g c = rw (← c.self.view_is) (λ off. unkept-order c.self.inside.table.rows c.self.inside.written.nodes (c.invariant_holds.ensures off))

@@ -1,0 +1,62 @@
+-- Steps of a stock are those of the reference cache, whatever sketch its contents have; the write list goes along.
+use Rattle.std.proofs.Common.{◌≡◌, refl, ℕ, Bool, List, [], ◌∷◌, ◌++◌, inl, ap, sym, ◌∙◌, Option}
+use Rattle.moka_sketch.specs.Frequency.{Table}
+use Rattle.moka_parts.specs.declared.notification.RemovalCause.TheVariants.{Expired, Explicit, Replaced, Size}
+use Rattle.moka_parts.specs.declared.records.Registered.{Registered}
+use Rattle.moka_parts.specs.State.{Contents}
+use Rattle.moka_parts.specs.Maintenance.{Choice, Removes, MovesToBack, Drops, Tests, after_choice, after_choices, left_by_choice, left_by_choices, kept_by_choices, IsJustified, AreJustified}
+use Rattle.moka_parts.specs.Order.{written_after_choice, written_after_choices}
+use Rattle.moka_maintenance.specs.Steps.{Stock, stock_of, after_step, after_steps, left_by_steps, MayStep, MayAll}
+
+module _ {K V : Type 0} where
+  -- they lead to the same
+  pub steps-seen : (c : Contents K V) (ns : List ℕ) (xs : List Choice) → after_steps (stock_of c ns) xs ≡ stock_of (after_choices c xs) (written_after_choices ns xs)
+  steps-seen c ns [] = refl
+  steps-seen c ns (Removes n cause ∷ xs) = steps-seen (after_choice c (Removes n cause)) (written_after_choice ns (Removes n cause)) xs
+  steps-seen c ns (MovesToBack n ∷ xs) = steps-seen (after_choice c (MovesToBack n)) (written_after_choice ns (MovesToBack n)) xs
+  steps-seen c ns (Drops i ∷ xs) = steps-seen c ns xs
+
+  sketch_stays : (c : Contents K V) (xs : List Choice) → (after_choices c xs).sketch ≡ c.sketch
+  sketch_stays c [] = refl
+  sketch_stays c (Removes n cause ∷ xs) = sketch_stays (after_choice c (Removes n cause)) xs
+  sketch_stays c (MovesToBack n ∷ xs) = sketch_stays (after_choice c (MovesToBack n)) xs
+  sketch_stays c (Drops i ∷ xs) = sketch_stays c xs
+
+  module _ (c d : Contents K V) (ns ms : List ℕ) (xs : List Choice) (led : stock_of d ms ≡ after_steps (stock_of c ns) xs) where
+    pub led-seen : d.sketch ≡ c.sketch → d ≡ after_choices c xs
+    led-seen same =
+        ap (λ (e : Stock K V). record d { records = e.records; access = e.access }) (led ∙ steps-seen c ns xs)
+        ∙ ap (λ (t : Option Table). record (after_choices c xs) { sketch = t }) (same ∙ sym (sketch_stays c xs))
+
+    pub listed-seen : ms ≡ written_after_choices ns xs
+    listed-seen = ap (λ (e : Stock K V). e.written) (led ∙ steps-seen c ns xs)
+
+  -- and the same leaves
+  pub left-seen : (c : Contents K V) (ns : List ℕ) (xs : List Choice) → left_by_steps (stock_of c ns) xs ≡ left_by_choices c xs
+  left-seen c ns [] = refl
+  left-seen c ns (Removes n cause ∷ xs) = ap (λ xs. left_by_choice c (Removes n cause) ++ xs) (left-seen (after_choice c (Removes n cause)) (written_after_choice ns (Removes n cause)) xs)
+  left-seen c ns (MovesToBack n ∷ xs) = left-seen (after_choice c (MovesToBack n)) (written_after_choice ns (MovesToBack n)) xs
+  left-seen c ns (Drops i ∷ xs) = left-seen c ns xs
+
+  module _ (q : Tests) {P : Type 0} (says : P → K → V → Bool → Type 0) (ps : List (Registered P)) where
+    step_justified : (c : Contents K V) (ns : List ℕ) (x : Choice) → MayStep q (stock_of c ns) x → IsJustified says q c ps x
+    step_justified c ns (Removes n Expired) may = may
+    step_justified c ns (Removes n Explicit) may = (may.0, may.1, may.2, inl may.3)
+    step_justified c ns (Removes n Size) may = may
+    step_justified c ns (Removes n Replaced) may = absurd may.3
+    step_justified c ns (MovesToBack n) may = may
+    step_justified c ns (Drops i) may = absurd may
+
+    -- steps that these tests allow are justified, whatever predicates there are
+    pub steps_justified : (c : Contents K V) (ns : List ℕ) (xs : List Choice) → MayAll (MayStep q) (stock_of c ns) xs → AreJustified says q c ps xs
+    steps_justified c ns [] may = tt
+    steps_justified c ns (Removes n cause ∷ xs) may = (step_justified c ns (Removes n cause) may.0, steps_justified (after_choice c (Removes n cause)) (written_after_choice ns (Removes n cause)) xs may.1)
+    steps_justified c ns (MovesToBack n ∷ xs) may = (may.0, steps_justified (after_choice c (MovesToBack n)) (written_after_choice ns (MovesToBack n)) xs may.1)
+    steps_justified c ns (Drops i ∷ xs) may = absurd may.0
+
+  -- and leave all predicates
+  pub steps_keep_predicates : (q : Tests) {P : Type 0} (ps : List (Registered P)) (c : Stock K V) (xs : List Choice) → MayAll (MayStep q) c xs → kept_by_choices ps xs ≡ ps
+  steps_keep_predicates q ps c [] may = refl
+  steps_keep_predicates q ps c (Removes n cause ∷ xs) may = steps_keep_predicates q ps (after_step c (Removes n cause)) xs may.1
+  steps_keep_predicates q ps c (MovesToBack n ∷ xs) may = steps_keep_predicates q ps (after_step c (MovesToBack n)) xs may.1
+  steps_keep_predicates q ps c (Drops i ∷ xs) may = absurd may.0

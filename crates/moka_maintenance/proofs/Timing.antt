@@ -1,0 +1,175 @@
+-- Timers are set where records are, and stay where members move or leave.
+use Rattle.std.proofs.Common.{◌≡◌, ◌≢◌, refl, ℕ, true, false, true≢false, Option, Some, None, is_some, inl, inr, ap, sym, ◌∙◌, arith, if◌then◌else◌}
+use Rattle.std.proofs.lemmas.Bool.{cases_eq}
+use Rattle.std.specs.FinMap.{FinMap, get, remove}
+use Rattle.std.specs.Ordering.{nat_cmp}
+use Rattle.moka_parts.specs.declared.records.Record.{Record}
+use Rattle.moka_parts.specs.Records.{counted_of, is_applied, is_member, without_member, without_number}
+use Rattle.moka_parts.specs.Time.{has_passed, moment_of}
+use Rattle.moka_parts.specs.Visibility.{is_expired}
+use Rattle.moka_parts.proofs.AccessList.{counted_taken_out, uncounted_taken_out}
+use Rattle.moka_store.specs.Store.{Kept, cursor_past, with_timer}
+use Rattle.moka_store.proofs.Gets.{get-inserted, get-past_insert, get-removed, get-past_remove, after_remove}
+use Rattle.moka_maintenance.specs.Timers.{AreTimed, DropsTimers, HasNoneDue, KeepsTimers, StandsAtExpiry}
+
+-- who is a member once one was taken out was one before
+pub member-was : (n k : ℕ) (access : _) → is_member k (without_member n access) ≡ true → is_member k access ≡ true
+member-was n k access there = go (counted_of k access) refl
+  where
+    go : (o : Option ℕ) → counted_of k access ≡ o → is_member k access ≡ true
+    go (Some w) e = ap is_some e
+    go None e = absurd (true≢false (sym there ∙ ap is_some (uncounted_taken_out n k access e)))
+
+-- ---- the timer of a number that is set
+
+module _ (timers : FinMap nat_cmp ℕ) (n : ℕ) where
+  pub set-own : (o : Option ℕ) → get (with_timer timers n o) n ≡ o
+  set-own None = get-removed timers n
+  set-own (Some at) = get-inserted timers n at
+
+  pub set-other : (o : Option ℕ) (k : ℕ) → k ≢ n → get (with_timer timers n o) k ≡ get timers k
+  set-other None k other = get-past_remove timers n k other
+  set-other (Some at) k other = get-past_insert timers n at k other
+
+module _ {K V : Type 0} where
+  pub keeps-none : (k : Kept K V) → KeepsTimers k k
+  keeps-none k = record { ordered = refl; timed = refl; set = λ _ n r there is_in applied. inl (there, is_in, refl) }
+
+  pub keeps-on : (a b c : Kept K V) → KeepsTimers a b → KeepsTimers b c → KeepsTimers a c
+  keeps-on a b c h j = record {
+    ordered = j.ordered ∙ h.ordered;
+    timed = j.timed ∙ h.timed;
+    set = λ kept n r there is_in applied. elim (j.set (h.timed ∙ kept) n r there is_in applied) [
+      | inl same ↦ elim (h.set kept n r same.0 same.1 applied) [
+        | inl before ↦ inl (before.0, before.1, same.2 ∙ before.2)
+        | inr at ↦ inr (same.2 ∙ at)
+      ]
+      | inr at ↦ inr at
+    ];
+  }
+
+  pub drops-none : (k : Kept K V) → DropsTimers k k
+  drops-none k = record { keeps = keeps-none k; fewer = λ n t there. there }
+
+  pub drops-on : (a b c : Kept K V) → DropsTimers a b → DropsTimers b c → DropsTimers a c
+  drops-on a b c h j = record { keeps = keeps-on a b c h.keeps j.keeps; fewer = λ n t there. h.fewer n t (j.fewer n t there) }
+
+  -- no timer is due where none is new
+  pub none-due : (now : ℕ) (a b : Kept K V) → DropsTimers a b → HasNoneDue now a → HasNoneDue now b
+  none-due now a b h none n t there = none n t (h.fewer n t there)
+
+  module _ (old new : Kept K V) (ordered : new.ordered ≡ old.ordered) (timed : new.timed ≡ old.timed) where
+    -- members move, and all else stays
+    pub keeps-moved : new.records ≡ old.records → ((k : ℕ) → counted_of k new.access ≡ counted_of k old.access) → new.timers ≡ old.timers → KeepsTimers old new
+    keeps-moved records counted timers = record {
+      ordered = ordered;
+      timed = timed;
+      set = λ _ n r there is_in applied. inl (sym (ap (λ m. get m n) records) ∙ there, sym (ap is_some (counted n)) ∙ is_in, ap (λ m. get m n) timers);
+    }
+
+    pub drops-moved : new.records ≡ old.records → ((k : ℕ) → counted_of k new.access ≡ counted_of k old.access) → new.timers ≡ old.timers → DropsTimers old new
+    drops-moved records counted timers = record { keeps = keeps-moved records counted timers; fewer = λ n t there. sym (ap (λ m. get m n) timers) ∙ there }
+
+    -- a number is no member in the end, and the other records and timers stay
+    pub keeps-outside : (n : ℕ) → counted_of n new.access ≡ None → ((k : ℕ) → k ≢ n → get new.records k ≡ get old.records k) → ((k : ℕ) → is_member k new.access ≡ true → is_member k old.access ≡ true) → ((k : ℕ) → k ≢ n → get new.timers k ≡ get old.timers k) → KeepsTimers old new
+    keeps-outside n out records members timers = record {
+      ordered = ordered;
+      timed = timed;
+      set = λ _ k r there is_in applied.
+          (let other : k ≢ n = λ same. true≢false (sym is_in ∙ ap is_some (ap (λ x. counted_of x new.access) same ∙ out)) in
+          inl (sym (records k other) ∙ there, members k is_in, timers k other));
+    }
+
+    -- a record leaves with its member and its timer
+    pub drops-gone : (n : ℕ) → new.records ≡ remove old.records n → new.access ≡ without_member n old.access → new.timers ≡ remove old.timers n → DropsTimers old new
+    drops-gone n records access timers = record {
+      keeps = keeps-outside n
+          (ap (counted_of n) access ∙ counted_taken_out n old.access)
+          (λ k other. ap (λ m. get m k) records ∙ get-past_remove old.records n k other)
+          (λ k is_in. member-was n k old.access (sym (ap (is_member k) access) ∙ is_in))
+          (λ k other. ap (λ m. get m k) timers ∙ get-past_remove old.timers n k other);
+      fewer = λ k t there. (after_remove old.timers n k t (sym (ap (λ m. get m k) timers) ∙ there)).1;
+    }
+
+  -- a number leaves the orders and the timers, and perhaps its row goes
+  pub keeps-left : (old mid new : Kept K V) (n : ℕ) (places : FinMap nat_cmp ℕ) → mid ≡ record old { access = without_member n old.access; written = without_number n old.written; timers = remove old.timers n; cursor = cursor_past n old.written old.cursor } → new ≡ record mid { places = places; room = new.room } → KeepsTimers old new
+  keeps-left old mid new n places left rest =
+      keeps-outside old new
+      (ap (λ (k : Kept K V). k.ordered) rest ∙ ap (λ (k : Kept K V). k.ordered) left)
+      (ap (λ (k : Kept K V). k.timed) rest ∙ ap (λ (k : Kept K V). k.timed) left) n
+      (ap (λ (k : Kept K V). counted_of n k.access) rest ∙ ap (λ (k : Kept K V). counted_of n k.access) left ∙ counted_taken_out n old.access)
+      (λ k _. ap (λ (s : Kept K V). get s.records k) rest ∙ ap (λ (s : Kept K V). get s.records k) left)
+      (λ k is_in. member-was n k old.access (sym (ap (λ (s : Kept K V). is_member k s.access) rest ∙ ap (λ (s : Kept K V). is_member k s.access) left) ∙ is_in))
+      (λ k other. ap (λ (s : Kept K V). get s.timers k) rest ∙ ap (λ (s : Kept K V). get s.timers k) left ∙ get-past_remove old.timers n k other)
+
+  -- the timer of a number is set to its record's expiry, and other records, members and timers stay
+  pub keeps-set : (old mid new : Kept K V) (n : ℕ) (r : Record K V) → get mid.records n ≡ Some r → mid.ordered ≡ old.ordered → mid.timed ≡ old.timed → mid.timers ≡ old.timers
+      → ((k : ℕ) → k ≢ n → get mid.records k ≡ get old.records k) → ((k : ℕ) → k ≢ n → counted_of k mid.access ≡ counted_of k old.access)
+      → new ≡ record mid { timers = if mid.timed then with_timer mid.timers n (moment_of r.expires) else mid.timers } → KeepsTimers old new
+  keeps-set old mid new n r found ordered timed timers records counted step = record {
+    ordered = ap (λ (k : Kept K V). k.ordered) step ∙ ordered;
+    timed = ap (λ (k : Kept K V). k.timed) step ∙ timed;
+    set = λ kept k p there is_in applied.
+        (let set : new.timers ≡ with_timer mid.timers n (moment_of r.expires) = ap (λ (k : Kept K V). k.timers) step ∙ ap (λ b. if b then with_timer mid.timers n (moment_of r.expires) else mid.timers) (timed ∙ kept) in
+        let there' : get mid.records k ≡ Some p = sym (ap (λ (s : Kept K V). get s.records k) step) ∙ there in
+        let is_in' : is_member k mid.access ≡ true = sym (ap (λ (s : Kept K V). is_member k s.access) step) ∙ is_in in
+        elim (cases_eq k n) [
+          | inl same ↦
+              let own : get mid.records n ≡ Some p = sym (ap (get mid.records) same) ∙ there' in
+              let is : r ≡ p = (let f = found in cc) in
+              inr (ap (λ m. get m k) set ∙ ap (get (with_timer mid.timers n (moment_of r.expires))) same ∙ set-own mid.timers n (moment_of r.expires) ∙ ap (λ (x : Record K V). moment_of x.expires) is)
+          | inr other ↦ inl (
+            sym (records k other) ∙ there',
+            sym (ap is_some (counted k other)) ∙ is_in',
+            ap (λ m. get m k) set ∙ set-other mid.timers n (moment_of r.expires) k other ∙ ap (λ m. get m k) timers,
+          )
+        ]);
+  }
+
+  -- ---- at its record's expiry
+
+  module _ (mid new : Kept K V) (n : ℕ) (r : Record K V) (found : get mid.records n ≡ Some r) (step : new ≡ record mid { timers = if mid.timed then with_timer mid.timers n (moment_of r.expires) else mid.timers }) where
+    set_to : new.timed ≡ true → new.timers ≡ with_timer mid.timers n (moment_of r.expires)
+    set_to kept = ap (λ (k : Kept K V). k.timers) step ∙ ap (λ b. if b then with_timer mid.timers n (moment_of r.expires) else mid.timers) (sym (ap (λ (k : Kept K V). k.timed) step) ∙ kept)
+
+    pub stands-set : StandsAtExpiry n new
+    stands-set kept p there is_in =
+        let own : get mid.records n ≡ Some p = sym (ap (λ (s : Kept K V). get s.records n) step) ∙ there in
+        let is : r ≡ p = (let f = found in cc) in
+        ap (λ m. get m n) (set_to kept) ∙ set-own mid.timers n (moment_of r.expires) ∙ ap (λ (x : Record K V). moment_of x.expires) is
+
+    pub stands-past : (k : ℕ) → StandsAtExpiry k mid → StandsAtExpiry k new
+    stands-past k stands kept p there is_in = elim (cases_eq k n) [
+      | inl same ↦
+          ap (get new.timers) same ∙ stands-set kept p (sym (ap (get new.records) same) ∙ there) (sym (ap (λ x. is_member x new.access) same) ∙ is_in)
+      | inr other ↦
+          ap (λ m. get m k) (set_to kept) ∙ set-other mid.timers n (moment_of r.expires) k other
+          ∙ stands (sym (ap (λ (s : Kept K V). s.timed) step) ∙ kept) p (sym (ap (λ (s : Kept K V). get s.records k) step) ∙ there) (sym (ap (λ (s : Kept K V). is_member k s.access) step) ∙ is_in)
+    ]
+
+  -- where members move alone
+  pub stands-moved : (old new : Kept K V) (k : ℕ) → new.timed ≡ old.timed → new.records ≡ old.records → counted_of k new.access ≡ counted_of k old.access → new.timers ≡ old.timers → StandsAtExpiry k old → StandsAtExpiry k new
+  stands-moved old new k timed records counted timers stands kept p there is_in =
+      ap (λ m. get m k) timers ∙ stands (sym timed ∙ kept) p (sym (ap (λ m. get m k) records) ∙ there) (sym (ap is_some counted) ∙ is_in)
+
+  -- no member has no timer to stand anywhere
+  pub stands-outside : (k : Kept K V) (n : ℕ) → is_member n k.access ≡ false → StandsAtExpiry n k
+  stands-outside k n out kept p there is_in = absurd (true≢false (sym is_in ∙ out))
+
+-- ---- what is past its own expiry
+
+module _ {K V : Type 0} where
+  -- timers stay at their records' expiries
+  pub still-timed : (old new : Kept K V) → old.timed ≡ true → KeepsTimers old new → AreTimed old → AreTimed new
+  still-timed old new kept h timed n r there is_in applied = elim (h.set kept n r there is_in applied) [
+    | inl same ↦ same.2 ∙ timed n r same.0 same.1 applied
+    | inr at ↦ at
+  ]
+
+  -- where none is due, no settled member has expired
+  pub lasts-timed : (now : ℕ) (k : Kept K V) → AreTimed k → HasNoneDue now k → (n : ℕ) (r : Record K V) → get k.records n ≡ Some r → is_member n k.access ≡ true → is_applied r ≡ true → is_expired r now ≡ false
+  lasts-timed now k timed none n r there is_in applied = go (moment_of r.expires) (timed n r there is_in applied)
+    where
+      go : (o : Option ℕ) → get k.timers n ≡ o → has_passed o now ≡ false
+      go None e = refl
+      go (Some t) e = let later = none n t e in grind (arith, later)

@@ -1,0 +1,80 @@
+use Rattle.std.proofs.Common.{◌≡◌, ℕ, ◌+◌, subst, arith, ap, ◌∙◌}
+use Rattle.std.specs.FinMap as finite
+use Rattle.moka_store.specs.Store.{Kept}
+use Rattle.moka_store.proofs.Gets.{get-removed}
+use Rattle.moka_maintenance.specs.Steps.{stock_in}
+use Rattle.moka_maintenance.specs.Sweeps.{ExpiresDue}
+use Rattle.moka_maintenance.proofs.Expiring.{expires-none, expires-on, expires-few, keeps-due, fewer-due}
+use Rattle.moka_maintenance.proofs.Placed.{places-on, rows-on}
+use Rattle.moka_maintenance.proofs.Timing.{keeps-none, keeps-on}
+use Rattle.moka_maintenance.proofs.due.expire_due.Goals as goal
+
+pub loop-handle-init : goal.loop-handle-init
+loop-handle-init g c = record {
+  expired = expires-none g.L.Listener.tells c.args.tests (stock_in c.args.store.now) c.args.notifier.now;
+  timers = keeps-none c.args.store.now;
+  places = λ n p at. at;
+  rows = λ n p at gone. gone;
+  room = omega arith;
+}
+
+pub expire-requires-clause-untimed : goal.expire-requires-clause-untimed
+expire-requires-clause-untimed g c = ap (λ (k : Kept g.row.K.Denot g.row.V.Denot). finite.get k.timers c.in-Some.handle.number) c.in-Some.ensures.step ∙ get-removed c.loop-handle.store.timers c.in-Some.handle.number
+
+pub overflow_add-removed : goal.overflow_add-removed
+overflow_add-removed g c =
+    let step = c.in-Some.ensures.step in
+    let before = stock_in c.loop-handle.store in
+    let all = expires-on g.L.Listener.tells c.args.tests (stock_in c.args.store.now) before (stock_in c.expire.new.store) c.args.notifier.now c.loop-handle.notifier c.expire.new.notifier c.loop-handle.removed 1 c.loop-handle.invariant.expired (rw (← ap stock_in step) c.if-expire.ensures.expired) in
+    let few = expires-few g.L.Listener.tells c.args.tests (stock_in c.args.store.now) (stock_in c.expire.new.store) c.args.notifier.now c.expire.new.notifier (c.loop-handle.removed + 1) all in
+    let count = c.member_count-members.ensures.value in
+    let bound = c.member_count-members.ensures.few in
+    omega arith
+
+pub loop-handle-smaller-then-expire : goal.loop-handle-smaller-then-expire
+loop-handle-smaller-then-expire g c =
+    let n = c.in-Some.handle.number in
+    let due = c.in-Some.ensures.due in
+    fewer-due g.L.Listener.tells c.args.tests c.loop-handle.store c.due.new.self c.expire.new.store c.loop-handle.notifier c.expire.new.notifier n 1 c.in-Some.ensures.step c.if-expire.ensures.timers c.if-expire.ensures.expired
+    due.0 due.1 due.2 (ap (λ (k : Kept g.row.K.Denot g.row.V.Denot). finite.get k.timers n) c.in-Some.ensures.step ∙ get-removed c.loop-handle.store.timers n)
+
+pub loop-handle-smaller : goal.loop-handle-smaller
+loop-handle-smaller g c =
+    let n = c.in-Some.handle.number in
+    let due = c.in-Some.ensures.due in
+    fewer-due g.L.Listener.tells c.args.tests c.loop-handle.store c.due.new.self c.expire.new.store c.loop-handle.notifier c.expire.new.notifier n 0 c.in-Some.ensures.step c.if-expire.ensures.timers c.if-expire.ensures.expired
+    due.0 due.1 due.2 (ap (λ (k : Kept g.row.K.Denot g.row.V.Denot). finite.get k.timers n) c.in-Some.ensures.step ∙ get-removed c.loop-handle.store.timers n)
+
+pub loop-handle-preserved-then-expire : goal.loop-handle-preserved-then-expire
+loop-handle-preserved-then-expire g c =
+    let inv = c.loop-handle.invariant in
+    let step = c.in-Some.ensures.step in
+    let old = c.loop-handle.store in
+    let mid = c.due.new.self in
+    let new = c.expire.new.store in
+    let made = c.if-expire.ensures in
+    let placed = ap (λ (k : Kept g.row.K.Denot g.row.V.Denot). k.places) step in
+    record {
+      expired = expires-on g.L.Listener.tells c.args.tests (stock_in c.args.store.now) (stock_in old) (stock_in new) c.args.notifier.now c.loop-handle.notifier c.expire.new.notifier c.loop-handle.removed 1 inv.expired (rw (← ap stock_in step) made.expired);
+      timers = keeps-on c.args.store.now old new inv.timers (keeps-due g.L.Listener.tells c.args.tests old mid new c.loop-handle.notifier c.expire.new.notifier c.in-Some.handle.number 1 step made.timers made.expired);
+      places = places-on c.args.store.now mid new (rw step inv.places) made.places;
+      rows = rows-on c.args.store.now mid new made.places (rw step inv.rows) made.rows;
+      room = (let before = inv.room in let same = ap (λ (k : Kept g.row.K.Denot g.row.V.Denot). k.room) step in let after = made.room in omega arith);
+    }
+
+pub loop-handle-preserved : goal.loop-handle-preserved
+loop-handle-preserved g c =
+    let inv = c.loop-handle.invariant in
+    let step = c.in-Some.ensures.step in
+    let old = c.loop-handle.store in
+    let mid = c.due.new.self in
+    let new = c.expire.new.store in
+    let made = c.if-expire.ensures in
+    let placed = ap (λ (k : Kept g.row.K.Denot g.row.V.Denot). k.places) step in
+    record {
+      expired = (let same : c.loop-handle.removed + 0 ≡ c.loop-handle.removed = omega arith in subst (λ (k : ℕ). ExpiresDue g.L.Listener.tells c.args.tests (stock_in c.args.store.now) (stock_in new) c.args.notifier.now c.expire.new.notifier k) same (expires-on g.L.Listener.tells c.args.tests (stock_in c.args.store.now) (stock_in old) (stock_in new) c.args.notifier.now c.loop-handle.notifier c.expire.new.notifier c.loop-handle.removed 0 inv.expired (rw (← ap stock_in step) made.expired)));
+      timers = keeps-on c.args.store.now old new inv.timers (keeps-due g.L.Listener.tells c.args.tests old mid new c.loop-handle.notifier c.expire.new.notifier c.in-Some.handle.number 0 step made.timers made.expired);
+      places = places-on c.args.store.now mid new (rw step inv.places) made.places;
+      rows = rows-on c.args.store.now mid new made.places (rw step inv.rows) made.rows;
+      room = (let before = inv.room in let same = ap (λ (k : Kept g.row.K.Denot g.row.V.Denot). k.room) step in let after = made.room in omega arith);
+    }

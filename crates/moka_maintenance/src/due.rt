@@ -1,0 +1,72 @@
+//! Timers that are due: records whose own expiry has come leave.
+//!
+//! moka: `sync::base_cache::Inner::evict_expired_entries_using_timers`.
+ghost use Rattle.std.specs.Prelude.{◌≡◌, ◌≤◌, IsSome, None, if◌then◌else◌};
+ghost use Rattle.std.specs.FinMap as finite;
+ghost use Rattle.moka_parts.specs.Records.{counted_of};
+ghost use Rattle.moka_store.specs.Store.{IsPlaced};
+ghost use Rattle.moka_maintenance.specs.Steps.{stock_in, AddsNoPlace, LeavesNoRow};
+ghost use Rattle.moka_maintenance.specs.Sweeps.{ExpiresDue};
+ghost use Rattle.moka_maintenance.specs.Timers.{HasNoneDue, IsReset, KeepsTimers};
+
+use crate::expel::expel;
+use crate::sweep::Tests;
+use moka_parts::expiry::is_expired_by_per_entry_ttl;
+use moka_parts::notification::{Listener, RemovalCause, RemovalNotifier};
+use moka_store::{Handle, Store};
+use std::hash::{BuildHasher, Hash};
+
+/// Takes out timers until none is due. A settled member whose own expiry has come leaves. The answer is how many left.
+pub(crate) fn expire_due<K: Eq + Hash + Drop, V: Drop, S: BuildHasher, L: Listener<K, V>>(
+    store: &mut Store<K, V, S>,
+    notifier: &mut RemovalNotifier<L>,
+    tests: Tests,
+) -> u32
+    ensures expired { ExpiresDue L.tells tests (stock_in store.old) (stock_in store.new) notifier.old notifier.new result }
+    ensures none { HasNoneDue tests.now.0 store.new }
+    ensures timers { KeepsTimers store.old store.new }
+    ensures places { AddsNoPlace store.old store.new }
+    ensures rows { LeavesNoRow store.old store.new }
+    ensures room { store.old.room ≤ store.new.room }
+{
+    // No more leave than there are members.
+    let _members = store.member_count();
+    let mut removed = 0u32;
+    while let Some(handle) = store.due(tests.now) {
+        if expire(store, notifier, tests, handle) {
+            removed += 1;
+        }
+    }
+    removed
+}
+
+// A member whose timer was due and is taken out. If it is settled and has expired it leaves, and the answer is true. If it
+// is settled and has not, its timer is set again. One that is not settled gets a timer again by the operation that waits.
+fn expire<K: Eq + Hash + Drop, V: Drop, S: BuildHasher, L: Listener<K, V>>(
+    store: &mut Store<K, V, S>,
+    notifier: &mut RemovalNotifier<L>,
+    tests: Tests,
+    handle: Handle,
+) -> bool
+    requires placed { IsPlaced store.old handle }
+    requires member { IsSome (counted_of handle.number store.old.access) }
+    requires untimed { finite.get store.old.timers handle.number ≡ None }
+    ensures expired { ExpiresDue L.tells tests (stock_in store.old) (stock_in store.new) notifier.old notifier.new (if result then 1 else 0) }
+    ensures timers { IsReset tests.now.0 handle.number store.old store.new }
+    ensures places { AddsNoPlace store.old store.new }
+    ensures rows { LeavesNoRow store.old store.new }
+    ensures room { store.old.room ≤ store.new.room }
+{
+    if !store.is_settled(handle) {
+        return false;
+    }
+    let Some(found) = store.find(handle) else {
+        unreachable!()
+    };
+    if is_expired_by_per_entry_ttl(found.expires, tests.now) {
+        expel(store, notifier, handle, RemovalCause::Expired);
+        return true;
+    }
+    store.set_timer(handle);
+    false
+}
