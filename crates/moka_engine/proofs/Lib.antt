@@ -1,5 +1,4 @@
 pub mod ValuesLemmas
-pub mod Fewer
 pub mod InnerLemmas
 pub mod InnerRuns
 pub mod CacheSteps

@@ -3,7 +3,9 @@ use Rattle.std.proofs.Common.{◌≡◌, refl, ℕ, ◌+◌, ◌-◌, Bool, List
 use Rattle.std.proofs.lemmas.List.Edits.{remove-append_right}
 use Rattle.moka_parts.specs.declared.records.Registered.{Registered}
 use Rattle.moka_parts.specs.State.{Contents}
-use Rattle.moka_parts.specs.Maintenance.{Choice, Removes, MovesToBack, Drops, Tests, CoversNothing, after_choices, kept_by_choice, kept_by_choices, AreJustified}
+use Rattle.moka_parts.specs.Maintenance.{Choice, Removes, MovesToBack, Drops, Tests, CoversNothing, after_choice, after_choices, left_by_choice, left_by_choices, kept_by_choice, kept_by_choices, AreJustified}
+use Rattle.moka_parts.specs.Bounds.{removed_by}
+use Rattle.moka_parts.specs.Order.{written_after_choice, written_after_choices}
 use Rattle.moka_parts.proofs.OneMore.{AreJustified_push}
 use Rattle.moka_maintenance.specs.Scanning.{AreDrops, CoversSome, AllDropped}
 use Rattle.moka_maintenance.proofs.Popped.{first_or_rest}
@@ -22,6 +24,36 @@ module _ {K V : Type 0} (c : Contents K V) where
   drops_stay (Removes n cause ∷ xs) h = absurd h
   drops_stay (MovesToBack n ∷ xs) h = absurd h
   drops_stay (Drops i ∷ xs) h = drops_stay xs h
+
+pub drops_silent : {K V : Type 0} (c : Contents K V) (xs : List Choice) → AreDrops xs → left_by_choices c xs ≡ []
+drops_silent c [] h = refl
+drops_silent c (Removes n cause ∷ xs) h = absurd h
+drops_silent c (MovesToBack n ∷ xs) h = absurd h
+drops_silent c (Drops i ∷ xs) h = drops_silent c xs h
+
+pub drops_remove_none : (xs : List Choice) → AreDrops xs → removed_by xs ≡ []
+drops_remove_none [] h = refl
+drops_remove_none (Removes n cause ∷ xs) h = absurd h
+drops_remove_none (MovesToBack n ∷ xs) h = absurd h
+drops_remove_none (Drops i ∷ xs) h = drops_remove_none xs h
+
+pub drops_unlisted : (xs : List Choice) → AreDrops xs → (ns : List ℕ) → written_after_choices ns xs ≡ ns
+drops_unlisted [] h ns = refl
+drops_unlisted (Removes n cause ∷ xs) h ns = absurd h
+drops_unlisted (MovesToBack n ∷ xs) h ns = absurd h
+drops_unlisted (Drops i ∷ xs) h ns = drops_unlisted xs h ns
+
+pub choices-append : {K V : Type 0} (c : Contents K V) (xs ys : List Choice) → after_choices c (xs ++ ys) ≡ after_choices (after_choices c xs) ys
+choices-append c [] ys = refl
+choices-append c (x ∷ xs) ys = choices-append (after_choice c x) xs ys
+
+pub gone-append : {K V : Type 0} (c : Contents K V) (xs ys : List Choice) → left_by_choices c (xs ++ ys) ≡ left_by_choices c xs ++ left_by_choices (after_choices c xs) ys
+gone-append c [] ys = refl
+gone-append c (x ∷ xs) ys = ap (λ ns. left_by_choice c x ++ ns) (gone-append (after_choice c x) xs ys) ∙ sym (append_assoc (left_by_choice c x) (left_by_choices (after_choice c x) xs) (left_by_choices (after_choices (after_choice c x) xs) ys))
+
+pub written-append : (ns : List ℕ) (xs ys : List Choice) → written_after_choices ns (xs ++ ys) ≡ written_after_choices (written_after_choices ns xs) ys
+written-append ns [] ys = refl
+written-append ns (x ∷ xs) ys = written-append (written_after_choice ns x) xs ys
 
 pub kept-append : {P : Type 0} (ps : List (Registered P)) (xs ys : List Choice) → kept_by_choices ps (xs ++ ys) ≡ kept_by_choices (kept_by_choices ps xs) ys
 kept-append ps [] ys = refl

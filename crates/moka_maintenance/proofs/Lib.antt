@@ -19,6 +19,7 @@ pub mod Expiring
 pub mod PassSteps
 pub mod Clocked
 pub mod Passing
+pub mod Fewer
 pub mod Promises
 pub mod Dropping
 pub mod Walked

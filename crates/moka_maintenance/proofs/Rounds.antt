@@ -11,7 +11,7 @@ use Rattle.moka_parts.specs.Records.{Records, counted_of, is_listed, is_member, 
 use Rattle.moka_parts.specs.Maintenance.{Choice, Removes, MovesToBack, Drops}
 use Rattle.moka_parts.specs.Order.{IsListOf}
 use Rattle.moka_parts.specs.Scan.{AreUncovered}
-use Rattle.moka_parts.proofs.Maps.{itself_tested}
+use Rattle.moka_parts.proofs.Maps.{itself_tested, same_by_test}
 use Rattle.moka_parts.proofs.Scanned.{uncovered-append, uncovered-kept}
 use Rattle.moka_store.specs.declared.store.Handle.{Handle}
 use Rattle.moka_store.specs.Store.{Kept}
@@ -63,7 +63,7 @@ listed_few (m ∷ ns) access once all =
 pub written_few : (access : List Member) (ns : List ℕ) → IsListOf access ns → length ns ≤ length access
 written_few access ns h = listed_few ns access h.0 (λ n listed. sym (h.1 n) ∙ listed)
 
-none_settled : {K V : Type 0} (records : Records K V) (access : List Member) → ((n : ℕ) → is_member n access ≡ true → is_settled records n ≡ false) → settled_members records access ≡ []
+pub none_settled : {K V : Type 0} (records : Records K V) (access : List Member) → ((n : ℕ) → is_member n access ≡ true → is_settled records n ≡ false) → settled_members records access ≡ []
 none_settled records [] all = refl
 none_settled records (a ∷ access) all =
     cond-false (is_settled records a.number) (a ∷ settled_members records access) (settled_members records access) (all a.number (first a access))
@@ -74,6 +74,15 @@ none_settled records (a ∷ access) all =
 
     later : (a : Member) (access : List Member) (n : ℕ) → is_member n access ≡ true → is_member n (a ∷ access) ≡ true
     later a access n there = elim (a.number == n) as (λ b. is_some (cond b (Some a.counted) (counted_of n access)) ≡ true) [ true ↦ refl | false ↦ there ]
+
+pub each_unsettled : {K V : Type 0} (records : Records K V) (access : List Member) → settled_members records access ≡ [] → (n : ℕ) → is_member n access ≡ true → is_settled records n ≡ false
+each_unsettled records [] none n there = absurd (true≢false (sym there))
+each_unsettled records (a ∷ access) none n there = go (is_settled records a.number) refl (a.number == n) refl (λ rest later. each_unsettled records access rest n later) none there
+  where
+    go : (s : Bool) → is_settled records a.number ≡ s → (b : Bool) → (a.number == n) ≡ b → (settled_members records access ≡ [] → is_member n access ≡ true → is_settled records n ≡ false) → cond s (a ∷ settled_members records access) (settled_members records access) ≡ [] → is_some (cond b (Some a.counted) (counted_of n access)) ≡ true → is_settled records n ≡ false
+    go true e b f later none there = cc
+    go false e true f later none there = ap (is_settled records) (sym (same_by_test a.number n f)) ∙ e
+    go false e false f later none there = later none there
 
 -- what is left by steps was there before
 pub still_there : {K V : Type 0} (c : Stock K V) (xs : List Choice) (n : ℕ) (r : Record K V) → get (after_steps c xs).records n ≡ Some r → get c.records n ≡ Some r

@@ -5,14 +5,14 @@ use Rattle.moka_parts.specs.declared.notification.RemovalCause.{RemovalCause}
 use Rattle.moka_parts.specs.declared.notification.RemovalCause.TheVariants.{Explicit}
 use Rattle.moka_parts.specs.declared.records.Record.{Record}
 use Rattle.moka_parts.specs.declared.records.Registered.{Registered}
-use Rattle.moka_parts.specs.Records.{is_applied, is_listed, is_member, is_settled}
+use Rattle.moka_parts.specs.Records.{is_listed, is_member, is_settled}
 use Rattle.moka_parts.specs.State.{Contents}
 use Rattle.moka_parts.specs.Visibility.{Covers, SomeCovers, NoneCovers}
 use Rattle.moka_parts.specs.Maintenance.{Choice, Removes, MovesToBack, Drops, Tests, kept_by_choices, AreJustified}
 use Rattle.moka_parts.specs.Scan.{AreUncovered}
 use Rattle.moka_store.specs.Store.{Kept}
 use Rattle.moka_maintenance.specs.Expelled.{without_record}
-use Rattle.moka_maintenance.specs.Steps.{Stock, contents_in, stock_in, left_by_step, HasNoSettled, IsStepped, Told}
+use Rattle.moka_maintenance.specs.Steps.{Stock, contents_in, stock_in, left_by_step, AreAllMembers, HasNoSettled, IsStepped, Told}
 
 -- each step drops a predicate
 abbrev pub AreDrops : List Choice → Type 0
@@ -90,4 +90,4 @@ module _ {K V L P : Type 0} (tells : L → K → V → RemovalCause → L → Ty
     pub more : left ≡ true → 0 < length qs
     pub unfinished : old.ordered ≡ true → 1 ≤ batch → 0 < length qs → (left ≡ true) ⊎ HasNoSettled (stock_in new)
     -- with a batch for all members, no predicate is left once every record is settled
-    pub whole : old.ordered ≡ true → length old.access ≤ batch → ((n : ℕ) (r : Record K V) → get old.records n ≡ Some r → (is_applied r ≡ true) × (is_member n old.access ≡ true)) → qs ≡ []
+    pub whole : old.ordered ≡ true → length old.access ≤ batch → AreAllMembers (stock_in old) → qs ≡ []

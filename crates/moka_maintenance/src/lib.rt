@@ -7,6 +7,6 @@ mod due;
 mod expel;
 pub mod passes;
 pub mod queued;
-pub mod scan;
+mod scan;
 pub mod sketch;
 pub mod sweep;

@@ -33,7 +33,7 @@ struct Stretch {
 /// Looks at up to `batch` settled members, none of them twice, and removes those that a registered predicate covers. Where
 /// the end of the order was reached, predicates that cover no record leave. Whether more is left: a member was looked at,
 /// and a predicate is left.
-pub fn scan<K: Eq + Hash + Drop, V: Drop, S: BuildHasher, L: Listener<K, V>, P: Drop>(
+pub(crate) fn scan<K: Eq + Hash + Drop, V: Drop, S: BuildHasher, L: Listener<K, V>, P: Drop>(
     store: &mut Store<K, V, S>,
     notifier: &mut RemovalNotifier<L>,
     invalidator: &mut Invalidator<P>,
