@@ -10,7 +10,9 @@ use Rattle.moka_parts.specs.Settling.{IsValid}
 use Rattle.moka_parts.specs.State.{State}
 use Rattle.moka_parts.specs.Surroundings.{Heard}
 use Rattle.moka_store.proofs.Gets.{after_insert, after_remove}
-use Rattle.moka_engine.specs.BaseCache.{IsCache, NoneExpires}
+use Rattle.moka_parts.specs.State.{Settings}
+use Rattle.moka_engine.specs.BaseCache.{IsCache, IsStocked, NoneExpires}
+use Rattle.moka_engine.proofs.Stocked.{stocked-roomier}
 use Rattle.moka_engine.specs.Interior.{Interior}
 
 -- the state with this inner part
@@ -44,6 +46,19 @@ module _ {K V L : Type 0} (tells : L → K → V → RemovalCause → L → Type
 pub befalls-quietly : {K V S X L P W : Type 0} (tells : L → K → V → RemovalCause → L → Type 0) (c : Cache K V S X L P W) (t : State K V X P W) → Befalls tells no_events c (record c { state = t })
 befalls-quietly tells c t = record { kept = refl; heard = nothing_heard tells c.listener; passes = refl; listed = λ none. refl }
 
+-- nor where the write list is said anew
+pub befalls-listed : {K V S X L P W : Type 0} (tells : L → K → V → RemovalCause → L → Type 0) (c : Cache K V S X L P W) (t : State K V X P W) (ns : List ℕ) → ns ≡ c.write_list → Befalls tells no_events c (record c { state = t; write_list = ns })
+befalls-listed tells c t ns same = record { kept = refl; heard = nothing_heard tells c.listener; passes = refl; listed = λ none. same }
+
+-- room is nothing that the order of writing has
+pub list-roomier : {K V : Type 0} (i j : Interior K V) → without_room j ≡ without_room i → j.kept.written ≡ i.kept.written
+list-roomier {K} {V} i j same = ap (λ (x : Interior K V). x.kept.written) same
+
+-- nor have the timers
+pub stocked-room : {K V X W : Type 0} {read : X → K → V → ℕ → Option ℕ → ℕ → Option ℕ} {settings : Settings X W} (i j : Interior K V) → without_room j ≡ without_room i → IsStocked read settings i.kept → IsStocked read settings j.kept
+stocked-room {read = read} {settings = settings} i j same h =
+    stocked-roomier (subst (λ (x : Interior _ _). IsStocked read settings x.kept) (sym same) (stocked-roomier h 0)) j.kept.room
+
 -- ---- expiries
 
 module _ {K V : Type 0} (records : Records K V) (none : NoneExpires records) where
@@ -66,10 +81,7 @@ module _ {K V X L P W : Type 0} {eq : K → K → Bool} {l : Option L} {s : Stat
   cache-inner m j same valid none = record {
     valid = valid;
     served = record {
-      no_live = h.served.no_live;
-      no_expiry = h.served.no_expiry;
       unsupported = h.served.unsupported;
-      no_invalidator = h.served.no_invalidator;
       unexpiring = none;
     };
     listens = h.listens ∙ sym same;

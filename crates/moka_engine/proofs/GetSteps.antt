@@ -25,10 +25,11 @@ use Rattle.moka_parts.proofs.Lookup.{record_of_key_empty, record_of_key_found, p
 use Rattle.moka_parts.proofs.Maps.{itself_tested, get_inserted}
 use Rattle.moka_parts.proofs.StepsKeep.{hit_valid, valid_with}
 use Rattle.moka_store.specs.Store.{Kept}
-use Rattle.moka_engine.specs.BaseCache.{IsCache, NoneExpires, expirations_of, expiring_by}
+use Rattle.moka_engine.specs.BaseCache.{IsCache, IsStocked, NoneExpires, expirations_of, expiring_by}
+use Rattle.moka_engine.proofs.Stocked.{stocked-touched, stays-unrenewed}
 use Rattle.moka_engine.specs.Interior.{Interior, IsLocated}
 use Rattle.moka_engine.specs.Looks.{Touches, value_of}
-use Rattle.moka_engine.proofs.CacheSteps.{with_inner, befalls-quietly, unexpiring-inserted, cache-inner, unexpiring-inside, number-inside, key-inside}
+use Rattle.moka_engine.proofs.CacheSteps.{with_inner, befalls-quietly, befalls-listed, unexpiring-inserted, cache-inner, unexpiring-inside, number-inside, key-inside}
 
 same_duration : (d : Option ℕ) → is_same_duration d d ≡ true
 same_duration None = refl
@@ -144,6 +145,12 @@ module _ {K V X L P W : Type 0} {eq : K → K → Bool} {l : Option L} {s : Stat
         let lasts = lasts_on read s r now at expires is_renewed t none (unexpiring-inside h i inside none n r there) in
         subst (λ (k : Kept K V). NoneExpires k.records) (sym kept) (unexpiring-inserted i.kept.records (unexpiring-inside h i inside none) n (record r { read = at; expires = expires }) lasts))
 
+    -- with its store
+    pub stocked-read : IsStocked read s.settings i.kept → IsStocked read s.settings j.kept
+    stocked-read stocked =
+        subst (IsStocked read s.settings) (sym kept)
+        (stocked-touched stocked n r at expires there (λ never. expiry_is read s r now at expires is_renewed t ∙ stays-unrenewed read s.settings r never (hit_at read s r now)))
+
     -- it is still the key's
     pub number-read : IsEquivalence eq → option_map (λ (x : Record K V). x.number) (record_of_key eq (with_inner s j).records key) ≡ Some n
     number-read laws =
@@ -195,14 +202,16 @@ module _ {K V S X L P W C : Type 0} (says : P → K → V → Bool → Type 0) (
           (mid : Interior K V) (rest : mid ≡ record i { kept = mid.kept }) (kept : mid.kept ≡ record i.kept { records = insert i.kept.records n (record r { read = at; expires = expires }) }) where
         -- the cache with the record noted as read
         abbrev noted : Cache K V S X L P W
-        noted = record old { state = with_inner old.state mid }
+        noted = record old { state = with_inner old.state mid; write_list = mid.kept.written }
 
         touched : noted.state ≡ after_hit read old.state r moment.0
         touched = record_read old.state i inside read n r (number-inside h i inside n r there).0 moment.0 at expires is_renewed t mid rest kept
 
         -- of what is visible, with what recording the read does
-        pub get_hits : (entry : Entry K V) → entry.value ≡ r.value → entry.key ≡ (if need_key then Some r.key else None) → {new : Cache K V S X L P W} {after : C} → Records at (Hit n r.hash is_renewed) noted new after → Gets now (Ok (Some entry)) new after
-        get_hits entry value own {new} {after} recorded =
+        pub get_hits : i.kept.written ≡ old.write_list → (entry : Entry K V) → entry.value ≡ r.value → entry.key ≡ (if need_key then Some r.key else None) → {new : Cache K V S X L P W} {after : C} → Records at (Hit n r.hash is_renewed) noted new after → Gets now (Ok (Some entry)) new after
+        get_hits listed entry value own {new} {after} made =
+            let same : mid.kept.written ≡ old.write_list = ap (λ (k : Kept K V). k.written) kept ∙ listed in
+            let recorded = subst (λ ns. Records at (Hit n r.hash is_renewed) (record old { state = with_inner old.state mid; write_list = ns }) new after) same made in
             let e = recorded.0 in
             let hit_there : RecordsRead (Runs old.write_list) (after_hit read old.state r moment.0) at.0 (Hit n r.hash is_renewed) e new.state = subst (λ s. RecordsRead (Runs old.write_list) s at.0 (Hit n r.hash is_renewed) e new.state) touched recorded.1 in
             let hit_then : RecordsRead (Runs old.write_list) (after_hit read old.state r moment.0) (hit_at read old.state r moment.0) (Hit n r.hash is_renewed) e new.state =
@@ -214,8 +223,8 @@ module _ {K V S X L P W C : Type 0} (says : P → K → V → Bool → Type 0) (
 
         -- where no run is due the read is only queued
         pub queues_read : is_due old.state.housekeeping (length mid.reads) at.0 ≡ false → (j : Interior K V) (operation : ReadOperation) → j ≡ record mid { reads = if nat_lt (length mid.reads) queue_length then mid.reads ++ operation ∷ [] else mid.reads }
-            → Records at operation noted (record old { state = with_inner old.state j }) clock
-        queues_read due j operation step = (no_events, (noted.state, rw due (refl, refl), reads_queued noted.state mid refl j operation step), befalls-quietly tells noted (with_inner old.state j), refl)
+            → Records at operation noted (record old { state = with_inner old.state j; write_list = j.kept.written }) clock
+        queues_read due j operation step = (no_events, (noted.state, rw due (refl, refl), reads_queued noted.state mid refl j operation step), befalls-listed tells noted (with_inner old.state j) j.kept.written (ap (λ (x : Interior K V). x.kept.written) step), refl)
 
       -- of what cannot be cloned
       pub get_refused : (err : OutOfMemory) → Gets now (Err err) now clock

@@ -19,7 +19,8 @@ use Rattle.moka_maintenance.specs.declared.queued.QueuedRead.{QueuedRead}
 use Rattle.moka_maintenance.specs.Queued.{writes_of}
 use Rattle.moka_sketch.specs.Frequency.{Table}
 use Rattle.moka_maintenance.specs.Queues.{AreApplied, LeavesNoRowBy}
-use Rattle.moka_maintenance.specs.Steps.{AddsNoPlace, LeavesNoRow, IsStepped, contents_in, contents_with}
+use Rattle.moka_maintenance.specs.Steps.{Stock, AddsNoPlace, LeavesNoRow, IsStepped, contents_in, contents_with, stock_in}
+use Rattle.moka_maintenance.proofs.Seen.{steps-seen}
 use Rattle.moka_engine.specs.Inner.{IsInner}
 use Rattle.moka_engine.specs.Interior.{operations_of}
 use Rattle.moka_engine.proofs.InnerLemmas.{inner-left}
@@ -29,7 +30,7 @@ nothing_in q h = (let lt = h.1 in omega arith)
 
 module _ {K V L : Type 0} (tells : L → K → V → RemovalCause → L → Type 0) (kept after : Kept K V) (out : Pending PlacedWrite) (writes : Buffer QueuedWrite) (reads : Buffer QueuedRead) (t n : ℕ) (h : IsInner kept out writes reads t n) (l m : Option L) where
   -- both queues were applied
-  pub inner-applied : (capacity : Option ℕ) (policy : EvictionPolicy) (sketch : Option Table) (mid : Kept K V) → mid.records ≡ kept.records → mid.places ≡ kept.places → AreApplied tells capacity policy (contents_with sketch mid) (contents_with sketch after) (writes_of writes.items) l m
+  pub inner-applied : (capacity : Option ℕ) (policy : EvictionPolicy) (sketch : Option Table) (mid : Kept K V) → mid.records ≡ kept.records → mid.places ≡ kept.places → AreApplied tells capacity policy mid.ordered (contents_with sketch mid) (contents_with sketch after) mid.written after.written (writes_of writes.items) l m
       → AddsNoPlace mid after → LeavesNoRowBy (writes_of writes.items) mid after → IsInner after out (buffer [] writes.capacity) (buffer [] reads.capacity) t n
   inner-applied capacity policy sketch mid records places applied fewer rows =
       let keeps : Keeps mid.records after.records = subst (λ (c : Contents K V). Keeps mid.records c.records) (sym applied.led) (keeps_writes capacity policy (contents_with sketch mid) (writes_of writes.items) applied.moves) in
@@ -46,8 +47,8 @@ module _ {K V L : Type 0} (tells : L → K → V → RemovalCause → L → Type
       still k g none (inr queued) = absurd (none queued.0 g queued.1)
 
   -- passes were made
-  pub inner-passed : (May : Contents K V → Choice → Type 0) → IsStepped tells May (contents_in kept) (contents_in after) l m → AddsNoPlace kept after → LeavesNoRow kept after → IsInner after out writes reads t n
+  pub inner-passed : (May : Stock K V → Choice → Type 0) → IsStepped tells May (stock_in kept) (stock_in after) l m → AddsNoPlace kept after → LeavesNoRow kept after → IsInner after out writes reads t n
   inner-passed May by fewer rows =
       inner-left kept after out out writes reads t n h writes.items reads.items (λ q there. there) (λ q there. there) (omega arith) (omega arith) fewer
-      (subst (λ (c : Contents K V). Keeps kept.records c.records) (sym by.led) (keeps_choices (contents_in kept) by.steps))
+      (subst (λ (c : Stock K V). Keeps kept.records c.records) (sym (by.led ∙ steps-seen (contents_in kept) kept.written by.steps)) (keeps_choices (contents_in kept) by.steps))
       (λ k p row gone. h.used k p (fewer k p row) (rows k p row gone))

@@ -1,5 +1,5 @@
 -- Inserts as steps of the reference cache, and what always holds after them.
-use Rattle.std.proofs.Common.{◌≡◌, refl, ℕ, ◌+◌, ◌^◌, ◌≤◌, Bool, true, false, [], ◌∷◌, ◌↔◌, Option, Some, None, Result, Ok, Err, is_some, ap, sym, subst, ◌∙◌, arith}
+use Rattle.std.proofs.Common.{◌≡◌, refl, ℕ, ◌+◌, ◌^◌, ◌≤◌, Bool, true, false, List, [], ◌∷◌, ◌↔◌, Option, Some, None, Result, Ok, Err, is_some, ap, sym, subst, ◌∙◌, arith}
 use Rattle.std.specs.Prelude.{nat_le}
 use Rattle.std.specs.Cmp.{IsEquivalence}
 use Rattle.std.specs.FinMap.{get, insert, len}
@@ -21,9 +21,11 @@ use Rattle.moka_parts.specs.Settling.{IsValid}
 use Rattle.moka_parts.specs.State.{State, Settings, Events, is_disabled}
 use Rattle.moka_parts.proofs.CallsKeep.{inserted_valid, replaced_valid}
 use Rattle.moka_store.specs.Updates.{updated}
-use Rattle.moka_engine.specs.BaseCache.{IsCache, NoneExpires, expirations_of, expiring_by}
+use Rattle.moka_store.specs.declared.store.Update.{Update}
+use Rattle.moka_engine.specs.BaseCache.{IsCache, IsStocked, NoneExpires, expirations_of, expiring_by}
+use Rattle.moka_engine.proofs.Stocked.{stocked-inserted, update_waits}
 use Rattle.moka_engine.specs.Interior.{Interior, first_record, handing_out_inside}
-use Rattle.moka_engine.proofs.CacheSteps.{with_inner, without_room, inside-roomier, befalls-quietly, unexpiring-inserted, cache-inner, unexpiring-inside, number-inside, key-inside}
+use Rattle.moka_engine.proofs.CacheSteps.{with_inner, without_room, inside-roomier, list-roomier, stocked-room, befalls-listed, unexpiring-inserted, cache-inner, unexpiring-inside, number-inside, key-inside}
 
 -- ---- refusals
 
@@ -109,30 +111,47 @@ module _ {K V X L P W : Type 0} {eq : K → K → Bool} {l : Option L} {s : Stat
       let lasts : expires ≡ None = is ∙ rw none refl in
       subst (λ (x : Interior K V). NoneExpires x.kept.records) (sym step) (unexpiring-inserted i.kept.records (unexpiring-inside h i inside none) i.next_number new lasts))
 
+-- the store after an insert of a key that is there
+pub stocked-updated : {K V X L P W : Type 0} {read : X → K → V → ℕ → Option ℕ → ℕ → Option ℕ} {eq : K → K → Bool} {l : Option L} {s : State K V X P W} (h : IsCache eq l s) (before : Interior K V) → with_inner s before ≡ s → (i j : Interior K V) → without_room i ≡ without_room before → IsStocked read s.settings before.kept
+    → (n : ℕ) (r : Record K V) → get before.kept.records n ≡ Some r → (hash : ℕ) (update : Update V) → j ≡ handing_out_inside i (insert i.kept.records n (updated update r)) (Upsert n (r.generation + 1) update.weight hash) j → IsStocked read s.settings j.kept
+stocked-updated {read = read} {s = s} h before inside i j rooms stored n r there hash update step =
+    let found : get s.records n ≡ Some r = sym (ap (λ (t : State _ _ _ _ _). get t.records n) inside) ∙ there in
+    let waits = update_waits s h.valid.consistent n r found update in
+    subst (λ (x : Interior _ _). IsStocked read s.settings x.kept) (sym step) (stocked-inserted (stocked-room before i rooms stored) n (updated update r) j.kept.places j.kept.room waits)
+
+-- and of a new key
+pub stocked-new-record : {K V X W : Type 0} {read : X → K → V → ℕ → Option ℕ → ℕ → Option ℕ} {settings : Settings X W} (before i j : Interior K V) → without_room i ≡ without_room before → IsStocked read settings before.kept → (key : K) (hash : ℕ) (update : Update V)
+    → j ≡ record (handing_out_inside i (with_record i.kept.records (first_record i.next_number key hash update)) (Upsert i.next_number 1 update.weight hash) j) { next_number = i.next_number + 1 } → IsStocked read settings j.kept
+stocked-new-record {read = read} {settings = settings} before i j rooms stored key hash update step =
+    subst (λ (x : Interior _ _). IsStocked read settings x.kept) (sym step) (stocked-inserted (stocked-room before i rooms stored) i.next_number (first_record i.next_number key hash update) j.kept.places j.kept.room refl)
+
 -- ---- what the calls return
 
 module _ {K V S X L P W : Type 0} (created : X → K → V → ℕ → Option ℕ) (updating : X → K → V → ℕ → Option ℕ → Option ℕ) (weighs : W → K → V → ℕ → Type 0) (tells : L → K → V → RemovalCause → L → Type 0) (eq : K → K → Bool)
-    {old now : Cache K V S X L P W} (is : old ≡ now) (before : Interior K V) (inside_before : with_inner old.state before ≡ old.state) (i : Interior K V) (rooms : without_room i ≡ without_room before) (key : K) (hash : ℕ) (value : V) (moment : Instant) where
+    {old now : Cache K V S X L P W} (is : old ≡ now) (before : Interior K V) (inside_before : with_inner old.state before ≡ old.state) (listed : before.kept.written ≡ old.write_list) (i : Interior K V) (rooms : without_room i ≡ without_room before) (key : K) (hash : ℕ) (value : V) (moment : Instant) where
   -- a call that answers so
-  abbrev Inserts : Result (Ticket × Instant) (InsertRefused K V) → State K V X P W → Option L → Cache K V S X L P W → Type 0
-  Inserts a t m before = (e : Events K V) × InsertStep created updating weighs eq before.state key hash value moment a e t × Befalls tells e before (record old { state = t; listener = m })
+  abbrev Inserts : Result (Ticket × Instant) (InsertRefused K V) → State K V X P W → Option L → List ℕ → Cache K V S X L P W → Type 0
+  Inserts a t m ns before = (e : Events K V) × InsertStep created updating weighs eq before.state key hash value moment a e t × Befalls tells e before (record old { state = t; listener = m; write_list = ns })
 
   -- room was made
   inside_still : with_inner old.state i ≡ old.state
   inside_still = inside-roomier old.state before i inside_before rooms
+
+  list_still : i.kept.written ≡ old.write_list
+  list_still = list-roomier before i rooms ∙ listed
 
   found_in_state : (o : Option (Record K V)) → record_of_key eq before.kept.records key ≡ o → record_of_key eq old.state.records key ≡ o
   found_in_state o found = ap (λ (t : State K V X P W). record_of_key eq t.records key) (sym inside_before) ∙ found
 
   -- a key that is there, with no room for its operation
   pub update_refused : (r : Record K V) → record_of_key eq before.kept.records key ≡ Some r → (error : InsertError) → (refusal error ≡ refusal NumbersUsedUp) ↔ (2 ^ 64 ≤ before.next_ticket + len before.kept.records)
-      → Inserts (Err (record { error = error; key = key; value = value })) (with_inner old.state i) old.listener now
+      → Inserts (Err (record { error = error; key = key; value = value })) (with_inner old.state i) old.listener i.kept.written now
   update_refused r found error used_up =
       let refused : HasInsertError (with_inner old.state before) 0 error = has_error (with_inner old.state before) 0 error (λ e. let p = used_up.0 e in omega arith, λ p. used_up.1 (omega arith)) in
-      subst (Inserts (Err (record { error = error; key = key; value = value })) (with_inner old.state i) old.listener) is (
+      subst (Inserts (Err (record { error = error; key = key; value = value })) (with_inner old.state i) old.listener i.kept.written) is (
         no_events,
         rw (found_in_state (Some r) found) ((refl, refl, subst (λ t. HasInsertError t 0 error) inside_before refused), (inside_still, refl)),
-        befalls-quietly tells old (with_inner old.state i),
+        befalls-listed tells old (with_inner old.state i) i.kept.written list_still,
       )
 
   -- a key that is there, with a new value
@@ -140,17 +159,17 @@ module _ {K V S X L P W : Type 0} (created : X → K → V → ℕ → Option �
       → (2 ^ 64 ≤ before.next_ticket + len before.kept.records → ⊥) → (ticket : Ticket) → ticket.0 ≡ i.next_ticket → (expires : Option Instant) → ExpiresUpdated created updating old.state r key value moment expires
       → j ≡ handing_out_inside i (insert i.kept.records n (updated (record { value = value; now = moment; expires = expires; weight = w }) r)) (Upsert n (r.generation + 1) w hash) j
       → (left : V) → left ≡ r.value → (cause : RemovalCause) → cause ≡ cause_of_replacement old.state.settings old.state.invalid_before r moment.0 → HearsOnce tells old.listener key left cause m
-      → Inserts (Ok (ticket, moment)) (with_inner old.state j) m now
+      → Inserts (Ok (ticket, moment)) (with_inner old.state j) m j.kept.written now
   update_returns l h told m j n r there found w weighed enough ticket next expires expiring step left same_value cause same_cause heard =
       let numbers : nat_le (2 ^ 64) (before.next_ticket + len before.kept.records + 0) ≡ false = not_at_least (2 ^ 64) (before.next_ticket + len before.kept.records + 0) (λ p. enough (omega arith)) in
       let step_so = replaces created updating old.state i j inside_still r n (number-inside h before inside_before n r there).0 key hash value moment w expires expiring step in
-      subst (Inserts (Ok (ticket, moment)) (with_inner old.state j) m) is (
+      subst (Inserts (Ok (ticket, moment)) (with_inner old.state j) m j.kept.written) is (
         only_notices (when_listening old.state.settings.listening ((key, r.value, cause_of_replacement old.state.settings old.state.invalid_before r moment.0) ∷ [])),
         rw (found_in_state (Some r) found) (w, weighed, subst (λ (t : State K V X P W). nat_le (2 ^ 64) (t.next_ticket + len t.records + 0) ≡ false) inside_before numbers, next ∙ ap (λ (t : State K V X P W). t.next_ticket) inside_still, refl, step_so, refl),
         record {
           kept = refl;
           heard = rw (h.listens ∙ ap is_some told, ← same_value, ← same_cause) heard;
           passes = refl;
-          listed = λ none. refl;
+          listed = λ none. ap (λ (x : Interior K V). x.kept.written) step ∙ list_still;
         },
       )

@@ -1,6 +1,7 @@
 pub mod ValuesLemmas
 pub mod InnerLemmas
 pub mod InnerRuns
+pub mod Stocked
 pub mod CacheSteps
 pub mod NewSteps
 pub mod SendSteps

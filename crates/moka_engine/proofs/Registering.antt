@@ -41,10 +41,7 @@ pub cache-registered : {K V X L P W : Type 0} {eq : K → K → Bool} {l : Optio
 cache-registered {eq = eq} {s = s} h on qs = record {
   valid = valid_with eq s s.reads s.invalid_before qs s.housekeeping h.valid;
   served = record {
-    no_live = h.served.no_live;
-    no_expiry = h.served.no_expiry;
     unsupported = λ off. absurd (true≢false (sym on ∙ off));
-    no_invalidator = h.served.no_invalidator;
     unexpiring = h.served.unexpiring;
   };
   listens = h.listens;

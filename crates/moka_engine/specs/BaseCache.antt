@@ -1,5 +1,5 @@
 -- What always holds of a cache, and how its parts make the state that contracts see.
-use Rattle.std.specs.Prelude.{◌≡◌, ℕ, Bool, false, List, [], Option, Some, None, is_some}
+use Rattle.std.specs.Prelude.{◌≡◌, ℕ, Bool, true, false, List, [], Option, Some, None, is_some}
 use Rattle.std.specs.FinMap.{get}
 use Rattle.moka_parts.specs.declared.policy.EvictionPolicy.{EvictionPolicy}
 use Rattle.moka_parts.specs.declared.policy.EvictionPolicy.TheVariants.{Lru}
@@ -10,7 +10,9 @@ use Rattle.moka_parts.specs.Housekeeper.{Keeper}
 use Rattle.moka_parts.specs.Policy.{Expirations}
 use Rattle.moka_parts.specs.Records.{Records}
 use Rattle.moka_parts.specs.Settling.{IsValid}
-use Rattle.moka_parts.specs.State.{State, Settings}
+use Rattle.moka_parts.specs.State.{State, Settings, keeps_write_list}
+use Rattle.moka_store.specs.Store.{Kept}
+use Rattle.moka_maintenance.specs.Timers.{AreTimed}
 use Rattle.moka_engine.specs.Interior.{Interior}
 
 -- what never changes
@@ -71,16 +73,28 @@ expiring_by x = record {
 abbrev pub NoneExpires : {K V : Type 0} → Records K V → Type 0
 NoneExpires records = (n : ℕ) (r : Record _ _) → get records n ≡ Some r → r.expires ≡ None
 
--- the settings are such as a cache can have today, and without an expiry no record has one of its own
+-- where predicates are not supported none is registered, and without an expiry no record has one of its own
 pub record IsServed {K V X P W : Type 0} (s : State K V X P W) : Type 0 where
-  pub no_live : s.settings.time_to_live ≡ None
-  pub no_expiry : s.settings.expiry ≡ None
   pub unsupported : s.settings.invalidator ≡ false → s.predicates ≡ []
-  pub no_invalidator : s.settings.invalidator ≡ false
   pub unexpiring : s.settings.expiry ≡ None → NoneExpires s.records
+
+-- a hit never changes an expiry, also where none is set
+abbrev pub NeverRenews : {K V X : Type 0} → (X → K → V → ℕ → Option ℕ → ℕ → Option ℕ) → Option X → Type 0
+NeverRenews {K} {V} {X} read expiry = (x : X) (k : K) (v : V) (now : ℕ) (told : Option ℕ) (written : ℕ) → expiry ≡ Some x → read x k v now told written ≡ told
+
+-- the store keeps the order of writing and timers where the settings ask for them; where no hit renews an expiry, the timer of each settled member stands at its record's
+pub record IsStocked {K V X W : Type 0} (read : X → K → V → ℕ → Option ℕ → ℕ → Option ℕ) (settings : Settings X W) (kept : Kept K V) : Type 0 where
+  pub ordered : kept.ordered ≡ keeps_write_list settings
+  pub timed : kept.timed ≡ is_some settings.expiry
+  pub timers : NeverRenews read settings.expiry → kept.timed ≡ true → AreTimed kept
 
 -- the state is a valid one, and the settings listen exactly where a listener is set
 pub record IsCache {K V X L P W : Type 0} (eq : K → K → Bool) (listener : Option L) (s : State K V X P W) : Type 0 where
   pub valid : IsValid eq s
   pub served : IsServed s
   pub listens : s.settings.listening ≡ is_some listener
+
+-- both
+pub record IsWhole {K V X L P W : Type 0} (eq : K → K → Bool) (read : X → K → V → ℕ → Option ℕ → ℕ → Option ℕ) (listener : Option L) (kept : Kept K V) (s : State K V X P W) : Type 0 where
+  pub cache : IsCache eq listener s
+  pub store : IsStocked read s.settings kept

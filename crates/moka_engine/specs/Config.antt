@@ -127,8 +127,6 @@ module _ {X L W : Type 0} where
     passes = 0;
   }
 
-  -- so far a cache can be made with this: neither a time to live nor an expiry nor predicates are served
+  -- so far a cache can be made with this: predicates are not served
   pub record IsServedConfig (c : Config X L W) : Type 0 where
-    pub no_live : c.time_to_live ≡ None
-    pub no_expiry : c.expiry ≡ None
     pub no_predicates : c.invalidator ≡ false

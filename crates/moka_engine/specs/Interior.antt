@@ -1,5 +1,5 @@
 -- What contracts see of the inner part of the cache.
-use Rattle.std.specs.Prelude.{ℕ, ◌+◌, ◌<◌, false, List, [], Option, None}
+use Rattle.std.specs.Prelude.{ℕ, ◌+◌, ◌<◌, Bool, List, [], Option, None}
 use Rattle.std.specs.FinMap.{FinMap, empty, insert}
 use Rattle.std.specs.Ordering.{nat_cmp}
 use Rattle.moka_parts.specs.declared.records.Operation.{Operation}
@@ -42,10 +42,10 @@ IsReadLocated places next_number place (Hit number hash renewed) = IsLocated pla
 IsReadLocated places next_number place (Miss hash) = Unit {0}
 
 module _ {K V : Type 0} where
-  -- nothing is kept, and nothing waits; the rooms are those of the second
-  abbrev pub nothing_inside : ℕ → Interior K V → Interior K V
-  nothing_inside first_ticket i = record {
-    kept = record { records = empty; access = []; written = []; timers = empty; cursor = None; places = empty; room = i.kept.room; ordered = false; timed = false };
+  -- nothing is kept, and nothing waits; the order of writing and timers are kept or not, and the rooms are those of the second
+  abbrev pub nothing_inside : Bool → Bool → ℕ → Interior K V → Interior K V
+  nothing_inside ordered timed first_ticket i = record {
+    kept = record { records = empty; access = []; written = []; timers = empty; cursor = None; places = empty; room = i.kept.room; ordered = ordered; timed = timed };
     sketch = None;
     outstanding = empty;
     writes = [];

@@ -1,5 +1,5 @@
 //! The cache. moka: `sync::base_cache`.
-ghost use Rattle.std.specs.Prelude.{◌≡◌, ℕ, ◌≤◌, true, false, [], ◌∷◌, length, map, is_some, List, Option, Some, None, Ok, Err, IfOk, IfErr, if◌then◌else◌, option_map, option_copied};
+ghost use Rattle.std.specs.Prelude.{◌≡◌, ℕ, ◌≤◌, ◌||◌, true, false, [], ◌∷◌, length, map, is_some, List, Option, Some, None, Ok, Err, IfOk, IfErr, if◌then◌else◌, option_map, option_copied};
 ghost use Rattle.std.specs.Duration.{as_nanos};
 ghost use Rattle.std.specs.List.{fold};
 ghost use Rattle.std.specs.String.{string_bytes};
@@ -80,28 +80,27 @@ impl<
     P: PredicateFn<K, V>,
     W: Weigher<K, V>,
 > Model for BaseCache<K, V, S, X, L, P, W> {
-    ghost use Rattle.std.specs.Prelude.{[], option_map};
+    ghost use Rattle.std.specs.Prelude.{option_map};
     ghost use Rattle.std.specs.Coded.{codes, coded_ℕ};
     ghost use Rattle.std.specs.FinMap as finite;
     ghost use Rattle.std.specs.String.{string_bytes};
     ghost use Rattle.moka_parts.specs.Runs.{Cache};
-    ghost use Rattle.moka_engine.specs.BaseCache.{IsCache, settings_of, state_of};
+    ghost use Rattle.moka_engine.specs.BaseCache.{IsWhole, settings_of, state_of};
 
     ghost Value = { Cache K V S X L P W };
 
     ghost coded = { Prim.hlevel (codes, finite.code, coded_ℕ, K.code, V.code, S.code, X.code, L.code, P.code, W.code) };
 
-    // The write list is not kept: that is for times to live and predicates, which no cache has today.
     ghost view = { λ c. record {
       name = option_map string_bytes c.name;
       hasher = c.build_hasher;
       state = state_of c.inner c.valid_after c.invalidator c.entry_count c.weighted_size c.housekeeper c.max_capacity (settings_of c.eviction_policy c.expiration_policy c.weigher c.invalidator_enabled c.housekeeper);
       listener = c.notifier;
-      write_list = [];
+      write_list = c.inner.kept.written;
       passes = c.passes;
     } };
 
-    ghost invariant = { λ c. IsCache K.eq c.notifier (state_of c.inner c.valid_after c.invalidator c.entry_count c.weighted_size c.housekeeper c.max_capacity (settings_of c.eviction_policy c.expiration_policy c.weigher c.invalidator_enabled c.housekeeper)) };
+    ghost invariant = { λ c. IsWhole K.eq X.read c.notifier c.inner.kept (state_of c.inner c.valid_after c.invalidator c.entry_count c.weighted_size c.housekeeper c.max_capacity (settings_of c.eviction_policy c.expiration_policy c.weigher c.invalidator_enabled c.housekeeper)) };
 }
 
 impl<
@@ -123,10 +122,10 @@ impl<
     /// - `weigher`: weighs entries as they are inserted; without one each weighs 1.
     /// - `eviction_policy`: what leaves where the capacity is exceeded.
     /// - `eviction_listener`: is told key, value and cause of each removal but those by `remove_entry`.
-    /// - `expiration_policy`: the time to idle, as a duration since the last insert or read. So far there is no time to
-    ///   live and no expiry of single entries.
+    /// - `expiration_policy`: the time to live, as a duration since the last insert; the time to idle, as one since the last
+    ///   insert or read; and the expiry of single entries, which inserts and gets ask.
     /// - `housekeeper_config`: the time limit, repeats and batch of the runs that the housekeeper starts.
-    /// - `invalidator_enabled`: whether predicates can be registered; so far they cannot.
+    /// - `invalidator_enabled`: whether predicates can be registered.
     /// - `first_ticket`: the ticket of the first operation, at least 1.
     ///
     /// # Errors
@@ -156,9 +155,6 @@ impl<
         P: Drop,
         W: Drop,
         requires first { 1 ≤ first_ticket }
-        requires no_live { expiration_policy.time_to_live ≡ None }
-        requires no_expiry { expiration_policy.expiry ≡ None }
-        requires no_predicates { invalidator_enabled ≡ false }
         ensures { IfOk result (λ c. c ≡ record {
           name = option_map string_bytes name;
           hasher = build_hasher;
@@ -185,7 +181,10 @@ impl<
             return Err(OutOfMemory);
         };
         let initial_capacity = initial_capacity.unwrap_or(0);
-        let Ok(inner) = Inner::new(alloc, hasher, first_ticket, initial_capacity) else {
+        let ordered = needs_write_list(&expiration_policy, invalidator_enabled);
+        let timed = needs_timers(&expiration_policy);
+        let Ok(inner) = Inner::new(alloc, hasher, first_ticket, initial_capacity, ordered, timed)
+        else {
             return Err(OutOfMemory);
         };
         let notifier = RemovalNotifier::new(eviction_listener);
@@ -216,7 +215,7 @@ impl<
         ensures listening { self.now.state.settings.listening ≡ is_some self.now.listener }
         ensures listed { keeps_write_list self.now.state.settings ≡ true → IsWriteList self.now.state self.now.write_list }
     {
-        let _passes = self.passes;
+        self.inner.invariant_holds();
     }
 
     /// The cache's name, if it has one.
@@ -491,6 +490,7 @@ impl<
     where
         K: Clone + Drop,
         V: Clone + Drop,
+        P: Drop,
         requires keys { ClonesAreEqual K.is_clone }
         requires values { ClonesAreEqual V.is_clone }
         ensures { (e : Events K V)
@@ -500,4 +500,18 @@ impl<
     {
         self.do_get_with_hash(key, hash, &mut NoTest, need_key, now, clock)
     }
+}
+
+// Whether records are also kept in the order of their writing.
+fn needs_write_list<X>(policy: &ExpirationPolicy<X>, invalidator_enabled: bool) -> bool
+    ensures { result ≡ (is_some policy.now.time_to_live || invalidator_enabled) }
+{
+    policy.time_to_live().is_some() || invalidator_enabled
+}
+
+// Whether timers are kept: an expiry is set.
+fn needs_timers<X>(policy: &ExpirationPolicy<X>) -> bool
+    ensures { result ≡ is_some policy.now.expiry }
+{
+    policy.expiry().is_some()
 }

@@ -1,8 +1,9 @@
 //! The map, the operations that wait, and both queues.
-ghost use Rattle.std.specs.Prelude.{◌≡◌, ◌+◌, ◌^◌, ◌<◌, ◌≤◌, ◌↔◌, ℕ, [], ◌∷◌, ◌++◌, None, Some, Ok, Err, OnOk, OnErr, IfOk, IfSome, if◌then◌else◌, length, map, nat_lt, option_map, slice_get, IsPermutation};
+ghost use Rattle.std.specs.Prelude.{◌≡◌, ◌+◌, ◌^◌, ◌<◌, ◌≤◌, ◌↔◌, ℕ, true, [], ◌∷◌, ◌++◌, None, Some, Ok, Err, OnOk, OnErr, IfOk, IfSome, if◌then◌else◌, length, map, nat_lt, option_map, slice_get, IsPermutation};
 ghost use Rattle.std.specs.Duration.{as_nanos};
 ghost use Rattle.std.specs.FinMap as finite;
 ghost use Rattle.moka_parts.specs.Calls.{queue_length};
+ghost use Rattle.moka_parts.specs.Order.{IsListOf};
 ghost use Rattle.moka_parts.specs.Reads.{after_reads};
 ghost use Rattle.moka_parts.specs.Records.{record_of_key, total_weight, with_record};
 ghost use Rattle.moka_parts.specs.declared.error.InsertError.TheVariants.{NumbersUsedUp};
@@ -14,7 +15,8 @@ ghost use Rattle.moka_store.specs.Store.{ChangesRecord, ClonesAreEqual, IsHandle
 ghost use Rattle.moka_store.specs.Updates.{updated};
 ghost use Rattle.moka_maintenance.specs.Passes.{IsRan};
 ghost use Rattle.moka_maintenance.specs.Queues.{ArePrepared};
-ghost use Rattle.moka_maintenance.specs.Steps.{contents_in, contents_with};
+ghost use Rattle.moka_maintenance.specs.Steps.{contents_with, stock_in};
+ghost use Rattle.moka_maintenance.specs.Timers.{HasNoneDue, KeepsTimers};
 ghost use Rattle.moka_engine.specs.Interior.{IsReadLocated, first_record, handing_out_inside, nothing_inside};
 ghost use Rattle.moka_engine.specs.ReadNumber.{IsReadNumber};
 
@@ -26,7 +28,9 @@ use moka_maintenance::sketch::enable_frequency_sketch;
 use moka_maintenance::sweep::Tests;
 use moka_parts::calls::Ticket;
 use moka_parts::error::{InsertError, SendError};
+use moka_parts::closures::PredicateFn;
 use moka_parts::housekeeper::Clock;
+use moka_parts::invalidator::Invalidator;
 use moka_parts::notification::{Listener, RemovalNotifier};
 use moka_parts::policy::{EvictionPolicy, Instant};
 use moka_parts::records::{Operation, ReadOperation, Record};
@@ -84,22 +88,25 @@ impl<K: Eq + Hash, V, S: BuildHasher> Model for Inner<K, V, S> {
 }
 
 impl<K: Eq + Hash, V, S: BuildHasher> Inner<K, V, S> {
-    /// An inner part with no records, with room for `initial_capacity` of them, whose first ticket is `first_ticket`.
+    /// An inner part with no records, with room for `initial_capacity` of them, whose first ticket is `first_ticket`. It keeps
+    /// the order of writing if it is to be `ordered`, and timers if it is to be `timed`.
     pub fn new(
         alloc: Global,
         hasher: S,
         first_ticket: u64,
         initial_capacity: usize,
+        ordered: bool,
+        timed: bool,
     ) -> Result<Self, AllocError>
     where
         K: Drop,
         V: Drop,
         S: Drop,
         requires { 1 ≤ first_ticket }
-        ensures empty { IfOk result (λ i. i ≡ nothing_inside first_ticket i) }
+        ensures empty { IfOk result (λ i. i ≡ nothing_inside ordered timed first_ticket i) }
         ensures room { IfOk result (λ i. initial_capacity ≤ i.kept.room) }
     {
-        let mut store = Store::new(alloc, hasher, false, false)?;
+        let mut store = Store::new(alloc, hasher, ordered, timed)?;
         store.reserve(initial_capacity)?;
         let sketch = FrequencySketch::new(alloc)?;
         let outstanding = Outstanding::new(alloc)?;
@@ -114,6 +121,13 @@ impl<K: Eq + Hash, V, S: BuildHasher> Inner<K, V, S> {
             last_ticket: first_ticket - 1,
             next_number: 1,
         })
+    }
+
+    /// What always holds of the order of writing, where that is kept. It does nothing when it runs.
+    pub fn invariant_holds(&self)
+        ensures { self.now.kept.ordered ≡ true → IsListOf self.now.kept.access self.now.kept.written }
+    {
+        self.store.invariant_holds();
     }
 
     /// The record whose key is equal, with its handle.
@@ -324,7 +338,8 @@ impl<K: Eq + Hash, V, S: BuildHasher> Inner<K, V, S> {
     where
         K: Drop,
         V: Drop,
-        ensures prepared { ArePrepared L.tells capacity policy has_weigher (after_reads (contents_with self.old.sketch self.old.kept) self.old.reads) (contents_with self.new.sketch self.new.kept) self.old.writes notifier.old notifier.new }
+        ensures prepared { ArePrepared L.tells capacity policy self.old.kept.ordered has_weigher (after_reads (contents_with self.old.sketch self.old.kept) self.old.reads) (contents_with self.new.sketch self.new.kept) self.old.kept.written self.new.kept.written self.old.writes notifier.old notifier.new }
+        ensures timers { KeepsTimers self.old.kept self.new.kept }
         ensures rest { self.new ≡ record self.old { kept = self.new.kept; sketch = self.new.sketch; writes = []; reads = []; operation_room = self.new.operation_room } }
     {
         let (store, sketch) = (&mut self.store, &mut self.sketch);
@@ -333,10 +348,11 @@ impl<K: Eq + Hash, V, S: BuildHasher> Inner<K, V, S> {
         enable_frequency_sketch(store, sketch, capacity, policy, has_weigher);
     }
 
-    /// Removes what the tests find, in passes of at most `batch` turns a step, until the limit is up.
-    pub fn make_passes<L: Listener<K, V>, C: Clock>(
+    /// Removes what the tests find and what registered predicates cover, in passes of at most `batch` turns a step, until the limit is up.
+    pub fn make_passes<L: Listener<K, V>, P: PredicateFn<K, V>, C: Clock>(
         &mut self,
         notifier: &mut RemovalNotifier<L>,
+        invalidator: &mut Invalidator<P>,
         clock: &mut C,
         tests: Tests,
         limit: Option<Duration>,
@@ -345,10 +361,14 @@ impl<K: Eq + Hash, V, S: BuildHasher> Inner<K, V, S> {
     where
         K: Drop,
         V: Drop,
-        ensures ran { IsRan L.tells tests C.reads (option_map as_nanos limit) batch (contents_in self.old.kept) (contents_in self.new.kept) notifier.old notifier.new clock.old clock.new result.passes result.is_left }
+        P: Drop,
+        ensures ran { IsRan L.tells P.says tests C.reads (option_map as_nanos limit) batch self.old.kept.ordered invalidator.old invalidator.new (stock_in self.old.kept) (stock_in self.new.kept) notifier.old notifier.new clock.old clock.new result.passes result.is_left }
+        ensures none { HasNoneDue tests.now.0 self.new.kept }
+        ensures timers { KeepsTimers self.old.kept self.new.kept }
         ensures rest { self.new ≡ record self.old { kept = self.new.kept; operation_room = self.new.operation_room } }
     {
-        make_passes(&mut self.store, notifier, clock, tests, limit, batch)
+        let store = &mut self.store;
+        make_passes(store, notifier, invalidator, clock, tests, limit, batch)
     }
 
     /// Clones of the keys of all records, in no particular order.

@@ -47,8 +47,8 @@ abbrev pub chosen_policy : Settings → EvictionPolicy
 chosen_policy settings = unwrap_or settings.policy TinyLfu
 
 -- when its entries expire, in nanoseconds
-abbrev pub expirations_of : Option ℕ → Expirations NoExpiry
-expirations_of time_to_idle = record { time_to_live = None; time_to_idle = time_to_idle; expiry = None }
+abbrev pub expirations_of : Option ℕ → Option ℕ → Expirations NoExpiry
+expirations_of time_to_live time_to_idle = record { time_to_live = time_to_live; time_to_idle = time_to_idle; expiry = None }
 
 -- the moment at which it is made
 abbrev pub start_of : Settings → ℕ
@@ -62,7 +62,7 @@ chosen_terms keeper = unwrap_or keeper (record { limit = 100000000; repeats = 4;
 abbrev pub first_state : Settings → ScriptState
 first_state settings = record (new_state (record {
   policy = chosen_policy settings;
-  time_to_live = None;
+  time_to_live = settings.time_to_live;
   time_to_idle = settings.time_to_idle;
   expiry = None;
   weigher = settings.weigher;

@@ -5,7 +5,7 @@ use Rattle.moka_parts.specs.declared.policy.EvictionPolicy.{EvictionPolicy}
 use Rattle.moka_parts.specs.declared.policy.EvictionPolicy.TheVariants.{TinyLfu, Lru}
 use Rattle.moka_replay.specs.declared.script.settings.Settings.{Settings}
 use Rattle.moka_replay.specs.declared.script.settings.Setting.{Setting}
-use Rattle.moka_replay.specs.declared.script.settings.Setting.TheVariants.{First, Capacity, Policy, TimeToIdle, Weigh, Listener, Start, Keeper}
+use Rattle.moka_replay.specs.declared.script.settings.Setting.TheVariants.{First, Capacity, Policy, TimeToLive, TimeToIdle, Weigh, Listener, Start, Keeper}
 use Rattle.moka_replay.specs.Lex.{number_of, lone_number, alone, ◌>>=◌}
 
 -- the ticket of that number, which is not 0
@@ -41,16 +41,17 @@ setting_of name arguments =
     if bytes_eq name (codes "first") then option_map First (lone_number arguments >>= ticket_of)
     else (if bytes_eq name (codes "capacity") then option_map Capacity (lone_number arguments)
     else (if bytes_eq name (codes "policy") then policy_of arguments
+    else (if bytes_eq name (codes "ttl") then option_map TimeToLive (lone_number arguments)
     else (if bytes_eq name (codes "tti") then option_map TimeToIdle (lone_number arguments)
     else (if bytes_eq name (codes "weigh") then alone (Weigh (record {})) arguments
     else (if bytes_eq name (codes "listener") then alone Listener arguments
     else (if bytes_eq name (codes "start") then option_map Start (lone_number arguments)
     else (if bytes_eq name (codes "keeper") then keeper_of arguments
-    else None)))))))
+    else None))))))))
 
 -- nothing is set
 abbrev pub no_settings : Settings
-no_settings = record { first = None; capacity = None; policy = None; time_to_idle = None; weigher = None; listener = false; start = None; keeper = None }
+no_settings = record { first = None; capacity = None; policy = None; time_to_live = None; time_to_idle = None; weigher = None; listener = false; start = None; keeper = None }
 
 -- a place is filled at most once
 abbrev pub filled : {A : Type 0} → Option A → A → Option (Option A)
@@ -62,6 +63,7 @@ abbrev pub put_in : Settings → Setting → Option Settings
 put_in settings (First first) = option_map (λ place. record settings { first = place }) (filled settings.first first)
 put_in settings (Capacity capacity) = option_map (λ place. record settings { capacity = place }) (filled settings.capacity capacity)
 put_in settings (Policy policy) = option_map (λ place. record settings { policy = place }) (filled settings.policy policy)
+put_in settings (TimeToLive nanos) = option_map (λ place. record settings { time_to_live = place }) (filled settings.time_to_live nanos)
 put_in settings (TimeToIdle nanos) = option_map (λ place. record settings { time_to_idle = place }) (filled settings.time_to_idle nanos)
 put_in settings (Weigh weigher) = option_map (λ place. record settings { weigher = place }) (filled settings.weigher weigher)
 put_in settings Listener = if settings.listener then None else Some (record settings { listener = true })

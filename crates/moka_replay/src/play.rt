@@ -104,7 +104,7 @@ fn new_cache(
         settings.weigher,
         settings.policy.unwrap_or(EvictionPolicy::tiny_lfu()),
         listener,
-        expirations_of(settings.time_to_idle),
+        expirations_of(settings.time_to_live, settings.time_to_idle),
         config_of(settings.keeper),
         false,
         Instant(settings.start.unwrap_or(0)),
@@ -131,10 +131,16 @@ fn config_of(keeper: Option<KeeperTerms>) -> HousekeeperConfig
 }
 
 /// When the entries of a script's cache expire.
-fn expirations_of(time_to_idle: Option<u64>) -> ExpirationPolicy<NoExpiry>
-    ensures { result ≡ expirations_of time_to_idle }
+fn expirations_of(
+    time_to_live: Option<u64>,
+    time_to_idle: Option<u64>,
+) -> ExpirationPolicy<NoExpiry>
+    ensures { result ≡ expirations_of time_to_live time_to_idle }
 {
     let mut expirations = ExpirationPolicy::default();
+    if let Some(nanos) = time_to_live {
+        expirations.set_time_to_live(Duration::from_nanos(nanos));
+    }
     if let Some(nanos) = time_to_idle {
         expirations.set_time_to_idle(Duration::from_nanos(nanos));
     }

@@ -49,6 +49,7 @@ impl<
     where
         K: Clone + Drop,
         V: Clone + Drop,
+        P: Drop,
         requires keys { ClonesAreEqual K.is_clone }
         requires values { ClonesAreEqual V.is_clone }
         requires askable { CanAskIfGiven I.can_ask (test_given ignore_if) }
@@ -77,6 +78,7 @@ impl<
     where
         K: Clone + Drop,
         V: Clone + Drop,
+        P: Drop,
         requires keys { ClonesAreEqual K.is_clone }
         requires values { ClonesAreEqual V.is_clone }
         requires askable { (v : V) → I.can_ask test.old v }

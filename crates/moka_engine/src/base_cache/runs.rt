@@ -42,15 +42,15 @@ impl<
     /// - `limit`: after this time no further pass is made, and more is left.
     /// - `repeats`: how often a run may go back to its queues. With one owner nothing is queued meanwhile, so it has no
     ///   effect.
-    /// - `batch`: how many records a step of a pass looks at. With 0 nothing is removed, and more is left where there is
-    ///   anything to test records by.
+    /// - `batch`: how many records a sweep of a pass looks at. With 0 only what has expired by itself is removed, and more is
+    ///   left where there is anything to test records by.
     ///
     /// Once every operation was sent, a run leaves count and weight exactly the records', and one that was not cut short,
     /// with a `batch` of at least 1, also the weight within the capacity.
     ///
     /// If the cache was empty at first, and all calls since were made in the order of time, such a run also leaves no
     /// record past its time to live, and none written before the last invalidation of all. This applies to caches with
-    /// a time to live or with predicates; so far there are none.
+    /// a time to live or with predicates.
     pub fn run_pending_tasks<C: Clock>(
         &mut self,
         now: Instant,
@@ -62,6 +62,7 @@ impl<
     where
         K: Drop,
         V: Drop,
+        P: Drop,
         ensures step { (e : Events K V)
             × RunStep (ListedRun P.says X.read self.old.write_list self.new.write_list) self.old.state (record { now = now.0; limit = option_map as_nanos limit; batch = batch }) result e self.new.state
             × Befalls L.tells e self.old self.new
@@ -81,12 +82,14 @@ impl<
             valid_after: self.valid_after,
             capacity: self.max_capacity,
         };
-        let notifier = &mut self.notifier;
+        let (notifier, invalidator) = (&mut self.notifier, &mut self.invalidator);
         let (capacity, policy) = (self.max_capacity, self.eviction_policy);
         let has_weigher = self.weigher.is_some();
         self.inner
             .apply_queues(notifier, capacity, policy, has_weigher);
-        let ran = self.inner.make_passes(notifier, clock, tests, limit, batch);
+        let ran = self
+            .inner
+            .make_passes(notifier, invalidator, clock, tests, limit, batch);
         self.entry_count = self.inner.member_count() as u64;
         self.weighted_size = saturated(self.inner.total_weight());
         self.passes = ran.passes;
@@ -101,6 +104,7 @@ impl<
     where
         K: Drop,
         V: Drop,
+        P: Drop,
         ensures { (e : Events K V)
             × RunsIfDue (ListedRun P.says X.read self.old.write_list self.new.write_list) self.old.state (length self.old.state.writes) now.0 e self.new.state
             × Befalls L.tells e self.old self.new
@@ -117,6 +121,7 @@ impl<
     where
         K: Drop,
         V: Drop,
+        P: Drop,
         ensures { (e : Events K V)
             × RunsIfDue (ListedRun P.says X.read self.old.write_list self.new.write_list) self.old.state (length self.old.state.reads) now.0 e self.new.state
             × Befalls L.tells e self.old self.new
@@ -134,6 +139,7 @@ impl<
     where
         K: Drop,
         V: Drop,
+        P: Drop,
         ensures { (e : Events K V)
             × RecordsRead (ListedRun P.says X.read self.old.write_list self.new.write_list) self.old.state now.0 (Miss hash) e self.new.state
             × Befalls L.tells e self.old self.new
@@ -157,6 +163,7 @@ impl<
     where
         K: Drop,
         V: Drop,
+        P: Drop,
         requires due { is_due self.old.state.housekeeping (length self.old.state.reads) now.0 ≡ true }
         requires found { option_map (λ r. r.number) (record_of_key K.eq self.old.state.records key.now) ≡ Some number }
         ensures { (e : Events K V)
@@ -173,6 +180,7 @@ impl<
     where
         K: Drop,
         V: Drop,
+        P: Drop,
         ensures step { (e : Events K V)
             × KeeperRun (ListedRun P.says X.read self.old.write_list self.new.write_list) self.old.state now.0 e self.new.state
             × Befalls L.tells e self.old self.new
@@ -200,7 +208,7 @@ impl<
     S: BuildHasher,
     X: Expiry<K, V>,
     L: Listener<K, V>,
-    P: PredicateFn<K, V>,
+    P: PredicateFn<K, V> + Drop,
     W: Weigher<K, V>,
 > InnerSync for BaseCache<K, V, S, X, L, P, W> {
     ghost use Rattle.moka_engine.specs.CacheRuns.{CacheRuns};

@@ -230,6 +230,38 @@ fn replays_scripts(rt: HostRuntime) -> Result<(), Fail> {
             "ticket 1\nvalue a\nno\ncount 0 weight 0\n",
         ),
         (
+            "ttl 10000000\ninsert 1 a 0\ncontains 1 9999999\ncontains 1 10000000\n",
+            "ticket 1\nyes\nno\ncount 0 weight 0\n",
+        ),
+        (
+            "ttl 1\ninsert 1 a 18446744073709551614\ncontains 1 18446744073709551614\n\
+            contains 1 18446744073709551615\n",
+            "ticket 1\nyes\nno\ncount 0 weight 0\n",
+        ),
+        (
+            "ttl 10\ninsert 1 a 0\ninsert 2 b 1\ninsert 3 c 2\nsend 1\nsend 2\nsend 3\nrun 12 1\nreport\n",
+            "ticket 1\nticket 2\nticket 3\nsent\nsent\nsent\ndone\ncount 0 weight 0 predicates 0\n\
+            count 0 weight 0\n",
+        ),
+        (
+            "ttl 10\ninsert 1 a 0\ninsert 2 b 1\ninsert 3 c 2\nsend 1\nsend 2\nsend 3\nrun 11 1\nreport\n\
+            keys\n",
+            "ticket 1\nticket 2\nticket 3\nsent\nsent\nsent\ndone\ncount 1 weight 1 predicates 0\nkeys 3\n\
+            count 1 weight 1\n",
+        ),
+        // The member of a write that waits goes to the back of both orders, however large the batch is.
+        (
+            "ttl 10\nlistener\ninsert 1 a 0\ninsert 2 b 0\nsend 1\nsend 2\nrun 0 10\ninsert 1 c 1\n\
+            run 10 4294967295\nreport\nkeys\nsend 3\nrun 11 4294967295\nreport\n",
+            "ticket 1\nticket 2\nsent\nsent\ndone\nticket 3\ndone\ncount 1 weight 1 predicates 0\nkeys 1\n\
+            sent\ndone\ncount 0 weight 0 predicates 0\nnotice 1 a Replaced\nnotice 2 b Expired\n\
+            notice 1 c Expired\ncount 0 weight 0\n",
+        ),
+        (
+            "ttl 9\ntti 5\nlistener\ninsert 1 a 0\ninvall 8\ninsert 1 b 9\n",
+            "ticket 1\nok\nticket 2\nnotice 1 a Expired\ncount 0 weight 0\n",
+        ),
+        (
             "tti 5\nlistener\ninsert 1 a 0\ninvall 8\ninsert 1 b 9\n",
             "ticket 1\nok\nticket 2\nnotice 1 a Explicit\ncount 0 weight 0\n",
         ),
@@ -427,6 +459,8 @@ fn names_the_first_faulty_line(rt: HostRuntime) -> Result<(), Fail> {
         ("capacity 4\nfirst 0\npolicy lru\n", 2),
         ("capacity 4\nreport\npolicy lru\n", 3),
         ("remove 1 4\nremove 1 4 5\n", 2),
+        ("ttl 1\nttl 2\n", 2),
+        ("report\nttl 1\n", 2),
         ("tti 1\ntti 2\n", 2),
         ("start 1\nstart 1\n", 2),
         ("keeper 1 2 3\n\nkeeper 1 2 3\n", 3),
@@ -471,6 +505,9 @@ fn finds_each_fault(rt: HostRuntime) -> Result<(), Fail> {
         "capacity x",
         "capacity 1 1",
         "policy x",
+        "ttl",
+        "ttl x",
+        "ttl 1 1",
         "tti",
         "tti x",
         "tti 1 1",

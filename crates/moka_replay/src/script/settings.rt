@@ -17,6 +17,8 @@ pub struct Settings {
     pub capacity: Option<u64>,
     /// How the cache chooses what stays.
     pub policy: Option<EvictionPolicy>,
+    /// How long an entry lasts after it was last inserted, in nanoseconds.
+    pub time_to_live: Option<u64>,
     /// How long an entry lasts after it was last inserted or read, in nanoseconds.
     pub time_to_idle: Option<u64>,
     /// What weighs the values.
@@ -49,6 +51,7 @@ impl Settings {
             first: None,
             capacity: None,
             policy: None,
+            time_to_live: None,
             time_to_idle: None,
             weigher: None,
             listener: false,
@@ -72,6 +75,10 @@ impl Settings {
             }),
             Setting::Policy(policy) if self.policy.is_none() => Some(Settings {
                 policy: Some(policy),
+                ..self
+            }),
+            Setting::TimeToLive(nanos) if self.time_to_live.is_none() => Some(Settings {
+                time_to_live: Some(nanos),
                 ..self
             }),
             Setting::TimeToIdle(nanos) if self.time_to_idle.is_none() => Some(Settings {
@@ -105,6 +112,7 @@ pub enum Setting {
     First(FirstTicket),
     Capacity(u64),
     Policy(EvictionPolicy),
+    TimeToLive(u64),
     TimeToIdle(u64),
     Weigh(NumberWeigher),
     Listener,
@@ -160,6 +168,7 @@ pub fn parse_setting(name: &str, arguments: &[&str]) -> Option<Setting>
             .map(Setting::First),
         "capacity" => lone_number(arguments).map(Setting::Capacity),
         "policy" => policy(arguments),
+        "ttl" => lone_number(arguments).map(Setting::TimeToLive),
         "tti" => lone_number(arguments).map(Setting::TimeToIdle),
         "weigh" => alone(Setting::Weigh(NumberWeigher), arguments),
         "listener" => alone(Setting::Listener, arguments),

@@ -1,10 +1,10 @@
-use Rattle.std.proofs.Common.{refl, ℕ, false, List, [], ap, sym, ◌∙◌}
+use Rattle.std.proofs.Common.{refl, ℕ, false, List, ap, sym, ◌∙◌}
 use Rattle.moka_parts.specs.declared.records.ReadOperation.TheVariants.{Hit}
 use Rattle.moka_parts.specs.Housekeeping.{is_due}
 use Rattle.moka_parts.specs.Listed.{ListedRun}
 use Rattle.moka_parts.specs.Runs.{Cache}
 use Rattle.moka_parts.specs.State.{is_disabled}
-use Rattle.moka_engine.proofs.GetSteps.{cache-queued, cache-touched, number-read, get_finds_nothing, get_misses, get_hits, queues_read, get_refused, located-read, nothing_asked, asked_of_cache}
+use Rattle.moka_engine.proofs.GetSteps.{cache-queued, cache-touched, stocked-read, number-read, get_finds_nothing, get_misses, get_hits, queues_read, get_refused, located-read, nothing_asked, asked_of_cache}
 use Rattle.moka_engine.proofs.base_cache.BaseCache.do_get_with_hash.Goals as goal
 
 pub record_hit_when_due-requires-clause-due : goal.record_hit_when_due-requires-clause-due
@@ -13,17 +13,17 @@ record_hit_when_due-requires-clause-due g c = ap (λ n. is_due c.self.inside.hou
 pub record_hit_when_due-requires-clause-found : goal.record_hit_when_due-requires-clause-found
 record_hit_when_due-requires-clause-found g c =
     let at = c.in-Some.ensures in
-    number-read c.self.invariant c.self.inside.inner refl g.P.PredicateFn.says g.X.Expiry.read c.args.key.now c.in-Some.handle.number c.in-Some.found.now at.2.numbered at.2.found c.args.now.0 c.hit_of-hit.result.read c.hit_of-hit.result.expires c.hit_of-hit.result.is_renewed c.hit_of-hit.ensures c.touch.new.self c.touch.ensures.rest (c.touch.ensures.step c.in-Some.found.now at.2.numbered) g.met.K.Eq.laws
+    number-read c.self.invariant.cache c.self.inside.inner refl g.P.PredicateFn.says g.X.Expiry.read c.args.key.now c.in-Some.handle.number c.in-Some.found.now at.2.numbered at.2.found c.args.now.0 c.hit_of-hit.result.read c.hit_of-hit.result.expires c.hit_of-hit.result.is_renewed c.hit_of-hit.ensures c.touch.new.self c.touch.ensures.rest (c.touch.ensures.step c.in-Some.found.now at.2.numbered) g.met.K.Eq.laws
 
 pub queue_read-requires : goal.queue_read-requires
 queue_read-requires g c =
     let at = c.in-Some.ensures in
-    located-read c.self.invariant c.self.inside.inner refl c.in-Some.handle.number c.in-Some.handle.place c.in-Some.found.now at.2.numbered at.2.placed.placed _ c.touch.new.self c.touch.ensures.rest (c.touch.ensures.step c.in-Some.found.now at.2.numbered)
+    located-read c.self.invariant.cache c.self.inside.inner refl c.in-Some.handle.number c.in-Some.handle.place c.in-Some.found.now at.2.numbered at.2.placed.placed _ c.touch.new.self c.touch.ensures.rest (c.touch.ensures.step c.in-Some.found.now at.2.numbered)
 
 pub returns-then-is_map_disabled : goal.returns-then-is_map_disabled
 returns-then-is_map_disabled g c =
     let disabled = ap (λ (x : Cache g.row.K.Denot g.row.V.Denot g.row.S.Denot g.row.X.Denot g.row.L.Denot g.row.P.Denot g.row.W.Denot). is_disabled x.state.capacity) c.self.view_is ∙ (sym c.is_map_disabled.ensures ∙ c.if-is_map_disabled.true) in
-    let asked = asked_of_cache c.self.view_is g.K.PartialEq.eq c.args.key.now g.I.ValueTest.asks c.args.test.now c.args.test.now false (nothing_asked c.self.invariant disabled c.args.key.now g.I.ValueTest.asks c.args.test.now) in
+    let asked = asked_of_cache c.self.view_is g.K.PartialEq.eq c.args.key.now g.I.ValueTest.asks c.args.test.now c.args.test.now false (nothing_asked c.self.invariant.cache disabled c.args.key.now g.I.ValueTest.asks c.args.test.now) in
     let found = get_finds_nothing g.P.PredicateFn.says g.X.Expiry.read (λ (before : List ℕ). ListedRun g.P.PredicateFn.says g.X.Expiry.read before c.args.self.now.write_list) g.L.Listener.tells g.C.Clock.reads g.K.PartialEq.eq refl c.args.key.now c.args.hash c.args.need_key false c.args.now c.args.clock.now (sym c.is_map_disabled.ensures ∙ c.if-is_map_disabled.true) in
     (false, found.0, asked, found.1, found.2, found.3)
 
@@ -32,7 +32,7 @@ returns-in_default g c =
     let enabled = ap (λ (x : Cache g.row.K.Denot g.row.V.Denot g.row.S.Denot g.row.X.Denot g.row.L.Denot g.row.P.Denot g.row.W.Denot). is_disabled x.state.capacity) c.self.view_is ∙ (sym c.is_map_disabled.ensures ∙ c.if-is_map_disabled.false) in
     let at = c.in_default.ensures in
     let found = get_misses g.P.PredicateFn.says g.X.Expiry.read (λ (before : List ℕ). ListedRun g.P.PredicateFn.says g.X.Expiry.read before c.record_miss.new.self.write_list) g.L.Listener.tells g.C.Clock.reads g.K.PartialEq.eq c.self.view_is c.args.key.now c.args.hash c.args.need_key at.0 c.args.now c.args.clock.now
-    c.self.invariant enabled c.self.inside.inner refl at.2 c.record_miss.ensures in
+    c.self.invariant.cache enabled c.self.inside.inner refl at.2 c.record_miss.ensures in
     (at.0, found.0, asked_of_cache c.self.view_is g.K.PartialEq.eq c.args.key.now g.I.ValueTest.asks c.args.test.now c.find_unless-shown.new.test at.0 at.1, found.1, found.2, found.3)
 
 pub returns-in_default-entry_of : goal.returns-in_default-entry_of
@@ -40,38 +40,38 @@ returns-in_default-entry_of g c =
     let enabled = ap (λ (x : Cache g.row.K.Denot g.row.V.Denot g.row.S.Denot g.row.X.Denot g.row.L.Denot g.row.P.Denot g.row.W.Denot). is_disabled x.state.capacity) c.self.view_is ∙ (sym c.is_map_disabled.ensures ∙ c.if-is_map_disabled.false) in
     let at = c.in-Some.ensures in
     let found = get_refused g.P.PredicateFn.says g.X.Expiry.read (λ (before : List ℕ). ListedRun g.P.PredicateFn.says g.X.Expiry.read before c.args.self.now.write_list) g.L.Listener.tells g.C.Clock.reads g.K.PartialEq.eq c.self.view_is c.args.key.now c.args.hash c.args.need_key at.0 c.args.now c.args.clock.now
-    c.self.invariant enabled c.self.inside.inner refl c.in-Some.handle.number c.in-Some.found.now at.2.numbered at.2.found at.2.accepted at.2.shown at.2.uncovered (record {}) in
+    c.self.invariant.cache enabled c.self.inside.inner refl c.in-Some.handle.number c.in-Some.found.now at.2.numbered at.2.found at.2.accepted at.2.shown at.2.uncovered (record {}) in
     (at.0, found.0, asked_of_cache c.self.view_is g.K.PartialEq.eq c.args.key.now g.I.ValueTest.asks c.args.test.now c.find_unless-shown.new.test at.0 at.1, found.1, found.2, found.3)
 
 pub invariant_of-self : goal.invariant_of-self
 invariant_of-self g c =
     let at = c.in-Some.ensures in
-    cache-touched c.self.invariant c.self.inside.inner refl g.P.PredicateFn.says g.X.Expiry.read c.args.key.now c.in-Some.handle.number c.in-Some.found.now at.2.numbered at.2.found c.args.now.0 c.hit_of-hit.result.read c.hit_of-hit.result.expires c.hit_of-hit.result.is_renewed c.hit_of-hit.ensures c.touch.new.self c.touch.ensures.rest (c.touch.ensures.step c.in-Some.found.now at.2.numbered)
+    record { cache = cache-touched c.self.invariant.cache c.self.inside.inner refl g.P.PredicateFn.says g.X.Expiry.read c.args.key.now c.in-Some.handle.number c.in-Some.found.now at.2.numbered at.2.found c.args.now.0 c.hit_of-hit.result.read c.hit_of-hit.result.expires c.hit_of-hit.result.is_renewed c.hit_of-hit.ensures c.touch.new.self c.touch.ensures.rest (c.touch.ensures.step c.in-Some.found.now at.2.numbered); store = stocked-read c.self.invariant.cache c.self.inside.inner refl g.P.PredicateFn.says g.X.Expiry.read c.args.key.now c.in-Some.handle.number c.in-Some.found.now at.2.numbered at.2.found c.args.now.0 c.hit_of-hit.result.read c.hit_of-hit.result.expires c.hit_of-hit.result.is_renewed c.hit_of-hit.ensures c.touch.new.self c.touch.ensures.rest (c.touch.ensures.step c.in-Some.found.now at.2.numbered) c.self.invariant.store }
 
 pub returns-then-should_apply_reads : goal.returns-then-should_apply_reads
 returns-then-should_apply_reads g c =
     let enabled = ap (λ (x : Cache g.row.K.Denot g.row.V.Denot g.row.S.Denot g.row.X.Denot g.row.L.Denot g.row.P.Denot g.row.W.Denot). is_disabled x.state.capacity) c.self.view_is ∙ (sym c.is_map_disabled.ensures ∙ c.if-is_map_disabled.false) in
     let at = c.in-Some.ensures in
     let found = get_hits g.P.PredicateFn.says g.X.Expiry.read (λ (before : List ℕ). ListedRun g.P.PredicateFn.says g.X.Expiry.read before c.record_hit_when_due.new.self.write_list) g.L.Listener.tells g.C.Clock.reads g.K.PartialEq.eq c.self.view_is c.args.key.now c.args.hash c.args.need_key at.0 c.args.now c.args.clock.now
-    c.self.invariant enabled c.self.inside.inner refl c.in-Some.handle.number c.in-Some.found.now at.2.numbered at.2.found at.2.accepted at.2.shown at.2.uncovered c.hit_of-hit.result.read c.hit_of-hit.result.expires c.hit_of-hit.result.is_renewed c.hit_of-hit.ensures
-    c.touch.new.self c.touch.ensures.rest (c.touch.ensures.step c.in-Some.found.now at.2.numbered) c.in-Ok.entry c.in-Ok.ensures.value c.in-Ok.ensures.key c.record_hit_when_due.ensures in
+    c.self.invariant.cache enabled c.self.inside.inner refl c.in-Some.handle.number c.in-Some.found.now at.2.numbered at.2.found at.2.accepted at.2.shown at.2.uncovered c.hit_of-hit.result.read c.hit_of-hit.result.expires c.hit_of-hit.result.is_renewed c.hit_of-hit.ensures
+    c.touch.new.self c.touch.ensures.rest (c.touch.ensures.step c.in-Some.found.now at.2.numbered) refl c.in-Ok.entry c.in-Ok.ensures.value c.in-Ok.ensures.key c.record_hit_when_due.ensures in
     (at.0, found.0, asked_of_cache c.self.view_is g.K.PartialEq.eq c.args.key.now g.I.ValueTest.asks c.args.test.now c.find_unless-shown.new.test at.0 at.1, found.1, found.2, found.3)
 
 pub invariant_of-self-2 : goal.invariant_of-self-2
 invariant_of-self-2 g c =
     let at = c.in-Some.ensures in
-    let touched = cache-touched c.self.invariant c.self.inside.inner refl g.P.PredicateFn.says g.X.Expiry.read c.args.key.now c.in-Some.handle.number c.in-Some.found.now at.2.numbered at.2.found c.args.now.0 c.hit_of-hit.result.read c.hit_of-hit.result.expires c.hit_of-hit.result.is_renewed c.hit_of-hit.ensures c.touch.new.self c.touch.ensures.rest (c.touch.ensures.step c.in-Some.found.now at.2.numbered) in
-    cache-queued touched c.touch.new.self refl (Hit c.in-Some.handle.number c.in-Some.found.now.hash c.hit_of-hit.result.is_renewed) c.queue_read.new.self c.queue_read.ensures
+    let touched = cache-touched c.self.invariant.cache c.self.inside.inner refl g.P.PredicateFn.says g.X.Expiry.read c.args.key.now c.in-Some.handle.number c.in-Some.found.now at.2.numbered at.2.found c.args.now.0 c.hit_of-hit.result.read c.hit_of-hit.result.expires c.hit_of-hit.result.is_renewed c.hit_of-hit.ensures c.touch.new.self c.touch.ensures.rest (c.touch.ensures.step c.in-Some.found.now at.2.numbered) in
+    record { cache = cache-queued touched c.touch.new.self refl (Hit c.in-Some.handle.number c.in-Some.found.now.hash c.hit_of-hit.result.is_renewed) c.queue_read.new.self c.queue_read.ensures; store = rw c.queue_read.ensures (stocked-read c.self.invariant.cache c.self.inside.inner refl g.P.PredicateFn.says g.X.Expiry.read c.args.key.now c.in-Some.handle.number c.in-Some.found.now at.2.numbered at.2.found c.args.now.0 c.hit_of-hit.result.read c.hit_of-hit.result.expires c.hit_of-hit.result.is_renewed c.hit_of-hit.ensures c.touch.new.self c.touch.ensures.rest (c.touch.ensures.step c.in-Some.found.now at.2.numbered) c.self.invariant.store) }
 
 pub returns : goal.returns
 returns g c =
     let enabled = ap (λ (x : Cache g.row.K.Denot g.row.V.Denot g.row.S.Denot g.row.X.Denot g.row.L.Denot g.row.P.Denot g.row.W.Denot). is_disabled x.state.capacity) c.self.view_is ∙ (sym c.is_map_disabled.ensures ∙ c.if-is_map_disabled.false) in
     let at = c.in-Some.ensures in
     let due = ap (λ n. is_due c.self.inside.housekeeper.housekeeping n c.hit_of-hit.result.read.0) (sym c.read_count-queued.ensures) ∙ sym c.should_apply_reads.ensures ∙ c.if-should_apply_reads.false in
-    let queued = queues_read g.P.PredicateFn.says g.X.Expiry.read (λ (before : List ℕ). ListedRun g.P.PredicateFn.says g.X.Expiry.read before []) g.L.Listener.tells g.C.Clock.reads g.K.PartialEq.eq c.self.view_is c.args.key.now c.args.hash c.args.need_key at.0 c.args.now c.args.clock.now
-    c.self.invariant enabled c.self.inside.inner refl c.in-Some.handle.number c.in-Some.found.now at.2.numbered at.2.found at.2.accepted at.2.shown at.2.uncovered c.hit_of-hit.result.read c.hit_of-hit.result.expires c.hit_of-hit.result.is_renewed c.hit_of-hit.ensures
+    let queued = queues_read g.P.PredicateFn.says g.X.Expiry.read (λ (before : List ℕ). ListedRun g.P.PredicateFn.says g.X.Expiry.read before c.queue_read.new.self.kept.written) g.L.Listener.tells g.C.Clock.reads g.K.PartialEq.eq c.self.view_is c.args.key.now c.args.hash c.args.need_key at.0 c.args.now c.args.clock.now
+    c.self.invariant.cache enabled c.self.inside.inner refl c.in-Some.handle.number c.in-Some.found.now at.2.numbered at.2.found at.2.accepted at.2.shown at.2.uncovered c.hit_of-hit.result.read c.hit_of-hit.result.expires c.hit_of-hit.result.is_renewed c.hit_of-hit.ensures
     c.touch.new.self c.touch.ensures.rest (c.touch.ensures.step c.in-Some.found.now at.2.numbered) due c.queue_read.new.self (Hit c.in-Some.handle.number c.in-Some.found.now.hash c.hit_of-hit.result.is_renewed) c.queue_read.ensures in
-    let found = get_hits g.P.PredicateFn.says g.X.Expiry.read (λ (before : List ℕ). ListedRun g.P.PredicateFn.says g.X.Expiry.read before []) g.L.Listener.tells g.C.Clock.reads g.K.PartialEq.eq c.self.view_is c.args.key.now c.args.hash c.args.need_key at.0 c.args.now c.args.clock.now
-    c.self.invariant enabled c.self.inside.inner refl c.in-Some.handle.number c.in-Some.found.now at.2.numbered at.2.found at.2.accepted at.2.shown at.2.uncovered c.hit_of-hit.result.read c.hit_of-hit.result.expires c.hit_of-hit.result.is_renewed c.hit_of-hit.ensures
-    c.touch.new.self c.touch.ensures.rest (c.touch.ensures.step c.in-Some.found.now at.2.numbered) c.in-Ok.entry c.in-Ok.ensures.value c.in-Ok.ensures.key queued in
+    let found = get_hits g.P.PredicateFn.says g.X.Expiry.read (λ (before : List ℕ). ListedRun g.P.PredicateFn.says g.X.Expiry.read before c.queue_read.new.self.kept.written) g.L.Listener.tells g.C.Clock.reads g.K.PartialEq.eq c.self.view_is c.args.key.now c.args.hash c.args.need_key at.0 c.args.now c.args.clock.now
+    c.self.invariant.cache enabled c.self.inside.inner refl c.in-Some.handle.number c.in-Some.found.now at.2.numbered at.2.found at.2.accepted at.2.shown at.2.uncovered c.hit_of-hit.result.read c.hit_of-hit.result.expires c.hit_of-hit.result.is_renewed c.hit_of-hit.ensures
+    c.touch.new.self c.touch.ensures.rest (c.touch.ensures.step c.in-Some.found.now at.2.numbered) refl c.in-Ok.entry c.in-Ok.ensures.value c.in-Ok.ensures.key queued in
     (at.0, found.0, asked_of_cache c.self.view_is g.K.PartialEq.eq c.args.key.now g.I.ValueTest.asks c.args.test.now c.find_unless-shown.new.test at.0 at.1, found.1, found.2, found.3)

@@ -4,6 +4,8 @@ use Rattle.moka_parts.specs.Reads.{after_reads}
 use Rattle.moka_maintenance.specs.Queued.{writes_of}
 use Rattle.moka_maintenance.specs.Queues.{AreApplied, ArePrepared}
 use Rattle.moka_maintenance.specs.Steps.{contents_with}
+use Rattle.moka_maintenance.specs.Timers.{KeepsTimers}
+use Rattle.moka_maintenance.proofs.Timing.{keeps-on}
 use Rattle.moka_maintenance.proofs.AllApplied.{prepared}
 use Rattle.moka_engine.specs.Interior.{Interior}
 use Rattle.moka_engine.proofs.InnerLemmas.{read_at}
@@ -23,7 +25,16 @@ invariant_of-self g c =
 
 pub returns-clause-prepared : goal.returns-clause-prepared
 returns-clause-prepared g c =
-    let applied = subst (λ b. AreApplied g.L.Listener.tells c.args.capacity c.args.policy b (contents_with c.apply_reads.new.sketch c.apply_writes.new.store) (writes_of c.self.inside.writes.items) c.args.notifier.now c.apply_writes.new.notifier) c.apply_reads.ensures.applied c.apply_writes.ensures.applied in
+    let rest = c.apply_reads.ensures.rest in
+    let ordered = ap (λ (k : Kept g.row.K.Denot g.row.V.Denot). k.ordered) rest in
+    let listed = ap (λ (k : Kept g.row.K.Denot g.row.V.Denot). k.written) rest in
+    let applied = subst (λ b. AreApplied g.L.Listener.tells c.args.capacity c.args.policy c.self.inside.store.ordered b (contents_with c.apply_reads.new.sketch c.apply_writes.new.store) c.self.inside.store.written c.apply_writes.new.store.written (writes_of c.self.inside.writes.items) c.args.notifier.now c.apply_writes.new.notifier) c.apply_reads.ensures.applied
+    (subst (λ ns. AreApplied g.L.Listener.tells c.args.capacity c.args.policy c.self.inside.store.ordered (contents_with c.apply_reads.new.sketch c.apply_reads.new.store) (contents_with c.apply_reads.new.sketch c.apply_writes.new.store) ns c.apply_writes.new.store.written (writes_of c.self.inside.writes.items) c.args.notifier.now c.apply_writes.new.notifier) listed
+    (subst (λ b. AreApplied g.L.Listener.tells c.args.capacity c.args.policy b (contents_with c.apply_reads.new.sketch c.apply_reads.new.store) (contents_with c.apply_reads.new.sketch c.apply_writes.new.store) c.apply_reads.new.store.written c.apply_writes.new.store.written (writes_of c.self.inside.writes.items) c.args.notifier.now c.apply_writes.new.notifier) ordered c.apply_writes.ensures.applied)) in
     let on = c.enable_frequency_sketch.ensures in
-    subst (λ (i : Interior g.row.K.Denot g.row.V.Denot). ArePrepared g.L.Listener.tells c.args.capacity c.args.policy c.args.has_weigher (after_reads (contents_with i.sketch i.kept) i.reads) (contents_with c.enable_frequency_sketch.new.sketch c.apply_writes.new.store) i.writes c.args.notifier.now c.apply_writes.new.notifier) c.self.view_is
-    (prepared g.L.Listener.tells c.args.capacity c.args.policy c.args.has_weigher on.0 _ (contents_with c.apply_reads.new.sketch c.apply_writes.new.store) (contents_with c.enable_frequency_sketch.new.sketch c.apply_writes.new.store) (writes_of c.self.inside.writes.items) c.args.notifier.now c.apply_writes.new.notifier applied on.1)
+    subst (λ (i : Interior g.row.K.Denot g.row.V.Denot). ArePrepared g.L.Listener.tells c.args.capacity c.args.policy i.kept.ordered c.args.has_weigher (after_reads (contents_with i.sketch i.kept) i.reads) (contents_with c.enable_frequency_sketch.new.sketch c.apply_writes.new.store) i.kept.written c.apply_writes.new.store.written i.writes c.args.notifier.now c.apply_writes.new.notifier) c.self.view_is
+    (prepared g.L.Listener.tells c.args.capacity c.args.policy c.self.inside.store.ordered c.args.has_weigher on.0 _ (contents_with c.apply_reads.new.sketch c.apply_writes.new.store) (contents_with c.enable_frequency_sketch.new.sketch c.apply_writes.new.store) c.self.inside.store.written c.apply_writes.new.store.written (writes_of c.self.inside.writes.items) c.args.notifier.now c.apply_writes.new.notifier applied on.1)
+
+pub returns-clause-timers : goal.returns-clause-timers
+returns-clause-timers g c =
+    subst (λ (i : Interior g.row.K.Denot g.row.V.Denot). KeepsTimers i.kept c.apply_writes.new.store) c.self.view_is (keeps-on c.self.inside.store c.apply_reads.new.store c.apply_writes.new.store c.apply_reads.ensures.timers c.apply_writes.ensures.timers)

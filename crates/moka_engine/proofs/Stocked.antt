@@ -1,0 +1,102 @@
+-- A store keeps the order of writing and timers as the settings ask, and timers stand at their records' expiries.
+use Rattle.std.proofs.Common.{◌≡◌, refl, ℕ, ◌+◌, ◌≤◌, Bool, true, false, true≢false, ◌==◌, Option, Some, None, is_some, option_map, inl, inr, ap, sym, ◌∙◌, arith}
+use Rattle.std.specs.FinMap.{FinMap, get, insert, remove}
+use Rattle.std.specs.Ordering.{nat_cmp}
+use Rattle.moka_parts.specs.declared.policy.Instant.{Instant}
+use Rattle.moka_parts.specs.declared.records.Record.{Record}
+use Rattle.moka_parts.specs.Expiry.{answer_to_hit, remaining, renewed}
+use Rattle.moka_parts.specs.Records.{counted_of, is_applied}
+use Rattle.moka_parts.specs.Settling.{IsConsistentState, IsTracked, IsWaiting}
+use Rattle.moka_parts.specs.State.{State, Settings, keeps_write_list}
+use Rattle.moka_parts.specs.Time.{is_same_duration, moment_of}
+use Rattle.moka_parts.proofs.Maps.{itself_tested, nothing_at}
+use Rattle.moka_store.specs.Store.{Kept}
+use Rattle.moka_store.specs.Updates.{updated}
+use Rattle.moka_store.specs.declared.store.Update.{Update}
+use Rattle.moka_store.proofs.Gets.{after_insert, after_remove}
+use Rattle.moka_maintenance.specs.Timers.{KeepsTimers}
+use Rattle.moka_maintenance.proofs.Timing.{still-timed}
+use Rattle.moka_engine.specs.BaseCache.{IsStocked, NeverRenews}
+use Rattle.moka_engine.specs.Interior.{Interior, nothing_inside}
+
+module _ {K V X W : Type 0} {read : X → K → V → ℕ → Option ℕ → ℕ → Option ℕ} {settings : Settings X W} {kept : Kept K V} (h : IsStocked read settings kept) where
+  -- where timers are kept up
+  pub stocked-on : (after : Kept K V) → KeepsTimers kept after → IsStocked read settings after
+  stocked-on after keeps = record {
+    ordered = keeps.ordered ∙ h.ordered;
+    timed = keeps.timed ∙ h.timed;
+    timers = λ never timed. (let before = sym keeps.timed ∙ timed in still-timed kept after before keeps (h.timers never before));
+  }
+
+  -- another room
+  pub stocked-roomier : (room : ℕ) → IsStocked read settings (record kept { room = room })
+  stocked-roomier room = record { ordered = h.ordered; timed = h.timed; timers = h.timers }
+
+  -- a record that has not seen its newest operation is put in
+  pub stocked-inserted : (n : ℕ) (q : Record K V) (places : FinMap nat_cmp ℕ) (room : ℕ) → is_applied q ≡ false → IsStocked read settings (record kept { records = insert kept.records n q; places = places; room = room })
+  stocked-inserted n q places room waiting = record {
+    ordered = h.ordered;
+    timed = h.timed;
+    timers = λ never timed k r there is_in applied. elim (after_insert kept.records n q k r there) [
+      | inl new ↦ absurd (true≢false (sym applied ∙ ap is_applied new.1 ∙ waiting))
+      | inr old ↦ h.timers never timed k r old.1 is_in applied
+    ];
+  }
+
+  -- a record is taken out
+  pub stocked-removed : (n : ℕ) (places : FinMap nat_cmp ℕ) (room : ℕ) → IsStocked read settings (record kept { records = remove kept.records n; places = places; room = room })
+  stocked-removed n places room = record {
+    ordered = h.ordered;
+    timed = h.timed;
+    timers = λ never timed k r there is_in applied. h.timers never timed k r (after_remove kept.records n k r there).1 is_in applied;
+  }
+
+  -- a record was read
+  pub stocked-touched : (n : ℕ) (r : Record K V) (at : Instant) (expires : Option Instant) → get kept.records n ≡ Some r → (NeverRenews read settings.expiry → expires ≡ r.expires) → IsStocked read settings (record kept { records = insert kept.records n (record r { read = at; expires = expires }) })
+  stocked-touched n r at expires found same = record {
+    ordered = h.ordered;
+    timed = h.timed;
+    timers = λ never timed k q there is_in applied. elim (after_insert kept.records n (record r { read = at; expires = expires }) k q there) [
+      | inl new ↦
+          (let before = h.timers never timed k r (ap (get kept.records) new.0 ∙ found) is_in (sym (ap is_applied new.1) ∙ applied) in
+          before ∙ sym (ap (λ (x : Record K V). moment_of x.expires) new.1 ∙ ap moment_of (same never)))
+      | inr old ↦ h.timers never timed k q old.1 is_in applied
+    ];
+  }
+
+-- a record with one more generation has not seen its newest operation
+pub update_waits : {K V X P W : Type 0} (s : State K V X P W) → IsConsistentState s → (n : ℕ) (r : Record K V) → get s.records n ≡ Some r → (update : Update V) → is_applied (updated update r) ≡ false
+update_waits s h n r there update =
+    let tracked : IsTracked (IsWaiting s) n r (counted_of n s.access) = rw there at (h.sound n) in
+    let seen = tracked.applied in
+    below r.applied r.generation seen
+  where
+    below : (a b : ℕ) → a ≤ b → (a == b + 1) ≡ false
+    below a b le = grind (arith, le)
+
+-- ---- what a hit makes of an expiry that no hit renews
+
+same_time : (d : Option ℕ) → is_same_duration d d ≡ true
+same_time None = refl
+same_time (Some d) = itself_tested d
+
+module _ {K V X W : Type 0} (read : X → K → V → ℕ → Option ℕ → ℕ → Option ℕ) (settings : Settings X W) (r : Record K V) where
+  told_again : (o : Option X) → NeverRenews read o → (at : ℕ) → answer_to_hit read settings o r at ≡ remaining settings r at
+  told_again None never at = refl
+  told_again (Some x) never at = never x r.key r.value at (remaining settings r at) r.written.0 refl
+
+  pub stays-unrenewed : NeverRenews read settings.expiry → (at : ℕ) → renewed settings r at (answer_to_hit read settings settings.expiry r at) ≡ r.expires
+  stays-unrenewed never at = rw (told_again settings.expiry never at, same_time) refl
+
+-- ---- a new store
+
+pub stocked-new : {K V X W : Type 0} (read : X → K → V → ℕ → Option ℕ → ℕ → Option ℕ) (settings : Settings X W) (i : Interior K V) (ordered timed : Bool) (first_ticket : ℕ) → i ≡ nothing_inside ordered timed first_ticket i → ordered ≡ keeps_write_list settings → timed ≡ is_some settings.expiry → IsStocked read settings i.kept
+stocked-new read settings i ordered timed first_ticket empty kept wheel = record {
+  ordered = ap (λ (x : Interior _ _). x.kept.ordered) empty ∙ kept;
+  timed = ap (λ (x : Interior _ _). x.kept.timed) empty ∙ wheel;
+  timers = λ never on n r there is_in applied. absurd (nothing_at n r (sym (ap (λ (x : Interior _ _). get x.kept.records n) empty) ∙ there));
+}
+
+pub is_some_mapped : {A B : Type 0} (f : A → B) (o : Option A) → is_some (option_map f o) ≡ is_some o
+is_some_mapped f None = refl
+is_some_mapped f (Some x) = refl
