@@ -81,8 +81,7 @@ module _ {K V X L P W : Type 0} {eq : K → K → Bool} {l : Option L} {s : Stat
   cache-inner m j same valid none = record {
     valid = valid;
     served = record {
-      no_predicates = h.served.no_predicates;
-      no_invalidator = h.served.no_invalidator;
+      unsupported = h.served.unsupported;
       unexpiring = none;
     };
     listens = h.listens ∙ sym same;

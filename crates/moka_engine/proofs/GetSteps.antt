@@ -1,5 +1,5 @@
 -- Look-ups as steps of the reference cache, and what always holds after them.
-use Rattle.std.proofs.Common.{◌≡◌, refl, ℕ, Bool, true, false, List, [], ◌∷◌, ◌++◌, length, ◌⊎◌, inl, inr, Option, Some, None, option_map, Result, Ok, Err, ap, sym, subst, ◌∙◌, arith, if◌then◌else◌}
+use Rattle.std.proofs.Common.{◌≡◌, refl, ℕ, Bool, true, false, List, [], ◌∷◌, ◌++◌, length, Option, Some, None, option_map, Result, Ok, Err, ap, sym, subst, ◌∙◌, arith, if◌then◌else◌}
 use Rattle.std.specs.Prelude.{nat_lt}
 use Rattle.std.specs.Cmp.{IsEquivalence}
 use Rattle.std.specs.FinMap.{get, insert}
@@ -77,20 +77,15 @@ module _ {K V X P W : Type 0} (read : X → K → V → ℕ → Option ℕ → �
 
 -- ---- steps of the state
 
--- what was ignored or is hidden by a moment is missed
-pub is_missed : {K V X P W : Type 0} (says : P → K → V → Bool → Type 0) (s : State K V X P W) (ignored : Bool) (now : ℕ) (r : Record K V) → (ignored ≡ true) ⊎ (has_lapsed s.settings s.invalid_before r now ≡ true) → IsMissed says s ignored r now
-is_missed says s ignored now r (inl i) = inl i
-is_missed says s ignored now r (inr lapsed) = inr (inl lapsed)
-
 module _ {K V X P W : Type 0} (says : P → K → V → Bool → Type 0) (read : X → K → V → ℕ → Option ℕ → ℕ → Option ℕ) (Runs : State K V X P W → Terms → Course → List (Notice K V) → State K V X P W → Type 0)
     (eq : K → K → Bool) (s : State K V X P W) (enabled : is_disabled s.capacity ≡ false) (key : K) (hash : ℕ) (need_key ignored : Bool) (now : ℕ) where
   -- nothing is found that is visible
-  missed : ((r : Record K V) → record_of_key eq s.records key ≡ Some r → (ignored ≡ true) ⊎ (has_lapsed s.settings s.invalid_before r now ≡ true)) → (e : Events K V) (t : State K V X P W) → RecordsRead Runs s now (Miss hash) e t → GetStep says read Runs eq s key hash need_key ignored now (Ok None) e t
+  missed : ((r : Record K V) → record_of_key eq s.records key ≡ Some r → IsMissed says s ignored r now) → (e : Events K V) (t : State K V X P W) → RecordsRead Runs s now (Miss hash) e t → GetStep says read Runs eq s key hash need_key ignored now (Ok None) e t
   missed hidden e t recorded = rw enabled (at (record_of_key eq s.records key) refl)
     where
       at : (o : Option (Record K V)) → record_of_key eq s.records key ≡ o → GetsAt says read Runs s o hash need_key ignored now (Ok None) e t
       at None found = (refl, recorded)
-      at (Some r) found = (is_missed says s ignored now r (hidden r found), recorded)
+      at (Some r) found = (hidden r found, recorded)
 
   module _ (r : Record K V) (found : record_of_key eq s.records key ≡ Some r) (accepted : ignored ≡ false) (shown : has_lapsed s.settings s.invalid_before r now ≡ false) (uncovered : NoneCovers says s.predicates r) where
     -- memory for a clone is refused
@@ -191,20 +186,17 @@ module _ {K V S X L P W C : Type 0} (says : P → K → V → Bool → Type 0) (
 
   module _ {l : Option L} (h : IsCache eq l old.state) (enabled : is_disabled old.state.capacity ≡ false) (i : Interior K V) (inside : with_inner old.state i ≡ old.state) where
     -- of nothing visible, with what recording the read does
-    pub get_misses : ((r : Record K V) → record_of_key eq i.kept.records key ≡ Some r → (ignored ≡ true) ⊎ (has_lapsed old.state.settings old.state.invalid_before r moment.0 ≡ true)) → {new : Cache K V S X L P W} {after : C}
+    pub get_misses : ((r : Record K V) → record_of_key eq i.kept.records key ≡ Some r → IsMissed says old.state ignored r moment.0) → {new : Cache K V S X L P W} {after : C}
         → Records moment (Miss hash) now new after → Gets now (Ok None) new after
     get_misses hidden {new} {after} recorded =
-        let hidden_so : (r : Record K V) → record_of_key eq old.state.records key ≡ Some r → (ignored ≡ true) ⊎ (has_lapsed old.state.settings old.state.invalid_before r moment.0 ≡ true) =
+        let hidden_so : (r : Record K V) → record_of_key eq old.state.records key ≡ Some r → IsMissed says old.state ignored r moment.0 =
         λ r found. hidden r (ap (λ (t : State K V X P W). record_of_key eq t.records key) inside ∙ found) in
         let of_old : Records moment (Miss hash) old new after = subst (λ c. Records moment (Miss hash) c new after) (sym is) recorded in
         subst (λ c. Gets c (Ok None) new after) is (of_old.0, missed says read (Runs old.write_list) eq old.state enabled key hash need_key ignored moment.0 hidden_so of_old.0 new.state of_old.1, of_old.2, of_old.3)
 
-    module _ (n : ℕ) (r : Record K V) (there : get i.kept.records n ≡ Some r) (found : record_of_key eq i.kept.records key ≡ Some r) (accepted : ignored ≡ false) (shown : has_lapsed old.state.settings old.state.invalid_before r moment.0 ≡ false) where
+    module _ (n : ℕ) (r : Record K V) (there : get i.kept.records n ≡ Some r) (found : record_of_key eq i.kept.records key ≡ Some r) (accepted : ignored ≡ false) (shown : has_lapsed old.state.settings old.state.invalid_before r moment.0 ≡ false) (uncovered : NoneCovers says old.state.predicates r) where
       found_in_state : record_of_key eq old.state.records key ≡ Some r
       found_in_state = key-inside h i inside key (Some r) found
-
-      uncovered : NoneCovers says old.state.predicates r
-      uncovered = rw h.served.no_predicates tt
 
       module _ (at : Instant) (expires : Option Instant) (is_renewed : Bool) (t : Touches read (expirations_of old.state.settings) r moment.0 at.0 expires is_renewed)
           (mid : Interior K V) (rest : mid ≡ record i { kept = mid.kept }) (kept : mid.kept ≡ record i.kept { records = insert i.kept.records n (record r { read = at; expires = expires }) }) where

@@ -29,7 +29,7 @@ use Rattle.moka_maintenance.specs.declared.queued.QueuedRead.{QueuedRead}
 use Rattle.moka_maintenance.specs.Queued.{IsReadAt, handed_of, writes_of}
 use Rattle.moka_engine.specs.Inner.{IsInner, AreLocated, HasUse}
 use Rattle.moka_engine.specs.Interior.{IsLocated, IsReadLocated, operations_of}
-use Rattle.moka_engine.proofs.Fewer.{len-fewer}
+use Rattle.moka_maintenance.proofs.Fewer.{len-fewer}
 use Rattle.moka_engine.proofs.ValuesLemmas.{get-map_values, map_values-insert, map_values-remove, map_values-found}
 
 -- ---- where what waits is located

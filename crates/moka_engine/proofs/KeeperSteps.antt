@@ -42,8 +42,7 @@ cache-housekept : {K V X L P W : Type 0} {eq : K → K → Bool} {l : Option L} 
 cache-housekept {eq = eq} s housekeeping h = record {
   valid = valid_with eq s s.reads s.invalid_before s.predicates housekeeping h.valid;
   served = record {
-    no_predicates = h.served.no_predicates;
-    no_invalidator = h.served.no_invalidator;
+    unsupported = h.served.unsupported;
     unexpiring = h.served.unexpiring;
   };
   listens = h.listens;

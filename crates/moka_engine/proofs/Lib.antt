@@ -1,5 +1,4 @@
 pub mod ValuesLemmas
-pub mod Fewer
 pub mod InnerLemmas
 pub mod InnerRuns
 pub mod Stocked
@@ -15,3 +14,4 @@ pub mod RunSteps
 pub mod IdleRuns
 pub mod KeeperSteps
 pub mod HitSteps
+pub mod Registering

@@ -1,5 +1,5 @@
 -- What holds of a new cache.
-use Rattle.std.proofs.Common.{◌≡◌, refl, ℕ, Bool, false, List, [], Option, None, is_some, ap, sym, subst, ◌∙◌}
+use Rattle.std.proofs.Common.{◌≡◌, refl, ℕ, Bool, List, [], Option, None, is_some, ap, sym, subst, ◌∙◌}
 use Rattle.moka_parts.specs.declared.housekeeper.HousekeeperConfig.{HousekeeperConfig}
 use Rattle.moka_parts.specs.declared.policy.EvictionPolicy.{EvictionPolicy}
 use Rattle.moka_parts.specs.declared.records.Registered.{Registered}
@@ -14,14 +14,13 @@ use Rattle.moka_engine.specs.Interior.{Interior, nothing_inside}
 -- it keeps nothing and listens where a listener is set
 pub cache-new : {K V X L P W : Type 0} (eq : K → K → Bool) (listener : Option L) (i : Interior K V) (ordered timed : Bool) (first_ticket : ℕ) → i ≡ nothing_inside ordered timed first_ticket i → (predicates : List (Registered P)) → predicates ≡ []
     → (keeper : Keeper) (listening : Bool) (config : HousekeeperConfig) (now : ℕ) → keeper ≡ new_keeper listening config now → listening ≡ is_some listener
-    → (capacity : Option ℕ) (policy : EvictionPolicy) (expirations : Expirations X) (weigher : Option W) (invalidator : Bool) → invalidator ≡ false
+    → (capacity : Option ℕ) (policy : EvictionPolicy) (expirations : Expirations X) (weigher : Option W) (invalidator : Bool)
     → IsCache eq listener (state_of i None predicates 0 0 keeper capacity (settings_of policy expirations weigher invalidator keeper))
-cache-new {K} {V} {X} {L} {P} {W} eq listener i ordered timed first_ticket empty predicates none keeper listening config now kept heard capacity policy expirations weigher invalidator no_invalidator =
+cache-new {K} {V} {X} {L} {P} {W} eq listener i ordered timed first_ticket empty predicates none keeper listening config now kept heard capacity policy expirations weigher invalidator =
     subst (IsCache eq listener) (sym is) (record {
       valid = new_is_valid K V P settings capacity now first_ticket eq;
       served = record {
-        no_predicates = refl;
-        no_invalidator = no_invalidator;
+        unsupported = λ off. refl;
         unexpiring = λ _ n r there. absurd (nothing_at n r there);
       };
       listens = heard;

@@ -1,11 +1,11 @@
 -- Look-ups that record nothing as steps of the reference cache.
-use Rattle.std.proofs.Common.{◌≡◌, refl, ℕ, Bool, true, false, List, Option, Some, None, Result, Ok, Err, ◌⊎◌, ap, sym, subst, ◌∙◌}
+use Rattle.std.proofs.Common.{◌≡◌, refl, ℕ, Bool, true, false, List, Option, Some, None, Result, Ok, Err, ap, sym, subst, ◌∙◌}
 use Rattle.std.specs.FinMap.{get, insert}
 use Rattle.moka_parts.specs.declared.error.OutOfMemory.{OutOfMemory}
 use Rattle.moka_parts.specs.declared.notification.RemovalCause.{RemovalCause}
 use Rattle.moka_parts.specs.declared.policy.Instant.{Instant}
 use Rattle.moka_parts.specs.declared.records.Record.{Record}
-use Rattle.moka_parts.specs.Calls.{no_events, PeeksAt, PeekStep, after_hit}
+use Rattle.moka_parts.specs.Calls.{no_events, IsMissed, PeeksAt, PeekStep, after_hit}
 use Rattle.moka_parts.specs.Records.{record_of_key}
 use Rattle.moka_parts.specs.Runs.{Cache, Befalls}
 use Rattle.moka_parts.specs.State.{State, is_disabled}
@@ -15,7 +15,7 @@ use Rattle.moka_engine.specs.BaseCache.{IsCache, expirations_of}
 use Rattle.moka_engine.specs.Interior.{Interior}
 use Rattle.moka_engine.specs.Looks.{Touches}
 use Rattle.moka_engine.proofs.CacheSteps.{with_inner, befalls-quietly, befalls-listed, number-inside, key-inside}
-use Rattle.moka_engine.proofs.GetSteps.{is_missed, record_read}
+use Rattle.moka_engine.proofs.GetSteps.{record_read}
 
 module _ {K V S X L P W : Type 0} (says : P → K → V → Bool → Type 0) (read : X → K → V → ℕ → Option ℕ → ℕ → Option ℕ) (tells : L → K → V → RemovalCause → L → Type 0) (eq : K → K → Bool)
     {old now : Cache K V S X L P W} (is : old ≡ now) (key : K) (ignored : Bool) (moment : Instant) where
@@ -29,18 +29,15 @@ module _ {K V S X L P W : Type 0} (says : P → K → V → Bool → Type 0) (re
 
   module _ {l : Option L} (h : IsCache eq l old.state) (enabled : is_disabled old.state.capacity ≡ false) (i : Interior K V) (inside : with_inner old.state i ≡ old.state) where
     -- of nothing visible
-    pub peek_misses : ((r : Record K V) → record_of_key eq i.kept.records key ≡ Some r → (ignored ≡ true) ⊎ (has_lapsed old.state.settings old.state.invalid_before r moment.0 ≡ true))
+    pub peek_misses : ((r : Record K V) → record_of_key eq i.kept.records key ≡ Some r → IsMissed says old.state ignored r moment.0)
         → PeekStep says read eq now.state key ignored moment.0 (Ok None) now.state × Befalls tells no_events now now
     peek_misses hidden = subst (λ c. PeekStep says read eq c.state key ignored moment.0 (Ok None) c.state × Befalls tells no_events c c) is (rw enabled (at (record_of_key eq old.state.records key) refl), befalls-quietly tells old old.state)
       where
         at : (o : Option (Record K V)) → record_of_key eq old.state.records key ≡ o → PeeksAt says read old.state o ignored moment.0 (Ok None) old.state
         at None found = (refl, refl)
-        at (Some r) found = (is_missed says old.state ignored moment.0 r (hidden r (ap (λ (t : State K V X P W). record_of_key eq t.records key) inside ∙ found)), refl)
+        at (Some r) found = (hidden r (ap (λ (t : State K V X P W). record_of_key eq t.records key) inside ∙ found), refl)
 
-    module _ (n : ℕ) (r : Record K V) (there : get i.kept.records n ≡ Some r) (found : record_of_key eq i.kept.records key ≡ Some r) (accepted : ignored ≡ false) (shown : has_lapsed old.state.settings old.state.invalid_before r moment.0 ≡ false) where
-      uncovered : NoneCovers says old.state.predicates r
-      uncovered = rw h.served.no_predicates tt
-
+    module _ (n : ℕ) (r : Record K V) (there : get i.kept.records n ≡ Some r) (found : record_of_key eq i.kept.records key ≡ Some r) (accepted : ignored ≡ false) (shown : has_lapsed old.state.settings old.state.invalid_before r moment.0 ≡ false) (uncovered : NoneCovers says old.state.predicates r) where
       -- of what is visible
       pub peek_hits : (at : Instant) (expires : Option Instant) (is_renewed : Bool) → Touches read (expirations_of old.state.settings) r moment.0 at.0 expires is_renewed
           → (j : Interior K V) → j ≡ record i { kept = j.kept } → j.kept ≡ record i.kept { records = insert i.kept.records n (record r { read = at; expires = expires }) } → i.kept.written ≡ old.write_list → (value : V) → value ≡ r.value → Peeks (Ok (Some value)) (with_inner old.state j) j.kept.written now

@@ -28,6 +28,7 @@ use Rattle.moka_maintenance.proofs.Timing.{keeps-on, lasts-timed, still-timed}
 use Rattle.moka_maintenance.specs.Sweeps.{tests_in}
 use Rattle.moka_maintenance.specs.Queues.{ArePrepared}
 use Rattle.moka_maintenance.specs.Passes.{IsRan}
+use Rattle.moka_maintenance.proofs.Scanned.{nothing_kept}
 use Rattle.moka_maintenance.proofs.Promises.{IsSimple, run_promised, run_keeps_listening, run_leaves_lasting, run_settles_each, run_leaves_valid, run_leaves_exact}
 use Rattle.moka_engine.specs.Interior.{Interior}
 use Rattle.moka_engine.specs.BaseCache.{state_of, IsCache, IsStocked, IsWhole}
@@ -37,7 +38,7 @@ use Rattle.moka_engine.proofs.Stocked.{stocked-on}
 pub simple_of : {K V X L P W : Type 0} {eq : K → K → Bool} {l : Option L} (s : State K V X P W) → IsCache eq l s → is_disabled s.capacity ≡ false → IsSimple s
 simple_of s h enabled = record {
   enabled = enabled;
-  unregistered = h.served.no_predicates;
+  unsupported = h.served.unsupported;
   consistent = h.valid.consistent;
 }
 
@@ -51,14 +52,17 @@ module _ {K V X L P W C : Type 0} {tells : L → K → V → RemovalCause → L 
     {read : X → K → V → ℕ → Option ℕ → ℕ → Option ℕ} (stored : IsStocked read settings i.kept) (kept_first : KeepsTimers i.kept a.kept) (kept_then : KeepsTimers a.kept j.kept)
     {q : Tests} (terms : Terms) (by_state : tests_in q ≡ tests_of (state_of i invalid_before predicates count weight keeper capacity settings) terms.now)
     {limit : Option ℕ} (limited : limit ≡ (if settings.listening then terms.limit else None))
-    {clock clock_after : C} {passes : ℕ} {left : Bool} (ran : IsRan tells q reads limit terms.batch (stock_in a.kept) (stock_in j.kept) m n clock clock_after passes left)
+    {says : P → K → V → Bool → Type 0} {left_predicates : List (Registered P)} {clock clock_after : C} {passes : ℕ} {left : Bool} (ran_by : IsRan tells says q reads limit terms.batch a.kept.ordered predicates left_predicates (stock_in a.kept) (stock_in j.kept) m n clock clock_after passes left)
     (ran_rest : j ≡ record a { kept = j.kept; operation_room = j.operation_room })
     (count_after weight_after : ℕ) (counted : count_after ≡ length j.kept.access) (weighed : weight_after ≡ min (total_weight j.kept.access) greatest) where
   abbrev s : State K V X P W
   s = state_of i invalid_before predicates count weight keeper capacity settings
 
   abbrev t : State K V X P W
-  t = state_of j invalid_before predicates count_after weight_after keeper capacity settings
+  t = state_of j invalid_before left_predicates count_after weight_after keeper capacity settings
+
+  ran : IsRan tells says q reads limit terms.batch i.kept.ordered predicates left_predicates (stock_in a.kept) (stock_in j.kept) m n clock clock_after passes left
+  ran = subst (λ b. IsRan tells says q reads limit terms.batch b predicates left_predicates (stock_in a.kept) (stock_in j.kept) m n clock clock_after passes left) kept_first.ordered ran_by
 
   applied : ArePrepared tells capacity settings.policy i.kept.ordered (is_some settings.weigher) (after_reads (contents_with i.sketch i.kept) i.reads) (contents_with a.sketch a.kept) i.kept.written a.kept.written i.writes l m
   applied = subst (λ b. ArePrepared tells capacity settings.policy i.kept.ordered b (after_reads (contents_with i.sketch i.kept) i.reads) (contents_with a.sketch a.kept) i.kept.written a.kept.written i.writes l m) weighs applied_with
@@ -66,12 +70,12 @@ module _ {K V X L P W C : Type 0} {tells : L → K → V → RemovalCause → L 
   sketched : j.sketch ≡ a.sketch
   sketched = ap (λ (x : Interior K V). x.sketch) ran_rest
 
-  ends : t ≡ with_contents s (contents_with j.sketch j.kept) predicates
+  ends : t ≡ with_contents s (contents_with j.sketch j.kept) left_predicates
   ends =
-      ap (λ n. state_of j invalid_before predicates n weight_after keeper capacity settings) counted
-      ∙ ap (λ n. state_of j invalid_before predicates (length j.kept.access) n keeper capacity settings) weighed
-      ∙ ap (λ (x : Interior K V). state_of (record x { kept = j.kept; sketch = j.sketch }) invalid_before predicates (length j.kept.access) (min (total_weight j.kept.access) greatest) keeper capacity settings) ran_rest
-      ∙ ap (λ (x : Interior K V). state_of (record x { kept = j.kept; sketch = j.sketch }) invalid_before predicates (length j.kept.access) (min (total_weight j.kept.access) greatest) keeper capacity settings) applied_rest
+      ap (λ n. state_of j invalid_before left_predicates n weight_after keeper capacity settings) counted
+      ∙ ap (λ n. state_of j invalid_before left_predicates (length j.kept.access) n keeper capacity settings) weighed
+      ∙ ap (λ (x : Interior K V). state_of (record x { kept = j.kept; sketch = j.sketch }) invalid_before left_predicates (length j.kept.access) (min (total_weight j.kept.access) greatest) keeper capacity settings) ran_rest
+      ∙ ap (λ (x : Interior K V). state_of (record x { kept = j.kept; sketch = j.sketch }) invalid_before left_predicates (length j.kept.access) (min (total_weight j.kept.access) greatest) keeper capacity settings) applied_rest
 
   simple : IsSimple s
   simple = simple_of s h enabled
@@ -85,8 +89,7 @@ module _ {K V X L P W C : Type 0} {tells : L → K → V → RemovalCause → L 
     cache = subst (IsCache eq n) (sym ends) (record {
       valid = run_leaves_valid s simple terms by_state stored.ordered refl applied limited refl sketched ran eq h.valid;
       served = record {
-        no_predicates = h.served.no_predicates;
-        no_invalidator = h.served.no_invalidator;
+        unsupported = λ off. nothing_kept predicates left_predicates ran.dropped.steps (h.served.unsupported off) ran.dropped.drops ran.dropped.kept;
         unexpiring = λ none. run_leaves_lasting s simple terms by_state stored.ordered refl applied limited refl sketched ran (h.served.unexpiring none);
       };
       listens = h.listens ∙ sym (run_keeps_listening s simple terms by_state stored.ordered refl applied limited refl sketched ran);
@@ -121,11 +124,11 @@ module _ {K V X L P W C : Type 0} {tells : L → K → V → RemovalCause → L 
             ap (λ e. has_passed (moment_of e) terms.now) (run_leaves_lasting s simple terms by_state stored.ordered refl applied limited refl sketched ran (h.served.unexpiring (nowhere settings.expiry unset)) k r there)
 
     -- the run keeps its promises
-    pub cache_runs : {S : Type 0} (says : P → K → V → Bool → Type 0) (name : Option (List ℕ)) (hasher : S) (passes_before : ℕ) {now : Cache K V S X L P W} →
+    pub cache_runs : {S : Type 0} (name : Option (List ℕ)) (hasher : S) (passes_before : ℕ) {now : Cache K V S X L P W} →
         record { name = name; hasher = hasher; state = s; listener = l; write_list = i.kept.written; passes = passes_before } ≡ now →
         (e : Events K V) × RunStep (ListedRun says read now.write_list j.kept.written) now.state terms left e t × Befalls tells e now (record { name = name; hasher = hasher; state = t; listener = n; write_list = j.kept.written; passes = passes }) × Leads reads clock e.readings clock_after
-    cache_runs says name hasher passes_before is =
-        run_returns is j.kept.written (run_promised s simple terms by_state stored.ordered refl applied limited refl sketched ran says read lasts h.listens) (ap (λ t. record { name = name; hasher = hasher; state = t; listener = n; write_list = j.kept.written; passes = passes }) ends)
+    cache_runs name hasher passes_before is =
+        run_returns is j.kept.written (run_promised s simple terms by_state stored.ordered refl applied limited refl sketched ran read lasts h.listens) (ap (λ t. record { name = name; hasher = hasher; state = t; listener = n; write_list = j.kept.written; passes = passes }) ends)
 
 -- ---- a disabled cache
 

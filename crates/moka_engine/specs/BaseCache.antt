@@ -73,10 +73,9 @@ expiring_by x = record {
 abbrev pub NoneExpires : {K V : Type 0} → Records K V → Type 0
 NoneExpires records = (n : ℕ) (r : Record _ _) → get records n ≡ Some r → r.expires ≡ None
 
--- the settings are such as a cache can have today: without predicates; and without an expiry no record has one of its own
+-- where predicates are not supported none is registered, and without an expiry no record has one of its own
 pub record IsServed {K V X P W : Type 0} (s : State K V X P W) : Type 0 where
-  pub no_predicates : s.predicates ≡ []
-  pub no_invalidator : s.settings.invalidator ≡ false
+  pub unsupported : s.settings.invalidator ≡ false → s.predicates ≡ []
   pub unexpiring : s.settings.expiry ≡ None → NoneExpires s.records
 
 -- a hit never changes an expiry, also where none is set

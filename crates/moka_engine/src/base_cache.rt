@@ -18,9 +18,9 @@ use moka_parts::calls::{Entry, KvEntry, Ticket};
 use moka_parts::closures::{NoTest, PredicateFn, Weigher};
 use moka_parts::error::{InsertRefused, OutOfMemory, SendError};
 use moka_parts::housekeeper::{Clock, Housekeeper, HousekeeperConfig};
+use moka_parts::invalidator::Invalidator;
 use moka_parts::notification::{Listener, RemovalNotifier};
 use moka_parts::policy::{EvictionPolicy, ExpirationPolicy, Expiry, Instant, Policy};
-use moka_parts::records::Registered;
 use moka_store::Update;
 use std::alloc::Global;
 use std::hash::{BuildHasher, Hash};
@@ -29,6 +29,7 @@ use std::marker::Model;
 mod causes;
 mod gets;
 mod inserts;
+mod invalidation;
 mod looks;
 mod reports;
 mod runs;
@@ -62,7 +63,7 @@ pub struct BaseCache<
     invalidator_enabled: bool,
     // Records written or read before this moment are invalid.
     valid_after: Option<Instant>,
-    predicates: Vec<Registered<P>>,
+    invalidator: Invalidator<P>,
     // The report of the last run.
     entry_count: u64,
     weighted_size: u64,
@@ -93,13 +94,13 @@ impl<
     ghost view = { λ c. record {
       name = option_map string_bytes c.name;
       hasher = c.build_hasher;
-      state = state_of c.inner c.valid_after c.predicates.items c.entry_count c.weighted_size c.housekeeper c.max_capacity (settings_of c.eviction_policy c.expiration_policy c.weigher c.invalidator_enabled c.housekeeper);
+      state = state_of c.inner c.valid_after c.invalidator c.entry_count c.weighted_size c.housekeeper c.max_capacity (settings_of c.eviction_policy c.expiration_policy c.weigher c.invalidator_enabled c.housekeeper);
       listener = c.notifier;
       write_list = c.inner.kept.written;
       passes = c.passes;
     } };
 
-    ghost invariant = { λ c. IsWhole K.eq X.read c.notifier c.inner.kept (state_of c.inner c.valid_after c.predicates.items c.entry_count c.weighted_size c.housekeeper c.max_capacity (settings_of c.eviction_policy c.expiration_policy c.weigher c.invalidator_enabled c.housekeeper)) };
+    ghost invariant = { λ c. IsWhole K.eq X.read c.notifier c.inner.kept (state_of c.inner c.valid_after c.invalidator c.entry_count c.weighted_size c.housekeeper c.max_capacity (settings_of c.eviction_policy c.expiration_policy c.weigher c.invalidator_enabled c.housekeeper)) };
 }
 
 impl<
@@ -124,7 +125,7 @@ impl<
     /// - `expiration_policy`: the time to live, as a duration since the last insert; the time to idle, as one since the last
     ///   insert or read; and the expiry of single entries, which inserts and gets ask.
     /// - `housekeeper_config`: the time limit, repeats and batch of the runs that the housekeeper starts.
-    /// - `invalidator_enabled`: whether predicates can be registered; so far they cannot.
+    /// - `invalidator_enabled`: whether predicates can be registered.
     /// - `first_ticket`: the ticket of the first operation, at least 1.
     ///
     /// # Errors
@@ -154,7 +155,6 @@ impl<
         P: Drop,
         W: Drop,
         requires first { 1 ≤ first_ticket }
-        requires no_predicates { invalidator_enabled ≡ false }
         ensures { IfOk result (λ c. c ≡ record {
           name = option_map string_bytes name;
           hasher = build_hasher;
@@ -208,7 +208,7 @@ impl<
             weigher,
             invalidator_enabled,
             valid_after: None,
-            predicates: Vec::new(alloc),
+            invalidator: Invalidator::new(alloc),
             entry_count: 0,
             weighted_size: 0,
             passes: 0,
@@ -276,7 +276,7 @@ impl<
     pub fn invalidation_predicate_count(&self) -> u64
         ensures { result ≡ length self.now.state.predicates }
     {
-        self.predicates.len() as u64
+        self.invalidator.len() as u64
     }
 
     /// Whether a listener is set.
@@ -442,7 +442,8 @@ impl<
         ensures { ContainsStep P.says K.eq self.now.state key.now now.0 result }
     {
         let (policy, valid_after) = (&self.expiration_policy, self.valid_after);
-        gets::find_shown(&self.inner, policy, valid_after, key, now).is_some()
+        let invalidator = &self.invalidator;
+        gets::find_shown(&self.inner, policy, valid_after, invalidator, key, now).is_some()
     }
 
     /// The key that the cache keeps for an equal one, visible or not. Nothing is recorded.
@@ -500,6 +501,7 @@ impl<
     where
         K: Clone + Drop,
         V: Clone + Drop,
+        P: Drop,
         requires keys { ClonesAreEqual K.is_clone }
         requires values { ClonesAreEqual V.is_clone }
         ensures { (e : Events K V)

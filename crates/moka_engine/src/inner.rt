@@ -28,7 +28,9 @@ use moka_maintenance::sketch::enable_frequency_sketch;
 use moka_maintenance::sweep::Tests;
 use moka_parts::calls::Ticket;
 use moka_parts::error::{InsertError, SendError};
+use moka_parts::closures::PredicateFn;
 use moka_parts::housekeeper::Clock;
+use moka_parts::invalidator::Invalidator;
 use moka_parts::notification::{Listener, RemovalNotifier};
 use moka_parts::policy::{EvictionPolicy, Instant};
 use moka_parts::records::{Operation, ReadOperation, Record};
@@ -356,10 +358,11 @@ impl<K: Eq + Hash, V, S: BuildHasher> Inner<K, V, S> {
         enable_frequency_sketch(store, sketch, capacity, policy, has_weigher);
     }
 
-    /// Removes what the tests find, in passes of at most `batch` turns a step, until the limit is up.
-    pub fn make_passes<L: Listener<K, V>, C: Clock>(
+    /// Removes what the tests find and what registered predicates cover, in passes of at most `batch` turns a step, until the limit is up.
+    pub fn make_passes<L: Listener<K, V>, P: PredicateFn<K, V>, C: Clock>(
         &mut self,
         notifier: &mut RemovalNotifier<L>,
+        invalidator: &mut Invalidator<P>,
         clock: &mut C,
         tests: Tests,
         limit: Option<Duration>,
@@ -368,12 +371,14 @@ impl<K: Eq + Hash, V, S: BuildHasher> Inner<K, V, S> {
     where
         K: Drop,
         V: Drop,
-        ensures ran { IsRan L.tells tests C.reads (option_map as_nanos limit) batch (stock_in self.old.kept) (stock_in self.new.kept) notifier.old notifier.new clock.old clock.new result.passes result.is_left }
+        P: Drop,
+        ensures ran { IsRan L.tells P.says tests C.reads (option_map as_nanos limit) batch self.old.kept.ordered invalidator.old invalidator.new (stock_in self.old.kept) (stock_in self.new.kept) notifier.old notifier.new clock.old clock.new result.passes result.is_left }
         ensures none { HasNoneDue tests.now.0 self.new.kept }
         ensures timers { KeepsTimers self.old.kept self.new.kept }
         ensures rest { self.new ≡ record self.old { kept = self.new.kept; operation_room = self.new.operation_room } }
     {
-        make_passes(&mut self.store, notifier, clock, tests, limit, batch)
+        let store = &mut self.store;
+        make_passes(store, notifier, invalidator, clock, tests, limit, batch)
     }
 
     /// Clones of the keys of all records, in no particular order.

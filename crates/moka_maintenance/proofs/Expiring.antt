@@ -17,10 +17,10 @@ use Rattle.moka_parts.proofs.Values.{remove_absent, values_inserted, values_remo
 use Rattle.moka_store.specs.Store.{Kept, with_timer}
 use Rattle.moka_store.proofs.Gets.{after_remove, get-past_insert, get-past_remove}
 use Rattle.moka_maintenance.specs.declared.sweep.Tests.{Tests}
-use Rattle.moka_maintenance.specs.Steps.{Stock, Told, after_step, after_steps, left_by_step, stock_in, MayStep, MayAll}
+use Rattle.moka_maintenance.specs.Steps.{Stock, Told, after_step, after_steps, left_by_step, stock_in, MayStep, MayAll, MayLeave}
 use Rattle.moka_maintenance.specs.Sweeps.{tests_in, MayExpire, ExpiresDue}
 use Rattle.moka_maintenance.specs.Timers.{IsReset, KeepsTimers}
-use Rattle.moka_maintenance.proofs.Stepped.{removed-on, shrinks, stepped-none, stepped-one, stepped-on}
+use Rattle.moka_maintenance.proofs.Stepped.{may-also, removed-on, shrinks, step_leaves, stepped-none, stepped-one, stepped-on}
 use Rattle.moka_maintenance.proofs.Timing.{member-was, set-own}
 
 -- ---- how many timers are due
@@ -134,7 +134,7 @@ module _ {K V L : Type 0} (tells : L → K → V → RemovalCause → L → Type
 
   -- no more leave than there are members
   pub expires-few : (a b : Stock K V) (l m : Option L) (r : ℕ) → ExpiresDue tells q a b l m r → r ≤ length a.access
-  expires-few a b l m r h = let less = shrinks (tests_in q) a h.by.steps (may_expire a h.by.steps h.by.may) in let count = h.count in omega arith
+  expires-few a b l m r h = let less = shrinks a h.by.steps (may-also (MayStep (tests_in q)) MayLeave (step_leaves (tests_in q)) a h.by.steps (may_expire a h.by.steps h.by.may)) in let count = h.count in omega arith
 
   -- a timer that was due is taken out, and then its member leaves or stays
   module _ (old mid new : Kept K V) (l m : Option L) (n r : ℕ) (taken : mid ≡ record old { timers = remove old.timers n }) (reset : IsReset q.now.0 n mid new) (expired : ExpiresDue tells q (stock_in mid) (stock_in new) l m r) where

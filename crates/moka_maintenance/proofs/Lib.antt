@@ -19,4 +19,10 @@ pub mod Expiring
 pub mod PassSteps
 pub mod Clocked
 pub mod Passing
+pub mod Fewer
 pub mod Promises
+pub mod Dropping
+pub mod Walked
+pub mod Turning
+pub mod Rounds
+pub mod Scanned

@@ -10,14 +10,21 @@ use Rattle.moka_parts.specs.Time.{deadline, has_passed, is_before, moment_of}
 use Rattle.moka_parts.specs.declared.policy.Instant.{Instant}
 use Rattle.moka_parts.specs.Maintenance.{Choice, Removes, MovesToBack, Drops, is_over}
 use Rattle.moka_parts.specs.Bounds.{removed_by}
+use Rattle.moka_parts.specs.declared.records.Registered.{Registered}
+use Rattle.moka_parts.specs.Records.{is_member, is_settled}
+use Rattle.moka_store.specs.Store.{Kept}
+use Rattle.std.specs.FinMap.{get}
 use Rattle.moka_maintenance.specs.declared.sweep.Tests.{Tests}
 use Rattle.moka_maintenance.specs.declared.sweep.Sweep.{Sweep}
 use Rattle.moka_maintenance.specs.declared.sweep.Sweep.TheVariants.{Written, Read, Surplus}
-use Rattle.moka_maintenance.specs.Steps.{Stock, MayStep, MayAll, HasUnsettled, IsStepped, after_step, after_steps, is_timely, makes_room}
+use Rattle.moka_maintenance.specs.Scanning.{MayScan, AreDropped, IsScanned}
+use Rattle.moka_maintenance.specs.Steps.{Stock, MayLeave, MayRun, MayAll, AreAllMembers, HasNoSettled, HasUnsettled, IsStepped, after_step, after_steps, contents_of, is_timely, makes_room, stock_in}
 use Rattle.moka_maintenance.specs.Sweeps.{tests_in, is_by_moment, IsAtRest, IsDone, AreAllTurns, MayTurn, MayExpire, IsSwept, ExpiresDue}
 use Rattle.moka_maintenance.specs.Passes.{is_taken, sweeps_reads, sweeps_writes, IsPass}
 use Rattle.moka_maintenance.proofs.Fronts.{within-not_over}
-use Rattle.moka_maintenance.proofs.Stepped.{length-on, removed-on, removed-few, shrinks, stepped-none, stepped-on, stepped-also}
+use Rattle.moka_maintenance.proofs.Rounds.{each_unsettled, none_settled, still_there}
+use Rattle.moka_maintenance.proofs.Scanned.{dropped-later}
+use Rattle.moka_maintenance.proofs.Stepped.{length-on, may-also, members-steps, none-steps, removed-on, removed-few, run_leaves, scan_runs, shrinks, step_runs, stepped-none, stepped-on, stepped-also}
 
 -- ---- a step that is not taken
 
@@ -74,16 +81,16 @@ not_taken q Surplus c e = within-not_over q.capacity c.access e
 -- ---- steps by moments
 
 -- a turn of a sweep is a step that these tests allow
-turn_allowed : {K V : Type 0} (q : Tests) (sweep : Sweep) (c : Stock K V) (x : Choice) → MayTurn q sweep c x → MayStep (tests_in q) c x
-turn_allowed q sweep c (Removes n cause) may = may.1
-turn_allowed q sweep c (MovesToBack n) may = may.1
-turn_allowed q sweep c (Drops i) may = absurd may
+turn_allowed : {K V P : Type 0} (says : P → K → V → Bool → Type 0) (ps : List (Registered P)) (q : Tests) (sweep : Sweep) (c : Stock K V) (x : Choice) → MayTurn q sweep c x → MayRun says ps (tests_in q) c x
+turn_allowed says ps q sweep c (Removes n cause) may = step_runs (tests_in q) says ps c (Removes n cause) may.1
+turn_allowed says ps q sweep c (MovesToBack n) may = may.1
+turn_allowed says ps q sweep c (Drops i) may = absurd may
 
 -- and so is a removal by a timer
-expiry_allowed : {K V : Type 0} (q : Tests) (c : Stock K V) (x : Choice) → MayExpire q c x → MayStep (tests_in q) c x
-expiry_allowed q c (Removes n cause) may = may.0
-expiry_allowed q c (MovesToBack n) may = absurd may
-expiry_allowed q c (Drops i) may = absurd may
+expiry_allowed : {K V P : Type 0} (says : P → K → V → Bool → Type 0) (ps : List (Registered P)) (q : Tests) (c : Stock K V) (x : Choice) → MayExpire q c x → MayRun says ps (tests_in q) c x
+expiry_allowed says ps q c (Removes n cause) may = step_runs (tests_in q) says ps c (Removes n cause) may.0
+expiry_allowed says ps q c (MovesToBack n) may = absurd may
+expiry_allowed says ps q c (Drops i) may = absurd may
 
 -- neither makes room
 no_room : (cause : RemovalCause) → is_timely cause ≡ true → not (is_timely cause) ≡ false
@@ -108,6 +115,19 @@ all_removals q c (Removes n cause ∷ xs) may = let rest = all_removals q (after
 all_removals q c (MovesToBack n ∷ xs) may = absurd may.0
 all_removals q c (Drops i ∷ xs) may = absurd may.0
 
+-- a scan's steps are removals that make no room
+none_by_scan : {K V P : Type 0} (says : P → K → V → Bool → Type 0) (ps : List (Registered P)) (c : Stock K V) (xs : List Choice) → MayAll (MayScan says ps) c xs → list_all makes_room xs ≡ true → xs ≡ []
+none_by_scan says ps c [] may all = refl
+none_by_scan says ps c (Removes n cause ∷ xs) may all = absurd (true≢false (sym all ∙ ap (λ b. b && list_all makes_room xs) (ap (λ k. not (is_timely k)) may.0.4)))
+none_by_scan says ps c (MovesToBack n ∷ xs) may all = absurd may.0
+none_by_scan says ps c (Drops i ∷ xs) may all = absurd may.0
+
+all_scanned : {K V P : Type 0} (says : P → K → V → Bool → Type 0) (ps : List (Registered P)) (c : Stock K V) (xs : List Choice) → MayAll (MayScan says ps) c xs → length xs ≡ length (removed_by xs)
+all_scanned says ps c [] may = refl
+all_scanned says ps c (Removes n cause ∷ xs) may = let rest = all_scanned says ps (after_step c (Removes n cause)) xs may.1 in omega arith
+all_scanned says ps c (MovesToBack n ∷ xs) may = absurd may.0
+all_scanned says ps c (Drops i ∷ xs) may = absurd may.0
+
 pub both_make_room : (xs ys : List Choice) → list_all makes_room (xs ++ ys) ≡ true → (list_all makes_room xs ≡ true) × (list_all makes_room ys ≡ true)
 both_make_room xs ys all = go (list_all makes_room xs) (list_all makes_room ys) (sym (list_all-append makes_room xs ys) ∙ all)
   where
@@ -120,22 +140,22 @@ empty_list [] h = refl
 empty_list (x ∷ xs) h = absurd (omega arith)
 
 -- steps that make no room, of at most so many turns beside timers, each of which removed a batch where it left more
-pub record AreTimely {K V L : Type 0} (tells : L → K → V → RemovalCause → L → Type 0) (q : Tests) (batch turns : ℕ) (a b : Stock K V) (l m : Option L) (removed : ℕ) (left : Bool) : Type 0 where
-  pub by : IsStepped tells (MayStep (tests_in q)) a b l m
+pub record AreTimely {K V L P : Type 0} (tells : L → K → V → RemovalCause → L → Type 0) (says : P → K → V → Bool → Type 0) (ps : List (Registered P)) (q : Tests) (batch turns : ℕ) (a b : Stock K V) (l m : Option L) (removed : ℕ) (left : Bool) : Type 0 where
+  pub by : IsStepped tells (MayRun says ps (tests_in q)) a b l m
   pub count : removed ≡ length (removed_by by.steps)
   pub many : length by.steps + length b.access ≤ turns + length a.access
   pub full : left ≡ true → batch ≤ removed
   pub none : list_all makes_room by.steps ≡ true → by.steps ≡ []
 
-module _ {K V L : Type 0} (tells : L → K → V → RemovalCause → L → Type 0) (q : Tests) (batch : ℕ) where
-  shorter : (a b : Stock K V) (l m : Option L) (h : IsStepped tells (MayStep (tests_in q)) a b l m) → length b.access + length (removed_by h.steps) ≤ length a.access
-  shorter a b l m h = subst (λ (x : Stock K V). length x.access + length (removed_by h.steps) ≤ length a.access) (sym h.led) (shrinks (tests_in q) a h.steps h.may)
+module _ {K V L P : Type 0} (tells : L → K → V → RemovalCause → L → Type 0) (says : P → K → V → Bool → Type 0) (ps : List (Registered P)) (q : Tests) (batch : ℕ) where
+  shorter : (a b : Stock K V) (l m : Option L) (h : IsStepped tells (MayRun says ps (tests_in q)) a b l m) → length b.access + length (removed_by h.steps) ≤ length a.access
+  shorter a b l m h = subst (λ (x : Stock K V). length x.access + length (removed_by h.steps) ≤ length a.access) (sym h.led) (shrinks a h.steps (may-also (MayRun says ps (tests_in q)) MayLeave (run_leaves (tests_in q) says ps) a h.steps h.may))
 
   -- those of the timers
-  pub timely-due : (a b : Stock K V) (l m : Option L) (removed : ℕ) → ExpiresDue tells q a b l m removed → AreTimely tells q batch 0 a b l m removed false
+  pub timely-due : (a b : Stock K V) (l m : Option L) (removed : ℕ) → ExpiresDue tells q a b l m removed → AreTimely tells says ps q batch 0 a b l m removed false
   unfolding stepped-also
   timely-due a b l m removed h =
-      let by = stepped-also tells (MayExpire q) (MayStep (tests_in q)) (expiry_allowed q) a b l m h.by in
+      let by = stepped-also tells (MayExpire q) (MayRun says ps (tests_in q)) (expiry_allowed says ps q) a b l m h.by in
       record {
         by = by;
         count = h.count;
@@ -144,11 +164,24 @@ module _ {K V L : Type 0} (tells : L → K → V → RemovalCause → L → Type
         none = none_by_timers q a h.by.steps h.by.may;
       }
 
+  -- those of the scan
+  pub timely-scanned : (a b : Stock K V) (l m : Option L) → (h : IsStepped tells (MayScan says ps) a b l m) → AreTimely tells says ps q batch 0 a b l m (length h.steps) false
+  unfolding stepped-also
+  timely-scanned a b l m h =
+      let by = stepped-also tells (MayScan says ps) (MayRun says ps (tests_in q)) (scan_runs (tests_in q) says ps) a b l m h in
+      record {
+        by = by;
+        count = all_scanned says ps a h.steps h.may;
+        many = (let less = shorter a b l m by in let all = all_scanned says ps a h.steps h.may in omega arith);
+        full = λ is. absurd (true≢false (sym is));
+        none = none_by_scan says ps a h.steps h.may;
+      }
+
   -- those of a sweep by moments
-  pub timely-swept : (sweep : Sweep) → is_by_moment sweep ≡ true → (a b : Stock K V) (l m : Option L) (removed : ℕ) (left : Bool) → IsSwept tells q sweep batch a b l m removed left → AreTimely tells q batch batch a b l m removed left
+  pub timely-swept : (sweep : Sweep) → is_by_moment sweep ≡ true → (a b : Stock K V) (l m : Option L) (removed : ℕ) (left : Bool) → IsSwept tells q sweep batch a b l m removed left → AreTimely tells says ps q batch batch a b l m removed left
   unfolding stepped-also
   timely-swept sweep timely a b l m removed left h =
-      let by = stepped-also tells (MayTurn q sweep) (MayStep (tests_in q)) (turn_allowed q sweep) a b l m h.by in
+      let by = stepped-also tells (MayTurn q sweep) (MayRun says ps (tests_in q)) (turn_allowed says ps q sweep) a b l m h.by in
       record {
         by = by;
         count = h.count;
@@ -158,10 +191,10 @@ module _ {K V L : Type 0} (tells : L → K → V → RemovalCause → L → Type
       }
 
   -- some, and then others
-  pub timely-on : (j k : ℕ) (a b c : Stock K V) (l m n : Option L) (r s : ℕ) (x y : Bool) → AreTimely tells q batch j a b l m r x → AreTimely tells q batch k b c m n s y → AreTimely tells q batch (j + k) a c l n (r + s) (x || y)
+  pub timely-on : (j k : ℕ) (a b c : Stock K V) (l m n : Option L) (r s : ℕ) (x y : Bool) → AreTimely tells says ps q batch j a b l m r x → AreTimely tells says ps q batch k b c m n s y → AreTimely tells says ps q batch (j + k) a c l n (r + s) (x || y)
   unfolding stepped-on
   timely-on j k a b c l m n r s x y first second = record {
-    by = stepped-on tells (MayStep (tests_in q)) a b c l m n first.by second.by;
+    by = stepped-on tells (MayRun says ps (tests_in q)) a b c l m n first.by second.by;
     count = (let e = first.count in let f = second.count in let both = removed-on first.by.steps second.by.steps in omega arith);
     many = (let few = first.many in let fewer = second.many in let both = length-on first.by.steps second.by.steps in omega arith);
     full = full x first.full;
@@ -188,16 +221,29 @@ idle_sweeps false true invalid over = refl
 idle_sweeps false false true over = refl
 idle_sweeps false false false over = refl
 
-module _ {K V L : Type 0} (tells : L → K → V → RemovalCause → L → Type 0) (q : Tests) (batch : ℕ) (a b c d e : Stock K V) (l m n o p : Option L) (due wrote read room : ℕ) (x y z : Bool)
-    (by_timers : ExpiresDue tells q a b l m due) (by_write : IsSwept tells q Written batch b c m n wrote x) (by_read : IsSwept tells q Read batch c d n o read y) (surplus : IsSwept tells q Surplus batch d e o p room z) where
-  first : AreTimely tells q batch (0 + batch) a c l n (due + wrote) (false || x)
-  first = timely-on tells q batch 0 batch a b c l m n due wrote false x (timely-due tells q batch a b l m due by_timers) (timely-swept tells q batch Written refl b c m n wrote x by_write)
+module _ {K V L P : Type 0} (tells : L → K → V → RemovalCause → L → Type 0) (says : P → K → V → Bool → Type 0) (ps qs : List (Registered P)) (q : Tests) (batch : ℕ) (a b c : Stock K V) (d0 d1 : Kept K V) (e : Stock K V) (l m n o u p : Option L) (due wrote read room : ℕ) (x y z scan : Bool)
+    (by_timers : ExpiresDue tells q a b l m due) (by_write : IsSwept tells q Written batch b c m n wrote x) (by_read : IsSwept tells q Read batch c (stock_in d0) n o read y) (by_scan : IsScanned tells says ps batch d0 d1 qs o u scan) (surplus : IsSwept tells q Surplus batch (stock_in d1) e u p room z) where
+  abbrev d : Stock K V
+  d = stock_in d0
 
-  moments : AreTimely tells q batch (0 + batch + batch) a d l o (due + wrote + read) (x || y)
-  moments = timely-on tells q batch (0 + batch) batch a c d l n o (due + wrote) read x y first (timely-swept tells q batch Read refl c d n o read y by_read)
+  abbrev f : Stock K V
+  f = stock_in d1
 
-  last : IsStepped tells (MayStep (tests_in q)) d e o p
-  last = stepped-also tells (MayTurn q Surplus) (MayStep (tests_in q)) (turn_allowed q Surplus) d e o p surplus.by
+  abbrev gone : ℕ
+  gone = length by_scan.by.steps
+
+  first : AreTimely tells says ps q batch (0 + batch) a c l n (due + wrote) (false || x)
+  first = timely-on tells says ps q batch 0 batch a b c l m n due wrote false x (timely-due tells says ps q batch a b l m due by_timers) (timely-swept tells says ps q batch Written refl b c m n wrote x by_write)
+
+  moments : AreTimely tells says ps q batch (0 + batch + batch) a d l o (due + wrote + read) (x || y)
+  moments = timely-on tells says ps q batch (0 + batch) batch a c d l n o (due + wrote) read x y first (timely-swept tells says ps q batch Read refl c d n o read y by_read)
+
+  -- with the scan
+  scanned : AreTimely tells says ps q batch (0 + batch + batch + 0) a f l u (due + wrote + read + gone) ((x || y) || false)
+  scanned = timely-on tells says ps q batch (0 + batch + batch) 0 a d f l o u (due + wrote + read) gone (x || y) false moments (timely-scanned tells says ps q batch d f o u by_scan.by)
+
+  last : IsStepped tells (MayRun says ps (tests_in q)) f e u p
+  last = stepped-also tells (MayTurn q Surplus) (MayRun says ps (tests_in q)) (turn_allowed says ps q Surplus) f e u p surplus.by
 
   some : (x || y || z) ≡ true → 1 ≤ batch → 1 ≤ due + wrote + read + room
   some = go (x || y) moments.full
@@ -207,10 +253,11 @@ module _ {K V L : Type 0} (tells : L → K → V → RemovalCause → L → Type
       go false f is more = (let e = surplus.full is in omega arith)
 
   -- where all its steps make room, only the last made any
-  only_last : (x || y || z) ≡ true → 1 ≤ due + wrote + read + room → list_all makes_room (moments.by.steps ++ last.steps) ≡ true → due + wrote + read + room ≡ batch
+  only_last : (x || y || z) ≡ true → 1 ≤ due + wrote + read + room → list_all makes_room (scanned.by.steps ++ last.steps) ≡ true → due + wrote + read + room ≡ batch
   only_last is removed all =
-      let none = moments.none (both_make_room moments.by.steps last.steps all).0 in
-      let nothing : due + wrote + read ≡ 0 = moments.count ∙ ap (λ xs. length (removed_by xs)) none in
+      let none = scanned.none (both_make_room scanned.by.steps last.steps all).0 in
+      let nothing_all : due + wrote + read + gone ≡ 0 = scanned.count ∙ ap (λ xs. length (removed_by xs)) none in
+      let nothing : due + wrote + read ≡ 0 = omega arith in
       go (x || y) moments.full nothing is
     where
       go : (t : Bool) → (t ≡ true → batch ≤ due + wrote + read) → due + wrote + read ≡ 0 → (t || z) ≡ true → due + wrote + read + room ≡ batch
@@ -232,10 +279,11 @@ module _ {K V L : Type 0} (tells : L → K → V → RemovalCause → L → Type
       go false is = refl
 
   -- and that made less than a batch where it left nothing
-  less : (x || y || z) ≡ false → 1 ≤ batch → list_all makes_room (moments.by.steps ++ last.steps) ≡ true → due + wrote + read + room < batch
+  less : (x || y || z) ≡ false → 1 ≤ batch → list_all makes_room (scanned.by.steps ++ last.steps) ≡ true → due + wrote + read + room < batch
   less is batch_made all =
-      let none = moments.none (both_make_room moments.by.steps last.steps all).0 in
-      let nothing : due + wrote + read ≡ 0 = moments.count ∙ ap (λ xs. length (removed_by xs)) none in
+      let none = scanned.none (both_make_room scanned.by.steps last.steps all).0 in
+      let nothing_all : due + wrote + read + gone ≡ 0 = scanned.count ∙ ap (λ xs. length (removed_by xs)) none in
+      let nothing : due + wrote + read ≡ 0 = omega arith in
       let few = surplus.few in
       let fewer = removed-few surplus.by.steps in
       let count = surplus.count in
@@ -244,15 +292,19 @@ module _ {K V L : Type 0} (tells : L → K → V → RemovalCause → L → Type
         | inr other ↦ omega arith
       ]
 
-  many_steps : length (moments.by.steps ++ last.steps) ≡ length moments.by.steps + length surplus.by.steps
+  scanned_are : scanned.by.steps ≡ moments.by.steps ++ by_scan.by.steps
+  unfolding scanned timely-on timely-scanned stepped-on stepped-also
+  scanned_are = refl
+
+  many_steps : length (scanned.by.steps ++ last.steps) ≡ length moments.by.steps + gone + length surplus.by.steps
   unfolding last stepped-also
-  many_steps = length-on moments.by.steps last.steps
+  many_steps = let both = length-on scanned.by.steps last.steps in let some = ap length scanned_are ∙ length-on moments.by.steps by_scan.by.steps in omega arith
 
   -- each of a batch of turns was made
-  used_up : (x || y || z) ≡ true → batch ≤ length (moments.by.steps ++ last.steps)
+  used_up : (x || y || z) ≡ true → batch ≤ length (scanned.by.steps ++ last.steps)
   used_up = go (x || y) moments.full
     where
-      go : (t : Bool) → (t ≡ true → batch ≤ due + wrote + read) → (t || z) ≡ true → batch ≤ length (moments.by.steps ++ last.steps)
+      go : (t : Bool) → (t ≡ true → batch ≤ due + wrote + read) → (t || z) ≡ true → batch ≤ length (scanned.by.steps ++ last.steps)
       go true f is = (let e = f refl in let less = removed-few moments.by.steps in let count = moments.count in let all = many_steps in omega arith)
       go false f is = (let e = surplus.full is in let less = removed-few surplus.by.steps in let count = surplus.count in let all = many_steps in omega arith)
 
@@ -279,30 +331,64 @@ module _ {K V L : Type 0} (tells : L → K → V → RemovalCause → L → Type
   reads_done : IsDone q Read batch (length moments.by.steps) (after_steps a moments.by.steps)
   reads_done = subst (λ s. IsDone q Read batch (length moments.by.steps) s) moments.by.led (still_done q Read batch (length by_read.by.steps) (length moments.by.steps) d read_steps (swept-done tells q Read batch c d n o read y by_read))
 
-  used_last : IsDone q Surplus batch (length (moments.by.steps ++ last.steps)) e
-  used_last = still_done q Surplus batch (length surplus.by.steps) (length (moments.by.steps ++ last.steps)) e (let all = many_steps in omega arith) (swept-done tells q Surplus batch d e o p room z surplus)
+  used_last : IsDone q Surplus batch (length (scanned.by.steps ++ last.steps)) e
+  used_last = still_done q Surplus batch (length surplus.by.steps) (length (scanned.by.steps ++ last.steps)) e (let all = many_steps in omega arith) (swept-done tells q Surplus batch f e u p room z surplus)
 
-  many_turns : length (moments.by.steps ++ last.steps) + length e.access ≤ batch + batch + batch + length a.access
-  many_turns = let few = moments.many in let fewer = surplus.few in let shorter = shorter tells q batch d e o p last in let all = many_steps in omega arith
+  many_turns : length (scanned.by.steps ++ last.steps) + length e.access ≤ batch + batch + batch + length a.access
+  unfolding last stepped-also
+  many_turns = let few = scanned.many in let fewer = surplus.few in let shorter = shorter tells says ps q batch f e u p last in let both : length (scanned.by.steps ++ last.steps) ≡ length scanned.by.steps + length surplus.by.steps = length-on scanned.by.steps last.steps in omega arith
 
-  unmoved : batch ≡ 0 → d.access ≡ e.access
-  unmoved none = ap (λ (s : Stock K V). s.access) (sym (surplus.by.led ∙ ap (after_steps d) (empty_list surplus.by.steps (let few = surplus.few in omega arith))))
+  unmoved : batch ≡ 0 → f.access ≡ e.access
+  unmoved none = ap (λ (s : Stock K V). s.access) (sym (surplus.by.led ∙ ap (after_steps f) (empty_list surplus.by.steps (let few = surplus.few in omega arith))))
 
-  pub pass-four : (batch ≡ 0 → x ≡ is_taken q Written b.access) → (batch ≡ 0 → y ≡ is_taken q Read c.access) → (batch ≡ 0 → z ≡ is_taken q Surplus d.access) → IsPass tells q batch a e l p (due + wrote + read + room) (x || y || z)
+  counts : due + wrote + read + room ≤ length (removed_by (scanned.by.steps ++ last.steps))
+  unfolding last stepped-also
+  counts = let k = scanned.count in let g : room ≡ length (removed_by last.steps) = surplus.count in let both = removed-on scanned.by.steps last.steps in omega arith
+
+  counts_all : list_all makes_room (scanned.by.steps ++ last.steps) ≡ true → due + wrote + read + room ≡ length (removed_by (scanned.by.steps ++ last.steps))
+  unfolding last stepped-also
+  counts_all all =
+      let none = scanned.none (both_make_room scanned.by.steps last.steps all).0 in
+      let nothing : due + wrote + read + gone ≡ 0 = scanned.count ∙ ap (λ xs. length (removed_by xs)) none in
+      let k = scanned.count in let g : room ≡ length (removed_by last.steps) = surplus.count in let both = removed-on scanned.by.steps last.steps in omega arith
+
+  -- what the scan left is left after the surplus
+  settled_none : HasNoSettled f → HasNoSettled e
+  settled_none none = none_settled e.records e.access (λ n there. subst (λ (s : Stock K V). is_member n s.access ≡ true → is_settled s.records n ≡ false) (sym last.led) (none-steps f last.steps (may-also (MayRun says ps (tests_in q)) MayLeave (run_leaves (tests_in q) says ps) f last.steps last.may) (each_unsettled f.records f.access none) n) there)
+
+  unfinished_after : d0.ordered ≡ true → 1 ≤ batch → 0 < length qs → (scan ≡ true) ⊎ HasNoSettled e
+  unfinished_after ordered some there = elim (by_scan.unfinished ordered some there) [ inl is ↦ inl is | inr none ↦ inr (settled_none none) ]
+
+  gone_predicates : d0.ordered ≡ true → length a.access ≤ batch → AreAllMembers a → qs ≡ []
+  gone_predicates ordered large all =
+      let less = shorter tells says ps q batch a d l o moments.by in
+      by_scan.whole ordered (omega arith) (subst AreAllMembers (sym moments.by.led) (members-steps a moments.by.steps all))
+
+  dropped_after : AreDropped says (contents_of e) ps qs
+  dropped_after = dropped-later says (contents_of f) (contents_of e) (λ n r at. still_there f last.steps n r (sym (ap (λ (s : Stock K V). get s.records n) last.led) ∙ at)) ps qs by_scan.dropped
+
+  pub pass-five : (batch ≡ 0 → x ≡ is_taken q Written b.access) → (batch ≡ 0 → y ≡ is_taken q Read c.access) → (batch ≡ 0 → z ≡ is_taken q Surplus f.access) → IsPass tells says q batch d0.ordered ps qs a e l p (due + wrote + read + room) (x || y || z) scan
   unfolding last stepped-on stepped-also
-  pass-four wrote_due read_due over = record {
-    by = stepped-on tells (MayStep (tests_in q)) a d e l o p moments.by last;
-    count = (let k = moments.count in let f : room ≡ length (removed_by last.steps) = surplus.count in let both = removed-on moments.by.steps last.steps in omega arith);
+  pass-five wrote_due read_due over = record {
+    by = stepped-on tells (MayRun says ps (tests_in q)) a f e l u p scanned.by last;
+    dropped = dropped_after;
+    count = counts;
     more = some;
     many = many_turns;
+    counted = counts_all;
     fewer = less;
     batch_used = only_last;
     rest = λ is. surplus.rest (last_left is);
     turned = used_up;
     used = used_last;
-    writes_swept = (first.by.steps, by_read.by.steps ++ last.steps, ap (λ zs. zs ++ last.steps) moments_are ∙ append_assoc first.by.steps by_read.by.steps last.steps, writes_done.0, writes_done.1);
-    reads_swept = (moments.by.steps, last.steps, refl, reads_done);
+    writes_swept = (first.by.steps, by_read.by.steps ++ (by_scan.by.steps ++ last.steps), ap (λ zs. zs ++ last.steps) (scanned_are ∙ ap (λ zs. zs ++ by_scan.by.steps) moments_are) ∙ append_assoc (first.by.steps ++ by_read.by.steps) by_scan.by.steps last.steps ∙ append_assoc first.by.steps by_read.by.steps (by_scan.by.steps ++ last.steps), writes_done.0, writes_done.1);
+    reads_swept = (moments.by.steps, by_scan.by.steps ++ last.steps, ap (λ zs. zs ++ last.steps) scanned_are ∙ append_assoc moments.by.steps by_scan.by.steps last.steps, reads_done);
     idle = λ none.
         ap (λ t. t || y || z) (wrote_due none) ∙ ap (λ t. sweeps_writes q || t || z) (read_due none) ∙ ap (λ t. sweeps_writes q || sweeps_reads q || t) (over none ∙ ap (is_over q.capacity) (unmoved none))
         ∙ idle_sweeps (is_some q.time_to_live) (is_some q.time_to_idle) (is_some q.valid_after) (is_over q.capacity e.access);
+    unregistered = λ none. (by_scan.unregistered none).1;
+    scan_idle = by_scan.idle;
+    scan_more = by_scan.more;
+    unfinished = unfinished_after;
+    predicates = gone_predicates;
   }

@@ -1,39 +1,48 @@
 -- Passes one after the other.
-use Rattle.std.proofs.Common.{◌≡◌, refl, ℕ, ◌+◌, ◌*◌, ◌/◌, ◌≤◌, ◌⊎◌, Bool, true, false, true≢false, List, [], ◌++◌, length, Option, inl, inr, ap, sym, subst, ◌∙◌, arith, append_assoc, if◌then◌else◌}
+use Rattle.std.proofs.Common.{◌≡◌, refl, ℕ, ◌+◌, ◌*◌, ◌/◌, ◌≤◌, ◌⊎◌, Bool, true, false, true≢false, ◌||◌, List, [], ◌++◌, Contains, length, Option, inl, inr, ap, sym, subst, ◌∙◌, arith, append_assoc, if◌then◌else◌}
 use Rattle.std.proofs.lemmas.Nat.{div-mul-add}
+use Rattle.std.specs.FinMap.{get}
 use Rattle.std.specs.List.{list_all}
+use Rattle.moka_parts.specs.declared.records.Registered.{Registered}
 use Rattle.moka_parts.specs.declared.notification.RemovalCause.{RemovalCause}
 use Rattle.moka_parts.specs.declared.policy.Instant.{Instant}
 use Rattle.moka_parts.specs.Maintenance.{Choice}
 use Rattle.moka_parts.specs.Bounds.{removed_by}
 use Rattle.moka_maintenance.specs.declared.sweep.Tests.{Tests}
-use Rattle.moka_maintenance.specs.Steps.{Stock, MayStep, HasUnsettled, IsStepped, after_steps, makes_room}
+use Rattle.moka_maintenance.specs.Scanning.{AreDropped}
+use Rattle.moka_maintenance.specs.Steps.{Stock, MayLeave, MayRun, AreAllMembers, HasUnsettled, IsStepped, after_steps, contents_of, makes_room}
 use Rattle.moka_maintenance.specs.declared.sweep.Sweep.{Sweep}
 use Rattle.moka_maintenance.specs.declared.sweep.Sweep.TheVariants.{Written, Read, Surplus}
 use Rattle.moka_maintenance.specs.Sweeps.{tests_in, IsAtRest, IsDone}
 use Rattle.moka_maintenance.specs.Passes.{IsPass, IsRan}
-use Rattle.moka_maintenance.proofs.Stepped.{steps-append, length-on, removed-on, shrinks, stepped-none, stepped-on}
+use Rattle.moka_maintenance.proofs.Rounds.{still_there}
+use Rattle.moka_maintenance.proofs.Scanned.{covers_fewer, dropped-later, dropped-none, dropped-on, kept_there, nothing_kept}
+use Rattle.moka_maintenance.proofs.Stepped.{fewer_run, may-also, members-steps, steps-append, length-on, removed-on, run_leaves, shrinks, stepped-also, stepped-none, stepped-on}
 use Rattle.moka_maintenance.proofs.PassSteps.{both_make_room}
 use Rattle.moka_maintenance.proofs.Clocked.{Clocked, IsChecked}
 
 -- ---- passes
 
--- passes each of which left more and removed a record
-pub record IsMoving {K V L : Type 0} (tells : L → K → V → RemovalCause → L → Type 0) (q : Tests) (batch : ℕ) (first now : Stock K V) (l m : Option L) (passes : ℕ) : Type 0 where
-  pub by : IsStepped tells (MayStep (tests_in q)) first now l m
+-- passes each of which left more and removed a record beside the scan
+pub record IsMoving {K V L P : Type 0} (tells : L → K → V → RemovalCause → L → Type 0) (says : P → K → V → Bool → Type 0) (q : Tests) (batch : ℕ) (ordered : Bool) (ps qs : List (Registered P)) (first now : Stock K V) (l m : Option L) (passes : ℕ) : Type 0 where
+  pub by : IsStepped tells (MayRun says ps (tests_in q)) first now l m
+  pub dropped : AreDropped says (contents_of now) ps qs
   pub few : passes ≤ length (removed_by by.steps)
-  pub turned : passes * batch ≤ length by.steps
+  pub turned : ps ≡ [] → passes * batch ≤ length by.steps
   pub many : length by.steps + length now.access ≤ passes * (batch + batch + batch) + length first.access
-  pub exact : list_all makes_room by.steps ≡ true → length (removed_by by.steps) ≡ passes * batch
+  pub exact : ps ≡ [] → list_all makes_room by.steps ≡ true → length (removed_by by.steps) ≡ passes * batch
   pub none : passes ≡ 0 → by.steps ≡ []
 
-pub moving-none : {K V L : Type 0} (tells : L → K → V → RemovalCause → L → Type 0) (q : Tests) (batch : ℕ) (c : Stock K V) (l : Option L) → IsMoving tells q batch c c l l 0
+pub moving-none : {K V L P : Type 0} (tells : L → K → V → RemovalCause → L → Type 0) (says : P → K → V → Bool → Type 0) (q : Tests) (batch : ℕ) (ordered : Bool) (ps : List (Registered P)) (c : Stock K V) (l : Option L) → IsMoving tells says q batch ordered ps ps c c l l 0
 unfolding stepped-none
-moving-none tells q batch c l = record { by = stepped-none tells (MayStep (tests_in q)) c l; few = omega arith; turned = omega arith; many = omega arith; exact = λ _. omega arith; none = λ _. refl }
+moving-none tells says q batch ordered ps c l = record { by = stepped-none tells (MayRun says ps (tests_in q)) c l; dropped = dropped-none says (contents_of c) ps ps refl; few = omega arith; turned = λ _. omega arith; many = omega arith; exact = λ _ _. omega arith; none = λ _. refl }
+
+shorter : {K V L P : Type 0} (tells : L → K → V → RemovalCause → L → Type 0) (says : P → K → V → Bool → Type 0) (ps : List (Registered P)) (q : Tests) (a b : Stock K V) (l m : Option L) (h : IsStepped tells (MayRun says ps (tests_in q)) a b l m) → length b.access + length (removed_by h.steps) ≤ length a.access
+shorter tells says ps q a b l m h = subst (λ (x : Stock _ _). length x.access + length (removed_by h.steps) ≤ length a.access) (sym h.led) (shrinks a h.steps (may-also (MayRun says ps (tests_in q)) MayLeave (run_leaves (tests_in q) says ps) a h.steps h.may))
 
 -- there are no more passes than members
-pub moving-few : {K V L : Type 0} (tells : L → K → V → RemovalCause → L → Type 0) (q : Tests) (batch : ℕ) (first now : Stock K V) (l m : Option L) (passes : ℕ) → IsMoving tells q batch first now l m passes → passes ≤ length first.access
-moving-few tells q batch first now l m passes h = let s = shrinks (tests_in q) first h.by.steps h.by.may in let f = h.few in omega arith
+pub moving-few : {K V L P : Type 0} (tells : L → K → V → RemovalCause → L → Type 0) (says : P → K → V → Bool → Type 0) (q : Tests) (batch : ℕ) (ordered : Bool) (ps qs : List (Registered P)) (first now : Stock K V) (l m : Option L) (passes : ℕ) → IsMoving tells says q batch ordered ps qs first now l m passes → passes ≤ length first.access
+moving-few tells says q batch ordered ps qs first now l m passes h = let s = shorter tells says ps q first now l m h.by in let f = h.few in omega arith
 
 times_next : (passes batch : ℕ) → (passes + 1) * batch ≡ passes * batch + batch
 times_next passes batch = grind arith
@@ -44,27 +53,56 @@ one_less passes turns a b c x y z h k e = let plus : (passes + 1) * turns ≡ pa
 one_more : (passes batch a b c : ℕ) → passes * batch ≤ a → batch ≤ b → c ≡ a + b → (passes + 1) * batch ≤ c
 one_more passes batch a b c h k e = let plus = times_next passes batch in omega arith
 
-module _ {K V L : Type 0} (tells : L → K → V → RemovalCause → L → Type 0) (q : Tests) (batch : ℕ) (first now next : Stock K V) (l m n : Option L) (passes removed : ℕ) (more : Bool) (h : IsMoving tells q batch first now l m passes) (p : IsPass tells q batch now next m n removed more) where
+module _ {K V L P : Type 0} (tells : L → K → V → RemovalCause → L → Type 0) (says : P → K → V → Bool → Type 0) (q : Tests) (batch : ℕ) (ordered : Bool) (ps rs qs : List (Registered P)) (first now next : Stock K V) (l m n : Option L) (passes removed : ℕ) (more scan : Bool) (h : IsMoving tells says q batch ordered ps rs first now l m passes) (p : IsPass tells says q batch ordered rs qs now next m n removed more scan) where
   -- the access list became shorter by what was removed
   fewer : length next.access + removed ≤ length now.access
-  fewer = let s = subst (λ (x : Stock K V). length x.access + length (removed_by p.by.steps) ≤ length now.access) (sym p.by.led) (shrinks (tests_in q) now p.by.steps p.by.may) in let c = p.count in omega arith
+  fewer = let s = shorter tells says rs q now next m n p.by in let c = p.count in omega arith
 
-  counted : length (removed_by (h.by.steps ++ p.by.steps)) ≡ length (removed_by h.by.steps) + removed
+  -- by predicates that were registered at the start
+  later : IsStepped tells (MayRun says ps (tests_in q)) now next m n
+  later = stepped-also tells (MayRun says rs (tests_in q)) (MayRun says ps (tests_in q)) (fewer_run (tests_in q) says ps rs (covers_fewer says ps rs (λ x there. kept_there ps h.dropped.steps x (subst (λ xs. Contains xs x) h.dropped.kept there)))) now next m n p.by
+
+  dropped_all : AreDropped says (contents_of next) ps qs
+  dropped_all = dropped-on says (contents_of next) ps rs qs (dropped-later says (contents_of now) (contents_of next) (λ k r at. still_there now p.by.steps k r (sym (ap (λ (s : Stock K V). get s.records k) p.by.led) ∙ at)) ps rs h.dropped) p.dropped
+
+  -- no predicates are added
+  none_yet : ps ≡ [] → rs ≡ []
+  none_yet none = nothing_kept ps rs h.dropped.steps none h.dropped.drops h.dropped.kept
+
+  counted : length (removed_by h.by.steps) + removed ≤ length (removed_by (h.by.steps ++ p.by.steps))
   counted = let c = p.count in let a = removed-on h.by.steps p.by.steps in omega arith
+
+  counted_all : list_all makes_room p.by.steps ≡ true → length (removed_by (h.by.steps ++ p.by.steps)) ≡ length (removed_by h.by.steps) + removed
+  counted_all rooms = let c = p.counted rooms in let a = removed-on h.by.steps p.by.steps in omega arith
 
   many_all : length (h.by.steps ++ p.by.steps) + length next.access ≤ (passes + 1) * (batch + batch + batch) + length first.access
   many_all = one_less passes (batch + batch + batch) (length h.by.steps) (length p.by.steps) (length (h.by.steps ++ p.by.steps)) (length first.access) (length now.access) (length next.access) h.many p.many (length-on h.by.steps p.by.steps)
 
-  pub moving-on : 1 ≤ removed → more ≡ true → IsMoving tells q batch first next l n (passes + 1)
-  unfolding stepped-on
+  -- without predicates the sweeps alone leave more
+  by_sweeps : ps ≡ [] → (more || scan) ≡ true → more ≡ true
+  by_sweeps none is = sym (ap (λ b. more || b) (p.unregistered (none_yet none)) ∙ or_false more) ∙ is
+    where
+      or_false : (b : Bool) → (b || false) ≡ b
+      or_false true = refl
+      or_false false = refl
+
+  -- each record is still a settled member, and there are no more of them
+  pub predicates_gone : ordered ≡ true → length first.access ≤ batch → AreAllMembers first → qs ≡ []
+  predicates_gone order large all =
+      let less = shorter tells says ps q first now l m h.by in
+      p.predicates order (omega arith) (subst AreAllMembers (sym h.by.led) (members-steps first h.by.steps all))
+
+  pub moving-on : 1 ≤ removed → (more || scan) ≡ true → IsMoving tells says q batch ordered ps qs first next l n (passes + 1)
+  unfolding stepped-on later stepped-also
   moving-on some is = record {
-    by = stepped-on tells (MayStep (tests_in q)) first now next l m n h.by p.by;
+    by = stepped-on tells (MayRun says ps (tests_in q)) first now next l m n h.by later;
+    dropped = dropped_all;
     few = (let f = h.few in let c = counted in omega arith);
-    turned = one_more passes batch (length h.by.steps) (length p.by.steps) (length (h.by.steps ++ p.by.steps)) h.turned (p.turned is) (length-on h.by.steps p.by.steps);
+    turned = λ none. one_more passes batch (length h.by.steps) (length p.by.steps) (length (h.by.steps ++ p.by.steps)) (h.turned none) (p.turned (by_sweeps none is)) (length-on h.by.steps p.by.steps);
     many = many_all;
-    exact = λ all.
+    exact = λ none all.
         (let rooms = both_make_room h.by.steps p.by.steps all in
-        counted ∙ ap (λ k. k + removed) (h.exact rooms.0) ∙ ap (λ k. passes * batch + k) (p.batch_used is some rooms.1) ∙ sym (times_next passes batch));
+        counted_all rooms.1 ∙ ap (λ k. k + removed) (h.exact none rooms.0) ∙ ap (λ k. passes * batch + k) (p.batch_used (by_sweeps none is) some rooms.1) ∙ sym (times_next passes batch));
     none = λ e. absurd (omega arith);
   }
 
@@ -72,42 +110,43 @@ module _ {K V L : Type 0} (tells : L → K → V → RemovalCause → L → Type
   pub moving-less : 1 ≤ removed → length next.access + 1 ≤ length now.access
   moving-less some = let f = fewer in omega arith
 
-  turned_all : (sweep : Sweep) (c : Stock K V) (turns more : ℕ) → more ≡ length h.by.steps + turns → IsDone q sweep batch turns c → IsDone q sweep ((passes + 1) * batch) more c
-  turned_all sweep c turns more e (inl rest) = inl rest
-  turned_all sweep c turns more e (inr (inl none)) = inr (inl none)
-  turned_all sweep c turns more e (inr (inr all)) = inr (inr (one_more passes batch (length h.by.steps) turns more h.turned all e))
+  turned_all : ps ≡ [] → (sweep : Sweep) (c : Stock K V) (turns more : ℕ) → more ≡ length h.by.steps + turns → IsDone q sweep batch turns c → IsDone q sweep ((passes + 1) * batch) more c
+  turned_all none sweep c turns more e (inl rest) = inl rest
+  turned_all none sweep c turns more e (inr (inl unsettled)) = inr (inl unsettled)
+  turned_all none sweep c turns more e (inr (inr all)) = inr (inr (one_more passes batch (length h.by.steps) turns more (h.turned none) all e))
 
-  used_all : IsDone q Surplus ((passes + 1) * batch) (length (h.by.steps ++ p.by.steps)) next
-  used_all = turned_all Surplus next (length p.by.steps) (length (h.by.steps ++ p.by.steps)) (length-on h.by.steps p.by.steps) p.used
+  used_all : ps ≡ [] → IsDone q Surplus ((passes + 1) * batch) (length (h.by.steps ++ p.by.steps)) next
+  used_all none = turned_all none Surplus next (length p.by.steps) (length (h.by.steps ++ p.by.steps)) (length-on h.by.steps p.by.steps) p.used
 
-  read_all : (xs ys : List Choice) × (h.by.steps ++ p.by.steps ≡ xs ++ ys) × IsDone q Read ((passes + 1) * batch) (length xs) (after_steps first xs)
+  read_all : (xs ys : List Choice) × (h.by.steps ++ p.by.steps ≡ xs ++ ys) × (ps ≡ [] → IsDone q Read ((passes + 1) * batch) (length xs) (after_steps first xs))
   read_all =
       let at = p.reads_swept in
       let met : after_steps now at.0 ≡ after_steps first (h.by.steps ++ at.0) = ap (λ c. after_steps c at.0) h.by.led ∙ sym (steps-append first h.by.steps at.0) in (
         h.by.steps ++ at.0,
         at.1,
         ap (λ zs. h.by.steps ++ zs) at.2 ∙ sym (append_assoc h.by.steps at.0 at.1),
-        subst (λ c. IsDone q Read ((passes + 1) * batch) (length (h.by.steps ++ at.0)) c) met (turned_all Read (after_steps now at.0) (length at.0) (length (h.by.steps ++ at.0)) (length-on h.by.steps at.0) at.3),
+        λ none. subst (λ c. IsDone q Read ((passes + 1) * batch) (length (h.by.steps ++ at.0)) c) met (turned_all none Read (after_steps now at.0) (length at.0) (length (h.by.steps ++ at.0)) (length-on h.by.steps at.0) at.3),
       )
 
   -- where the last sweep by the last write came to
-  wrote_all : (xs ys : List Choice) × (h.by.steps ++ p.by.steps ≡ xs ++ ys) × IsDone q Written ((passes + 1) * batch) (length xs) (after_steps first xs) × (more ≡ false → HasUnsettled (after_steps first xs) ⊎ IsAtRest q Written (after_steps first xs))
+  wrote_all : (xs ys : List Choice) × (h.by.steps ++ p.by.steps ≡ xs ++ ys) × (ps ≡ [] → IsDone q Written ((passes + 1) * batch) (length xs) (after_steps first xs)) × (more ≡ false → HasUnsettled (after_steps first xs) ⊎ IsAtRest q Written (after_steps first xs))
   wrote_all =
       let at = p.writes_swept in
       let met : after_steps now at.0 ≡ after_steps first (h.by.steps ++ at.0) = ap (λ c. after_steps c at.0) h.by.led ∙ sym (steps-append first h.by.steps at.0) in (
         h.by.steps ++ at.0,
         at.1,
         ap (λ zs. h.by.steps ++ zs) at.2 ∙ sym (append_assoc h.by.steps at.0 at.1),
-        subst (λ c. IsDone q Written ((passes + 1) * batch) (length (h.by.steps ++ at.0)) c) met (turned_all Written (after_steps now at.0) (length at.0) (length (h.by.steps ++ at.0)) (length-on h.by.steps at.0) at.3),
+        λ none. subst (λ c. IsDone q Written ((passes + 1) * batch) (length (h.by.steps ++ at.0)) c) met (turned_all none Written (after_steps now at.0) (length at.0) (length (h.by.steps ++ at.0)) (length-on h.by.steps at.0) at.3),
         λ is. subst (λ c. HasUnsettled c ⊎ IsAtRest q Written c) met (at.4 is),
       )
 
   module _ {C : Type 0} (reads : C → Instant → C → Type 0) (limit : Option ℕ) (started : Option Instant) (c d e : C) where
     -- the last pass, after which the clock is not read
-    pub ran-out : Clocked reads limit started c d passes → (more ≡ true → removed ≡ 0) → IsRan tells q reads limit batch first next l n c d (passes + 1) more
-    unfolding stepped-on
+    pub ran-out : Clocked reads limit started c d passes → ((more || scan) ≡ true → removed ≡ 0) → IsRan tells says q reads limit batch ordered ps qs first next l n c d (passes + 1) (more || scan)
+    unfolding stepped-on later stepped-also
     ran-out k out = record {
-      by = stepped-on tells (MayStep (tests_in q)) first now next l m n h.by p.by;
+      by = stepped-on tells (MayRun says ps (tests_in q)) first now next l m n h.by later;
+      dropped = dropped_all;
       made = omega arith;
       many = many_all;
       few = (let f = h.few in let c = counted in omega arith);
@@ -115,31 +154,46 @@ module _ {K V L : Type 0} (tells : L → K → V → RemovalCause → L → Type
       read = k.read;
       timed = λ is. subst (λ b. length k.readings ≡ passes + 1 + (if b then 1 else 0)) (sym k.early) (let t = k.timed is in omega arith);
       untimed = k.untimed;
-      whole = λ _ some. decide more (λ is. (let o = out is in let s = p.more is some in absurd (omega arith)));
+      whole = λ _ some is. p.scan_more (sym (ap (λ b. b || scan) (swept some)) ∙ is);
+      unfinished = λ order _ some there. elim (p.unfinished order some there) [ inl is ↦ inl (ap (λ b. more || b) is ∙ or_true more) | inr none ↦ inr none ];
       cut = λ late. absurd (true≢false (sym late ∙ k.early));
       removing = λ late. absurd (true≢false (sym late ∙ k.early));
-      rest = p.rest;
+      rest = λ _ some. p.rest (swept some);
       used = used_all;
-      writes_swept = wrote_all;
+      writes_swept = (wrote_all.0, wrote_all.1, wrote_all.2, wrote_all.3, λ _ some. wrote_all.4 (swept some));
       reads_swept = read_all;
-      exact = λ _ some all.
+      exact = λ _ some none all.
           (let rooms = both_make_room h.by.steps p.by.steps all in
-          let total = counted ∙ ap (λ k. k + removed) (h.exact rooms.0) in
-          let whole = ap (λ k. k / batch) total ∙ div-mul-add passes batch removed (p.fewer (decide more (λ is. (let o = out is in let s = p.more is some in absurd (omega arith)))) some rooms.1) in
+          let total = counted_all rooms.1 ∙ ap (λ k. k + removed) (h.exact none rooms.0) in
+          let whole = ap (λ k. k / batch) total ∙ div-mul-add passes batch removed (p.fewer (swept some) some rooms.1) in
           sym (ap (λ k. k + 1) whole));
-      idle = p.idle;
+      idle = λ none. ap (λ b. more || b) (p.scan_idle none) ∙ or_false more ∙ p.idle none;
       batch_used = λ late. absurd (true≢false (sym late ∙ k.early));
+      predicates = predicates_gone;
     }
       where
-        decide : (b : Bool) → (b ≡ true → false ≡ true) → b ≡ false
-        decide true f = sym (f refl)
-        decide false f = refl
+        or_true : (b : Bool) → (b || true) ≡ true
+        or_true true = refl
+        or_true false = refl
+
+        or_false : (b : Bool) → (b || false) ≡ b
+        or_false true = refl
+        or_false false = refl
+
+        -- the sweeps leave nothing
+        swept : 1 ≤ batch → more ≡ false
+        swept some = decide more refl
+          where
+            decide : (b : Bool) → more ≡ b → more ≡ false
+            decide true is = (let o = out (ap (λ b. b || scan) is) in let s = p.more is some in absurd (omega arith))
+            decide false is = is
 
     -- the pass after which the limit has passed
-    pub ran-late : IsChecked reads limit started c e (passes + 1) true → more ≡ true → 1 ≤ removed → IsRan tells q reads limit batch first next l n c e (passes + 1) true
-    unfolding stepped-on
+    pub ran-late : IsChecked reads limit started c e (passes + 1) true → (more || scan) ≡ true → 1 ≤ removed → IsRan tells says q reads limit batch ordered ps qs first next l n c e (passes + 1) true
+    unfolding stepped-on later stepped-also
     ran-late k is some = record {
-      by = stepped-on tells (MayStep (tests_in q)) first now next l m n h.by p.by;
+      by = stepped-on tells (MayRun says ps (tests_in q)) first now next l m n h.by later;
+      dropped = dropped_all;
       made = omega arith;
       many = many_all;
       few = (let f = h.few in let c = counted in omega arith);
@@ -147,20 +201,27 @@ module _ {K V L : Type 0} (tells : L → K → V → RemovalCause → L → Type
       read = k.read;
       timed = λ is. subst (λ b. length k.readings ≡ passes + 1 + (if b then 1 else 0)) (sym k.lateness) (k.timed is);
       untimed = k.untimed;
-      whole = λ early some. absurd (true≢false (sym k.lateness ∙ early));
+      whole = λ early. absurd (true≢false (sym k.lateness ∙ early));
+      unfinished = λ order early. absurd (true≢false (sym k.lateness ∙ early));
       cut = λ _. refl;
       removing = λ _. (let f = h.few in let c = counted in omega arith);
-      rest = λ is. absurd (true≢false is);
+      rest = λ early. absurd (true≢false (sym k.lateness ∙ early));
       used = used_all;
-      writes_swept = (wrote_all.0, wrote_all.1, wrote_all.2, wrote_all.3, λ left. absurd (true≢false left));
+      writes_swept = (wrote_all.0, wrote_all.1, wrote_all.2, wrote_all.3, λ early. absurd (true≢false (sym k.lateness ∙ early)));
       reads_swept = read_all;
       exact = λ early. absurd (true≢false (sym k.lateness ∙ early));
-      idle = λ none. sym is ∙ p.idle none;
-      batch_used = λ _ one all. first_batch (omega arith) all;
+      idle = λ none. sym is ∙ ap (λ b. more || b) (p.scan_idle none) ∙ or_false more ∙ p.idle none;
+      batch_used = λ _ one none all. first_batch none (omega arith) all;
+      predicates = predicates_gone;
     }
       where
-        first_batch : passes ≡ 0 → list_all makes_room (h.by.steps ++ p.by.steps) ≡ true → length (removed_by (h.by.steps ++ p.by.steps)) ≡ batch
-        first_batch start all =
+        or_false : (b : Bool) → (b || false) ≡ b
+        or_false true = refl
+        or_false false = refl
+
+        first_batch : ps ≡ [] → passes ≡ 0 → list_all makes_room (h.by.steps ++ p.by.steps) ≡ true → length (removed_by (h.by.steps ++ p.by.steps)) ≡ batch
+        first_batch unregistered start all =
             let none = h.none start in
             let same = ap (λ xs. xs ++ p.by.steps) none in
-            ap (λ xs. length (removed_by xs)) same ∙ sym p.count ∙ p.batch_used is some (sym (ap (list_all makes_room) same) ∙ all)
+            let rooms = both_make_room h.by.steps p.by.steps all in
+            ap (λ xs. length (removed_by xs)) same ∙ sym (p.counted rooms.1) ∙ p.batch_used (by_sweeps unregistered is) some rooms.1

@@ -1,44 +1,52 @@
 -- What applying the queues and the passes make of a state is a run of the reference cache that keeps its promises.
-use Rattle.std.proofs.Common.{◌≡◌, refl, ℕ, ◌+◌, ◌-◌, ◌*◌, ◌<◌, ◌≤◌, ◌++◌, Bool, true, false, true≢false, not, ◌==◌, ◌&&◌, ◌||◌, List, [], ◌∷◌, length, ◌⊎◌, inl, inr, Option, Some, None, is_some, option_map, ap, sym, subst, ◌∙◌, arith, eqb→eq, if◌then◌else◌}
+use Rattle.std.proofs.Common.{◌≡◌, refl, ℕ, ◌+◌, ◌-◌, ◌*◌, ◌<◌, ◌≤◌, ◌++◌, Bool, true, false, true≢false, not, ◌==◌, ◌&&◌, ◌||◌, List, [], ◌∷◌, length, ◌⊎◌, inl, inr, Option, Some, None, is_some, option_map, ap, sym, subst, ◌∙◌, arith, append-nil, append_assoc, eqb→eq, if◌then◌else◌}
 use Rattle.std.specs.Bool.{passes}
 use Rattle.std.specs.Prelude.{Contains, take}
-use Rattle.std.specs.List.{list_any}
+use Rattle.std.specs.List.{list_all, list_any}
 use Rattle.std.specs.Duration.{as_nanos}
-use Rattle.std.specs.FinMap.{get}
+use Rattle.std.specs.FinMap.{get, len}
 use Rattle.moka_parts.specs.declared.notification.RemovalCause.{RemovalCause}
 use Rattle.moka_parts.specs.declared.policy.Instant.{Instant}
 use Rattle.moka_parts.specs.declared.records.Record.{Record}
 use Rattle.moka_parts.specs.declared.records.Member.{Member}
+use Rattle.moka_parts.specs.declared.records.Registered.{Registered}
 use Rattle.moka_parts.specs.declared.records.Operation.{Operation}
 use Rattle.moka_parts.specs.declared.records.Operation.TheVariants.{Upsert}
 use Rattle.moka_parts.specs.Visibility.{is_expired}
-use Rattle.moka_parts.specs.Records.{Records, when_listening, is_applied, is_settled, is_member, counted_of, numbers_of, total_weight}
+use Rattle.moka_parts.specs.Records.{Records, when_listening, is_applied, is_settled, is_member, counted_of, numbers_of, settled_members, total_weight}
 use Rattle.moka_parts.specs.State.{State, Contents, with_contents, is_disabled, keeps_write_list}
 use Rattle.moka_parts.specs.Surroundings.{Heard}
 use Rattle.moka_parts.specs.Writes.{left_by_writes}
 use Rattle.moka_parts.specs.Candidates.{prefix}
 use Rattle.moka_parts.specs.Maintenance as parts
-use Rattle.moka_parts.specs.Maintenance.{Choice, Terms, Course, Freedom, after_choices, left_by_choices, after_queued_reads, before_steps, at_end, after_run, left_in_run, is_over, is_cut, is_late, is_timed, tests_of, AreJustified, AreFree}
+use Rattle.moka_parts.specs.Maintenance.{Choice, Terms, Course, Freedom, after_choices, left_by_choices, after_queued_reads, before_steps, at_end, after_run, left_in_run, is_over, is_cut, is_late, is_timed, tests_of, kept_by_choices, AreJustified, AreFree}
 use Rattle.moka_parts.specs.Bounds.{removed_by, IsPlainSurplus, IsBounded}
 use Rattle.moka_parts.specs.Exact.{IsExact, IsWithin}
-use Rattle.moka_parts.specs.Settling.{IsAllSent, IsWaitingIn, IsWhole, IsConsistentState, IsSound, IsValid, LeavesBehind, NeverRenewsOnRead, Settles, leaves_more_idle}
+use Rattle.moka_parts.specs.Settling.{IsAllSent, IsWaitingIn, IsWhole, IsConsistent, IsConsistentState, IsSound, IsValid, LeavesBehind, NeverRenewsOnRead, Settles, leaves_more_idle}
 use Rattle.moka_parts.specs.Listed.{LeavesList, ListedRun}
 use Rattle.moka_parts.specs.Order.{ComesToRest, IsAtRestByWrite, write_list_at_end, write_list_before_steps, written_after_choices, written_after_writes}
 use Rattle.moka_parts.proofs.Maps.{same_or_apart}
 use Rattle.moka_parts.proofs.RunKeeps.{run_keeps}
 use Rattle.moka_parts.proofs.RunKeepsSound.{run_kept}
 use Rattle.moka_parts.proofs.StepsKeep.{run_valid}
-use Rattle.moka_parts.proofs.AtEnd.{nothing_waits, all_settled, count_is_near, run_is_exact}
+use Rattle.moka_parts.proofs.Counting.{exact_count}
+use Rattle.moka_parts.proofs.Dropped.{covering_stays}
+use Rattle.moka_parts.proofs.OneMore.{removed_by_append}
+use Rattle.moka_parts.proofs.AtEnd.{exact_when_nothing_waits, nothing_waits, all_settled, count_is_near, run_is_exact}
 use Rattle.moka_parts.proofs.RunReturns.{IsPromised}
 use Rattle.moka_parts.proofs.Surplus.{removes_enough, removes_first, removes_for_size_alone, leaves_settled}
 use Rattle.moka_maintenance.specs.declared.sweep.Tests.{Tests}
 use Rattle.moka_maintenance.specs.declared.sweep.Sweep.TheVariants.{Written}
-use Rattle.moka_maintenance.specs.Steps.{Stock, stock_of, after_steps, left_by_steps, MayStep, MayAll, HasUnsettled, Told, makes_room}
+use Rattle.moka_maintenance.specs.Scanning.{AreDrops}
+use Rattle.moka_maintenance.specs.Steps.{Stock, stock_of, contents_of, after_steps, left_by_steps, MayLeave, MayRun, MayAll, HasUnsettled, Told, makes_room}
 use Rattle.moka_maintenance.specs.Queues.{ArePrepared}
 use Rattle.moka_maintenance.specs.Sweeps.{tests_in, IsAtRest, IsDone}
 use Rattle.moka_maintenance.specs.Passes.{IsRan, sweeps_writes}
 use Rattle.moka_maintenance.proofs.Told.{told_same, told-on}
-use Rattle.moka_maintenance.proofs.Stepped.{may-second, steps-append, unsettled-steps}
+use Rattle.moka_maintenance.proofs.Dropping.{choices-append, drops_remove_none, drops_silent, drops_stay, drops_unlisted, gone-append, kept-append, written-append}
+use Rattle.moka_maintenance.proofs.Fewer.{len-fewer}
+use Rattle.moka_maintenance.proofs.Scanned.{drops_later, justified-append, nothing_kept}
+use Rattle.moka_maintenance.proofs.Stepped.{may-also, may-second, run_leaves, steps-append, unsettled-steps}
 use Rattle.moka_maintenance.proofs.Seen.{steps-seen, led-seen, listed-seen, left-seen, steps_justified, steps_keep_predicates}
 
 -- ---- small facts
@@ -88,20 +96,43 @@ limited_where_listening : (b : Bool) (limit : Option ℕ) → (b && is_some limi
 limited_where_listening true limit = refl
 limited_where_listening false limit = refl
 
+-- where no member is settled, none is found
+no_settled : {K V : Type 0} (records : Records K V) (access : List Member) → settled_members records access ≡ [] → list_any (λ a. is_settled records a.number) access ≡ false
+no_settled records [] none = refl
+no_settled records (a ∷ access) none = go (is_settled records a.number) none (no_settled records access)
+  where
+    go : (b : Bool) → (if b then a ∷ settled_members records access else settled_members records access) ≡ [] → (settled_members records access ≡ [] → list_any (λ a. is_settled records a.number) access ≡ false) → (b || list_any (λ a. is_settled records a.number) access) ≡ false
+    go true none later = cc
+    go false none later = later none
+
+-- what holds of all of two lists joined
+all_before : {A : Type 0} (test : A → Bool) (xs ys : List A) → list_all test (xs ++ ys) ≡ true → list_all test xs ≡ true
+all_before test [] ys all = refl
+all_before test (x ∷ xs) ys all = go (test x) all (all_before test xs ys)
+  where
+    go : (b : Bool) → (b && list_all test (xs ++ ys)) ≡ true → (list_all test (xs ++ ys) ≡ true → list_all test xs ≡ true) → (b && list_all test xs) ≡ true
+    go true all later = later all
+    go false all later = cc
+
+-- whether predicates cover records is the same with another sketch
+drops_sketched : {K V P : Type 0} (says : P → K → V → Bool → Type 0) (q : parts.Tests) (c d : Contents K V) → c.records ≡ d.records → (ps : List (Registered P)) (xs : List Choice) → AreDrops xs → AreJustified says q c ps xs → AreJustified says q d ps xs
+drops_sketched says q c d same ps xs drops are = drops_later says c d (λ n r at. ap (λ rs. get rs n) same ∙ at) ps xs drops q are
+
 -- ---- the run
 
 -- what a run asks to know of a state
 pub record IsSimple {K V X P W : Type 0} (s : State K V X P W) : Type 0 where
   pub enabled : is_disabled s.capacity ≡ false
-  pub unregistered : s.predicates ≡ []
+  -- without support for predicates none is registered
+  pub unsupported : s.settings.invalidator ≡ false → s.predicates ≡ []
   pub consistent : IsConsistentState s
 
 module _ {K V X P W L C : Type 0} {tells : L → K → V → RemovalCause → L → Type 0} {reads : C → Instant → C → Type 0} (s : State K V X P W) (simple : IsSimple s) (terms : Terms) (q : Tests) (by_state : tests_in q ≡ tests_of s terms.now)
     {c d : Contents K V} {ns ms ks : List ℕ} {l m n : Option L} (applied : ArePrepared tells s.capacity s.settings.policy (keeps_write_list s.settings) (is_some s.settings.weigher) (after_queued_reads s) c ns ms s.writes l m)
-    {clock clock_after : C} {passes : ℕ} {left : Bool} (sketched : d.sketch ≡ c.sketch) (ran : IsRan tells q reads (if s.settings.listening then terms.limit else None) terms.batch (stock_of c ms) (stock_of d ks) m n clock clock_after passes left) where
+    {clock clock_after : C} {passes : ℕ} {left : Bool} {says : P → K → V → Bool → Type 0} {qs : List (Registered P)} (sketched : d.sketch ≡ c.sketch) (ran : IsRan tells says q reads (if s.settings.listening then terms.limit else None) terms.batch (keeps_write_list s.settings) s.predicates qs (stock_of c ms) (stock_of d ks) m n clock clock_after passes left) where
   -- what the run chose
   abbrev pub choices : Freedom
-  choices = record { moves = applied.moves; is_short = applied.is_short; steps = ran.by.steps }
+  choices = record { moves = applied.moves; is_short = applied.is_short; steps = ran.by.steps ++ ran.dropped.steps }
 
   -- how it went
   abbrev pub course : Course
@@ -109,17 +140,28 @@ module _ {K V X P W L C : Type 0} {tells : L → K → V → RemovalCause → L 
 
   -- the state that it leaves
   abbrev pub left_state : State K V X P W
-  left_state = with_contents s d s.predicates
+  left_state = with_contents s d qs
 
   before_same : before_steps s choices ≡ c
   before_same = sym applied.led
 
   end_same : at_end s choices ≡ d
-  end_same = ap (λ c. after_choices c ran.by.steps) before_same ∙ sym (led-seen c d ms ks ran.by.steps ran.by.led sketched)
+  end_same =
+      ap (λ c. after_choices c (ran.by.steps ++ ran.dropped.steps)) before_same ∙ choices-append c ran.by.steps ran.dropped.steps ∙ ap (λ c. after_choices c ran.dropped.steps) (sym (led-seen c d ms ks ran.by.steps ran.by.led sketched))
+      ∙ drops_stay d ran.dropped.steps ran.dropped.drops
+
+  each_leaves : MayAll MayLeave (stock_of c ms) ran.by.steps
+  each_leaves = may-also (MayRun says s.predicates (tests_in q)) MayLeave (run_leaves (tests_in q) says s.predicates) (stock_of c ms) ran.by.steps ran.by.may
+
+  kept_same : kept_by_choices s.predicates (ran.by.steps ++ ran.dropped.steps) ≡ qs
+  kept_same = kept-append s.predicates ran.by.steps ran.dropped.steps ∙ ap (λ ps. kept_by_choices ps ran.dropped.steps) (steps_keep_predicates s.predicates (stock_of c ms) ran.by.steps each_leaves) ∙ sym ran.dropped.kept
+
+  removed_same : removed_by (ran.by.steps ++ ran.dropped.steps) ≡ removed_by ran.by.steps
+  removed_same = removed_by_append ran.by.steps ran.dropped.steps ∙ ap (λ ns. removed_by ran.by.steps ++ ns) (drops_remove_none ran.dropped.steps ran.dropped.drops) ∙ append-nil (removed_by ran.by.steps)
 
   -- it is the reference cache's
   pub run_same : after_run s choices ≡ left_state
-  run_same = ap (with_contents s (at_end s choices)) (steps_keep_predicates (tests_in q) s.predicates (stock_of c ms) ran.by.steps ran.by.may) ∙ ap (λ c. with_contents s c s.predicates) end_same
+  run_same = ap (with_contents s (at_end s choices)) kept_same ∙ ap (λ c. with_contents s c qs) end_same
 
   -- afterwards only what was not sent waits
   pub end_consistent : IsConsistentState left_state
@@ -145,15 +187,23 @@ module _ {K V X P W L C : Type 0} {tells : L → K → V → RemovalCause → L 
   timed_limited : is_timed s.settings terms ≡ is_some (if s.settings.listening then terms.limit else None)
   timed_limited = limited_where_listening s.settings.listening terms.limit
 
-  -- a whole run leaves nothing more
-  finished : IsWhole s terms course → left ≡ false
-  finished whole = ran.whole (sym cut_late ∙ whole.0) whole.1
+  -- where a predicate is left, they are supported, and the order of writing is kept
+  order_kept : 0 < length qs → keeps_write_list s.settings ≡ true
+  order_kept some = go s.settings.invalidator refl
+    where
+      or_true : (b c : Bool) → c ≡ true → (b || c) ≡ true
+      or_true true c e = refl
+      or_true false c e = e
+
+      go : (b : Bool) → s.settings.invalidator ≡ b → keeps_write_list s.settings ≡ true
+      go true is = or_true (is_some s.settings.time_to_live) s.settings.invalidator is
+      go false is = absurd (not_empty qs (nothing_kept s.predicates qs ran.dropped.steps (simple.unsupported is) ran.dropped.drops ran.dropped.kept) some)
 
   same_capacity : q.capacity ≡ s.capacity
   same_capacity = ap (λ (t : parts.Tests). t.capacity) by_state
 
   at_rest : IsWhole s terms course → HasUnsettled (stock_of d ks) ⊎ IsWithin s.capacity d.access
-  at_rest whole = elim (ran.rest (finished whole)) [
+  at_rest whole = elim (ran.rest (sym cut_late ∙ whole.0) whole.1) [
     | inl some ↦ inl some
     | inr within ↦ inr (subst (λ o. IsWithin o d.access) same_capacity within)
   ]
@@ -175,8 +225,8 @@ module _ {K V X P W L C : Type 0} {tells : L → K → V → RemovalCause → L 
           | inr within ↦ inl within
         ];
         cut = λ cut. ran.cut (sym cut_late ∙ cut);
-        more = λ whole is. absurd (true≢false (sym is ∙ finished whole));
-        unfinished = λ whole some settled. absurd (not_empty s.predicates simple.unregistered some);
+        more = λ whole is. ran.whole (sym cut_late ∙ whole.0) whole.1 is;
+        unfinished = λ whole some settled. elim (ran.unfinished (order_kept some) (sym cut_late ∙ whole.0) whole.1 some) [ inl is ↦ is | inr none ↦ absurd (true≢false (sym settled ∙ no_settled d.records d.access none)) ];
         idle = λ enabled uncut none. ran.idle none ∙ idle_by_state;
         count_high = near.0;
         count_low = near.1;
@@ -196,20 +246,22 @@ module _ {K V X P W L C : Type 0} {tells : L → K → V → RemovalCause → L 
   list_before kept = applied.listed kept ∙ ap (λ b. written_after_writes b s.capacity s.settings.policy (after_queued_reads s) ns s.writes applied.moves) (sym kept)
 
   list_after : keeps_write_list s.settings ≡ true → ks ≡ write_list_at_end s ns choices
-  list_after kept = listed-seen c d ms ks ran.by.steps ran.by.led ∙ ap (λ xs. written_after_choices xs ran.by.steps) (list_before kept)
+  list_after kept =
+      listed-seen c d ms ks ran.by.steps ran.by.led ∙ ap (λ xs. written_after_choices xs ran.by.steps) (list_before kept)
+      ∙ sym (drops_unlisted ran.dropped.steps ran.dropped.drops (written_after_choices (write_list_before_steps s ns choices) ran.by.steps)) ∙ sym (written-append (write_list_before_steps s ns choices) ran.by.steps ran.dropped.steps)
 
   -- it came to rest by the write list
   comes_to_rest : IsWhole s terms course → IsAllSent s → keeps_write_list s.settings ≡ true → ComesToRest s ns choices terms.now
-  comes_to_rest whole all kept = elim (swept.4 (finished whole)) [
+  comes_to_rest whole all kept = elim (swept.4 (sym cut_late ∙ whole.0) whole.1) [
     | inl some ↦
-        let may = may-second (MayStep (tests_in q)) (stock_of c ms) swept.0 swept.1 (subst (MayAll (MayStep (tests_in q)) (stock_of c ms)) swept.2 ran.by.may) in
-        let last = unsettled-steps (tests_in q) (after_steps (stock_of c ms) swept.0) swept.1 may some in
+        let may = may-second MayLeave (stock_of c ms) swept.0 swept.1 (subst (MayAll MayLeave (stock_of c ms)) swept.2 each_leaves) in
+        let last = unsettled-steps (after_steps (stock_of c ms) swept.0) swept.1 may some in
         let same : after_steps (after_steps (stock_of c ms) swept.0) swept.1 ≡ stock_of d ks = sym (steps-append (stock_of c ms) swept.0 swept.1) ∙ sym (ap (after_steps (stock_of c ms)) swept.2) ∙ sym ran.by.led in
         absurd (none_unsettled all (subst (λ e. HasUnsettled e) same last))
-    | inr rest ↦ (swept.0, swept.1, swept.2, at_front rest)
+    | inr rest ↦ (swept.0, swept.1 ++ ran.dropped.steps, ap (λ xs. xs ++ ran.dropped.steps) swept.2 ∙ append_assoc swept.0 swept.1 ran.dropped.steps, at_front rest)
   ]
     where
-      swept : (first second : List Choice) × (ran.by.steps ≡ first ++ second) × IsDone q Written (passes * terms.batch) (length first) (after_steps (stock_of c ms) first) × (left ≡ false → HasUnsettled (after_steps (stock_of c ms) first) ⊎ IsAtRest q Written (after_steps (stock_of c ms) first))
+      swept : (first second : List Choice) × (ran.by.steps ≡ first ++ second) × (s.predicates ≡ [] → IsDone q Written (passes * terms.batch) (length first) (after_steps (stock_of c ms) first)) × (is_late (if s.settings.listening then terms.limit else None) ran.readings ≡ false → 1 ≤ terms.batch → HasUnsettled (after_steps (stock_of c ms) first) ⊎ IsAtRest q Written (after_steps (stock_of c ms) first))
       swept = ran.writes_swept
 
       at_front : IsAtRest q Written (after_steps (stock_of c ms) swept.0) → IsAtRestByWrite (tests_of s terms.now) (after_choices (before_steps s choices) swept.0).records (written_after_choices (write_list_before_steps s ns choices) swept.0)
@@ -222,27 +274,57 @@ module _ {K V X P W L C : Type 0} {tells : L → K → V → RemovalCause → L 
   leaves_list : LeavesList ns ks s terms choices course
   leaves_list = record { list = list_after; rests = comes_to_rest }
 
-  module _ (says : P → K → V → Bool → Type 0) (read : X → K → V → ℕ → Option ℕ → ℕ → Option ℕ) (lasts : IsAllSent s → NeverRenewsOnRead read s → (k : ℕ) (r : Record K V) → get d.records k ≡ Some r → is_expired r terms.now ≡ false) where
+  module _ (read : X → K → V → ℕ → Option ℕ → ℕ → Option ℕ) (lasts : IsAllSent s → NeverRenewsOnRead read s → (k : ℕ) (r : Record K V) → get d.records k ≡ Some r → is_expired r terms.now ≡ false) where
+    justified : AreJustified says (tests_of s terms.now) (before_steps s choices) s.predicates (ran.by.steps ++ ran.dropped.steps)
+    justified =
+        subst (λ t. AreJustified says t (before_steps s choices) s.predicates (ran.by.steps ++ ran.dropped.steps)) by_state
+        (subst (λ b. AreJustified says (tests_in q) b s.predicates (ran.by.steps ++ ran.dropped.steps)) (sym before_same)
+        (justified-append says (tests_in q) c s.predicates ran.by.steps ran.dropped.steps (steps_justified (tests_in q) says s.predicates c ms ran.by.steps ran.by.may)
+        (subst (λ ps. AreJustified says (tests_in q) (after_choices c ran.by.steps) ps ran.dropped.steps) (sym (steps_keep_predicates s.predicates (stock_of c ms) ran.by.steps each_leaves))
+        (drops_sketched says (tests_in q) (contents_of (stock_of d ks)) (after_choices c ran.by.steps) (ap (λ (e : Contents K V). e.records) (led-seen c d ms ks ran.by.steps ran.by.led sketched)) s.predicates ran.dropped.steps ran.dropped.drops (ran.dropped.justified (tests_in q))))))
+
+    is_free : AreFree says s terms.now choices
+    is_free = (applied.may, justified)
+
+    -- once everything was sent, the steps begin with settled members alone
+    abbrev begun : Freedom
+    begun = record { moves = applied.moves; is_short = applied.is_short; steps = [] }
+
+    begun_consistent : IsConsistent (IsWaitingIn s.outstanding []) c.records c.access
+    begun_consistent = subst (λ (e : Contents K V). IsConsistent (IsWaitingIn s.outstanding []) e.records e.access) before_same (run_kept s begun simple.consistent)
+
+    members_at_first : IsAllSent s → (k : ℕ) (r : Record K V) → get c.records k ≡ Some r → (is_applied r ≡ true) × (is_member k c.access ≡ true)
+    members_at_first all k r there =
+        let is = record_settled (IsWaitingIn s.outstanding []) (nothing_waits s.outstanding all) k r (counted_of k c.access) (subst (λ o. IsSound (IsWaitingIn s.outstanding []) k o (counted_of k c.access)) there (begun_consistent.sound k)) in
+        (is.1, is.0)
+
+    few_members : IsAllSent s → len s.records ≤ terms.batch → length c.access ≤ terms.batch
+    few_members all enough =
+        let count = exact_count c.records c.access (exact_when_nothing_waits (IsWaitingIn s.outstanding []) c.records c.access begun_consistent (nothing_waits s.outstanding all)) in
+        let less = len-fewer s.records c.records (record { key = λ k r there. (let old = run_keeps s begun k r (ap (λ (e : Contents K V). get e.records k) before_same ∙ there) in (old.0, old.1)) }) in
+        omega arith
+
+    -- with a batch for all records, no predicate is left
+    no_predicate : IsAllSent s → s.settings.invalidator ≡ true → len s.records ≤ terms.batch → qs ≡ []
+    no_predicate all supported enough =
+        ran.predicates (or_true (is_some s.settings.time_to_live) s.settings.invalidator supported) (few_members all enough) (λ k r there. members_at_first all k r there)
+      where
+        or_true : (b c : Bool) → c ≡ true → (b || c) ≡ true
+        or_true true c e = refl
+        or_true false c e = e
+
     settles : Settles says read s terms course left_state
     settles = record {
       exact = λ whole all. end_exact all;
       within = λ whole all. elim (at_rest whole) [ inl some ↦ absurd (none_unsettled all some) | inr within ↦ within ];
       expired = λ whole all never k r there. lasts all never k r there;
-      predicates = λ whole all enabled supported enough. simple.unregistered;
-      covered = λ whole all enabled supported enough p k r is there covers. absurd (not_contained s.predicates p simple.unregistered is);
+      predicates = λ whole all enabled supported enough. no_predicate all supported enough;
+      covered = λ whole all enabled supported enough p k r is there covers. not_contained qs p (no_predicate all supported enough) (subst (λ ps. Contains ps p) kept_same (covering_stays says s terms.now choices is_free p k r is (ap (λ (c : Contents K V). get c.records k) end_same ∙ there) covers));
     }
-
-    justified : AreJustified says (tests_of s terms.now) (before_steps s choices) s.predicates ran.by.steps
-    justified =
-        subst (λ t. AreJustified says t (before_steps s choices) s.predicates ran.by.steps) by_state
-        (subst (λ b. AreJustified says (tests_in q) b s.predicates ran.by.steps) (sym before_same) (steps_justified (tests_in q) says s.predicates c ms ran.by.steps ran.by.may))
-
-    is_free : AreFree says s terms.now choices
-    is_free = (applied.may, justified)
 
     module _ (capacity : ℕ) (plain : IsPlainSurplus s terms.now capacity (before_steps s choices)) where
       -- a surplus is removed from the front, and nothing else
-      just_surplus : IsWhole s terms course → (front : List Member) × (prefix (before_steps s choices).access (total_weight (before_steps s choices).access - capacity) ≡ Some front) × (removed_by ran.by.steps ≡ numbers_of front)
+      just_surplus : IsWhole s terms course → (front : List Member) × (prefix (before_steps s choices).access (total_weight (before_steps s choices).access - capacity) ≡ Some front) × (removed_by (ran.by.steps ++ ran.dropped.steps) ≡ numbers_of front)
       just_surplus whole =
           elim (at_rest whole) [
             | inl some ↦
@@ -253,16 +335,16 @@ module _ {K V X P W L C : Type 0} {tells : L → K → V → RemovalCause → L 
           ]
 
       -- as far as a run comes that is cut after its first pass
-      first_batch : is_cut s.settings terms course ≡ true → passes ≡ 1 → removed_by ran.by.steps ≡ numbers_of (take terms.batch (before_steps s choices).access)
+      first_batch : is_cut s.settings terms course ≡ true → passes ≡ 1 → removed_by (ran.by.steps ++ ran.dropped.steps) ≡ numbers_of (take terms.batch (before_steps s choices).access)
       first_batch cut one =
           removes_first says s terms.now choices capacity terms.batch simple.consistent is_free plain
-          (ran.batch_used (sym cut_late ∙ cut) one (removes_for_size_alone says s terms.now choices capacity simple.consistent is_free plain makes_room (λ n. refl)))
+          (ap length removed_same ∙ ran.batch_used (sym cut_late ∙ cut) one plain.no_predicate (all_before makes_room ran.by.steps ran.dropped.steps (removes_for_size_alone says s terms.now choices capacity simple.consistent is_free plain makes_room (λ n. refl))))
 
     bounded : IsBounded s terms choices course
     bounded = record {
       made = ran.made;
-      passes = ran.few;
-      removing = λ cut. ran.removing (sym cut_late ∙ cut);
+      passes = subst (λ ns. passes ≤ length ns + 1) (sym removed_same) ran.few;
+      removing = λ cut. subst (λ ns. passes ≤ length ns) (sym removed_same) (ran.removing (sym cut_late ∙ cut));
       timed = λ timed. ran.timed (sym timed_limited ∙ timed) ∙ ap (λ b. passes + (if b then 1 else 0)) (sym cut_late);
       untimed = λ untimed. ran.untimed (sym timed_limited ∙ untimed);
       surplus = just_surplus;
@@ -277,29 +359,33 @@ module _ {K V X P W L C : Type 0} {tells : L → K → V → RemovalCause → L 
   pub promised_told : s.settings.listening ≡ is_some l → Heard tells l (when_listening s.settings.listening (left_in_run s choices)) n
   promised_told listening =
       subst (λ b. Heard tells l (when_listening b (left_in_run s choices)) n) (sym listening)
-      (told-on tells l m n (left_by_writes s.capacity s.settings.policy (after_queued_reads s) s.writes applied.moves) (left_by_choices (before_steps s choices) ran.by.steps) applied.told
-      (subst (λ b. Told tells m (left_by_choices b ran.by.steps) n) (sym before_same) (subst (λ xs. Told tells m xs n) (left-seen c ms ran.by.steps) ran.by.told)))
+      (told-on tells l m n (left_by_writes s.capacity s.settings.policy (after_queued_reads s) s.writes applied.moves) (left_by_choices (before_steps s choices) (ran.by.steps ++ ran.dropped.steps)) applied.told
+      (subst (λ b. Told tells m (left_by_choices b (ran.by.steps ++ ran.dropped.steps)) n) (sym before_same)
+      (subst (λ xs. Told tells m xs n) (sym (gone-append c ran.by.steps ran.dropped.steps ∙ ap (λ xs. left_by_choices c ran.by.steps ++ xs) (drops_silent (after_choices c ran.by.steps) ran.dropped.steps ran.dropped.drops) ∙ append-nil (left_by_choices c ran.by.steps)))
+      (subst (λ xs. Told tells m xs n) (left-seen c ms ran.by.steps) ran.by.told))))
 
 -- ---- the run, with the premises as they come
 
 module _ {K V X P W L C : Type 0} {tells : L → K → V → RemovalCause → L → Type 0} {reads : C → Instant → C → Type 0} (s : State K V X P W) (simple : IsSimple s) (terms : Terms) {q : Tests} (by_state : tests_in q ≡ tests_of s terms.now)
     {b c d : Contents K V} {ordered : Bool} (kept : ordered ≡ keeps_write_list s.settings) {ns ms ks : List ℕ} {l m n : Option L} (begun : b ≡ after_queued_reads s) (applied : ArePrepared tells s.capacity s.settings.policy ordered (is_some s.settings.weigher) b c ns ms s.writes l m)
-    {limit : Option ℕ} {batch : ℕ} {clock clock_after : C} {passes : ℕ} {left : Bool} (limited : limit ≡ (if s.settings.listening then terms.limit else None)) (batched : batch ≡ terms.batch) (sketched : d.sketch ≡ c.sketch) (ran : IsRan tells q reads limit batch (stock_of c ms) (stock_of d ks) m n clock clock_after passes left) where
+    {says : P → K → V → Bool → Type 0} {qs : List (Registered P)} {limit : Option ℕ} {batch : ℕ} {clock clock_after : C} {passes : ℕ} {left : Bool} (limited : limit ≡ (if s.settings.listening then terms.limit else None)) (batched : batch ≡ terms.batch) (sketched : d.sketch ≡ c.sketch) (ran : IsRan tells says q reads limit batch ordered s.predicates qs (stock_of c ms) (stock_of d ks) m n clock clock_after passes left) where
   applied_to_state : ArePrepared tells s.capacity s.settings.policy (keeps_write_list s.settings) (is_some s.settings.weigher) (after_queued_reads s) c ns ms s.writes l m
   applied_to_state =
       subst (λ o. ArePrepared tells s.capacity s.settings.policy o (is_some s.settings.weigher) (after_queued_reads s) c ns ms s.writes l m) kept
       (subst (λ b. ArePrepared tells s.capacity s.settings.policy ordered (is_some s.settings.weigher) b c ns ms s.writes l m) begun applied)
 
-  ran_by_terms : IsRan tells q reads (if s.settings.listening then terms.limit else None) terms.batch (stock_of c ms) (stock_of d ks) m n clock clock_after passes left
-  ran_by_terms = subst (λ o. IsRan tells q reads o terms.batch (stock_of c ms) (stock_of d ks) m n clock clock_after passes left) limited (subst (λ k. IsRan tells q reads limit k (stock_of c ms) (stock_of d ks) m n clock clock_after passes left) batched ran)
+  ran_by_terms : IsRan tells says q reads (if s.settings.listening then terms.limit else None) terms.batch (keeps_write_list s.settings) s.predicates qs (stock_of c ms) (stock_of d ks) m n clock clock_after passes left
+  ran_by_terms =
+      subst (λ o. IsRan tells says q reads (if s.settings.listening then terms.limit else None) terms.batch o s.predicates qs (stock_of c ms) (stock_of d ks) m n clock clock_after passes left) kept
+      (subst (λ o. IsRan tells says q reads o terms.batch ordered s.predicates qs (stock_of c ms) (stock_of d ks) m n clock clock_after passes left) limited (subst (λ k. IsRan tells says q reads limit k ordered s.predicates qs (stock_of c ms) (stock_of d ks) m n clock clock_after passes left) batched ran))
 
   -- it keeps all promises, from one write list to the other
-  pub run_promised : (says : P → K → V → Bool → Type 0) (read : X → K → V → ℕ → Option ℕ → ℕ → Option ℕ) → (IsAllSent s → NeverRenewsOnRead read s → (k : ℕ) (r : Record K V) → get d.records k ≡ Some r → is_expired r terms.now ≡ false)
-      → s.settings.listening ≡ is_some l → IsPromised says read tells reads ns ks s terms left passes (with_contents s d s.predicates) l n clock clock_after
-  run_promised says read lasts listening = record {
+  pub run_promised : (read : X → K → V → ℕ → Option ℕ → ℕ → Option ℕ) → (IsAllSent s → NeverRenewsOnRead read s → (k : ℕ) (r : Record K V) → get d.records k ≡ Some r → is_expired r terms.now ≡ false)
+      → s.settings.listening ≡ is_some l → IsPromised says read tells reads ns ks s terms left passes (with_contents s d qs) l n clock clock_after
+  run_promised read lasts listening = record {
     readings = ran_by_terms.readings;
     notices = when_listening s.settings.listening (left_in_run s (choices s simple terms q by_state applied_to_state sketched ran_by_terms));
-    run = promised s simple terms q by_state applied_to_state sketched ran_by_terms says read lasts;
+    run = promised s simple terms q by_state applied_to_state sketched ran_by_terms read lasts;
     heard = promised_told s simple terms q by_state applied_to_state sketched ran_by_terms listening;
     led = ran_by_terms.read;
   }
@@ -309,7 +395,7 @@ module _ {K V X P W L C : Type 0} {tells : L → K → V → RemovalCause → L 
   run_keeps_listening = told_same tells m n (left_by_steps (stock_of c ms) ran.by.steps) ran.by.told ∙ told_same tells l m (left_by_writes s.capacity s.settings.policy b s.writes applied.moves) applied.told
 
   -- afterwards only what was not sent waits
-  pub run_leaves_consistent : IsConsistentState (with_contents s d s.predicates)
+  pub run_leaves_consistent : IsConsistentState (with_contents s d qs)
   run_leaves_consistent = end_consistent s simple terms q by_state applied_to_state sketched ran_by_terms
 
   -- where no record has an expiry of its own, none has one
@@ -321,9 +407,9 @@ module _ {K V X P W L C : Type 0} {tells : L → K → V → RemovalCause → L 
   run_settles_each = each_settled s simple terms q by_state applied_to_state sketched ran_by_terms
 
   -- the state is as valid as before
-  pub run_leaves_valid : (eq : K → K → Bool) → IsValid eq s → IsValid eq (with_contents s d s.predicates)
+  pub run_leaves_valid : (eq : K → K → Bool) → IsValid eq s → IsValid eq (with_contents s d qs)
   run_leaves_valid eq valid = end_valid s simple terms q by_state applied_to_state sketched ran_by_terms eq valid
 
   -- once everything was sent, the report is exact, whatever the batch
-  pub run_leaves_exact : IsAllSent s → IsExact (with_contents s d s.predicates)
+  pub run_leaves_exact : IsAllSent s → IsExact (with_contents s d qs)
   run_leaves_exact = end_exact s simple terms q by_state applied_to_state sketched ran_by_terms

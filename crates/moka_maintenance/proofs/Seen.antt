@@ -1,12 +1,13 @@
 -- Steps of a stock are those of the reference cache, whatever sketch its contents have; the write list goes along.
-use Rattle.std.proofs.Common.{◌≡◌, refl, ℕ, Bool, List, [], ◌∷◌, ◌++◌, inl, ap, sym, ◌∙◌, Option}
+use Rattle.std.proofs.Common.{◌≡◌, refl, ℕ, Bool, List, [], ◌∷◌, ◌++◌, ap, sym, ◌∙◌, Option}
 use Rattle.moka_sketch.specs.Frequency.{Table}
+use Rattle.moka_parts.specs.declared.notification.RemovalCause.{RemovalCause}
 use Rattle.moka_parts.specs.declared.notification.RemovalCause.TheVariants.{Expired, Explicit, Replaced, Size}
 use Rattle.moka_parts.specs.declared.records.Registered.{Registered}
 use Rattle.moka_parts.specs.State.{Contents}
 use Rattle.moka_parts.specs.Maintenance.{Choice, Removes, MovesToBack, Drops, Tests, after_choice, after_choices, left_by_choice, left_by_choices, kept_by_choices, IsJustified, AreJustified}
 use Rattle.moka_parts.specs.Order.{written_after_choice, written_after_choices}
-use Rattle.moka_maintenance.specs.Steps.{Stock, stock_of, after_step, after_steps, left_by_steps, MayStep, MayAll}
+use Rattle.moka_maintenance.specs.Steps.{Stock, stock_of, after_step, after_steps, left_by_steps, MayLeave, MayRun, MayAll}
 
 module _ {K V : Type 0} where
   -- they lead to the same
@@ -39,24 +40,22 @@ module _ {K V : Type 0} where
   left-seen c ns (Drops i ∷ xs) = left-seen c ns xs
 
   module _ (q : Tests) {P : Type 0} (says : P → K → V → Bool → Type 0) (ps : List (Registered P)) where
-    step_justified : (c : Contents K V) (ns : List ℕ) (x : Choice) → MayStep q (stock_of c ns) x → IsJustified says q c ps x
-    step_justified c ns (Removes n Expired) may = may
-    step_justified c ns (Removes n Explicit) may = (may.0, may.1, may.2, inl may.3)
-    step_justified c ns (Removes n Size) may = may
-    step_justified c ns (Removes n Replaced) may = absurd may.3
-    step_justified c ns (MovesToBack n) may = may
-    step_justified c ns (Drops i) may = absurd may
+    step_justified : (c : Contents K V) (ns : List ℕ) (n : ℕ) (cause : RemovalCause) → MayRun says ps q (stock_of c ns) (Removes n cause) → IsJustified says q c ps (Removes n cause)
+    step_justified c ns n Expired may = may
+    step_justified c ns n Explicit may = may
+    step_justified c ns n Size may = may
+    step_justified c ns n Replaced may = may
 
-    -- steps that these tests allow are justified, whatever predicates there are
-    pub steps_justified : (c : Contents K V) (ns : List ℕ) (xs : List Choice) → MayAll (MayStep q) (stock_of c ns) xs → AreJustified says q c ps xs
+    -- steps that tests and predicates allow are justified
+    pub steps_justified : (c : Contents K V) (ns : List ℕ) (xs : List Choice) → MayAll (MayRun says ps q) (stock_of c ns) xs → AreJustified says q c ps xs
     steps_justified c ns [] may = tt
-    steps_justified c ns (Removes n cause ∷ xs) may = (step_justified c ns (Removes n cause) may.0, steps_justified (after_choice c (Removes n cause)) (written_after_choice ns (Removes n cause)) xs may.1)
+    steps_justified c ns (Removes n cause ∷ xs) may = (step_justified c ns n cause may.0, steps_justified (after_choice c (Removes n cause)) (written_after_choice ns (Removes n cause)) xs may.1)
     steps_justified c ns (MovesToBack n ∷ xs) may = (may.0, steps_justified (after_choice c (MovesToBack n)) (written_after_choice ns (MovesToBack n)) xs may.1)
     steps_justified c ns (Drops i ∷ xs) may = absurd may.0
 
   -- and leave all predicates
-  pub steps_keep_predicates : (q : Tests) {P : Type 0} (ps : List (Registered P)) (c : Stock K V) (xs : List Choice) → MayAll (MayStep q) c xs → kept_by_choices ps xs ≡ ps
-  steps_keep_predicates q ps c [] may = refl
-  steps_keep_predicates q ps c (Removes n cause ∷ xs) may = steps_keep_predicates q ps (after_step c (Removes n cause)) xs may.1
-  steps_keep_predicates q ps c (MovesToBack n ∷ xs) may = steps_keep_predicates q ps (after_step c (MovesToBack n)) xs may.1
-  steps_keep_predicates q ps c (Drops i ∷ xs) may = absurd may.0
+  pub steps_keep_predicates : {P : Type 0} (ps : List (Registered P)) (c : Stock K V) (xs : List Choice) → MayAll MayLeave c xs → kept_by_choices ps xs ≡ ps
+  steps_keep_predicates ps c [] may = refl
+  steps_keep_predicates ps c (Removes n cause ∷ xs) may = steps_keep_predicates ps (after_step c (Removes n cause)) xs may.1
+  steps_keep_predicates ps c (MovesToBack n ∷ xs) may = steps_keep_predicates ps (after_step c (MovesToBack n)) xs may.1
+  steps_keep_predicates ps c (Drops i ∷ xs) may = absurd may.0

@@ -1,18 +1,23 @@
 -- Steps one after the other, what they tell, and what they leave.
-use Rattle.std.proofs.Common.{◌≡◌, ◌≢◌, refl, ℕ, ◌+◌, ◌≤◌, Bool, true, false, true≢false, cond, not, ◌==◌, ◌&&◌, List, [], ◌∷◌, ◌++◌, length, Option, Some, None, is_some, ap, sym, subst, ◌∙◌, arith, append_assoc, append-nil}
+use Rattle.std.proofs.Common.{◌≡◌, ◌≢◌, refl, ℕ, ◌+◌, ◌≤◌, Bool, true, false, true≢false, cond, not, ◌==◌, ◌&&◌, List, [], ◌∷◌, ◌++◌, length, Option, Some, None, is_some, inl, inr, ap, sym, subst, ◌∙◌, arith, append_assoc, append-nil}
 use Rattle.std.proofs.lemmas.Bool.{ne_eqb, cond-false}
 use Rattle.std.specs.Option.{option_map, option_map_or}
 use Rattle.std.specs.Prelude.{option_to_list}
 use Rattle.moka_parts.specs.declared.notification.RemovalCause.{RemovalCause}
+use Rattle.moka_parts.specs.declared.notification.RemovalCause.TheVariants.{Expired, Explicit, Replaced, Size}
 use Rattle.moka_parts.specs.declared.records.Member.{Member}
+use Rattle.moka_parts.specs.declared.records.Record.{Record}
+use Rattle.moka_parts.specs.declared.records.Registered.{Registered}
+use Rattle.moka_parts.specs.Visibility.{SomeCovers}
 use Rattle.moka_parts.specs.Records.{counted_of, is_applied, is_member, is_settled, member, without_member, to_back}
 use Rattle.moka_parts.specs.Maintenance.{Choice, Removes, MovesToBack, Drops, Tests}
 use Rattle.moka_parts.specs.Bounds.{removed_by}
 use Rattle.moka_parts.proofs.OneMore.{removed_by_append}
-use Rattle.moka_store.proofs.Gets.{get-past_remove}
+use Rattle.moka_store.proofs.Gets.{after_remove, get-past_remove}
 use Rattle.moka_parts.proofs.AccessList.{counted-to_back}
 use Rattle.moka_store.proofs.Members.{counted-without}
-use Rattle.moka_maintenance.specs.Steps.{Stock, after_step, after_steps, left_by_step, left_by_steps, MayStep, MayAll, HasUnsettled, Told, IsStepped}
+use Rattle.moka_maintenance.specs.Steps.{Stock, after_step, after_steps, left_by_step, left_by_steps, MayStep, MayLeave, MayRun, MayAll, AreAllMembers, HasUnsettled, Told, IsStepped}
+use Rattle.moka_maintenance.specs.Scanning.{MayScan}
 use Rattle.moka_maintenance.proofs.Told.{told-none, told-on}
 
 pub length-on : {A : Type 0} (xs ys : List A) → length (xs ++ ys) ≡ length xs + length ys
@@ -69,7 +74,7 @@ length-without n (a ∷ xs) = let rest = length-without n xs in elim (a.number =
   | false ↦ omega arith
 ]
 
-length-removed : (n : ℕ) (xs : List Member) → is_member n xs ≡ true → length (without_member n xs) + 1 ≤ length xs
+pub length-removed : (n : ℕ) (xs : List Member) → is_member n xs ≡ true → length (without_member n xs) + 1 ≤ length xs
 length-removed n [] e = cc
 length-removed n (a ∷ xs) e = go (a.number == n) (λ e. length-removed n xs e) e
   where
@@ -84,20 +89,59 @@ one_at_most n (Some w) = omega arith
 length-back : (n : ℕ) (xs : List Member) → is_member n xs ≡ true → length (to_back n xs) ≤ length xs
 length-back n xs e = let less = length-removed n xs e in let plus = length-on (without_member n xs) (option_to_list (option_map (member n) (counted_of n xs))) in let one = one_at_most n (counted_of n xs) in omega arith
 
-pub shrinks : {K V : Type 0} (q : Tests) (c : Stock K V) (xs : List Choice) → MayAll (MayStep q) c xs → length (after_steps c xs).access + length (removed_by xs) ≤ length c.access
-shrinks q c [] may = omega arith
-shrinks q c (Removes n cause ∷ xs) may = let rest = shrinks q (after_step c (Removes n cause)) xs may.1 in let less = length-removed n c.access (first (is_member n c.access) (is_settled c.records n) may.0.2) in omega arith
-shrinks q c (MovesToBack n ∷ xs) may = let rest = shrinks q (after_step c (MovesToBack n)) xs may.1 in let less = length-back n c.access may.0.0 in omega arith
-shrinks q c (Drops i ∷ xs) may = absurd may.0
+pub shrinks : {K V : Type 0} (c : Stock K V) (xs : List Choice) → MayAll MayLeave c xs → length (after_steps c xs).access + length (removed_by xs) ≤ length c.access
+shrinks c [] may = omega arith
+shrinks c (Removes n cause ∷ xs) may = let rest = shrinks (after_step c (Removes n cause)) xs may.1 in let less = length-removed n c.access (first (is_member n c.access) (is_settled c.records n) may.0.2) in omega arith
+shrinks c (MovesToBack n ∷ xs) may = let rest = shrinks (after_step c (MovesToBack n)) xs may.1 in let less = length-back n c.access may.0.0 in omega arith
+shrinks c (Drops i ∷ xs) may = absurd may.0
+
+-- ---- what one rule allows, another does
+
+module _ {K V : Type 0} (q : Tests) where
+  pub step_leaves : (c : Stock K V) (x : Choice) → MayStep q c x → MayLeave c x
+  step_leaves c (Removes n cause) may = (may.0, may.1, may.2)
+  step_leaves c (MovesToBack n) may = may
+  step_leaves c (Drops i) may = absurd may
+
+  module _ {P : Type 0} (says : P → K → V → Bool → Type 0) (ps : List (Registered P)) where
+    pub step_runs : (c : Stock K V) (x : Choice) → MayStep q c x → MayRun says ps q c x
+    step_runs c (Removes n Expired) may = may
+    step_runs c (Removes n Explicit) may = (may.0, may.1, may.2, inl may.3)
+    step_runs c (Removes n Size) may = may
+    step_runs c (Removes n Replaced) may = absurd may.3
+    step_runs c (MovesToBack n) may = may
+    step_runs c (Drops i) may = absurd may
+
+    pub scan_runs : (c : Stock K V) (x : Choice) → MayScan says ps c x → MayRun says ps q c x
+    scan_runs c (Removes n Expired) may = (let e = may.4 in cc)
+    scan_runs c (Removes n Explicit) may = (may.0, may.1, may.2, inr may.3)
+    scan_runs c (Removes n Size) may = (let e = may.4 in cc)
+    scan_runs c (Removes n Replaced) may = (let e = may.4 in cc)
+    scan_runs c (MovesToBack n) may = absurd may
+    scan_runs c (Drops i) may = absurd may
+
+    pub run_leaves : (c : Stock K V) (x : Choice) → MayRun says ps q c x → MayLeave c x
+    run_leaves c (Removes n cause) may = (may.0, may.1, may.2)
+    run_leaves c (MovesToBack n) may = may
+    run_leaves c (Drops i) may = absurd may
+
+    -- by fewer predicates
+    pub fewer_run : (qs : List (Registered P)) → ((r : Record K V) → SomeCovers says qs r → SomeCovers says ps r) → (c : Stock K V) (x : Choice) → MayRun says qs q c x → MayRun says ps q c x
+    fewer_run qs less c (Removes n Expired) may = may
+    fewer_run qs less c (Removes n Explicit) may = elim may.3 [ inl ground ↦ (may.0, may.1, may.2, inl ground) | inr covered ↦ (may.0, may.1, may.2, inr (less may.0 covered)) ]
+    fewer_run qs less c (Removes n Size) may = may
+    fewer_run qs less c (Removes n Replaced) may = absurd may.3
+    fewer_run qs less c (MovesToBack n) may = may
+    fewer_run qs less c (Drops i) may = absurd may
 
 -- ---- members that are not settled
 
-module _ {K V : Type 0} (q : Tests) where
+module _ {K V : Type 0} where
   apart : {n m : ℕ} (c : Stock K V) → is_settled c.records n ≡ true → is_settled c.records m ≡ false → m ≢ n
   apart c settled unsettled same = true≢false (sym settled ∙ (ap (is_settled c.records) (sym same) ∙ unsettled))
 
   -- a member that is not settled stays
-  pub unsettled-step : (c : Stock K V) (x : Choice) → MayStep q c x → HasUnsettled c → HasUnsettled (after_step c x)
+  pub unsettled-step : (c : Stock K V) (x : Choice) → MayLeave c x → HasUnsettled c → HasUnsettled (after_step c x)
   unsettled-step c (Removes n cause) may u =
       let other = apart {n = n} {m = u.number} c (right (is_member n c.access) (is_settled c.records n) may.2) u.unsettled in
       record {
@@ -109,12 +153,37 @@ module _ {K V : Type 0} (q : Tests) where
   unsettled-step c (Drops i) may u = absurd may
 
   -- nor does one that goes to the back leave
-  pub unsettled-passed : (c : Stock K V) (n : ℕ) → MayStep q c (MovesToBack n) → HasUnsettled (after_step c (MovesToBack n))
+  pub unsettled-passed : (c : Stock K V) (n : ℕ) → MayLeave c (MovesToBack n) → HasUnsettled (after_step c (MovesToBack n))
   unsettled-passed c n may = unsettled-step c (MovesToBack n) may (record { number = n; is_in = may.0; unsettled = may.1 })
 
-  pub unsettled-steps : (c : Stock K V) (xs : List Choice) → MayAll (MayStep q) c xs → HasUnsettled c → HasUnsettled (after_steps c xs)
+  pub unsettled-steps : (c : Stock K V) (xs : List Choice) → MayAll MayLeave c xs → HasUnsettled c → HasUnsettled (after_steps c xs)
   unsettled-steps c [] may u = u
   unsettled-steps c (x ∷ xs) may u = unsettled-steps (after_step c x) xs may.1 (unsettled-step c x may.0 u)
+
+  -- ---- members that are
+
+  -- each record stays a settled member
+  members-step : (c : Stock K V) (x : Choice) → AreAllMembers c → AreAllMembers (after_step c x)
+  members-step c (Removes m cause) all = λ n r at.
+      let old = after_remove c.records m n r at in
+      let is = all n r old.1 in
+      (is.0, ap is_some (counted-without m n c.access ∙ cond-false (n == m) None (counted_of n c.access) (ne_eqb n m old.0)) ∙ is.1)
+  members-step c (MovesToBack m) all = λ n r at. ((all n r at).0, ap is_some (counted-to_back m n c.access) ∙ (all n r at).1)
+  members-step c (Drops i) all = all
+
+  pub members-steps : (c : Stock K V) (xs : List Choice) → AreAllMembers c → AreAllMembers (after_steps c xs)
+  members-steps c [] all = all
+  members-steps c (x ∷ xs) all = members-steps (after_step c x) xs (members-step c x all)
+
+  -- where no member is settled, none leaves, and none is later
+  none-step : (c : Stock K V) (x : Choice) → MayLeave c x → ((n : ℕ) → is_member n c.access ≡ true → is_settled c.records n ≡ false) → (n : ℕ) → is_member n (after_step c x).access ≡ true → is_settled (after_step c x).records n ≡ false
+  none-step c (Removes m cause) may none n there = absurd (true≢false (sym (right (is_member m c.access) (is_settled c.records m) may.2) ∙ none m (first (is_member m c.access) (is_settled c.records m) may.2)))
+  none-step c (MovesToBack m) may none n there = none n (sym (ap is_some (counted-to_back m n c.access)) ∙ there)
+  none-step c (Drops i) may none n there = absurd may
+
+  pub none-steps : (c : Stock K V) (xs : List Choice) → MayAll MayLeave c xs → ((n : ℕ) → is_member n c.access ≡ true → is_settled c.records n ≡ false) → (n : ℕ) → is_member n (after_steps c xs).access ≡ true → is_settled (after_steps c xs).records n ≡ false
+  none-steps c [] may none = none
+  none-steps c (x ∷ xs) may none = none-steps (after_step c x) xs may.1 (none-step c x may.0 none)
 
 module _ {K V L : Type 0} (tells : L → K → V → RemovalCause → L → Type 0) (May : Stock K V → Choice → Type 0) where
   -- no step

@@ -11,7 +11,7 @@ use Rattle.moka_maintenance.specs.declared.sweep.Tests.{Tests}
 use Rattle.moka_maintenance.specs.declared.sweep.Sweep.{Sweep}
 use Rattle.moka_maintenance.specs.declared.sweep.Turn.TheVariants.{Removed, Passed, Ended}
 use Rattle.moka_maintenance.specs.Steps.{Stock, Told, HasUnsettled, HasNoSettled, IsStepped}
-use Rattle.moka_maintenance.specs.Sweeps.{tests_in, MayTurn, TakesTurn, IsSwept}
+use Rattle.moka_maintenance.specs.Sweeps.{MayTurn, TakesTurn, IsSwept}
 use Rattle.moka_maintenance.proofs.Told.{told-none}
 use Rattle.moka_maintenance.proofs.Stepped.{length-on, removed-on, stepped-none, stepped-one, stepped-on, unsettled-step, unsettled-passed}
 use Rattle.moka_maintenance.proofs.Fronts.{length-to_back, none-to_back, none_settled}
@@ -84,7 +84,7 @@ module _ {K V L : Type 0} (tells : L → K → V → RemovalCause → L → Type
     most = (let most = h.most in omega arith);
     few = (let few = h.few in omega arith);
     settled = λ is. (let s = h.settled is in omega arith);
-    unsettled = λ is. (let u = h.unsettled is in (subst (λ x. HasUnsettled x) (sym t.3) (unsettled-step (tests_in q) now (Removes t.0 t.1) t.2.1 u.0), (let lt = u.1 in omega arith)));
+    unsettled = λ is. (let u = h.unsettled is in (subst (λ x. HasUnsettled x) (sym t.3) (unsettled-step now (Removes t.0 t.1) (t.2.1.0, t.2.1.1, t.2.1.2) u.0), (let lt = u.1 in omega arith)));
   }
 
   pub sweeping-passed : (less : ℕ) → turns ≡ less + 1 → TakesTurn tells q sweep now next m k Passed → Sweeping tells q sweep batch first next l k removed less (passed + 1) false
@@ -108,7 +108,7 @@ module _ {K V L : Type 0} (tells : L → K → V → RemovalCause → L → Type
         most = (let most = h.most in omega arith);
         few = (let few = h.few in omega arith);
         settled = λ is. absurd (true≢false (sym is));
-        unsettled = λ _. (subst (λ x. HasUnsettled x) (sym t.2) (unsettled-passed (tests_in q) now n t.1.1), (let most = h.most in omega arith));
+        unsettled = λ _. (subst (λ x. HasUnsettled x) (sym t.2) (unsettled-passed now n t.1.1), (let most = h.most in omega arith));
       }
     where
       joined : (s t u a s' a' : ℕ) → s + t + a ≡ batch → s' ≡ s + 1 → t ≡ u + 1 → a' ≡ a → s' + u + a' ≡ batch

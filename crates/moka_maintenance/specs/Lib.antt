@@ -5,3 +5,5 @@ pub mod Queues
 pub mod Sweeps
 pub mod Passes
 pub mod Chosen
+pub mod Expelled
+pub mod Scanning

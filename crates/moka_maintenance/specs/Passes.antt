@@ -4,6 +4,7 @@ use Rattle.std.specs.List.{list_all}
 use Rattle.moka_parts.specs.declared.notification.RemovalCause.{RemovalCause}
 use Rattle.moka_parts.specs.declared.policy.Instant.{Instant}
 use Rattle.moka_parts.specs.declared.records.Member.{Member}
+use Rattle.moka_parts.specs.declared.records.Registered.{Registered}
 use Rattle.moka_parts.specs.Surroundings.{Leads}
 use Rattle.moka_parts.specs.Exact.{IsWithin}
 use Rattle.moka_parts.specs.Maintenance.{Choice, is_over, is_late}
@@ -11,7 +12,8 @@ use Rattle.moka_parts.specs.Bounds.{removed_by}
 use Rattle.moka_maintenance.specs.declared.sweep.Tests.{Tests}
 use Rattle.moka_maintenance.specs.declared.sweep.Sweep.{Sweep}
 use Rattle.moka_maintenance.specs.declared.sweep.Sweep.TheVariants.{Written, Read, Surplus}
-use Rattle.moka_maintenance.specs.Steps.{Stock, MayStep, HasUnsettled, IsStepped, after_steps, makes_room}
+use Rattle.moka_maintenance.specs.Scanning.{AreDropped}
+use Rattle.moka_maintenance.specs.Steps.{Stock, MayRun, AreAllMembers, HasNoSettled, HasUnsettled, IsStepped, after_steps, contents_of, makes_room}
 use Rattle.moka_maintenance.specs.Sweeps.{tests_in, IsAtRest, IsDone}
 
 module _ {C : Type 0} (reads : C → Instant → C → Type 0) where
@@ -40,15 +42,17 @@ is_taken q Written access = sweeps_writes q
 is_taken q Read access = sweeps_reads q
 is_taken q Surplus access = is_over q.capacity access
 
-module _ {K V L : Type 0} (tells : L → K → V → RemovalCause → L → Type 0) (q : Tests) where
-  -- one pass: what it removed, and whether it left more
-  pub record IsPass (batch : ℕ) (before after : Stock K V) (l m : Option L) (removed : ℕ) (left : Bool) : Type 0 where
-    pub by : IsStepped tells (MayStep (tests_in q)) before after l m
-    pub count : removed ≡ length (removed_by by.steps)
+module _ {K V L P : Type 0} (tells : L → K → V → RemovalCause → L → Type 0) (says : P → K → V → Bool → Type 0) (q : Tests) where
+  -- one pass, from some predicates to others: what it removed beside the scan, and whether the sweeps and the scan left more
+  pub record IsPass (batch : ℕ) (ordered : Bool) (ps qs : List (Registered P)) (before after : Stock K V) (l m : Option L) (removed : ℕ) (left scan : Bool) : Type 0 where
+    pub by : IsStepped tells (MayRun says ps (tests_in q)) before after l m
+    pub dropped : AreDropped says (contents_of after) ps qs
+    pub count : removed ≤ length (removed_by by.steps)
     pub more : left ≡ true → 1 ≤ batch → 1 ≤ removed
-    -- beside timers, each of its steps takes at most a batch of turns
+    -- beside timers and the scan, each of its steps takes at most a batch of turns
     pub many : length by.steps + length after.access ≤ batch + batch + batch + length before.access
     -- where all its steps make room, it removed a batch if it left more, and else less than that
+    pub counted : list_all makes_room by.steps ≡ true → removed ≡ length (removed_by by.steps)
     pub fewer : left ≡ false → 1 ≤ batch → list_all makes_room by.steps ≡ true → removed < batch
     pub batch_used : left ≡ true → 1 ≤ removed → list_all makes_room by.steps ≡ true → removed ≡ batch
     pub rest : left ≡ false → HasUnsettled after ⊎ IsWithin q.capacity after.access
@@ -61,11 +65,20 @@ module _ {K V L : Type 0} (tells : L → K → V → RemovalCause → L → Type
     pub reads_swept : (first second : List Choice) × (by.steps ≡ first ++ second) × IsDone q Read batch (length first) (after_steps before first)
     -- with a batch of 0 more is left wherever a sweep is made
     pub idle : batch ≡ 0 → left ≡ (sweeps_writes q || is_over q.capacity after.access)
+    -- without predicates, or with a batch of 0, the scan leaves nothing
+    pub unregistered : ps ≡ [] → scan ≡ false
+    pub scan_idle : batch ≡ 0 → scan ≡ false
+    -- it leaves more only where a predicate is left, and wherever one is beside a settled member
+    pub scan_more : scan ≡ true → 0 < length qs
+    pub unfinished : ordered ≡ true → 1 ≤ batch → 0 < length qs → (scan ≡ true) ⊎ HasNoSettled after
+    -- with a batch for all members, no predicate is left where each record is a settled one
+    pub predicates : ordered ≡ true → length before.access ≤ batch → AreAllMembers before → qs ≡ []
 
   module _ {C : Type 0} (reads : C → Instant → C → Type 0) (limit : Option ℕ) where
-    -- passes one after the other, each but the last of which removed a record and left more
-    pub record IsRan (batch : ℕ) (before after : Stock K V) (l m : Option L) (c d : C) (passes : ℕ) (left : Bool) : Type 0 where
-      pub by : IsStepped tells (MayStep (tests_in q)) before after l m
+    -- passes one after the other, each but the last of which removed a record beside the scan and left more
+    pub record IsRan (batch : ℕ) (ordered : Bool) (ps qs : List (Registered P)) (before after : Stock K V) (l m : Option L) (c d : C) (passes : ℕ) (left : Bool) : Type 0 where
+      pub by : IsStepped tells (MayRun says ps (tests_in q)) before after l m
+      pub dropped : AreDropped says (contents_of after) ps qs
       pub made : 1 ≤ passes
       pub few : passes ≤ length (removed_by by.steps) + 1
       pub many : length by.steps + length after.access ≤ passes * (batch + batch + batch) + length before.access
@@ -73,20 +86,24 @@ module _ {K V L : Type 0} (tells : L → K → V → RemovalCause → L → Type
       pub read : Leads reads c readings d
       pub timed : is_some limit ≡ true → length readings ≡ passes + (if is_late limit readings then 1 else 0)
       pub untimed : is_some limit ≡ false → readings ≡ []
-      pub whole : is_late limit readings ≡ false → 1 ≤ batch → left ≡ false
+      -- a whole run leaves more only where a predicate is left, and wherever one is beside a settled member
+      pub whole : is_late limit readings ≡ false → 1 ≤ batch → left ≡ true → 0 < length qs
+      pub unfinished : ordered ≡ true → is_late limit readings ≡ false → 1 ≤ batch → 0 < length qs → (left ≡ true) ⊎ HasNoSettled after
       pub cut : is_late limit readings ≡ true → left ≡ true
       -- each pass of a run that was cut removed a record
       pub removing : is_late limit readings ≡ true → passes ≤ length (removed_by by.steps)
-      pub rest : left ≡ false → HasUnsettled after ⊎ IsWithin q.capacity after.access
-      -- unsettled members are passed over up to the last turn of each pass
-      pub used : IsDone q Surplus (passes * batch) (length by.steps) after
-      -- after some of its steps, the last sweep by the last write is done, and came to rest where nothing is left
-      pub writes_swept : (first second : List Choice) × (by.steps ≡ first ++ second) × IsDone q Written (passes * batch) (length first) (after_steps before first) × (left ≡ false → HasUnsettled (after_steps before first) ⊎ IsAtRest q Written (after_steps before first))
+      pub rest : is_late limit readings ≡ false → 1 ≤ batch → HasUnsettled after ⊎ IsWithin q.capacity after.access
+      -- without predicates, unsettled members are passed over up to the last turn of each pass
+      pub used : ps ≡ [] → IsDone q Surplus (passes * batch) (length by.steps) after
+      -- after some of its steps, the last sweep by the last write is done, and came to rest in a whole run
+      pub writes_swept : (first second : List Choice) × (by.steps ≡ first ++ second) × (ps ≡ [] → IsDone q Written (passes * batch) (length first) (after_steps before first)) × (is_late limit readings ≡ false → 1 ≤ batch → HasUnsettled (after_steps before first) ⊎ IsAtRest q Written (after_steps before first))
       -- after more of its steps, the last sweep by the last read is done
-      pub reads_swept : (first second : List Choice) × (by.steps ≡ first ++ second) × IsDone q Read (passes * batch) (length first) (after_steps before first)
+      pub reads_swept : (first second : List Choice) × (by.steps ≡ first ++ second) × (ps ≡ [] → IsDone q Read (passes * batch) (length first) (after_steps before first))
       -- with a batch of 0 more is left wherever a sweep is made
       pub idle : batch ≡ 0 → left ≡ (sweeps_writes q || is_over q.capacity after.access)
       -- where all its steps make room, each pass but the last of a whole run removed a batch
-      pub exact : is_late limit readings ≡ false → 1 ≤ batch → list_all makes_room by.steps ≡ true → passes ≡ length (removed_by by.steps) / batch + 1
+      pub exact : is_late limit readings ≡ false → 1 ≤ batch → ps ≡ [] → list_all makes_room by.steps ≡ true → passes ≡ length (removed_by by.steps) / batch + 1
       -- one that was cut after its first pass, all of whose steps make room, removed a batch
-      pub batch_used : is_late limit readings ≡ true → passes ≡ 1 → list_all makes_room by.steps ≡ true → length (removed_by by.steps) ≡ batch
+      pub batch_used : is_late limit readings ≡ true → passes ≡ 1 → ps ≡ [] → list_all makes_room by.steps ≡ true → length (removed_by by.steps) ≡ batch
+      -- with a batch for all members, no predicate is left where each record is a settled one
+      pub predicates : ordered ≡ true → length before.access ≤ batch → AreAllMembers before → qs ≡ []

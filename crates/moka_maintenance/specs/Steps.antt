@@ -5,10 +5,11 @@ use Rattle.moka_parts.specs.declared.notification.RemovalCause.{RemovalCause}
 use Rattle.moka_parts.specs.declared.notification.RemovalCause.TheVariants.{Expired, Explicit, Replaced, Size}
 use Rattle.moka_parts.specs.declared.records.Record.{Record}
 use Rattle.moka_parts.specs.declared.records.Member.{Member}
-use Rattle.moka_parts.specs.Records.{Records, Notice, when_listening, is_member, is_settled, settled_members, without_member, to_back, without_number, number_to_back}
+use Rattle.moka_parts.specs.declared.records.Registered.{Registered}
+use Rattle.moka_parts.specs.Records.{Records, Notice, when_listening, is_member, is_settled, settled_members, without_member, to_back, without_number, number_to_back, is_applied}
 use Rattle.moka_parts.specs.State.{Contents}
 use Rattle.moka_parts.specs.Surroundings.{Heard}
-use Rattle.moka_parts.specs.Maintenance.{Choice, Removes, MovesToBack, Drops, Tests, HasGround, left_by_choice}
+use Rattle.moka_parts.specs.Maintenance.{Choice, Removes, MovesToBack, Drops, Tests, HasGround, HasCause, left_by_choice}
 use Rattle.moka_sketch.specs.Frequency.{Table}
 use Rattle.moka_store.specs.Store.{Kept}
 
@@ -76,6 +77,18 @@ module _ {K V : Type 0} where
   MayStep q c (MovesToBack n) = (is_member n c.access ≡ true) × (is_settled c.records n ≡ false)
   MayStep q c (Drops i) = ⊥
 
+  -- a settled member leaves, or an unsettled one goes to the back
+  abbrev pub MayLeave : Stock K V → Choice → Type 0
+  MayLeave c (Removes n cause) = (r : Record K V) × (get c.records n ≡ Some r) × (is_member n c.access && is_settled c.records n ≡ true)
+  MayLeave c (MovesToBack n) = (is_member n c.access ≡ true) × (is_settled c.records n ≡ false)
+  MayLeave c (Drops i) = ⊥
+
+  -- a step may be taken by the tests or by the predicates
+  abbrev pub MayRun : {P : Type 0} → (P → K → V → Bool → Type 0) → List (Registered P) → Tests → Stock K V → Choice → Type 0
+  MayRun says ps q c (Removes n cause) = (r : Record K V) × (get c.records n ≡ Some r) × (is_member n c.access && is_settled c.records n ≡ true) × HasCause says q (contents_of c) ps n r cause
+  MayRun says ps q c (MovesToBack n) = (is_member n c.access ≡ true) × (is_settled c.records n ≡ false)
+  MayRun says ps q c (Drops i) = ⊥
+
   -- each step may be taken when it is
   abbrev pub MayAll : (Stock K V → Choice → Type 0) → Stock K V → List Choice → Type 0
   MayAll May c [] = Unit {0}
@@ -88,6 +101,10 @@ module _ {K V : Type 0} where
     pub number : ℕ
     pub is_in : is_member number c.access ≡ true
     pub unsettled : is_settled c.records number ≡ false
+
+  -- each record is a settled member
+  abbrev pub AreAllMembers : Stock K V → Type 0
+  AreAllMembers c = (n : ℕ) (r : Record K V) → get c.records n ≡ Some r → (is_applied r ≡ true) × (is_member n c.access ≡ true)
 
   -- no member is settled
   abbrev pub HasNoSettled : Stock K V → Type 0

@@ -5,6 +5,7 @@ ghost use Rattle.std.specs.Prelude.{◌≡◌, ◌≤◌};
 ghost use Rattle.std.specs.FinMap as finite;
 ghost use Rattle.moka_parts.specs.Maintenance.{Removes};
 ghost use Rattle.moka_store.specs.Store.{IsHandle};
+ghost use Rattle.moka_maintenance.specs.Expelled.{without_record};
 ghost use Rattle.moka_maintenance.specs.Steps.{stock_in, after_step, left_by_step, Told};
 ghost use Rattle.moka_maintenance.specs.Timers.{DropsTimers};
 
@@ -26,6 +27,7 @@ pub(crate) fn expel<K: Eq + Hash + Drop, V: Drop, S: BuildHasher, L: Listener<K,
     ensures taken { store.new.timers ≡ finite.remove store.old.timers handle.number }
     ensures timers { DropsTimers store.old store.new }
     ensures places { store.new.places ≡ finite.remove store.old.places handle.number }
+    ensures whole { store.new ≡ without_record handle.number store.new.room store.old }
     ensures room { store.old.room ≤ store.new.room }
 {
     let Record { key, value, .. } = store.take_out(handle);

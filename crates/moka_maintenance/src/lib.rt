@@ -7,5 +7,6 @@ mod due;
 mod expel;
 pub mod passes;
 pub mod queued;
+mod scan;
 pub mod sketch;
 pub mod sweep;

@@ -9,8 +9,11 @@ ghost use Rattle.moka_maintenance.specs.Timers.{DropsTimers, HasNoneDue, KeepsTi
 ghost use Rattle.moka_maintenance.specs.Passes.{Starts, Checks, is_taken, IsPass, IsRan};
 
 use crate::due::expire_due;
+use crate::scan::scan;
 use crate::sweep::{Sweep, Swept, Tests, is_over, sweep_along};
+use moka_parts::closures::PredicateFn;
 use moka_parts::housekeeper::Clock;
+use moka_parts::invalidator::Invalidator;
 use moka_parts::notification::{Listener, RemovalNotifier};
 use moka_parts::policy::Instant;
 use moka_store::Store;
@@ -29,20 +32,32 @@ pub struct Ran {
 // What a pass came to.
 #[derive(Clone, Copy)]
 struct Pass {
+    // How many records left, but for those that the scan removed.
     removed: u64,
+    // Whether a sweep left more.
     is_left: bool,
+    // Whether the scan did.
+    is_scan_left: bool,
 }
 
-/// Makes passes until one leaves nothing or removes nothing, or the limit has passed since the start.
-pub fn make_passes<K: Eq + Hash + Drop, V: Drop, S: BuildHasher, L: Listener<K, V>, C: Clock>(
+/// Makes passes until one leaves nothing or removes nothing beside its scan, or the limit has passed since the start.
+pub fn make_passes<
+    K: Eq + Hash + Drop,
+    V: Drop,
+    S: BuildHasher,
+    L: Listener<K, V>,
+    P: PredicateFn<K, V> + Drop,
+    C: Clock,
+>(
     store: &mut Store<K, V, S>,
     notifier: &mut RemovalNotifier<L>,
+    invalidator: &mut Invalidator<P>,
     clock: &mut C,
     tests: Tests,
     limit: Option<Duration>,
     batch: u32,
 ) -> Ran
-    ensures ran { IsRan L.tells tests C.reads (option_map as_nanos limit) batch (stock_in store.old) (stock_in store.new) notifier.old notifier.new clock.old clock.new result.passes result.is_left }
+    ensures ran { IsRan L.tells P.says tests C.reads (option_map as_nanos limit) batch store.old.ordered invalidator.old invalidator.new (stock_in store.old) (stock_in store.new) notifier.old notifier.new clock.old clock.new result.passes result.is_left }
     ensures none { HasNoneDue tests.now.0 store.new }
     ensures timers { KeepsTimers store.old store.new }
     ensures places { AddsNoPlace store.old store.new }
@@ -55,9 +70,9 @@ pub fn make_passes<K: Eq + Hash + Drop, V: Drop, S: BuildHasher, L: Listener<K, 
     let mut passes = 0u64;
     loop {
         passes += 1;
-        let pass = make_pass(store, notifier, tests, batch);
+        let pass = make_pass(store, notifier, invalidator, tests, batch);
         if !goes_on(pass) {
-            let is_left = pass.is_left;
+            let is_left = leaves_more(pass);
             return Ran { passes, is_left };
         }
         if is_late(started, limit, clock) {
@@ -68,13 +83,16 @@ pub fn make_passes<K: Eq + Hash + Drop, V: Drop, S: BuildHasher, L: Listener<K, 
 }
 
 // One pass.
-fn make_pass<K: Eq + Hash + Drop, V: Drop, S: BuildHasher, L: Listener<K, V>>(
+fn make_pass<K: Eq + Hash + Drop, V: Drop, S: BuildHasher, L: Listener<K, V>, P: Drop>(
     store: &mut Store<K, V, S>,
     notifier: &mut RemovalNotifier<L>,
+    invalidator: &mut Invalidator<P>,
     tests: Tests,
     batch: u32,
 ) -> Pass
-    ensures pass { IsPass L.tells tests batch (stock_in store.old) (stock_in store.new) notifier.old notifier.new result.removed result.is_left }
+where
+    P: PredicateFn<K, V>,
+    ensures pass { IsPass L.tells P.says tests batch store.old.ordered invalidator.old invalidator.new (stock_in store.old) (stock_in store.new) notifier.old notifier.new result.removed result.is_left result.is_scan_left }
     ensures none { HasNoneDue tests.now.0 store.new }
     ensures timers { KeepsTimers store.old store.new }
     ensures places { AddsNoPlace store.old store.new }
@@ -84,19 +102,22 @@ fn make_pass<K: Eq + Hash + Drop, V: Drop, S: BuildHasher, L: Listener<K, V>>(
     let due = expire_due(store, notifier, tests);
     let by_write = take_step(store, notifier, tests, Sweep::Written, batch);
     let by_read = take_step(store, notifier, tests, Sweep::Read, batch);
+    let is_scan_left = scan(store, notifier, invalidator, batch);
     let surplus = take_step(store, notifier, tests, Sweep::Surplus, batch);
-    joined(due, by_write, by_read, surplus)
+    joined(due, by_write, by_read, is_scan_left, surplus)
 }
 
 // What the steps came to, the first of which leaves nothing.
-fn joined(due: u32, by_write: Swept, by_read: Swept, surplus: Swept) -> Pass
+fn joined(due: u32, by_write: Swept, by_read: Swept, is_scan_left: bool, surplus: Swept) -> Pass
     ensures removed { result.removed ≡ due + by_write.removed + by_read.removed + surplus.removed }
     ensures left { result.is_left ≡ (by_write.is_left || by_read.is_left || surplus.is_left) }
+    ensures scan { result.is_scan_left ≡ is_scan_left }
 {
     let by_moment = u64::from(due) + u64::from(by_write.removed) + u64::from(by_read.removed);
     Pass {
         removed: by_moment + u64::from(surplus.removed),
         is_left: by_write.is_left || by_read.is_left || surplus.is_left,
+        is_scan_left,
     }
 }
 
@@ -143,12 +164,19 @@ fn is_taken<K: Eq + Hash, V, S: BuildHasher>(
     }
 }
 
+// Whether a pass left more.
+fn leaves_more(pass: Pass) -> bool
+    ensures { result ≡ (pass.is_left || pass.is_scan_left) }
+{
+    pass.is_left || pass.is_scan_left
+}
+
 // Whether another pass is due.
 fn goes_on(pass: Pass) -> bool
-    ensures due { result ≡ true → (pass.is_left ≡ true) × (1 ≤ pass.removed) }
-    ensures over { result ≡ false → pass.is_left ≡ true → pass.removed ≡ 0 }
+    ensures due { result ≡ true → ((pass.is_left || pass.is_scan_left) ≡ true) × (1 ≤ pass.removed) }
+    ensures over { result ≡ false → (pass.is_left || pass.is_scan_left) ≡ true → pass.removed ≡ 0 }
 {
-    pass.is_left && pass.removed > 0
+    leaves_more(pass) && pass.removed > 0
 }
 
 // Reads the clock where a limit is given.

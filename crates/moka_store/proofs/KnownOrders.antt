@@ -44,7 +44,7 @@ module _ (g : ℕ × ℕ → ℕ) where
   )
 
 module _ {K V : Type 0} (eq : K → K → Bool) (rows : List (Option (Row (Record K V)))) (index : KeyIndex K) (nodes : List (ℕ × ℕ)) (t : IsTied eq rows index nodes) (list : Listing) (w : IsWritten rows list) where
-  each-once : IsDistinct (◌==◌) (written_of rows list.nodes)
+  pub each-once : IsDistinct (◌==◌) (written_of rows list.nodes)
   unfolding written_of
   each-once = numbers-distinct (λ m. number_at rows m.1) list.nodes w.listed.distinct (λ m k a b.
       let r = slot-row written_in rows list.nodes w.listed m a in

@@ -24,6 +24,7 @@ use std::marker::Model;
 
 mod changes;
 mod hashing;
+mod rows;
 
 /// A number that has a row, with the row's place.
 #[derive(Clone, Copy, Debug, PartialEq, Eq)]
@@ -505,6 +506,7 @@ impl<K: Eq + Hash, V, S: BuildHasher> Store<K, V, S> {
         ensures records { (n : ℕ) → IsSome (finite.get self.now.records n) → IsSome (finite.get self.now.places n) }
         ensures members { (n : ℕ) → IsSome (counted_of n self.now.access) → IsSome (finite.get self.now.places n) }
         ensures distinct { IsDistinct (◌==◌) (numbers_of self.now.access) }
+        ensures once { IsDistinct (◌==◌) self.now.written }
         ensures listed { self.now.ordered ≡ true → IsListOf self.now.access self.now.written }
         ensures unlisted { self.now.ordered ≡ false → self.now.written ≡ [] }
     {

@@ -7,32 +7,39 @@ ghost use Rattle.moka_engine.specs.Looks.{Finds, Touches, value_of};
 
 use crate::inner::Inner;
 use moka_parts::calls::Entry;
-use moka_parts::closures::{NoTest, ValueTest};
+use moka_parts::closures::{NoTest, PredicateFn, ValueTest};
 use moka_parts::error::OutOfMemory;
 use moka_parts::expiry::{has_lapsed, remaining, renewed};
+use moka_parts::invalidator::Invalidator;
 use moka_parts::policy::{ExpirationPolicy, Expiry, Instant};
 use moka_parts::records::Record;
 use moka_store::Handle;
 use std::hash::{BuildHasher, Hash};
 
 // The record whose key is equal, with its handle, unless the caller's test, which is asked of its value first, ignores
-// it or a test by moments hides it.
+// it, a test by moments hides it or a predicate covers it.
 #[inline(always)]
-pub(super) fn find_unless<'a, K: Eq + Hash, V, S: BuildHasher, X, I: ValueTest<V>>(
+pub(super) fn find_unless<'a, K: Eq + Hash, V, S: BuildHasher, X, P, I: ValueTest<V>>(
     inner: &'a Inner<K, V, S>,
     policy: &ExpirationPolicy<X>,
     valid_after: Option<Instant>,
+    invalidator: &Invalidator<P>,
     key: &K,
     test: &mut I,
     now: Instant,
 ) -> Option<(Handle, &'a Record<K, V>)>
+where
+    P: PredicateFn<K, V>,
     requires askable { (v : V) → I.can_ask test.old v }
     ensures { (ignored : Bool)
         × IsAskedOnce I.asks (Some test.old) (value_of (record_of_key K.eq inner.now.kept.records key.now)) ignored (Some test.new)
-        × Finds K.eq inner.now.kept policy.now valid_after key.now ignored now.0 (option_map (λ f. (f.0, f.1.now)) result) }
+        × Finds K.eq inner.now.kept policy.now valid_after P.says invalidator.now key.now ignored now.0 (option_map (λ f. (f.0, f.1.now)) result) }
 {
     let (handle, found) = inner.find(key)?;
-    if test.ignores(&found.value) || has_lapsed(found, policy, valid_after, now) {
+    if test.ignores(&found.value)
+        || has_lapsed(found, policy, valid_after, now)
+        || invalidator.apply_predicates(found)
+    {
         return None;
     }
     Some((handle, found))
@@ -40,16 +47,19 @@ pub(super) fn find_unless<'a, K: Eq + Hash, V, S: BuildHasher, X, I: ValueTest<V
 
 // The same without a test of the caller's.
 #[inline(always)]
-pub(super) fn find_shown<'a, K: Eq + Hash, V, S: BuildHasher, X>(
+pub(super) fn find_shown<'a, K: Eq + Hash, V, S: BuildHasher, X, P>(
     inner: &'a Inner<K, V, S>,
     policy: &ExpirationPolicy<X>,
     valid_after: Option<Instant>,
+    invalidator: &Invalidator<P>,
     key: &K,
     now: Instant,
 ) -> Option<(Handle, &'a Record<K, V>)>
-    ensures { Finds K.eq inner.now.kept policy.now valid_after key.now false now.0 (option_map (λ f. (f.0, f.1.now)) result) }
+where
+    P: PredicateFn<K, V>,
+    ensures { Finds K.eq inner.now.kept policy.now valid_after P.says invalidator.now key.now false now.0 (option_map (λ f. (f.0, f.1.now)) result) }
 {
-    find_unless(inner, policy, valid_after, key, &mut NoTest, now)
+    find_unless(inner, policy, valid_after, invalidator, key, &mut NoTest, now)
 }
 
 // What a hit makes of a record.

@@ -49,6 +49,7 @@ impl<
     where
         K: Clone + Drop,
         V: Clone + Drop,
+        P: Drop,
         requires keys { ClonesAreEqual K.is_clone }
         requires values { ClonesAreEqual V.is_clone }
         requires askable { CanAskIfGiven I.can_ask (test_given ignore_if) }
@@ -78,6 +79,7 @@ impl<
     where
         K: Clone + Drop,
         V: Clone + Drop,
+        P: Drop,
         requires keys { ClonesAreEqual K.is_clone }
         requires values { ClonesAreEqual V.is_clone }
         requires askable { (v : V) → I.can_ask test.old v }
@@ -92,7 +94,16 @@ impl<
             return Ok(None);
         }
         let policy = &self.expiration_policy;
-        let shown = gets::find_unless(&self.inner, policy, valid_after, key, test, now);
+        let invalidator = &self.invalidator;
+        let shown = gets::find_unless(
+            &self.inner,
+            policy,
+            valid_after,
+            invalidator,
+            key,
+            test,
+            now,
+        );
         let Some((handle, found)) = shown else {
             self.record_miss(hash, now, clock);
             return Ok(None);
@@ -167,7 +178,16 @@ impl<
             return Ok(None);
         }
         let policy = &self.expiration_policy;
-        let shown = gets::find_unless(&self.inner, policy, valid_after, key, test, now);
+        let invalidator = &self.invalidator;
+        let shown = gets::find_unless(
+            &self.inner,
+            policy,
+            valid_after,
+            invalidator,
+            key,
+            test,
+            now,
+        );
         let Some((handle, found)) = shown else {
             return Ok(None);
         };
@@ -191,7 +211,8 @@ impl<
         ensures { ScanStep P.says K.eq self.now.state key.now now.0 result }
     {
         let (policy, valid_after) = (&self.expiration_policy, self.valid_after);
-        let shown = gets::find_shown(&self.inner, policy, valid_after, key, now);
+        let invalidator = &self.invalidator;
+        let shown = gets::find_shown(&self.inner, policy, valid_after, invalidator, key, now);
         let Some((_, found)) = shown else {
             return Ok(None);
         };

@@ -62,6 +62,7 @@ impl<
     where
         K: Drop,
         V: Drop,
+        P: Drop,
         ensures step { (e : Events K V)
             × RunStep (ListedRun P.says X.read self.old.write_list self.new.write_list) self.old.state (record { now = now.0; limit = option_map as_nanos limit; batch = batch }) result e self.new.state
             × Befalls L.tells e self.old self.new
@@ -81,12 +82,14 @@ impl<
             valid_after: self.valid_after,
             capacity: self.max_capacity,
         };
-        let notifier = &mut self.notifier;
+        let (notifier, invalidator) = (&mut self.notifier, &mut self.invalidator);
         let (capacity, policy) = (self.max_capacity, self.eviction_policy);
         let has_weigher = self.weigher.is_some();
         self.inner
             .apply_queues(notifier, capacity, policy, has_weigher);
-        let ran = self.inner.make_passes(notifier, clock, tests, limit, batch);
+        let ran = self
+            .inner
+            .make_passes(notifier, invalidator, clock, tests, limit, batch);
         self.entry_count = self.inner.member_count() as u64;
         self.weighted_size = saturated(self.inner.total_weight());
         self.passes = ran.passes;
@@ -101,6 +104,7 @@ impl<
     where
         K: Drop,
         V: Drop,
+        P: Drop,
         ensures { (e : Events K V)
             × RunsIfDue (ListedRun P.says X.read self.old.write_list self.new.write_list) self.old.state (length self.old.state.writes) now.0 e self.new.state
             × Befalls L.tells e self.old self.new
@@ -118,6 +122,7 @@ impl<
     where
         K: Drop,
         V: Drop,
+        P: Drop,
         ensures { (e : Events K V)
             × RunsIfDue (ListedRun P.says X.read self.old.write_list self.new.write_list) self.old.state (length self.old.state.reads) now.0 e self.new.state
             × Befalls L.tells e self.old self.new
@@ -136,6 +141,7 @@ impl<
     where
         K: Drop,
         V: Drop,
+        P: Drop,
         ensures { (e : Events K V)
             × RecordsRead (ListedRun P.says X.read self.old.write_list self.new.write_list) self.old.state now.0 (Miss hash) e self.new.state
             × Befalls L.tells e self.old self.new
@@ -160,6 +166,7 @@ impl<
     where
         K: Drop,
         V: Drop,
+        P: Drop,
         requires due { is_due self.old.state.housekeeping (length self.old.state.reads) now.0 ≡ true }
         requires found { option_map (λ r. r.number) (record_of_key K.eq self.old.state.records key.now) ≡ Some number }
         ensures { (e : Events K V)
@@ -176,6 +183,7 @@ impl<
     where
         K: Drop,
         V: Drop,
+        P: Drop,
         ensures step { (e : Events K V)
             × KeeperRun (ListedRun P.says X.read self.old.write_list self.new.write_list) self.old.state now.0 e self.new.state
             × Befalls L.tells e self.old self.new
@@ -203,7 +211,7 @@ impl<
     S: BuildHasher,
     X: Expiry<K, V>,
     L: Listener<K, V>,
-    P: PredicateFn<K, V>,
+    P: PredicateFn<K, V> + Drop,
     W: Weigher<K, V>,
 > InnerSync for BaseCache<K, V, S, X, L, P, W> {
     ghost use Rattle.moka_engine.specs.CacheRuns.{CacheRuns};

@@ -1,7 +1,7 @@
-use Rattle.std.proofs.Common.{Bool, ℕ, ◌+◌, sym, subst}
+use Rattle.std.proofs.Common.{Bool, ℕ, ◌+◌, ◌||◌, ◌∙◌, sym, subst}
 use Rattle.moka_maintenance.specs.Steps.{stock_in}
 use Rattle.moka_maintenance.specs.Passes.{IsPass}
-use Rattle.moka_maintenance.proofs.PassSteps.{pass-four}
+use Rattle.moka_maintenance.proofs.PassSteps.{pass-five}
 use Rattle.moka_maintenance.proofs.Placed.{places-on, rows-on}
 use Rattle.moka_maintenance.proofs.Timing.{keeps-on, none-due}
 use Rattle.moka_maintenance.proofs.passes.make_pass.Goals as goal
@@ -14,32 +14,45 @@ returns-clause-pass g c =
     let last = c.take_step-surplus in
     let before = stock_in c.args.store.now in
     let after = stock_in last.new.store in
-    subst (λ (n : ℕ). IsPass g.L.Listener.tells c.args.tests c.args.batch before after c.args.notifier.now last.new.notifier n c.joined.result.is_left) (sym c.joined.ensures.removed)
-    (subst (λ (b : Bool). IsPass g.L.Listener.tells c.args.tests c.args.batch before after c.args.notifier.now last.new.notifier (due.result + first.result.removed + second.result.removed + last.result.removed) b) (sym c.joined.ensures.left)
-    (pass-four g.L.Listener.tells c.args.tests c.args.batch before (stock_in due.new.store) (stock_in first.new.store) (stock_in second.new.store) after
-    c.args.notifier.now due.new.notifier first.new.notifier second.new.notifier last.new.notifier due.result first.result.removed second.result.removed last.result.removed first.result.is_left second.result.is_left last.result.is_left
-    due.ensures.expired first.ensures.swept second.ensures.swept last.ensures.swept first.ensures.idle second.ensures.idle last.ensures.idle))
+    let scan = c.scan-is_scan_left in
+    let ps = c.args.invalidator.now in
+    let qs = scan.new.invalidator in
+    let ordered = second.ensures.timers.keeps.ordered ∙ first.ensures.timers.keeps.ordered ∙ due.ensures.timers.ordered in
+    subst (λ (n : ℕ). IsPass g.L.Listener.tells g.P.PredicateFn.says c.args.tests c.args.batch c.args.store.now.ordered ps qs before after c.args.notifier.now last.new.notifier n c.joined.result.is_left c.joined.result.is_scan_left) (sym c.joined.ensures.removed)
+    (subst (λ (b : Bool). IsPass g.L.Listener.tells g.P.PredicateFn.says c.args.tests c.args.batch c.args.store.now.ordered ps qs before after c.args.notifier.now last.new.notifier (due.result + first.result.removed + second.result.removed + last.result.removed) b c.joined.result.is_scan_left) (sym c.joined.ensures.left)
+    (subst (λ (b : Bool). IsPass g.L.Listener.tells g.P.PredicateFn.says c.args.tests c.args.batch c.args.store.now.ordered ps qs before after c.args.notifier.now last.new.notifier (due.result + first.result.removed + second.result.removed + last.result.removed) (first.result.is_left || second.result.is_left || last.result.is_left) b) (sym c.joined.ensures.scan)
+    (subst (λ (b : Bool). IsPass g.L.Listener.tells g.P.PredicateFn.says c.args.tests c.args.batch b ps qs before after c.args.notifier.now last.new.notifier (due.result + first.result.removed + second.result.removed + last.result.removed) (first.result.is_left || second.result.is_left || last.result.is_left) scan.result) ordered
+    (pass-five g.L.Listener.tells g.P.PredicateFn.says ps qs c.args.tests c.args.batch before (stock_in due.new.store) (stock_in first.new.store) second.new.store scan.new.store after
+    c.args.notifier.now due.new.notifier first.new.notifier second.new.notifier scan.new.notifier last.new.notifier due.result first.result.removed second.result.removed last.result.removed first.result.is_left second.result.is_left last.result.is_left scan.result
+    due.ensures.expired first.ensures.swept second.ensures.swept scan.ensures.scanned last.ensures.swept first.ensures.idle second.ensures.idle last.ensures.idle))))
 
 pub returns-clause-none : goal.returns-clause-none
 returns-clause-none g c =
-    none-due c.args.tests.now.0 c.take_step-by_read.new.store c.take_step-surplus.new.store c.take_step-surplus.ensures.timers
+    none-due c.args.tests.now.0 c.scan-is_scan_left.new.store c.take_step-surplus.new.store c.take_step-surplus.ensures.timers
+    (none-due c.args.tests.now.0 c.take_step-by_read.new.store c.scan-is_scan_left.new.store c.scan-is_scan_left.ensures.timers
     (none-due c.args.tests.now.0 c.take_step-by_write.new.store c.take_step-by_read.new.store c.take_step-by_read.ensures.timers
-    (none-due c.args.tests.now.0 c.expire_due-due.new.store c.take_step-by_write.new.store c.take_step-by_write.ensures.timers c.expire_due-due.ensures.none))
+    (none-due c.args.tests.now.0 c.expire_due-due.new.store c.take_step-by_write.new.store c.take_step-by_write.ensures.timers c.expire_due-due.ensures.none)))
 
 pub returns-clause-timers : goal.returns-clause-timers
 returns-clause-timers g c =
-    keeps-on c.args.store.now c.take_step-by_read.new.store c.take_step-surplus.new.store
+    keeps-on c.args.store.now c.scan-is_scan_left.new.store c.take_step-surplus.new.store
+    (keeps-on c.args.store.now c.take_step-by_read.new.store c.scan-is_scan_left.new.store
     (keeps-on c.args.store.now c.take_step-by_write.new.store c.take_step-by_read.new.store (keeps-on c.args.store.now c.expire_due-due.new.store c.take_step-by_write.new.store c.expire_due-due.ensures.timers c.take_step-by_write.ensures.timers.keeps) c.take_step-by_read.ensures.timers.keeps)
+    c.scan-is_scan_left.ensures.timers.keeps)
     c.take_step-surplus.ensures.timers.keeps
 
 pub returns-clause-places : goal.returns-clause-places
 returns-clause-places g c =
-    places-on c.args.store.now c.take_step-by_read.new.store c.take_step-surplus.new.store
+    places-on c.args.store.now c.scan-is_scan_left.new.store c.take_step-surplus.new.store
+    (places-on c.args.store.now c.take_step-by_read.new.store c.scan-is_scan_left.new.store
     (places-on c.args.store.now c.take_step-by_write.new.store c.take_step-by_read.new.store (places-on c.args.store.now c.expire_due-due.new.store c.take_step-by_write.new.store c.expire_due-due.ensures.places c.take_step-by_write.ensures.places) c.take_step-by_read.ensures.places)
+    c.scan-is_scan_left.ensures.places)
     c.take_step-surplus.ensures.places
 
 pub returns-clause-rows : goal.returns-clause-rows
 returns-clause-rows g c =
-    rows-on c.args.store.now c.take_step-by_read.new.store c.take_step-surplus.new.store c.take_step-surplus.ensures.places
+    rows-on c.args.store.now c.scan-is_scan_left.new.store c.take_step-surplus.new.store c.take_step-surplus.ensures.places
+    (rows-on c.args.store.now c.take_step-by_read.new.store c.scan-is_scan_left.new.store c.scan-is_scan_left.ensures.places
     (rows-on c.args.store.now c.take_step-by_write.new.store c.take_step-by_read.new.store c.take_step-by_read.ensures.places (rows-on c.args.store.now c.expire_due-due.new.store c.take_step-by_write.new.store c.take_step-by_write.ensures.places c.expire_due-due.ensures.rows c.take_step-by_write.ensures.rows) c.take_step-by_read.ensures.rows)
+    c.scan-is_scan_left.ensures.rows)
     c.take_step-surplus.ensures.rows

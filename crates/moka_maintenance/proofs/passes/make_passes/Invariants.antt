@@ -8,7 +8,7 @@ use Rattle.moka_maintenance.proofs.passes.make_passes.Given as goal
 
 abbrev pub invariant-loop-tests : goal.invariant-loop-tests
 invariant-loop-tests g l = record {
-  moving : IsMoving g.L.Listener.tells l.tests l.batch (stock_in l.initial.store) (stock_in l.store) l.initial.notifier l.notifier l.passes;
+  moving : IsMoving g.L.Listener.tells g.P.PredicateFn.says l.tests l.batch l.initial.store.ordered l.initial.invalidator l.invalidator (stock_in l.initial.store) (stock_in l.store) l.initial.notifier l.notifier l.passes;
   clocked : Clocked g.C.Clock.reads (option_map as_nanos l.limit) l.started l.fn.clock l.clock l.passes;
   timers : KeepsTimers l.initial.store l.store;
   places : AddsNoPlace l.initial.store l.store;

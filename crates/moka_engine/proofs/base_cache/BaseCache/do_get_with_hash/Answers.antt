@@ -40,7 +40,7 @@ returns-in_default-entry_of g c =
     let enabled = ap (λ (x : Cache g.row.K.Denot g.row.V.Denot g.row.S.Denot g.row.X.Denot g.row.L.Denot g.row.P.Denot g.row.W.Denot). is_disabled x.state.capacity) c.self.view_is ∙ (sym c.is_map_disabled.ensures ∙ c.if-is_map_disabled.false) in
     let at = c.in-Some.ensures in
     let found = get_refused g.P.PredicateFn.says g.X.Expiry.read (λ (before : List ℕ). ListedRun g.P.PredicateFn.says g.X.Expiry.read before c.args.self.now.write_list) g.L.Listener.tells g.C.Clock.reads g.K.PartialEq.eq c.self.view_is c.args.key.now c.args.hash c.args.need_key at.0 c.args.now c.args.clock.now
-    c.self.invariant.cache enabled c.self.inside.inner refl c.in-Some.handle.number c.in-Some.found.now at.2.numbered at.2.found at.2.accepted at.2.shown (record {}) in
+    c.self.invariant.cache enabled c.self.inside.inner refl c.in-Some.handle.number c.in-Some.found.now at.2.numbered at.2.found at.2.accepted at.2.shown at.2.uncovered (record {}) in
     (at.0, found.0, asked_of_cache c.self.view_is g.K.PartialEq.eq c.args.key.now g.I.ValueTest.asks c.args.test.now c.find_unless-shown.new.test at.0 at.1, found.1, found.2, found.3)
 
 pub invariant_of-self : goal.invariant_of-self
@@ -53,7 +53,7 @@ returns-then-should_apply_reads g c =
     let enabled = ap (λ (x : Cache g.row.K.Denot g.row.V.Denot g.row.S.Denot g.row.X.Denot g.row.L.Denot g.row.P.Denot g.row.W.Denot). is_disabled x.state.capacity) c.self.view_is ∙ (sym c.is_map_disabled.ensures ∙ c.if-is_map_disabled.false) in
     let at = c.in-Some.ensures in
     let found = get_hits g.P.PredicateFn.says g.X.Expiry.read (λ (before : List ℕ). ListedRun g.P.PredicateFn.says g.X.Expiry.read before c.record_hit_when_due.new.self.write_list) g.L.Listener.tells g.C.Clock.reads g.K.PartialEq.eq c.self.view_is c.args.key.now c.args.hash c.args.need_key at.0 c.args.now c.args.clock.now
-    c.self.invariant.cache enabled c.self.inside.inner refl c.in-Some.handle.number c.in-Some.found.now at.2.numbered at.2.found at.2.accepted at.2.shown c.hit_of-hit.result.read c.hit_of-hit.result.expires c.hit_of-hit.result.is_renewed c.hit_of-hit.ensures
+    c.self.invariant.cache enabled c.self.inside.inner refl c.in-Some.handle.number c.in-Some.found.now at.2.numbered at.2.found at.2.accepted at.2.shown at.2.uncovered c.hit_of-hit.result.read c.hit_of-hit.result.expires c.hit_of-hit.result.is_renewed c.hit_of-hit.ensures
     c.touch.new.self c.touch.ensures.rest (c.touch.ensures.step c.in-Some.found.now at.2.numbered) refl c.in-Ok.entry c.in-Ok.ensures.value c.in-Ok.ensures.key c.record_hit_when_due.ensures in
     (at.0, found.0, asked_of_cache c.self.view_is g.K.PartialEq.eq c.args.key.now g.I.ValueTest.asks c.args.test.now c.find_unless-shown.new.test at.0 at.1, found.1, found.2, found.3)
 
@@ -69,9 +69,9 @@ returns g c =
     let at = c.in-Some.ensures in
     let due = ap (λ n. is_due c.self.inside.housekeeper.housekeeping n c.hit_of-hit.result.read.0) (sym c.read_count-queued.ensures) ∙ sym c.should_apply_reads.ensures ∙ c.if-should_apply_reads.false in
     let queued = queues_read g.P.PredicateFn.says g.X.Expiry.read (λ (before : List ℕ). ListedRun g.P.PredicateFn.says g.X.Expiry.read before c.queue_read.new.self.kept.written) g.L.Listener.tells g.C.Clock.reads g.K.PartialEq.eq c.self.view_is c.args.key.now c.args.hash c.args.need_key at.0 c.args.now c.args.clock.now
-    c.self.invariant.cache enabled c.self.inside.inner refl c.in-Some.handle.number c.in-Some.found.now at.2.numbered at.2.found at.2.accepted at.2.shown c.hit_of-hit.result.read c.hit_of-hit.result.expires c.hit_of-hit.result.is_renewed c.hit_of-hit.ensures
+    c.self.invariant.cache enabled c.self.inside.inner refl c.in-Some.handle.number c.in-Some.found.now at.2.numbered at.2.found at.2.accepted at.2.shown at.2.uncovered c.hit_of-hit.result.read c.hit_of-hit.result.expires c.hit_of-hit.result.is_renewed c.hit_of-hit.ensures
     c.touch.new.self c.touch.ensures.rest (c.touch.ensures.step c.in-Some.found.now at.2.numbered) due c.queue_read.new.self (Hit c.in-Some.handle.number c.in-Some.found.now.hash c.hit_of-hit.result.is_renewed) c.queue_read.ensures in
     let found = get_hits g.P.PredicateFn.says g.X.Expiry.read (λ (before : List ℕ). ListedRun g.P.PredicateFn.says g.X.Expiry.read before c.queue_read.new.self.kept.written) g.L.Listener.tells g.C.Clock.reads g.K.PartialEq.eq c.self.view_is c.args.key.now c.args.hash c.args.need_key at.0 c.args.now c.args.clock.now
-    c.self.invariant.cache enabled c.self.inside.inner refl c.in-Some.handle.number c.in-Some.found.now at.2.numbered at.2.found at.2.accepted at.2.shown c.hit_of-hit.result.read c.hit_of-hit.result.expires c.hit_of-hit.result.is_renewed c.hit_of-hit.ensures
+    c.self.invariant.cache enabled c.self.inside.inner refl c.in-Some.handle.number c.in-Some.found.now at.2.numbered at.2.found at.2.accepted at.2.shown at.2.uncovered c.hit_of-hit.result.read c.hit_of-hit.result.expires c.hit_of-hit.result.is_renewed c.hit_of-hit.ensures
     c.touch.new.self c.touch.ensures.rest (c.touch.ensures.step c.in-Some.found.now at.2.numbered) refl c.in-Ok.entry c.in-Ok.ensures.value c.in-Ok.ensures.key queued in
     (at.0, found.0, asked_of_cache c.self.view_is g.K.PartialEq.eq c.args.key.now g.I.ValueTest.asks c.args.test.now c.find_unless-shown.new.test at.0 at.1, found.1, found.2, found.3)

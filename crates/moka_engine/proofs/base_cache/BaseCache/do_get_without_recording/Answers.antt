@@ -23,7 +23,7 @@ pub returns-in_default-clone : goal.returns-in_default-clone
 returns-in_default-clone g c =
     let enabled = ap (λ (x : Cache g.row.K.Denot g.row.V.Denot g.row.S.Denot g.row.X.Denot g.row.L.Denot g.row.P.Denot g.row.W.Denot). is_disabled x.state.capacity) c.self.view_is ∙ (sym c.is_map_disabled.ensures ∙ c.if-is_map_disabled.false) in
     let at = c.in-Some.ensures in
-    let found = peek_refused g.P.PredicateFn.says g.X.Expiry.read g.L.Listener.tells g.K.PartialEq.eq c.self.view_is c.args.key.now at.0 c.args.now c.self.invariant.cache enabled c.self.inside.inner refl c.in-Some.handle.number c.in-Some.found.now at.2.numbered at.2.found at.2.accepted at.2.shown (record {}) in
+    let found = peek_refused g.P.PredicateFn.says g.X.Expiry.read g.L.Listener.tells g.K.PartialEq.eq c.self.view_is c.args.key.now at.0 c.args.now c.self.invariant.cache enabled c.self.inside.inner refl c.in-Some.handle.number c.in-Some.found.now at.2.numbered at.2.found at.2.accepted at.2.shown at.2.uncovered (record {}) in
     (at.0, asked_of_cache c.self.view_is g.K.PartialEq.eq c.args.key.now g.I.ValueTest.asks c.args.test.now c.find_unless-shown.new.test at.0 at.1, found.0, found.1)
 
 pub invariant_of-self : goal.invariant_of-self
@@ -35,6 +35,6 @@ pub returns : goal.returns
 returns g c =
     let enabled = ap (λ (x : Cache g.row.K.Denot g.row.V.Denot g.row.S.Denot g.row.X.Denot g.row.L.Denot g.row.P.Denot g.row.W.Denot). is_disabled x.state.capacity) c.self.view_is ∙ (sym c.is_map_disabled.ensures ∙ c.if-is_map_disabled.false) in
     let at = c.in-Some.ensures in
-    let found = peek_hits g.P.PredicateFn.says g.X.Expiry.read g.L.Listener.tells g.K.PartialEq.eq c.self.view_is c.args.key.now at.0 c.args.now c.self.invariant.cache enabled c.self.inside.inner refl c.in-Some.handle.number c.in-Some.found.now at.2.numbered at.2.found at.2.accepted at.2.shown c.hit_of-hit.result.read c.hit_of-hit.result.expires c.hit_of-hit.result.is_renewed c.hit_of-hit.ensures
+    let found = peek_hits g.P.PredicateFn.says g.X.Expiry.read g.L.Listener.tells g.K.PartialEq.eq c.self.view_is c.args.key.now at.0 c.args.now c.self.invariant.cache enabled c.self.inside.inner refl c.in-Some.handle.number c.in-Some.found.now at.2.numbered at.2.found at.2.accepted at.2.shown at.2.uncovered c.hit_of-hit.result.read c.hit_of-hit.result.expires c.hit_of-hit.result.is_renewed c.hit_of-hit.ensures
     c.touch.new.self c.touch.ensures.rest (c.touch.ensures.step c.in-Some.found.now at.2.numbered) refl c.in-Ok.value (c.requires.values c.in-Some.found.now.value c.in-Ok.value c.in-Ok.ensures.cases) in
     (at.0, asked_of_cache c.self.view_is g.K.PartialEq.eq c.args.key.now g.I.ValueTest.asks c.args.test.now c.find_unless-shown.new.test at.0 at.1, found.0, found.1)

@@ -26,7 +26,7 @@ invariant_of-self-2 g c =
     let enabled = ap (λ (x : Cache g.row.K.Denot g.row.V.Denot g.row.S.Denot g.row.X.Denot g.row.L.Denot g.row.P.Denot g.row.W.Denot). is_disabled x.state.capacity) c.self.view_is ∙ (sym c.is_map_disabled.ensures ∙ c.if-is_map_disabled.false) in
     let listens = c.is_enabled.ensures ∙ sym c.self.invariant.cache.listens in
     let limited : option_map as_nanos c.limit_of_run-limit.result ≡ (if c.self.inside.housekeeper.listening then option_map as_nanos c.args.limit else None) = c.limit_of_run-limit.ensures ∙ ap (λ b. if b then option_map as_nanos c.args.limit else None) listens in
-    run_keeps_cache c.self.inside.inner c.apply_queues.new.self c.make_passes-ran.new.self c.self.inside.valid_after c.self.inside.predicates.items c.self.inside.entry_count c.self.inside.weighted_size c.self.inside.housekeeper c.self.inside.max_capacity
+    run_keeps_cache c.self.inside.inner c.apply_queues.new.self c.make_passes-ran.new.self c.self.inside.valid_after c.self.inside.invalidator c.self.inside.entry_count c.self.inside.weighted_size c.self.inside.housekeeper c.self.inside.max_capacity
     (settings_of c.self.inside.eviction_policy c.self.inside.expiration_policy c.self.inside.weigher c.self.inside.invalidator_enabled c.self.inside.housekeeper)
     c.self.invariant.cache enabled c.is_some-has_weigher.ensures c.apply_queues.ensures.prepared c.apply_queues.ensures.rest c.self.invariant.store c.apply_queues.ensures.timers c.make_passes-ran.ensures.timers (record { now = c.args.now.0; limit = option_map as_nanos c.args.limit; batch = c.args.batch }) (rw (c.time_to_live.ensures, c.time_to_idle.ensures) refl) limited c.make_passes-ran.ensures.ran c.make_passes-ran.ensures.rest
     c.member_count.result c.saturated-self-inside.result c.member_count.ensures (c.saturated-self-inside.ensures ∙ ap (λ n. min n greatest) c.total_weight.ensures)
@@ -36,18 +36,18 @@ returns-clause-step g c =
     let enabled = ap (λ (x : Cache g.row.K.Denot g.row.V.Denot g.row.S.Denot g.row.X.Denot g.row.L.Denot g.row.P.Denot g.row.W.Denot). is_disabled x.state.capacity) c.self.view_is ∙ (sym c.is_map_disabled.ensures ∙ c.if-is_map_disabled.false) in
     let listens = c.is_enabled.ensures ∙ sym c.self.invariant.cache.listens in
     let limited : option_map as_nanos c.limit_of_run-limit.result ≡ (if c.self.inside.housekeeper.listening then option_map as_nanos c.args.limit else None) = c.limit_of_run-limit.ensures ∙ ap (λ b. if b then option_map as_nanos c.args.limit else None) listens in
-    cache_runs c.self.inside.inner c.apply_queues.new.self c.make_passes-ran.new.self c.self.inside.valid_after c.self.inside.predicates.items c.self.inside.entry_count c.self.inside.weighted_size c.self.inside.housekeeper c.self.inside.max_capacity
+    cache_runs c.self.inside.inner c.apply_queues.new.self c.make_passes-ran.new.self c.self.inside.valid_after c.self.inside.invalidator c.self.inside.entry_count c.self.inside.weighted_size c.self.inside.housekeeper c.self.inside.max_capacity
     (settings_of c.self.inside.eviction_policy c.self.inside.expiration_policy c.self.inside.weigher c.self.inside.invalidator_enabled c.self.inside.housekeeper)
     c.self.invariant.cache enabled c.is_some-has_weigher.ensures c.apply_queues.ensures.prepared c.apply_queues.ensures.rest c.self.invariant.store c.apply_queues.ensures.timers c.make_passes-ran.ensures.timers (record { now = c.args.now.0; limit = option_map as_nanos c.args.limit; batch = c.args.batch }) (rw (c.time_to_live.ensures, c.time_to_idle.ensures) refl) limited c.make_passes-ran.ensures.ran c.make_passes-ran.ensures.rest
     c.member_count.result c.saturated-self-inside.result c.member_count.ensures (c.saturated-self-inside.ensures ∙ ap (λ n. min n greatest) c.total_weight.ensures)
-    c.make_passes-ran.ensures.none g.P.PredicateFn.says (option_map string_bytes c.self.inside.name) c.self.inside.build_hasher c.self.inside.passes c.self.view_is
+    c.make_passes-ran.ensures.none (option_map string_bytes c.self.inside.name) c.self.inside.build_hasher c.self.inside.passes c.self.view_is
 
 pub returns-clause-exact : goal.returns-clause-exact
 returns-clause-exact g c = λ sent.
     let enabled = ap (λ (x : Cache g.row.K.Denot g.row.V.Denot g.row.S.Denot g.row.X.Denot g.row.L.Denot g.row.P.Denot g.row.W.Denot). is_disabled x.state.capacity) c.self.view_is ∙ (sym c.is_map_disabled.ensures ∙ c.if-is_map_disabled.false) in
     let listens = c.is_enabled.ensures ∙ sym c.self.invariant.cache.listens in
     let limited : option_map as_nanos c.limit_of_run-limit.result ≡ (if c.self.inside.housekeeper.listening then option_map as_nanos c.args.limit else None) = c.limit_of_run-limit.ensures ∙ ap (λ b. if b then option_map as_nanos c.args.limit else None) listens in
-    run_ends_exact c.self.inside.inner c.apply_queues.new.self c.make_passes-ran.new.self c.self.inside.valid_after c.self.inside.predicates.items c.self.inside.entry_count c.self.inside.weighted_size c.self.inside.housekeeper c.self.inside.max_capacity
+    run_ends_exact c.self.inside.inner c.apply_queues.new.self c.make_passes-ran.new.self c.self.inside.valid_after c.self.inside.invalidator c.self.inside.entry_count c.self.inside.weighted_size c.self.inside.housekeeper c.self.inside.max_capacity
     (settings_of c.self.inside.eviction_policy c.self.inside.expiration_policy c.self.inside.weigher c.self.inside.invalidator_enabled c.self.inside.housekeeper)
     c.self.invariant.cache enabled c.is_some-has_weigher.ensures c.apply_queues.ensures.prepared c.apply_queues.ensures.rest c.self.invariant.store c.apply_queues.ensures.timers c.make_passes-ran.ensures.timers (record { now = c.args.now.0; limit = option_map as_nanos c.args.limit; batch = c.args.batch }) (rw (c.time_to_live.ensures, c.time_to_idle.ensures) refl) limited c.make_passes-ran.ensures.ran c.make_passes-ran.ensures.rest
     c.member_count.result c.saturated-self-inside.result c.member_count.ensures (c.saturated-self-inside.ensures ∙ ap (λ n. min n greatest) c.total_weight.ensures)

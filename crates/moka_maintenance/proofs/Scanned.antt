@@ -1,0 +1,181 @@
+-- A scan, from a walk round and the drop of predicates behind it.
+use Rattle.std.proofs.Common.{◌≡◌, refl, ℕ, zero, suc, ◌<◌, ◌≤◌, ◌⊎◌, Bool, true, false, true≢false, not, ◌==◌, List, [], ◌∷◌, ◌++◌, length, Option, Some, remove, Contains, inl, inr, ap, sym, subst, ◌∙◌, arith}
+use Rattle.std.proofs.lemmas.List.Elements.{Contains-append_right}
+use Rattle.std.specs.FinMap.{get}
+use Rattle.moka_parts.specs.declared.notification.RemovalCause.{RemovalCause}
+use Rattle.moka_parts.specs.declared.records.Record.{Record}
+use Rattle.moka_parts.specs.declared.records.Registered.{Registered}
+use Rattle.moka_parts.specs.Maintenance.{Choice, Removes, MovesToBack, Drops, Tests, after_choice, after_choices, kept_by_choice, kept_by_choices, AreJustified}
+use Rattle.moka_parts.specs.Visibility.{Covers, SomeCovers}
+use Rattle.moka_parts.specs.Order.{IsListOf}
+use Rattle.moka_parts.specs.State.{Contents}
+use Rattle.moka_parts.proofs.Maps.{itself_tested, same_by_test}
+use Rattle.moka_parts.proofs.Scanned.{not_one_covers}
+use Rattle.moka_store.specs.Store.{Kept}
+use Rattle.moka_maintenance.specs.Scanning.{AreDrops, MayScan, IsRound, AreDropped, AllDropped, IsScanned}
+use Rattle.moka_maintenance.specs.Steps.{Stock, AreAllMembers, HasNoSettled, after_steps, contents_in, stock_in}
+use Rattle.moka_maintenance.proofs.Dropping.{drops_stay, kept-append}
+use Rattle.moka_maintenance.proofs.Popped.{first_or_rest}
+use Rattle.moka_maintenance.proofs.Rounds.{still_there}
+use Rattle.moka_maintenance.proofs.Stepped.{stepped-none}
+use Rattle.moka_maintenance.proofs.Walked.{no_steps}
+
+-- ---- predicates that are left were there before
+
+from_remove : {A : Type 0} (xs : List A) (i : ℕ) (x : A) → Contains (remove xs i) x → Contains xs x
+from_remove [] zero x there = there
+from_remove [] (suc i) x there = there
+from_remove (y ∷ xs) zero x there = Contains-append_right (y ∷ []) xs x there
+from_remove (y ∷ xs) (suc i) x there = elim (first_or_rest y x (remove xs i) there) [
+  | inl same ↦ (0, omega arith, same)
+  | inr rest ↦ Contains-append_right (y ∷ []) xs x (from_remove xs i x rest)
+]
+
+pub kept_there : {P : Type 0} (ps : List (Registered P)) (xs : List Choice) (p : Registered P) → Contains (kept_by_choices ps xs) p → Contains ps p
+kept_there ps [] p there = there
+kept_there ps (Removes n cause ∷ xs) p there = kept_there ps xs p there
+kept_there ps (MovesToBack n ∷ xs) p there = kept_there ps xs p there
+kept_there ps (Drops i ∷ xs) p there = from_remove ps i p (kept_there (remove ps i) xs p there)
+
+nothing_left : {A : Type 0} (xs : List A) → ((x : A) → Contains xs x → ⊥) → xs ≡ []
+nothing_left [] never = refl
+nothing_left (x ∷ xs) never = absurd (never x (0, omega arith, refl))
+
+-- none is left where there was none
+pub nothing_kept : {P : Type 0} (ps qs : List (Registered P)) (xs : List Choice) → ps ≡ [] → AreDrops xs → qs ≡ kept_by_choices ps xs → qs ≡ []
+nothing_kept ps qs xs none drops kept = nothing_left qs (λ p there. (let old = kept_there ps xs p (subst (λ ys. Contains ys p) kept there) in let here = subst (λ ys. Contains ys p) none old in let lt = here.1 in absurd (omega arith)))
+
+-- one that covers is one of them
+covers_by : {K V P : Type 0} (says : P → K → V → Bool → Type 0) (ps : List (Registered P)) (p : Registered P) (r : Record K V) → Contains ps p → Covers says p r → SomeCovers says ps r
+covers_by says [] p r there covers = (let lt = there.1 in absurd (omega arith))
+covers_by says (x ∷ ps) p r there covers = elim (first_or_rest x p ps there) [
+  | inl same ↦ inl (subst (λ z. Covers says z r) (sym same) covers)
+  | inr rest ↦ inr (covers_by says ps p r rest covers)
+]
+
+pub justified-append : {K V P : Type 0} (says : P → K → V → Bool → Type 0) (q : Tests) (c : Contents K V) (ps : List (Registered P)) (xs ys : List Choice) → AreJustified says q c ps xs → AreJustified says q (after_choices c xs) (kept_by_choices ps xs) ys → AreJustified says q c ps (xs ++ ys)
+justified-append says q c ps [] ys first then = then
+justified-append says q c ps (x ∷ xs) ys first then = (first.0, justified-append says q (after_choice c x) (kept_by_choice ps x) xs ys first.1 then)
+
+-- none leaves
+pub dropped-none : {K V P : Type 0} (says : P → K → V → Bool → Type 0) (c : Contents K V) (ps qs : List (Registered P)) → qs ≡ ps → AreDropped says c ps qs
+dropped-none says c ps qs same = record { steps = []; drops = tt; justified = λ q. tt; kept = same }
+
+module _ {K V P : Type 0} (says : P → K → V → Bool → Type 0) (c d : Contents K V) (fewer : (n : ℕ) (r : Record K V) → get d.records n ≡ Some r → get c.records n ≡ Some r) where
+  pub drops_later : (ps : List (Registered P)) (xs : List Choice) → AreDrops xs → (q : Tests) → AreJustified says q c ps xs → AreJustified says q d ps xs
+  drops_later ps [] drops q are = tt
+  drops_later ps (Removes n cause ∷ xs) drops q are = absurd drops
+  drops_later ps (MovesToBack n ∷ xs) drops q are = absurd drops
+  drops_later ps (Drops i ∷ xs) drops q are = ((are.0.0, are.0.1, λ n r at. are.0.2 n r (fewer n r at)), drops_later (remove ps i) xs drops q are.1)
+
+  -- where records have left since, they cover none either
+  pub dropped-later : (ps qs : List (Registered P)) → AreDropped says c ps qs → AreDropped says d ps qs
+  dropped-later ps qs h = record { steps = h.steps; drops = h.drops; justified = λ q. drops_later ps h.steps h.drops q (h.justified q); kept = h.kept }
+
+both_drop : (xs ys : List Choice) → AreDrops xs → AreDrops ys → AreDrops (xs ++ ys)
+both_drop [] ys h j = j
+both_drop (Removes n cause ∷ xs) ys h j = h
+both_drop (MovesToBack n ∷ xs) ys h j = h
+both_drop (Drops i ∷ xs) ys h j = both_drop xs ys h j
+
+-- some leave, and then others
+pub dropped-on : {K V P : Type 0} (says : P → K → V → Bool → Type 0) (c : Contents K V) (ps qs rs : List (Registered P)) → AreDropped says c ps qs → AreDropped says c qs rs → AreDropped says c ps rs
+dropped-on says c ps qs rs h j = record {
+  steps = h.steps ++ j.steps;
+  drops = both_drop h.steps j.steps h.drops j.drops;
+  justified = λ q. justified-append says q c ps h.steps j.steps (h.justified q) (subst (λ e. AreJustified says q e (kept_by_choices ps h.steps) j.steps) (sym (drops_stay c h.steps h.drops)) (subst (λ xs. AreJustified says q c xs j.steps) h.kept (j.justified q)));
+  kept = j.kept ∙ ap (λ xs. kept_by_choices xs j.steps) h.kept ∙ sym (kept-append ps h.steps j.steps);
+}
+
+-- those that are left cover no more than all
+pub covers_fewer : {K V P : Type 0} (says : P → K → V → Bool → Type 0) (ps qs : List (Registered P)) → ((p : Registered P) → Contains qs p → Contains ps p) → (r : Record K V) → SomeCovers says qs r → SomeCovers says ps r
+covers_fewer says ps [] less r covered = absurd covered
+covers_fewer {K} {V} {P} says ps (q ∷ qs) less r covered = elim covered [
+  | inl here ↦ covers_by says ps q r (less q (0, omega arith, refl)) here
+  | inr later ↦ covers_fewer says ps qs (λ p there. less p (Contains-append_right (q ∷ []) qs p there)) r later
+]
+
+-- ---- the scan
+
+module _ {K V L P : Type 0} (tells : L → K → V → RemovalCause → L → Type 0) (says : P → K → V → Bool → Type 0) (batch : ℕ) (old : Kept K V) (ps : List (Registered P)) (l : Option L) where
+  pub scanned-none : length ps ≡ 0 → IsScanned tells says ps batch old old ps l l false
+  unfolding stepped-none
+  scanned-none none = record {
+    by = stepped-none tells (MayScan says ps) (stock_in old) l;
+    dropped = dropped-none says (contents_in old) ps ps refl;
+    few = omega arith;
+    unregistered = λ e. (refl, refl);
+    idle = λ e. refl;
+    more = λ is. absurd (true≢false (sym is));
+    unfinished = λ ordered some more. absurd (omega arith);
+    whole = λ ordered large all. nothing ps none;
+  }
+    where
+      nothing : (ps : List (Registered P)) → length ps ≡ 0 → ps ≡ []
+      nothing [] e = refl
+      nothing (p ∷ ps) e = absurd (omega arith)
+
+  module _ (new : Kept K V) (k : Option L) (looked : ℕ) (end : Bool) (h : IsRound tells says ps batch old new l k looked end) (known : old.ordered ≡ true → IsListOf old.access old.written) (some : 1 ≤ length ps)
+      (qs : List (Registered P)) (left : Bool) (met : left ≡ true → 1 ≤ looked) (more : left ≡ true → 0 < length qs) (further : 1 ≤ looked → 0 < length qs → left ≡ true) where
+    settled_none : looked ≡ 0 → HasNoSettled (stock_in old) → HasNoSettled (stock_in new)
+    settled_none none = subst HasNoSettled (sym (h.by.led ∙ ap (after_steps (stock_in old)) (no_steps h.by.steps (let f = h.few in omega arith))))
+
+    decide : old.ordered ≡ true → 1 ≤ batch → 0 < length qs → (left ≡ true) ⊎ HasNoSettled (stock_in new)
+    decide ordered batched there = go looked refl
+      where
+        go : (n : ℕ) → looked ≡ n → (left ≡ true) ⊎ HasNoSettled (stock_in new)
+        go zero none = inr (settled_none none (h.unlooked ordered batched none))
+        go (suc n) is = inl (further (omega arith) there)
+
+    still : batch ≡ 0 → left ≡ false
+    still none = go left refl
+      where
+        go : (b : Bool) → left ≡ b → left ≡ false
+        go true is = (let m = met is in let n = h.most in absurd (omega arith))
+        go false is = is
+
+    joined : AreDropped says (contents_in new) ps qs → (old.ordered ≡ true → length old.access ≤ batch → AreAllMembers (stock_in old) → qs ≡ []) → IsScanned tells says ps batch old new qs l k left
+    joined dropped whole = record {
+      by = h.by;
+      dropped = dropped;
+      few = (let f = h.few in let m = h.most in omega arith);
+      unregistered = λ none. (let empty = ap length none in absurd (omega arith));
+      idle = still;
+      more = more;
+      unfinished = decide;
+      whole = whole;
+    }
+
+    -- the end was reached, and what covers nothing has left, or it was not
+    pub scanned : AllDropped says (contents_in new) ps qs ⊎ ((end ≡ false) × (qs ≡ ps)) → IsScanned tells says ps batch old new qs l k left
+    scanned (inr part) = joined (dropped-none says (contents_in new) ps qs part.1) (λ ordered large all. absurd (true≢false (sym (h.whole ordered large).1 ∙ part.0)))
+    scanned (inl d) = joined d.dropped (λ ordered large all. nothing_left qs (λ p there.
+        (let used = d.used p there in
+        let is = all used.0 used.1 (still_there (stock_in old) h.by.steps used.0 used.1 (sym (ap (λ (c : Stock K V). get c.records used.0) h.by.led) ∙ used.2)) in
+        let none = (h.whole ordered large).0.settled used.0 used.1 ((known ordered).1 used.0 ∙ is.1) used.2 is.0 in
+        not_one_covers says ps p used.1 none (kept_there ps d.dropped.steps p (subst (λ rs. Contains rs p) d.dropped.kept there)) used.3)))
+
+-- a test that failed, and one that did not
+pub not_true : (b : Bool) → not b ≡ true → b ≡ false
+not_true true e = sym e
+not_true false e = refl
+
+pub not_false : (b : Bool) → not b ≡ false → b ≡ true
+not_false true e = refl
+not_false false e = sym e
+
+-- whether a list is empty, and how long it is
+pub none_there : (n : ℕ) → true ≡ (n == 0) → n ≡ 0
+none_there n e = same_by_test n 0 (sym e)
+
+pub some_there : (n : ℕ) → false ≡ (n == 0) → 1 ≤ n
+some_there zero e = absurd (true≢false (sym (itself_tested 0) ∙ sym e))
+some_there (suc n) e = omega arith
+
+pub left_more : (b : Bool) (n : ℕ) → b ≡ (n == 0) → not b ≡ true → 0 < n
+left_more true n e is = absurd (true≢false (sym is))
+left_more false n e is = some_there n e
+
+pub left_further : (b : Bool) (n : ℕ) → b ≡ (n == 0) → 0 < n → not b ≡ true
+left_further true n e more = (let none = none_there n e in absurd (omega arith))
+left_further false n e more = refl

@@ -1,0 +1,72 @@
+-- What stays of a store while a scan looks at a member.
+use Rattle.std.proofs.Common.{◌≡◌, ◌≢◌, refl, ℕ, ◌≤◌, Bool, true, false, true≢false, cond, ◌==◌, List, [], ◌∷◌, Option, Some, None, IfSome, IsSome, is_some, slice_get, inl, inr, ap, sym, subst, ◌∙◌, arith}
+use Rattle.std.proofs.lemmas.Bool.{ne_eqb, cond-false}
+use Rattle.std.specs.List.{IsDistinct}
+use Rattle.moka_parts.specs.declared.notification.RemovalCause.{RemovalCause}
+use Rattle.moka_parts.specs.declared.records.Registered.{Registered}
+use Rattle.moka_parts.specs.Records.{counted_of, is_listed}
+use Rattle.moka_parts.proofs.Maps.{itself_tested, same_by_test, same_or_apart}
+use Rattle.moka_parts.proofs.WriteList.{listed_past_taken_out, once_taken_out}
+use Rattle.moka_store.specs.declared.store.Handle.{Handle}
+use Rattle.moka_store.specs.Store.{Kept, IsPlaced, number_after}
+use Rattle.moka_store.proofs.Gets.{get-past_remove}
+use Rattle.moka_store.proofs.Members.{counted-without}
+use Rattle.moka_maintenance.specs.Expelled.{without_record}
+use Rattle.moka_maintenance.specs.Scanning.{LooksAt}
+use Rattle.moka_maintenance.specs.Steps.{AddsNoPlace, LeavesNoRow}
+use Rattle.moka_maintenance.specs.Timers.{DropsTimers}
+use Rattle.moka_maintenance.proofs.Placed.{places-gone, rows-gone}
+use Rattle.moka_maintenance.proofs.Timing.{drops-gone, drops-none}
+
+-- what stands behind a number is another
+pub next_other : (ns : List ℕ) (n m : ℕ) → IsDistinct (◌==◌) ns → number_after n ns ≡ Some m → m ≢ n
+unfolding IsDistinct
+next_other [] n m once e = cc
+next_other (x ∷ xs) n m once e = go (x == n) refl (λ at. next_other xs n m once.1 at) e
+  where
+    first : (ys : List ℕ) → IsDistinct (◌==◌) (x ∷ ys) → slice_get ys 0 ≡ Some m → (x == m) ≡ false
+    first [] o at = cc
+    first (y ∷ ys) o at = (let same : y ≡ m = cc in subst (λ k. (x == k) ≡ false) same o.0.0)
+
+    go : (b : Bool) → (x == n) ≡ b → (number_after n xs ≡ Some m → m ≢ n) → cond b (slice_get xs 0) (number_after n xs) ≡ Some m → m ≢ n
+    go true is later at same = true≢false (sym (itself_tested x) ∙ ap (λ k. x == k) (same_by_test x n is ∙ sym same) ∙ first xs once at)
+    go false is later at same = later at same
+
+pub if_some : {A : Type 0} {P Q : A → Type 0} (o : Option A) → ((a : A) → o ≡ Some a → P a → Q a) → IfSome o P → IfSome o Q
+if_some None f h = h
+if_some (Some a) f h = f a refl h
+
+-- another number keeps its row and both its places, and no number stands twice then either
+pub record KeepsOthers {K V : Type 0} (old new : Kept K V) (n : ℕ) : Type 0 where
+  pub placed : (h : Handle) → h.number ≢ n → IsPlaced old h → IsPlaced new h
+  pub members : (k : ℕ) → k ≢ n → IsSome (counted_of k old.access) → IsSome (counted_of k new.access)
+  pub listed : (k : ℕ) → k ≢ n → is_listed k old.written ≡ true → is_listed k new.written ≡ true
+  pub once : IsDistinct (◌==◌) old.written → IsDistinct (◌==◌) new.written
+  pub timers : DropsTimers old new
+  pub places : AddsNoPlace old new
+  pub rows : LeavesNoRow old new
+  pub room : old.room ≤ new.room
+
+module _ {K V : Type 0} where
+  keeps_same : (old : Kept K V) (n : ℕ) → KeepsOthers old old n
+  keeps_same old n = record { placed = λ h other at. at; members = λ k other there. there; listed = λ k other there. there; once = λ o. o; timers = drops-none old; places = λ k p at. at; rows = λ k p at gone. gone; room = omega arith }
+
+  keeps_past : (old : Kept K V) (n room : ℕ) → old.room ≤ room → KeepsOthers old (without_record n room old) n
+  keeps_past old n room more = record {
+    placed = λ h other at. get-past_remove old.places n h.number other ∙ at;
+    members = λ k other there. subst (λ o. is_some o ≡ true) (sym (counted-without n k old.access ∙ cond-false (k == n) None (counted_of k old.access) (ne_eqb k n other))) there;
+    listed = λ k other there. elim (same_or_apart k n) [ inl same ↦ absurd (other same) | inr apart ↦ listed_past_taken_out n k old.written apart ∙ there ];
+    once = λ o. once_taken_out n old.written o;
+    timers = drops-gone old (without_record n room old) refl refl n refl refl refl;
+    places = places-gone old (without_record n room old) n refl;
+    rows = rows-gone old (without_record n room old) n refl refl;
+    room = more;
+  }
+
+  module _ {L P : Type 0} (tells : L → K → V → RemovalCause → L → Type 0) (says : P → K → V → Bool → Type 0) (ps : List (Registered P)) where
+    pub turn_keeps : (old new : Kept K V) (l m : Option L) (n : ℕ) (settled : Bool) → LooksAt tells says ps old new l m n settled → KeepsOthers old new n
+    turn_keeps old new l m n false turn = subst (λ new. KeepsOthers old new n) (sym turn.1) (keeps_same old n)
+    turn_keeps old new l m n true turn = elim turn.1 [
+      | inl same ↦ subst (λ new. KeepsOthers old new n) (sym same.0) (keeps_same old n)
+      | inr left ↦ subst (λ new. KeepsOthers old new n) (sym left.1) (keeps_past old n new.room left.2)
+    ]

@@ -1,0 +1,93 @@
+-- A scan along the order of writing for what registered predicates cover, and the drop of predicates that cover nothing.
+use Rattle.std.specs.Prelude.{◌≡◌, ℕ, ◌≤◌, ◌<◌, Bool, true, false, ◌&&◌, ◌⊎◌, List, [], ◌∷◌, ◌++◌, length, Option, Some, slice_get, Contains}
+use Rattle.std.specs.FinMap.{get}
+use Rattle.moka_parts.specs.declared.notification.RemovalCause.{RemovalCause}
+use Rattle.moka_parts.specs.declared.notification.RemovalCause.TheVariants.{Explicit}
+use Rattle.moka_parts.specs.declared.records.Record.{Record}
+use Rattle.moka_parts.specs.declared.records.Registered.{Registered}
+use Rattle.moka_parts.specs.Records.{is_listed, is_member, is_settled}
+use Rattle.moka_parts.specs.State.{Contents}
+use Rattle.moka_parts.specs.Visibility.{Covers, SomeCovers, NoneCovers}
+use Rattle.moka_parts.specs.Maintenance.{Choice, Removes, MovesToBack, Drops, Tests, kept_by_choices, AreJustified}
+use Rattle.moka_parts.specs.Scan.{AreUncovered}
+use Rattle.moka_store.specs.Store.{Kept}
+use Rattle.moka_maintenance.specs.Expelled.{without_record}
+use Rattle.moka_maintenance.specs.Steps.{Stock, contents_in, stock_in, left_by_step, AreAllMembers, HasNoSettled, IsStepped, Told}
+
+-- each step drops a predicate
+abbrev pub AreDrops : List Choice → Type 0
+AreDrops [] = Unit {0}
+AreDrops (Removes n cause ∷ xs) = ⊥
+AreDrops (MovesToBack n ∷ xs) = ⊥
+AreDrops (Drops i ∷ xs) = AreDrops xs
+
+module _ {K V P : Type 0} (says : P → K → V → Bool → Type 0) where
+  -- the predicate covers a record of the map
+  abbrev pub CoversSome : Contents K V → Registered P → Type 0
+  CoversSome c p = (n : ℕ) × (r : Record K V) × (get c.records n ≡ Some r) × Covers says p r
+
+  -- predicates leave, each of which covers no record
+  pub record AreDropped (c : Contents K V) (ps qs : List (Registered P)) : Type 0 where
+    pub steps : List Choice
+    pub drops : AreDrops steps
+    pub justified : (q : Tests) → AreJustified says q c ps steps
+    pub kept : qs ≡ kept_by_choices ps steps
+
+  -- all of them do
+  pub record AllDropped (c : Contents K V) (ps qs : List (Registered P)) : Type 0 where
+    pub dropped : AreDropped c ps qs
+    pub used : (p : Registered P) → Contains qs p → CoversSome c p
+
+  -- a scan may remove a settled member that one of the predicates covers
+  abbrev pub MayScan : List (Registered P) → Stock K V → Choice → Type 0
+  MayScan ps c (Removes n cause) = (r : Record K V) × (get c.records n ≡ Some r) × (is_member n c.access && is_settled c.records n ≡ true) × SomeCovers says ps r × (cause ≡ Explicit)
+  MayScan ps c (MovesToBack n) = ⊥
+  MayScan ps c (Drops i) = ⊥
+
+module _ {K V L P : Type 0} (tells : L → K → V → RemovalCause → L → Type 0) (says : P → K → V → Bool → Type 0) (ps : List (Registered P)) where
+  -- a member is looked at: one that is not settled stays; a settled one stays where no predicate covers it, and else leaves
+  abbrev pub LooksAt : Kept K V → Kept K V → Option L → Option L → ℕ → Bool → Type 0
+  LooksAt old new l m n false = (is_settled old.records n ≡ false) × (new ≡ old) × (m ≡ l)
+  LooksAt old new l m n true = (is_settled old.records n ≡ true)
+      × (((new ≡ old) × (m ≡ l) × ((r : Record K V) → get old.records n ≡ Some r → NoneCovers says ps r))
+      ⊎ (MayScan says ps (stock_in old) (Removes n Explicit) × (new ≡ without_record n new.room old) × (old.room ≤ new.room) × Told tells l (left_by_step (stock_in old) (Removes n Explicit)) m))
+
+  -- a walk along the members of `rest`, which stand behind `before`, up to the one before the next
+  pub record IsWalked (old new : Kept K V) (l m : Option L) (before rest : List ℕ) (next : Option ℕ) (looked passed : ℕ) : Type 0 where
+    pub walked : List ℕ
+    pub kept : List ℕ
+    pub ahead : List ℕ
+    pub split : rest ≡ walked ++ ahead
+    pub list : new.written ≡ before ++ (kept ++ ahead)
+    pub at : next ≡ slice_get ahead 0
+    pub count : passed ≡ length walked
+    pub by : IsStepped tells (MayScan says ps) (stock_in old) (stock_in new) l m
+    -- each member that leaves was looked at, and each that was looked at was passed
+    pub few : length by.steps ≤ looked
+    pub fewer : looked ≤ passed
+    -- where none was looked at, none of them is settled
+    pub unlooked : looked ≡ 0 → (n : ℕ) → is_listed n walked ≡ true → is_settled old.records n ≡ false
+    pub uncovered : AreUncovered says ps new.records walked
+
+  -- a walk from the cursor, at most once round: the members looked at, and whether it came to the end
+  pub record IsRound (batch : ℕ) (old new : Kept K V) (l m : Option L) (looked : ℕ) (end : Bool) : Type 0 where
+    pub by : IsStepped tells (MayScan says ps) (stock_in old) (stock_in new) l m
+    pub few : length by.steps ≤ looked
+    pub most : looked ≤ batch
+    pub unlooked : old.ordered ≡ true → 1 ≤ batch → looked ≡ 0 → HasNoSettled (stock_in old)
+    -- with a batch for all members it is a whole one
+    pub whole : old.ordered ≡ true → length old.access ≤ batch → AreUncovered says ps new.records old.written × (end ≡ true)
+
+  -- a scan with the drop behind it, and whether it leaves more
+  pub record IsScanned (batch : ℕ) (old new : Kept K V) (qs : List (Registered P)) (l m : Option L) (left : Bool) : Type 0 where
+    pub by : IsStepped tells (MayScan says ps) (stock_in old) (stock_in new) l m
+    pub dropped : AreDropped says (contents_in new) ps qs
+    pub few : length by.steps ≤ batch
+    -- without predicates nothing is done
+    pub unregistered : ps ≡ [] → (by.steps ≡ []) × (left ≡ false)
+    pub idle : batch ≡ 0 → left ≡ false
+    -- more is left only where a predicate is, and wherever one is left beside a settled member
+    pub more : left ≡ true → 0 < length qs
+    pub unfinished : old.ordered ≡ true → 1 ≤ batch → 0 < length qs → (left ≡ true) ⊎ HasNoSettled (stock_in new)
+    -- with a batch for all members, no predicate is left once every record is settled
+    pub whole : old.ordered ≡ true → length old.access ≤ batch → AreAllMembers (stock_in old) → qs ≡ []

@@ -1,0 +1,219 @@
+//! The scan: along the order of writing, from where it stopped last, it removes what registered predicates cover. Once it
+//! has come to the end, the predicates that cover no record leave.
+//!
+//! moka: `sync::invalidator::Invalidator::scan_and_invalidate`, `Invalidator::remove_predicates_registered_before`.
+ghost use Rattle.std.specs.Prelude.{◌≡◌, ◌≤◌, ◌<◌, ℕ, ◌++◌, ◌⊎◌, ◌==◌, List, true, false, Some, IfSome, IsSome, MatchBool, is_none, length, option_map, slice_get};
+ghost use Rattle.std.specs.List.{IsDistinct};
+ghost use Rattle.moka_parts.specs.declared.records.Registered.{Registered};
+ghost use Rattle.moka_parts.specs.Maintenance.{CoversNothing};
+ghost use Rattle.moka_parts.specs.Records.{counted_of, is_listed};
+ghost use Rattle.moka_store.specs.Store.{IsPlaced};
+ghost use Rattle.moka_maintenance.specs.Scanning.{CoversSome, LooksAt, IsWalked, IsRound, AllDropped, IsScanned};
+ghost use Rattle.moka_maintenance.specs.Steps.{contents_in, AddsNoPlace, LeavesNoRow};
+ghost use Rattle.moka_maintenance.specs.Timers.{DropsTimers};
+
+use crate::expel::expel;
+use moka_parts::closures::PredicateFn;
+use moka_parts::invalidator::Invalidator;
+use moka_parts::notification::{Listener, RemovalCause, RemovalNotifier};
+use moka_store::{Handle, Store};
+use std::hash::{BuildHasher, Hash};
+
+// What a walk along the order of writing came to.
+#[derive(Clone, Copy)]
+struct Stretch {
+    // How many settled members it looked at.
+    looked: u32,
+    // How many members it passed, those that left among them.
+    passed: usize,
+    // Whether nothing stands behind the last of them.
+    is_end: bool,
+}
+
+/// Looks at up to `batch` settled members, none of them twice, and removes those that a registered predicate covers. Where
+/// the end of the order was reached, predicates that cover no record leave. Whether more is left: a member was looked at,
+/// and a predicate is left.
+pub(crate) fn scan<K: Eq + Hash + Drop, V: Drop, S: BuildHasher, L: Listener<K, V>, P: Drop>(
+    store: &mut Store<K, V, S>,
+    notifier: &mut RemovalNotifier<L>,
+    invalidator: &mut Invalidator<P>,
+    batch: u32,
+) -> bool
+where
+    P: PredicateFn<K, V>,
+    ensures scanned { IsScanned L.tells P.says invalidator.old batch store.old store.new invalidator.new notifier.old notifier.new result }
+    ensures timers { DropsTimers store.old store.new }
+    ensures places { AddsNoPlace store.old store.new }
+    ensures rows { LeavesNoRow store.old store.new }
+    ensures room { store.old.room ≤ store.new.room }
+{
+    if invalidator.is_empty() {
+        return false;
+    }
+    store.invariant_holds();
+    let round = go_round(store, notifier, invalidator, batch);
+    if round.is_end {
+        drop_idle(store, invalidator);
+    }
+    round.looked > 0 && !invalidator.is_empty()
+}
+
+// Walks from the cursor to the end, and then from the front on, past no more members than there are.
+fn go_round<K: Eq + Hash + Drop, V: Drop, S: BuildHasher, L: Listener<K, V>, P>(
+    store: &mut Store<K, V, S>,
+    notifier: &mut RemovalNotifier<L>,
+    invalidator: &Invalidator<P>,
+    batch: u32,
+) -> Stretch
+where
+    P: PredicateFn<K, V>,
+    ensures round { IsRound L.tells P.says invalidator.now batch store.old store.new notifier.old notifier.new result.looked result.is_end }
+    ensures timers { DropsTimers store.old store.new }
+    ensures places { AddsNoPlace store.old store.new }
+    ensures rows { LeavesNoRow store.old store.new }
+    ensures room { store.old.room ≤ store.new.room }
+{
+    store.invariant_holds();
+    let members = store.member_count();
+    let start = start_of(store);
+    let first = scan_along(store, notifier, invalidator, start, members, batch);
+    if !first.is_end {
+        return first;
+    }
+    let front = store.front_written();
+    let (most, left) = (members - first.passed, batch - first.looked);
+    let second = scan_along(store, notifier, invalidator, front, most, left);
+    Stretch {
+        looked: first.looked + second.looked,
+        passed: first.passed + second.passed,
+        is_end: true,
+    }
+}
+
+// The member at the cursor, or else the first.
+fn start_of<K: Eq + Hash, V, S: BuildHasher>(store: &Store<K, V, S>) -> Option<Handle>
+    ensures placed { IfSome result (λ h. IsPlaced store.now h) }
+    ensures member { IfSome result (λ h. IsSome (counted_of h.number store.now.access)) }
+    ensures listed { IfSome result (λ h. is_listed h.number store.now.written ≡ true) }
+    ensures none { result ≡ None → slice_get store.now.written 0 ≡ None }
+{
+    match store.cursor() {
+        Some(handle) => Some(handle),
+        None => store.front_written(),
+    }
+}
+
+// Walks from a member to the end, until `batch` settled members were looked at or `most` members passed. The cursor is put
+// at the next one.
+fn scan_along<K: Eq + Hash + Drop, V: Drop, S: BuildHasher, L: Listener<K, V>, P>(
+    store: &mut Store<K, V, S>,
+    notifier: &mut RemovalNotifier<L>,
+    invalidator: &Invalidator<P>,
+    start: Option<Handle>,
+    most: usize,
+    batch: u32,
+) -> Stretch
+where
+    P: PredicateFn<K, V>,
+    requires placed { IfSome start (λ h. IsPlaced store.old h) }
+    requires member { IfSome start (λ h. IsSome (counted_of h.number store.old.access)) }
+    requires listed { IfSome start (λ h. is_listed h.number store.old.written ≡ true) }
+    requires once { IsDistinct (◌==◌) store.old.written }
+    ensures walked { (before rest : List ℕ) → store.old.written ≡ before ++ rest → option_map (λ h. h.number) start ≡ slice_get rest 0
+        → IsWalked L.tells P.says invalidator.now store.old store.new notifier.old notifier.new before rest store.new.cursor result.looked result.passed }
+    ensures end { result.is_end ≡ is_none store.new.cursor }
+    ensures stopped { result.is_end ≡ false → (most ≤ result.passed) ⊎ (batch ≤ result.looked) }
+    ensures few { result.passed ≤ most }
+    ensures looked { result.looked ≤ batch }
+    ensures timers { DropsTimers store.old store.new }
+    ensures once { IsDistinct (◌==◌) store.new.written }
+    ensures places { AddsNoPlace store.old store.new }
+    ensures rows { LeavesNoRow store.old store.new }
+    ensures room { store.old.room ≤ store.new.room }
+{
+    let mut next = start;
+    let mut looked = 0;
+    let mut passed = 0;
+    while passed < most && looked < batch {
+        let Some(handle) = next else {
+            break;
+        };
+        next = store.next_written(handle);
+        passed += 1;
+        if look_at(store, notifier, invalidator, handle) {
+            looked += 1;
+        }
+    }
+    store.set_cursor(next);
+    let is_end = next.is_none();
+    Stretch {
+        looked,
+        passed,
+        is_end,
+    }
+}
+
+// Looks at a member, and lets it leave if it is settled and a predicate covers it. Whether it is settled.
+fn look_at<K: Eq + Hash + Drop, V: Drop, S: BuildHasher, L: Listener<K, V>, P>(
+    store: &mut Store<K, V, S>,
+    notifier: &mut RemovalNotifier<L>,
+    invalidator: &Invalidator<P>,
+    handle: Handle,
+) -> bool
+where
+    P: PredicateFn<K, V>,
+    requires placed { IsPlaced store.old handle }
+    requires member { IsSome (counted_of handle.number store.old.access) }
+    ensures { LooksAt L.tells P.says invalidator.now store.old store.new notifier.old notifier.new handle.number result }
+{
+    let Some(found) = store.find(handle) else {
+        return false;
+    };
+    if found.applied != found.generation {
+        return false;
+    }
+    if invalidator.apply_predicates(found) {
+        expel(store, notifier, handle, RemovalCause::Explicit);
+    }
+    true
+}
+
+// The predicates that cover no record leave.
+fn drop_idle<K: Eq + Hash, V, S: BuildHasher, P: Drop>(
+    store: &Store<K, V, S>,
+    invalidator: &mut Invalidator<P>,
+)
+where
+    P: PredicateFn<K, V>,
+    ensures { AllDropped P.says (contents_in store.now) invalidator.old invalidator.new }
+{
+    let mut left = invalidator.len();
+    while left > 0 {
+        left -= 1;
+        if !covers_some(store, invalidator, left) {
+            let _dropped = invalidator.remove(left);
+        }
+    }
+}
+
+// Whether the predicate at this place covers a record. It is asked no more once it covers one.
+fn covers_some<K: Eq + Hash, V, S: BuildHasher, P>(
+    store: &Store<K, V, S>,
+    invalidator: &Invalidator<P>,
+    index: usize,
+) -> bool
+where
+    P: PredicateFn<K, V>,
+    requires { index < length invalidator.now }
+    ensures { (p : Registered P) → slice_get invalidator.now index ≡ Some p →
+        MatchBool result (CoversSome P.says (contents_in store.now) p) (CoversNothing P.says (contents_in store.now) p) }
+{
+    for place in 0..store.place_count() {
+        if let Some(found) = store.record_at(place) {
+            if invalidator.covers_at(index, found) {
+                return true;
+            }
+        }
+    }
+    false
+}

@@ -1,0 +1,25 @@
+//! Records by the places of their rows.
+ghost use Rattle.std.specs.Prelude.{◌≡◌, ◌<◌, ℕ, Some, IfSome, IsSome, option_copied};
+ghost use Rattle.std.specs.FinMap as finite;
+
+use super::Store;
+use moka_parts::records::Record;
+use std::hash::{BuildHasher, Hash};
+
+impl<K: Eq + Hash, V, S: BuildHasher> Store<K, V, S> {
+    /// Each row's place is less than this, and each record has a row.
+    pub fn place_count(&self) -> usize
+        ensures places { (n place : ℕ) → finite.get self.now.places n ≡ Some place → place < result }
+        ensures rowed { (n : ℕ) → IsSome (finite.get self.now.records n) → IsSome (finite.get self.now.places n) }
+    {
+        self.table.capacity()
+    }
+
+    /// The record at this place, if there is one.
+    pub fn record_at(&self, place: usize) -> Option<&Record<K, V>>
+        ensures found { (n : ℕ) → finite.get self.now.places n ≡ Some place → option_copied result ≡ finite.get self.now.records n }
+        ensures stored { IfSome result (λ r. finite.get self.now.records r.now.number ≡ Some r.now) }
+    {
+        self.table.record(place)
+    }
+}
