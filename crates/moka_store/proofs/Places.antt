@@ -3,8 +3,7 @@ use Rattle.std.proofs.Common.{Bor, option_copied, ◌≡◌, ℕ, ◌==◌, Bool
 use Rattle.std.proofs.lemmas.List.Elements.{Contains-append_right}
 use Rattle.std.specs.FinMap.{get}
 use Rattle.std.specs.Option.{option_and_then}
-use Rattle.moka_structures.specs.RecordTable.{Row}
-use Rattle.moka_structures.specs.RecordTable.{row_at, stored_at, records_of, places_of}
+use Rattle.moka_structures.specs.RecordTable.{Row, row_at, stored_at, records_of, places_of}
 use Rattle.moka_structures.proofs.TableCalls.{record_row, placed_row, get-places, get-records}
 use Rattle.moka_parts.specs.declared.records.Record.{Record}
 use Rattle.moka_parts.specs.declared.records.Member.{Member}
