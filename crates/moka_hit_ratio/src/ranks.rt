@@ -8,8 +8,8 @@ const EXPONENT: f64 = 0.9;
 /// 2^-53, by which a number of 53 bits becomes one from 0 to below 1.
 const UNIT: f64 = 1.0 / 9_007_199_254_740_992.0;
 
-/// Draws ranks, as Gray and others do in "Quickly generating billion-record synthetic databases": the first two with
-/// the frequencies of the law, and all others by a power of a random number, which comes near to it.
+/// Draws ranks as benchmarks of caches commonly do, by the method of Gray and others: the first two with the frequencies of
+/// the law, and all others by a power of a random number, which comes near to it.
 #[derive(Clone, Copy)]
 pub struct Zipf {
     /// How many ranks there are.

@@ -670,8 +670,8 @@ fn reads_long_lines(rt: HostRuntime) -> Result<(), Fail> {
 /// then, and the next attempt succeeds. With ample memory nothing is refused.
 #[test]
 fn goes_on_where_memory_was_refused_once(rt: HostRuntime) -> Result<(), Fail> {
-    let script =
-        "insert 1 a 0\nget 1 0\ninsert 1 b 0\nget 1 0\ninsert 2 b 0\nget 2 0\nkeys\nkeys\n";
+    let script = "ttl 9\nexpire create 3 0 5\ninsert 1 a 0\nget 1 0\ninsert 1 b 0\nget 1 0\n\
+        insert 2 b 0\nget 2 0\nkeys\nkeys\n";
     let (mut printed, mut said) = ([0; 256], [0; 256]);
     let (mut out, mut err) = (printed.as_mut_slice(), said.as_mut_slice());
     let status = replay(rt.alloc(), &mut script.as_bytes(), &mut out, &mut err);
