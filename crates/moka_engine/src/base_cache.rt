@@ -183,8 +183,14 @@ impl<
         let initial_capacity = initial_capacity.unwrap_or(0);
         let ordered = needs_write_list(&expiration_policy, invalidator_enabled);
         let timed = needs_timers(&expiration_policy);
-        let Ok(inner) = Inner::new(alloc, hasher, first_ticket, initial_capacity, ordered, timed)
-        else {
+        let Ok(inner) = Inner::new(
+            alloc,
+            hasher,
+            first_ticket,
+            initial_capacity,
+            ordered,
+            timed,
+        ) else {
             return Err(OutOfMemory);
         };
         let notifier = RemovalNotifier::new(eviction_listener);

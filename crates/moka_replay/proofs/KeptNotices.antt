@@ -31,7 +31,7 @@ use Rattle.moka_replay.specs.declared.key_range.KeyRange.{KeyRange}
 use Rattle.moka_replay.specs.Calls.{CallText}
 use Rattle.moka_parts.proofs.RunsGoOn.{promised_is_run}
 use Rattle.moka_replay.specs.Notices.{ScriptNotice, Kept, Keeps, needs_room, room_of, listener_for, told_of}
-use Rattle.moka_replay.specs.declared.script.settings.Settings.{Settings}
+use Rattle.moka_replay.specs.Settings.{Chosen}
 use Rattle.moka_replay.specs.Played.{ScriptStep, script_meaning, first_state, start_of}
 
 -- ---- the listener
@@ -107,9 +107,9 @@ module _ {X L W C I : Type 0} (m : Meaning ℕ (List ℕ) X L KeyRange W C I) wh
 -- ---- a script
 
 -- what always holds of records and operations holds of the state that a script begins with
-first_is_valid : (settings : Settings) → IsValid nat_eq (first_state settings)
-first_is_valid settings =
-    let valid = new_is_valid ℕ (List ℕ) KeyRange (first_state settings).settings settings.capacity (start_of settings) (unwrap_or settings.first 1) nat_eq in
+first_is_valid : (chosen : Chosen) → IsValid nat_eq (first_state chosen)
+first_is_valid chosen =
+    let valid = new_is_valid ℕ (List ℕ) KeyRange (first_state chosen).settings chosen.settings.capacity (start_of chosen.settings) (unwrap_or chosen.settings.first 1) nat_eq in
     record {
       consistent = record { once = valid.consistent.once; sound = valid.consistent.sound };
       numbered = record {
@@ -121,7 +121,7 @@ first_is_valid settings =
     }
 
 -- its listener keeps all that the calls tell
-pub told_by_script : (settings : Settings) (calls : List CallText) (steps : List ScriptStep) (after : Option Kept) → calls_of steps ≡ calls → AreSteps script_meaning (PromisedRun script_meaning.says script_meaning.read) (first_state settings) steps → Heard Keeps (listener_for settings.listener calls) (notices_of steps) after → notices_of steps ≡ told_of after
-told_by_script settings calls steps after made done heard =
-    let whole = weaker_steps script_meaning (PromisedRun script_meaning.says script_meaning.read) (MaintenanceRun script_meaning.says) (promised_is_run script_meaning.says script_meaning.read) (first_state settings) steps done in
-    told_in_full script_meaning nat_eq_equiv (first_state settings) steps settings.listener after (first_is_valid settings) (ap (map (λ (r : Record ℕ (List ℕ)). r.value)) values-empty) refl whole (rw made heard)
+pub told_by_script : (chosen : Chosen) (calls : List CallText) (steps : List ScriptStep) (after : Option Kept) → calls_of steps ≡ calls → AreSteps script_meaning (PromisedRun script_meaning.says script_meaning.read) (first_state chosen) steps → Heard Keeps (listener_for chosen.settings.listener calls) (notices_of steps) after → notices_of steps ≡ told_of after
+told_by_script chosen calls steps after made done heard =
+    let whole = weaker_steps script_meaning (PromisedRun script_meaning.says script_meaning.read) (MaintenanceRun script_meaning.says) (promised_is_run script_meaning.says script_meaning.read) (first_state chosen) steps done in
+    told_in_full script_meaning nat_eq_equiv (first_state chosen) steps chosen.settings.listener after (first_is_valid chosen) (ap (map (λ (r : Record ℕ (List ℕ)). r.value)) values-empty) refl whole (rw made heard)

@@ -7,7 +7,7 @@ use Rattle.std.proofs.lemmas.List.Sums.{count_by-le-length}
 use Rattle.moka_replay.specs.declared.script.Script.{Script}
 use Rattle.moka_replay.specs.declared.failure.Failure.{Failure}
 use Rattle.moka_replay.specs.declared.failure.Failure.TheVariants as failure
-use Rattle.moka_replay.specs.Script.{ScriptText, script_of, asks_for_memory, IsAdded, IsParseOf, asked_by, asked_in, is_call, has_call, with_line, lines_read, lines_of}
+use Rattle.moka_replay.specs.Script.{ScriptText, script_of, asks_for_memory, IsAdded, IsParseOf, asked_by, asked_in, needs_memory, has_need, with_line, lines_read, lines_of}
 
 -- the line of that index
 abbrev pub IsLineAt : List (List ℕ) → List ℕ → ℕ → Type 0
@@ -42,21 +42,21 @@ or_true false = refl
 
 -- the next line is a call, or it is right and one that follows is
 module _ (n : ℕ) (script : ScriptText) (lines : List (List ℕ)) (line : List ℕ) (t : IsLineAt lines line n) where
-  has_call-turn : has_call script (drop n lines) ≡ (is_call (asked_in line) || option_map_or (λ more. has_call more (drop (n + 1) lines)) (with_line script line) false)
-  has_call-turn = at_drop_more (has_call script) lines n line t.0 ∙ ap (λ l. is_call (asked_in l) || option_map_or (λ more. has_call more (drop (n + 1) lines)) (with_line script l) false) (sym t.1)
+  has_need-turn : has_need script (drop n lines) ≡ (needs_memory (asked_in line) || option_map_or (λ more. has_need more (drop (n + 1) lines)) (with_line script line) false)
+  has_need-turn = at_drop_more (has_need script) lines n line t.0 ∙ ap (λ l. needs_memory (asked_in l) || option_map_or (λ more. has_need more (drop (n + 1) lines)) (with_line script l) false) (sym t.1)
 
   -- it is a call
-  pub has_call_here : is_call (asked_in line) ≡ true → has_call script (drop n lines) ≡ true
-  has_call_here call = has_call-turn ∙ ap (λ b. b || option_map_or (λ more. has_call more (drop (n + 1) lines)) (with_line script line) false) call
+  pub has_need_here : needs_memory (asked_in line) ≡ true → has_need script (drop n lines) ≡ true
+  has_need_here call = has_need-turn ∙ ap (λ b. b || option_map_or (λ more. has_need more (drop (n + 1) lines)) (with_line script line) false) call
 
   -- it is right
-  pub has_call_more : (more : ScriptText) → with_line script line ≡ Some more → has_call more (drop (n + 1) lines) ≡ true → has_call script (drop n lines) ≡ true
-  has_call_more more right later = has_call-turn ∙ (ap (λ o. is_call (asked_in line) || option_map_or (λ more. has_call more (drop (n + 1) lines)) o false) right ∙ (ap (λ b. is_call (asked_in line) || b) later ∙ or_true (is_call (asked_in line))))
+  pub has_need_more : (more : ScriptText) → with_line script line ≡ Some more → has_need more (drop (n + 1) lines) ≡ true → has_need script (drop n lines) ≡ true
+  has_need_more more right later = has_need-turn ∙ (ap (λ o. needs_memory (asked_in line) || option_map_or (λ more. has_need more (drop (n + 1) lines)) o false) right ∙ (ap (λ b. needs_memory (asked_in line) || b) later ∙ or_true (needs_memory (asked_in line))))
 
 -- reading stops where a line does
-pub stops_at : (n : ℕ) (script : ScriptText) (text line : List ℕ) (failure : Failure) (new : ScriptText) → IsLineAt (lines_of text) line n → IsAdded (n + 1) script line (Err failure) new → lines_read (n + 1) script (drop n (lines_of text)) ≡ script_of text → (has_call script (drop n (lines_of text)) ≡ true → asks_for_memory text ≡ true) → IsParseOf text (Err failure)
+pub stops_at : (n : ℕ) (script : ScriptText) (text line : List ℕ) (failure : Failure) (new : ScriptText) → IsLineAt (lines_of text) line n → IsAdded (n + 1) script line (Err failure) new → lines_read (n + 1) script (drop n (lines_of text)) ≡ script_of text → (has_need script (drop n (lines_of text)) ≡ true → asks_for_memory text ≡ true) → IsParseOf text (Err failure)
 stops_at n script text line (failure.BadLine number) new t stops left asks = rw stops.0 (sym left ∙ lines_read_bad n script (lines_of text) line t stops.1)
-stops_at n script text line failure.OutOfMemory new t stops left asks = asks (has_call_here n script (lines_of text) line t stops)
+stops_at n script text line failure.OutOfMemory new t stops left asks = asks (has_need_here n script (lines_of text) line t stops)
 stops_at n script text line failure.Usage new t stops left asks = stops
 stops_at n script text line failure.CannotRead new t stops left asks = stops
 

@@ -5,11 +5,12 @@ use Rattle.std.specs.Option.{option_and_then, option_map, option_map_or, option_
 use Rattle.std.specs.Str.{bytes_eq}
 use Rattle.moka_parts.specs.declared.calls.Call.TheVariants.{Run, Keys, Report, Pending}
 use Rattle.moka_drive.specs.Served.{IsServed}
+use Rattle.moka_replay.specs.declared.rules.Rule.{Rule}
 use Rattle.moka_replay.specs.declared.script.settings.Settings.{Settings}
 use Rattle.moka_replay.specs.declared.script.settings.Setting.{Setting}
 use Rattle.moka_replay.specs.declared.script.Line.TheVariants as line
 use Rattle.moka_replay.specs.Lex.{number_of, lone_number, alone, is_printable, words_of}
-use Rattle.moka_replay.specs.Settings.{setting_of, put_in}
+use Rattle.moka_replay.specs.Settings.{Chosen, setting_of, rule_line, put_in}
 use Rattle.moka_replay.specs.Calls.{CallText, told_call, key_and_moment, insert_of, send_of, get_of, peek_of, scan_of, contains_of, key_of, remove_of, invall_of, run_of, call_of}
 use Rattle.moka_replay.specs.Script.{LineText, ScriptText, asked_by_name, asked_by, asked_in, is_comment, joined, with_line, lines_read, lines_of, no_text, script_of}
 
@@ -98,20 +99,22 @@ abbrev ServesLine : Option LineText → Type 0
 ServesLine None = Unit {0}
 ServesLine (Some line.Nothing) = Unit {0}
 ServesLine (Some (line.Setting setting)) = Unit {0}
+ServesLine (Some (line.Rule rule)) = Unit {0}
 ServesLine (Some (line.Call call)) = IsServed call
 
 serves_line_if : (b : Bool) (x y : Option LineText) → ServesLine x → ServesLine y → ServesLine (if b then x else y)
 serves_line_if true x y p q = p
 serves_line_if false x y p q = q
 
-serves_either : (setting : Option Setting) (call : Option CallText) → Serves call → ServesLine (option_or (option_map line.Setting setting) (option_map line.Call call))
-serves_either (Some setting) call p = tt
-serves_either None None p = tt
-serves_either None (Some call) p = p
+serves_either : (setting : Option Setting) (rule : Option Rule) (call : Option CallText) → Serves call → ServesLine (option_or (option_map line.Setting setting) (option_or (option_map line.Rule rule) (option_map line.Call call)))
+serves_either (Some setting) rule call p = tt
+serves_either None (Some rule) call p = tt
+serves_either None None None p = tt
+serves_either None None (Some call) p = p
 
 serves_words : (words : List (List ℕ)) → ServesLine (asked_by words)
 serves_words [] = tt
-serves_words (name ∷ arguments) = serves_line_if (is_comment name) (Some line.Nothing) (asked_by_name name arguments) tt (serves_either (setting_of name arguments) (call_of name arguments) (serves_call name arguments))
+serves_words (name ∷ arguments) = serves_line_if (is_comment name) (Some line.Nothing) (asked_by_name name arguments) tt (serves_either (setting_of name arguments) (rule_line name arguments) (call_of name arguments) (serves_call name arguments))
 
 serves_in : (text : List ℕ) → ServesLine (asked_in text)
 serves_in text = serves_line_if (list_all is_printable text) (asked_by (words_of text)) None (serves_words (words_of text)) tt
@@ -140,15 +143,20 @@ served_all : (calls : List CallText) → AllByRecursion IsServed (map told_call 
 served_all [] all = tt
 served_all (call ∷ calls) all = (served_itself call all.0, served_all calls all.1)
 
-serves_set : (b : Bool) (set : Option Settings) (calls : List CallText) → AllByRecursion IsServed calls → ServesAll (if b then option_map (λ settings. (settings, calls)) set else None)
-serves_set true None calls all = tt
-serves_set true (Some settings) calls all = all
-serves_set false set calls all = tt
+serves_set : (b : Bool) (chosen : Chosen) (set : Option Settings) (calls : List CallText) → AllByRecursion IsServed calls → ServesAll (if b then option_map (λ settings. (record chosen { settings = settings }, calls)) set else None)
+serves_set true chosen None calls all = tt
+serves_set true chosen (Some settings) calls all = all
+serves_set false chosen set calls all = tt
+
+serves_rule : (b : Bool) (chosen : Chosen) (calls : List CallText) → AllByRecursion IsServed calls → ServesAll (if b then Some (chosen, calls) else None)
+serves_rule true chosen calls all = all
+serves_rule false chosen calls all = tt
 
 serves_joined : (script : ScriptText) (asked : Option LineText) → AllByRecursion IsServed script.1 → ServesLine asked → ServesAll (option_and_then (joined script) asked)
 serves_joined script None all asks = tt
 serves_joined script (Some line.Nothing) all asks = all
-serves_joined script (Some (line.Setting setting)) all asks = serves_set _ (put_in script.0 setting) script.1 all
+serves_joined script (Some (line.Setting setting)) all asks = serves_set _ script.0 (put_in script.0.settings setting) script.1 all
+serves_joined script (Some (line.Rule rule)) all asks = serves_rule _ (record script.0 { rules = script.0.rules ++ rule ∷ [] }) script.1 all
 serves_joined script (Some (line.Call call)) all asks = served_push script.1 (told_call call) all (served_told call asks)
 
 -- each call of what was read is served

@@ -1,4 +1,5 @@
 pub mod Lex
+pub mod Rules
 pub mod Settings
 pub mod Calls
 pub mod Script

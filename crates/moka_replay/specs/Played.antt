@@ -1,10 +1,9 @@
 -- What comes of the calls of a script: a run of the reference cache.
-use Rattle.std.specs.Prelude.{◌≡◌, ℕ, ◌+◌, ◌-◌, ◌^◌, min, ◌&&◌, nat_eq, nat_le, false, List, map, Option, None, unwrap_or}
+use Rattle.std.specs.Prelude.{◌≡◌, ℕ, ◌+◌, ◌-◌, ◌^◌, min, ◌&&◌, nat_eq, nat_le, false, List, map, Option, unwrap_or}
 use Rattle.std.specs.Int.{w128, to_be_bytes}
 use Rattle.moka_parts.specs.declared.calls.Reply.{Reply}
 use Rattle.moka_parts.specs.declared.policy.EvictionPolicy.{EvictionPolicy}
 use Rattle.moka_parts.specs.declared.policy.EvictionPolicy.TheVariants.{TinyLfu}
-use Rattle.moka_parts.specs.declared.policy.NoExpiry.{NoExpiry}
 use Rattle.moka_parts.specs.Policy.{Expirations}
 use Rattle.moka_parts.specs.State.{State, Meaning, new_state}
 use Rattle.moka_parts.specs.Housekeeping.{new_housekeeping, without_automatic}
@@ -12,7 +11,10 @@ use Rattle.moka_parts.specs.Runs.{Step, calls_of, replies_of, notices_of, readin
 use Rattle.moka_replay.specs.declared.key_range.KeyRange.{KeyRange}
 use Rattle.moka_replay.specs.declared.print.Total.{Total}
 use Rattle.moka_replay.specs.declared.script.settings.KeeperTerms.{KeeperTerms}
+use Rattle.moka_replay.specs.declared.rules.Rule.{Rule}
 use Rattle.moka_replay.specs.declared.script.settings.Settings.{Settings}
+use Rattle.moka_replay.specs.Rules.{created_by, read_by, updated_by, expiry_of}
+use Rattle.moka_replay.specs.Settings.{Chosen}
 use Rattle.moka_replay.specs.declared.sources.CountedIds.{CountedIds}
 use Rattle.moka_replay.specs.declared.sources.StoppedClock.{StoppedClock}
 use Rattle.moka_replay.specs.declared.weigher.NumberWeigher.{NumberWeigher}
@@ -23,13 +25,13 @@ use Rattle.moka_replay.specs.Lex.{weight_of}
 
 -- keys are numbers, values are words
 abbrev pub ScriptState : Type 0
-ScriptState = State ℕ (List ℕ) NoExpiry KeyRange NumberWeigher
+ScriptState = State ℕ (List ℕ) (List Rule) KeyRange NumberWeigher
 
 abbrev pub ScriptStep : Type 0
-ScriptStep = Step ℕ (List ℕ) NoExpiry KeyRange NumberWeigher
+ScriptStep = Step ℕ (List ℕ) (List Rule) KeyRange NumberWeigher
 
 -- what the parts of a script mean
-abbrev pub script_meaning : Meaning ℕ (List ℕ) NoExpiry Kept KeyRange NumberWeigher StoppedClock CountedIds
+abbrev pub script_meaning : Meaning ℕ (List ℕ) (List Rule) Kept KeyRange NumberWeigher StoppedClock CountedIds
 script_meaning = record {
   eq = nat_eq;
   tells = Keeps;
@@ -37,9 +39,9 @@ script_meaning = record {
   weighs = λ _ _ value weight. weight ≡ weight_of value;
   observes = λ before moment after. (moment.0 ≡ 0) × (after ≡ before);
   gives = λ before id after. (after.given ≡ min (before.given + 1) (2 ^ 64 - 1)) × (id ≡ to_be_bytes w128 after.given);
-  created = λ _ _ _ _. None;
-  read = λ _ _ _ _ told _. told;
-  updated = λ _ _ _ _ told. told;
+  created = created_by;
+  read = read_by;
+  updated = updated_by;
 }
 
 -- how the cache chooses what stays
@@ -47,8 +49,8 @@ abbrev pub chosen_policy : Settings → EvictionPolicy
 chosen_policy settings = unwrap_or settings.policy TinyLfu
 
 -- when its entries expire, in nanoseconds
-abbrev pub expirations_of : Option ℕ → Option ℕ → Expirations NoExpiry
-expirations_of time_to_live time_to_idle = record { time_to_live = time_to_live; time_to_idle = time_to_idle; expiry = None }
+abbrev pub expirations_of : Option ℕ → Option ℕ → List Rule → Expirations (List Rule)
+expirations_of time_to_live time_to_idle rules = record { time_to_live = time_to_live; time_to_idle = time_to_idle; expiry = expiry_of rules }
 
 -- the moment at which it is made
 abbrev pub start_of : Settings → ℕ
@@ -59,19 +61,19 @@ abbrev pub chosen_terms : Option KeeperTerms → KeeperTerms
 chosen_terms keeper = unwrap_or keeper (record { limit = 100000000; repeats = 4; batch = 384 })
 
 -- the cache that a script begins with; no run starts by itself
-abbrev pub first_state : Settings → ScriptState
-first_state settings = record (new_state (record {
-  policy = chosen_policy settings;
-  time_to_live = settings.time_to_live;
-  time_to_idle = settings.time_to_idle;
-  expiry = None;
-  weigher = settings.weigher;
-  listening = settings.listener;
+abbrev pub first_state : Chosen → ScriptState
+first_state chosen = record (new_state (record {
+  policy = chosen_policy chosen.settings;
+  time_to_live = chosen.settings.time_to_live;
+  time_to_idle = chosen.settings.time_to_idle;
+  expiry = expiry_of chosen.rules;
+  weigher = chosen.settings.weigher;
+  listening = chosen.settings.listener;
   invalidator = false;
-  run_limit = (chosen_terms settings.keeper).limit;
-  run_repeats = (chosen_terms settings.keeper).repeats;
-  run_batch = (chosen_terms settings.keeper).batch;
-}) settings.capacity (start_of settings) (unwrap_or settings.first 1)) { housekeeping = without_automatic (new_housekeeping (start_of settings)) }
+  run_limit = (chosen_terms chosen.settings.keeper).limit;
+  run_repeats = (chosen_terms chosen.settings.keeper).repeats;
+  run_batch = (chosen_terms chosen.settings.keeper).batch;
+}) chosen.settings.capacity (start_of chosen.settings) (unwrap_or chosen.settings.first 1)) { housekeeping = without_automatic (new_housekeeping (start_of chosen.settings)) }
 
 -- count and weight of the last run
 abbrev pub total_of : ScriptState → Total

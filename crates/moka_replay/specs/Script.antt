@@ -2,7 +2,6 @@
 use Rattle.std.specs.Prelude.{◌≡◌, ℕ, ◌+◌, ◌==◌, Bool, true, false, ◌||◌, List, [], ◌∷◌, ◌++◌, length, map, Option, Some, None, Result, Ok, Err, option_map, slice_index, if◌then◌else◌}
 use Rattle.std.specs.List.{slice_split, list_all}
 use Rattle.std.specs.Option.{option_or, option_map_or}
-use Rattle.moka_replay.specs.declared.script.settings.Settings.{Settings}
 use Rattle.moka_replay.specs.declared.script.Script.{Script}
 use Rattle.moka_replay.specs.declared.script.calls.LineCall.{LineCall}
 use Rattle.moka_replay.specs.declared.script.Line.{Line}
@@ -10,7 +9,7 @@ use Rattle.moka_replay.specs.declared.script.Line.TheVariants as line
 use Rattle.moka_replay.specs.declared.failure.Failure.{Failure}
 use Rattle.moka_replay.specs.declared.failure.Failure.TheVariants as failure
 use Rattle.moka_replay.specs.Lex.{is_printable, words_of, ◌>>=◌}
-use Rattle.moka_replay.specs.Settings.{setting_of, no_settings, put_in}
+use Rattle.moka_replay.specs.Settings.{Chosen, setting_of, rule_line, no_settings, put_in}
 use Rattle.moka_replay.specs.Calls.{CallText, call_text, told_call, call_of}
 
 -- ---- lines
@@ -23,15 +22,16 @@ LineText = Line CallText
 abbrev pub line_text : Line LineCall → LineText
 line_text line.Nothing = line.Nothing
 line_text (line.Setting setting) = line.Setting setting
+line_text (line.Rule rule) = line.Rule rule
 line_text (line.Call call) = line.Call (call_text call)
 
 -- whether a word begins with `#`
 abbrev pub is_comment : List ℕ → Bool
 is_comment word = slice_index word 0 == 35
 
--- the setting, or else the call
+-- the setting, or else the rule, or else the call
 abbrev pub asked_by_name : List ℕ → List (List ℕ) → Option LineText
-asked_by_name name arguments = option_or (option_map line.Setting (setting_of name arguments)) (option_map line.Call (call_of name arguments))
+asked_by_name name arguments = option_or (option_map line.Setting (setting_of name arguments)) (option_or (option_map line.Rule (rule_line name arguments)) (option_map line.Call (call_of name arguments)))
 
 -- what words ask for; a comment asks for nothing
 abbrev pub asked_by : List (List ℕ) → Option LineText
@@ -44,22 +44,23 @@ asked_in text = if list_all is_printable text then asked_by (words_of text) else
 
 -- ---- scripts
 
--- what is set, and the calls in order
+-- what is chosen, and the calls in order
 abbrev pub ScriptText : Type 0
-ScriptText = Settings × List CallText
+ScriptText = Chosen × List CallText
 
 -- a script that says nothing
 abbrev pub no_text : ScriptText
-no_text = (no_settings, [])
+no_text = (record { settings = no_settings; rules = [] }, [])
 
 -- what a script sets, and its calls
 abbrev pub text_of : Script → ScriptText
-text_of script = (script.settings, map told_call script.calls.items)
+text_of script = (record { settings = script.settings; rules = script.rules.items }, map told_call script.calls.items)
 
--- settings come before the first call
+-- settings and rules come before the first call
 abbrev pub joined : ScriptText → LineText → Option ScriptText
 joined script line.Nothing = Some script
-joined script (line.Setting setting) = if length script.1 == 0 then option_map (λ settings. (settings, script.1)) (put_in script.0 setting) else None
+joined script (line.Setting setting) = if length script.1 == 0 then option_map (λ settings. (record script.0 { settings = settings }, script.1)) (put_in script.0.settings setting) else None
+joined script (line.Rule rule) = if length script.1 == 0 then Some (record script.0 { rules = script.0.rules ++ rule ∷ [] }, script.1) else None
 joined script (line.Call call) = Some (script.0, script.1 ++ told_call call ∷ [])
 
 -- the script, and what one more line asks for
@@ -79,28 +80,29 @@ lines_of text = slice_split (λ byte. byte == 10) text
 abbrev pub script_of : List ℕ → Result ScriptText ℕ
 script_of text = lines_read 1 no_text (lines_of text)
 
--- whether the line asks for a call
-abbrev pub is_call : Option LineText → Bool
-is_call (Some (line.Call call)) = true
-is_call asked = false
+-- whether the line asks for memory: a rule and a call do
+abbrev pub needs_memory : Option LineText → Bool
+needs_memory (Some (line.Rule rule)) = true
+needs_memory (Some (line.Call call)) = true
+needs_memory asked = false
 
--- whether a call stands in front of the first faulty line
-abbrev pub has_call : ScriptText → List (List ℕ) → Bool
-has_call script [] = false
-has_call script (text ∷ lines) = is_call (asked_in text) || option_map_or (λ more. has_call more lines) (with_line script text) false
+-- whether such a line stands in front of the first faulty one, or is it
+abbrev pub has_need : ScriptText → List (List ℕ) → Bool
+has_need script [] = false
+has_need script (text ∷ lines) = needs_memory (asked_in text) || option_map_or (λ more. has_need more lines) (with_line script text) false
 
--- whether the text asks for memory: only a call does
+-- whether the text asks for memory
 abbrev pub asks_for_memory : List ℕ → Bool
-asks_for_memory text = has_call no_text (lines_of text)
+asks_for_memory text = has_need no_text (lines_of text)
 
--- what a line asks for is added exactly where it is right, and memory may be refused to a call alone
+-- what a line asks for is added exactly where it is right, and memory may be refused to a rule or a call alone
 abbrev pub IsAdded : ℕ → ScriptText → List ℕ → Result (Unit {0}) Failure → ScriptText → Type 0
 IsAdded number old text (Ok _) new = with_line old text ≡ Some new
 IsAdded number old text (Err (failure.BadLine n)) new = (n ≡ number) × (with_line old text ≡ None)
-IsAdded number old text (Err failure.OutOfMemory) new = is_call (asked_in text) ≡ true
+IsAdded number old text (Err failure.OutOfMemory) new = needs_memory (asked_in text) ≡ true
 IsAdded number old text (Err _) new = ⊥
 
--- reading succeeds exactly where each line is right, and else the first faulty line is named; memory may be refused to the calls in front of it
+-- reading succeeds exactly where each line is right, and else the first faulty line is named; memory may be refused to the rules and calls in front of it
 abbrev pub IsParseOf : List ℕ → Result Script Failure → Type 0
 IsParseOf text (Ok script) = script_of text ≡ Ok (text_of script)
 IsParseOf text (Err (failure.BadLine number)) = script_of text ≡ Err number

@@ -3,6 +3,9 @@ use Rattle.std.specs.Prelude.{ℕ, ◌==◌, true, false, List, [], ◌∷◌, O
 use Rattle.std.specs.Str.{bytes_eq}
 use Rattle.moka_parts.specs.declared.policy.EvictionPolicy.{EvictionPolicy}
 use Rattle.moka_parts.specs.declared.policy.EvictionPolicy.TheVariants.{TinyLfu, Lru}
+use Rattle.moka_replay.specs.declared.rules.Question.{Question}
+use Rattle.moka_replay.specs.declared.rules.Question.TheVariants.{Create, Read, Update}
+use Rattle.moka_replay.specs.declared.rules.Rule.{Rule}
 use Rattle.moka_replay.specs.declared.script.settings.Settings.{Settings}
 use Rattle.moka_replay.specs.declared.script.settings.Setting.{Setting}
 use Rattle.moka_replay.specs.declared.script.settings.Setting.TheVariants.{First, Capacity, Policy, TimeToLive, TimeToIdle, Weigh, Listener, Start, Keeper}
@@ -48,6 +51,37 @@ setting_of name arguments =
     else (if bytes_eq name (codes "start") then option_map Start (lone_number arguments)
     else (if bytes_eq name (codes "keeper") then keeper_of arguments
     else None))))))))
+
+-- the question of that name
+abbrev pub question_named : List ℕ → Option Question
+question_named name =
+    if bytes_eq name (codes "create") then Some Create
+    else (if bytes_eq name (codes "read") then Some Read
+    else (if bytes_eq name (codes "update") then Some Update
+    else None))
+
+-- the answer that a word says: a number, or `none`
+abbrev pub answer_of : List ℕ → Option (Option ℕ)
+answer_of word = if bytes_eq word (codes "none") then Some None else option_map Some (number_of 64 word)
+
+-- `expire QUESTION KEY MOMENT ANSWER`
+abbrev pub rule_of : List (List ℕ) → Option Rule
+rule_of (question ∷ key ∷ moment ∷ answer ∷ []) = do
+  q ← question_named question
+  k ← number_of 32 key
+  m ← number_of 64 moment
+  a ← answer_of answer
+  Some (record { question = q; key = k; moment = m; answer = a })
+rule_of _ = None
+
+-- the rule of a line of that name
+abbrev pub rule_line : List ℕ → List (List ℕ) → Option Rule
+rule_line name arguments = if bytes_eq name (codes "expire") then rule_of arguments else None
+
+-- what a script chooses: its settings, and the rules of its expiry in order
+pub record Chosen : Type 0 where
+  pub settings : Settings
+  pub rules : List Rule
 
 -- nothing is set
 abbrev pub no_settings : Settings

@@ -12,6 +12,7 @@ mod notices;
 mod play;
 mod print;
 mod replay;
+mod rules;
 mod script;
 mod sources;
 mod streams;

@@ -9,6 +9,7 @@ ghost use Rattle.moka_replay.specs.Played.{AreReplies, chosen_terms, expirations
 
 use crate::key_range::KeyRange;
 use crate::notices::{Notices, room_for};
+use crate::rules::{Rule, Rules};
 use crate::script::{KeeperTerms, Script, ScriptCall, ScriptReply, Settings};
 use crate::sources::{CountedIds, StoppedClock};
 use crate::weigher::NumberWeigher;
@@ -17,7 +18,7 @@ use moka_drive::drive;
 use moka_engine::base_cache::BaseCache;
 use moka_parts::error::OutOfMemory;
 use moka_parts::housekeeper::HousekeeperConfig;
-use moka_parts::policy::{EvictionPolicy, ExpirationPolicy, Instant, NoExpiry};
+use moka_parts::policy::{EvictionPolicy, ExpirationPolicy, Instant};
 use std::alloc::Global;
 use std::hash::{BuildHasherDefault, FoldHasher};
 use std::time::Duration;
@@ -30,7 +31,7 @@ pub type ScriptCache = BaseCache<
     u32,
     Word,
     BuildHasherDefault<FoldHasher>,
-    NoExpiry,
+    Rules,
     Notices,
     KeyRange,
     NumberWeigher,
@@ -51,9 +52,13 @@ pub fn play(alloc: Global, script: Script) -> Result<Played, OutOfMemory>
     requires served { AllByRecursion IsServed script.calls.items }
     ensures { IfOk result (λ played. AreReplies (text_of script) played.replies.items (told_of played.cache.listener) (total_of played.cache.state)) }
 {
-    let Script { settings, calls } = script;
+    let Script {
+        settings,
+        rules,
+        calls,
+    } = script;
     let listener = listener_for(alloc, settings.listener, &calls)?;
-    let mut cache = new_cache(alloc, settings, listener)?;
+    let mut cache = new_cache(alloc, settings, rules, listener)?;
     match drive(
         alloc,
         &mut cache,
@@ -85,10 +90,11 @@ fn listener_for(
 fn new_cache(
     alloc: Global,
     settings: Settings,
+    rules: Vec<Rule>,
     listener: Option<Notices>,
 ) -> Result<ScriptCache, OutOfMemory>
     requires listens { is_some listener ≡ settings.listener }
-    ensures state { IfOk result (λ cache. cache.state ≡ first_state settings) }
+    ensures state { IfOk result (λ cache. cache.state ≡ first_state (record { settings = settings; rules = rules.items })) }
     ensures listener { IfOk result (λ cache. cache.listener ≡ listener) }
 {
     let first = match settings.first {
@@ -104,7 +110,7 @@ fn new_cache(
         settings.weigher,
         settings.policy.unwrap_or(EvictionPolicy::tiny_lfu()),
         listener,
-        expirations_of(settings.time_to_live, settings.time_to_idle),
+        expirations_of(settings.time_to_live, settings.time_to_idle, rules),
         config_of(settings.keeper),
         false,
         Instant(settings.start.unwrap_or(0)),
@@ -134,8 +140,9 @@ fn config_of(keeper: Option<KeeperTerms>) -> HousekeeperConfig
 fn expirations_of(
     time_to_live: Option<u64>,
     time_to_idle: Option<u64>,
-) -> ExpirationPolicy<NoExpiry>
-    ensures { result ≡ expirations_of time_to_live time_to_idle }
+    rules: Vec<Rule>,
+) -> ExpirationPolicy<Rules>
+    ensures { result ≡ expirations_of time_to_live time_to_idle rules.items }
 {
     let mut expirations = ExpirationPolicy::default();
     if let Some(nanos) = time_to_live {
@@ -143,6 +150,9 @@ fn expirations_of(
     }
     if let Some(nanos) = time_to_idle {
         expirations.set_time_to_idle(Duration::from_nanos(nanos));
+    }
+    if !rules.is_empty() {
+        expirations.set_expiry(Rules::new(rules));
     }
     expirations
 }

@@ -5,9 +5,10 @@ ghost use Rattle.moka_replay.specs.Script.{line_text, asked_by, asked_in, lines_
 
 use crate::failure::Failure;
 use crate::lex::{first_words, is_printable};
+use crate::rules::Rule;
 use calls::{LineCall, parse_call};
 use moka_parts::calls::Call;
-use settings::{Setting, parse_setting};
+use settings::{Setting, parse_rule, parse_setting};
 use std::alloc::Global;
 
 mod calls;
@@ -16,10 +17,11 @@ mod settings;
 pub use calls::{ScriptCall, ScriptReply};
 pub use settings::{KeeperTerms, Settings};
 
-/// A script: what it sets, and then its calls in order.
+/// A script: what it sets, the rules of its expiry, and then its calls in order.
 #[derive(Drop)]
 pub struct Script {
     pub settings: Settings,
+    pub rules: Vec<Rule>,
     pub calls: Vec<ScriptCall>,
 }
 
@@ -33,12 +35,13 @@ impl Script {
     {
         Script {
             settings: Settings::new(),
+            rules: Vec::new(alloc),
             calls: Vec::new(alloc),
         }
     }
 
-    /// Reads the line of that number, and adds what it asks for. Settings come before the first call, each at most once.
-    /// Only a call needs memory.
+    /// Reads the line of that number, and adds what it asks for. Settings, each at most once, and rules come before the first
+    /// call. Only a rule and a call need memory.
     fn read(&mut self, alloc: Global, number: u64, line: &[u8]) -> Result<(), Failure>
         ensures { IsAdded number (text_of self.old) line.now result (text_of self.new) }
     {
@@ -51,6 +54,12 @@ impl Script {
                 }
                 self.settings = self.settings.with(setting).ok_or(fault)?;
             }
+            Line::Rule(rule) => {
+                if !self.calls.is_empty() {
+                    return Err(fault);
+                }
+                self.rules.push(rule)?;
+            }
             Line::Call(call) => self.calls.push(call.into_call(alloc)?)?,
         }
         Ok(())
@@ -62,6 +71,7 @@ impl Script {
 enum Line<C> {
     Nothing,
     Setting(Setting),
+    Rule(Rule),
     Call(C),
 }
 
@@ -77,6 +87,9 @@ fn parse_words<'a>(words: &[&'a str]) -> Option<Line<LineCall<'a>>>
     }
     if let Some(setting) = parse_setting(name, arguments) {
         return Some(Line::Setting(setting));
+    }
+    if let Some(rule) = parse_rule(name, arguments) {
+        return Some(Line::Rule(rule));
     }
     Some(Line::Call(parse_call(name, arguments)?))
 }

@@ -3,6 +3,8 @@ use std::io::{self, ErrorKind, Read, Write};
 use std::process::Abort;
 use std::test::Fail;
 
+mod expiring;
+
 /// A reader that gives three bytes a call and fails at one call.
 #[derive(Drop)]
 struct FailingReader<'a> {
@@ -462,6 +464,15 @@ fn names_the_first_faulty_line(rt: HostRuntime) -> Result<(), Fail> {
         ("ttl 1\nttl 2\n", 2),
         ("report\nttl 1\n", 2),
         ("tti 1\ntti 2\n", 2),
+        ("report\nexpire create 1 2 3\n", 2),
+        (
+            "expire create 1 2 none\nexpire read 1 2 3\nexpire update 1 2 none 4\n",
+            3,
+        ),
+        (
+            "expire update 4294967295 18446744073709551615 0\nexpire update 4294967296 0 0\n",
+            2,
+        ),
         ("start 1\nstart 1\n", 2),
         ("keeper 1 2 3\n\nkeeper 1 2 3\n", 3),
         ("report\nkeeper 1 2 3\n", 2),
@@ -505,6 +516,14 @@ fn finds_each_fault(rt: HostRuntime) -> Result<(), Fail> {
         "capacity x",
         "capacity 1 1",
         "policy x",
+        "expire",
+        "expire create",
+        "expire create 1",
+        "expire create 1 2",
+        "expire creates 1 2 3",
+        "expire read x 2 3",
+        "expire read 1 x 3",
+        "expire read 1 2 x",
         "ttl",
         "ttl x",
         "ttl 1 1",

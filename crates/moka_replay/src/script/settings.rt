@@ -1,10 +1,11 @@
 //! The settings of a script.
 ghost use Rattle.std.specs.Prelude.{◌≡◌};
 ghost use Rattle.moka_replay.specs.Lex.{texts};
-ghost use Rattle.moka_replay.specs.Settings.{keeper_of, policy_of, policy_named, setting_of};
+ghost use Rattle.moka_replay.specs.Settings.{answer_of, keeper_of, policy_of, policy_named, question_named, rule_line, rule_of, setting_of};
 
 use crate::first_ticket::FirstTicket;
 use crate::lex::{alone, lone_number, number, small_number};
+use crate::rules::{Question, Rule};
 use crate::weigher::NumberWeigher;
 use moka_parts::policy::EvictionPolicy;
 
@@ -174,6 +175,57 @@ pub fn parse_setting(name: &str, arguments: &[&str]) -> Option<Setting>
         "listener" => alone(Setting::Listener, arguments),
         "start" => lone_number(arguments).map(Setting::Start),
         "keeper" => keeper(arguments),
+        _ => None,
+    }
+}
+
+/// `expire QUESTION KEY MOMENT ANSWER`
+fn rule(arguments: &[&str]) -> Option<Rule>
+    ensures { result ≡ rule_of (texts arguments.now) }
+{
+    let [question, key, moment, answer] = arguments else {
+        return None;
+    };
+    let question = question_named(question)?;
+    let key = small_number(key)?;
+    let moment = number(moment)?;
+    let answer = answer_of(answer)?;
+    Some(Rule {
+        question,
+        key,
+        moment,
+        answer,
+    })
+}
+
+/// The question of that name, if there is one.
+fn question_named(name: &str) -> Option<Question>
+    ensures { result ≡ question_named name.now }
+{
+    match name {
+        "create" => Some(Question::Create),
+        "read" => Some(Question::Read),
+        "update" => Some(Question::Update),
+        _ => None,
+    }
+}
+
+/// The answer that a word says: a number, or `none`.
+fn answer_of(word: &str) -> Option<Option<u64>>
+    ensures { result ≡ answer_of word.now }
+{
+    match word {
+        "none" => Some(None),
+        _ => number(word).map(Some),
+    }
+}
+
+/// The rule of a line of that name, if it is one.
+pub fn parse_rule(name: &str, arguments: &[&str]) -> Option<Rule>
+    ensures { result ≡ rule_line name.now (texts arguments.now) }
+{
+    match name {
+        "expire" => rule(arguments),
         _ => None,
     }
 }

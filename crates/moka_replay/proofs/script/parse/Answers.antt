@@ -3,7 +3,7 @@ use Rattle.std.proofs.lemmas.Iterator.Splits.{YieldsList-from_slice_split}
 use Rattle.std.proofs.lemmas.Iterator.Consumers.{YieldsList-turn, YieldsList-end}
 use Rattle.std.proofs.lemmas.List.{length_push}
 use Rattle.moka_replay.specs.Script.{lines_of, text_of}
-use Rattle.moka_replay.proofs.Lines.{IsLineAt, lines_read_more, lines_read_all, has_call_more, stops_at, passed_on, length-lines_of-le}
+use Rattle.moka_replay.proofs.Lines.{IsLineAt, lines_read_more, lines_read_all, has_need_more, stops_at, passed_on, length-lines_of-le}
 use Rattle.moka_replay.proofs.script.parse.Goals as goal
 
 pub overflow_add-number : goal.overflow_add-number
@@ -18,7 +18,7 @@ loop-line-preserved c =
     record {
       counted = omega (arith, length_push c.loop-line.yielded c.in-Some.line);
       left = sym (lines_read_more _ _ _ _ _ here c.in_ok-read.ensures) ∙ c.loop-line.invariant.left;
-      asks = λ later. c.loop-line.invariant.asks (has_call_more _ _ _ _ here _ c.in_ok-read.ensures later);
+      asks = λ later. c.loop-line.invariant.asks (has_need_more _ _ _ _ here _ c.in_ok-read.ensures later);
     }
 
 pub returns-in_err-read : goal.returns-in_err-read

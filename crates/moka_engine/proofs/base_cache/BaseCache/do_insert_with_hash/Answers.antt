@@ -14,9 +14,9 @@ invariant_of-self-2 g c =
     let there = c.in-Some.ensures.numbered in
     record {
       cache = cache-updated c.self.invariant.cache c.self.inside.inner refl c.reserve_operation.new.self c.update-old.new.self (ap without_room c.in_default-reserve_operation.ensures.rest) g.X.Expiry.created g.X.Expiry.updated
-    c.notify.new.self (still_set g.L.Listener.tells c.self.inside.notifier c.notify.new.self _ c.notify.ensures)
-    c.args.key c.in-Some.handle.number c.in-Some.found.now there (sym c.in-Some.ensures.found) c.args.hash c.args.value c.args.now c.weigh-weight.result c.expires_at_update-expires.result c.expires_at_update-expires.ensures
-    (c.update-old.ensures.step c.in-Some.found.now (rw c.in_default-reserve_operation.ensures.rest there));
+          c.notify.new.self (still_set g.L.Listener.tells c.self.inside.notifier c.notify.new.self _ c.notify.ensures)
+          c.args.key c.in-Some.handle.number c.in-Some.found.now there (sym c.in-Some.ensures.found) c.args.hash c.args.value c.args.now c.weigh-weight.result c.expires_at_update-expires.result c.expires_at_update-expires.ensures
+          (c.update-old.ensures.step c.in-Some.found.now (rw c.in_default-reserve_operation.ensures.rest there));
       store = stocked-updated c.self.invariant.cache c.self.inside.inner refl c.reserve_operation.new.self c.update-old.new.self (ap without_room c.in_default-reserve_operation.ensures.rest) c.self.invariant.store c.in-Some.handle.number c.in-Some.found.now there c.args.hash _
           (c.update-old.ensures.step c.in-Some.found.now (rw c.in_default-reserve_operation.ensures.rest there));
     }

@@ -10,9 +10,9 @@ pub invariant_of-self-2 : goal.invariant_of-self-2
 invariant_of-self-2 g c =
     record {
       cache = cache-inserted c.self.invariant.cache c.self.inside.inner refl c.reserve_record.new.self c.insert.new.self (ap without_room c.in_default.ensures.rest) g.X.Expiry.created g.met.K.Eq.laws
-    (ap (λ (x : Cache g.row.K.Denot g.row.V.Denot g.row.S.Denot g.row.X.Denot g.row.L.Denot g.row.P.Denot g.row.W.Denot). is_disabled x.state.capacity) c.self.view_is ∙ c.requires.enabled)
-    c.args.key
-    (ap (λ (x : Cache g.row.K.Denot g.row.V.Denot g.row.S.Denot g.row.X.Denot g.row.L.Denot g.row.P.Denot g.row.W.Denot). record_of_key g.K.PartialEq.eq x.state.records c.args.key) c.self.view_is ∙ c.requires.fresh)
-    c.args.hash c.args.value c.args.now c.args.weight c.expires_at_creation-expires.result c.expires_at_creation-expires.ensures c.insert.ensures.step;
+          (ap (λ (x : Cache g.row.K.Denot g.row.V.Denot g.row.S.Denot g.row.X.Denot g.row.L.Denot g.row.P.Denot g.row.W.Denot). is_disabled x.state.capacity) c.self.view_is ∙ c.requires.enabled)
+          c.args.key
+          (ap (λ (x : Cache g.row.K.Denot g.row.V.Denot g.row.S.Denot g.row.X.Denot g.row.L.Denot g.row.P.Denot g.row.W.Denot). record_of_key g.K.PartialEq.eq x.state.records c.args.key) c.self.view_is ∙ c.requires.fresh)
+          c.args.hash c.args.value c.args.now c.args.weight c.expires_at_creation-expires.result c.expires_at_creation-expires.ensures c.insert.ensures.step;
       store = stocked-new-record c.self.inside.inner c.reserve_record.new.self c.insert.new.self (ap without_room c.in_default.ensures.rest) c.self.invariant.store c.args.key c.args.hash _ c.insert.ensures.step;
     }

@@ -10,7 +10,7 @@ invariant_of-self g c =
     let at = c.in_ok-handle.ensures in
     record {
       cache = cache-removed c.self.invariant.cache c.self.inside.inner c.remove-record.new.self refl c.args.key.now c.in_ok-handle.handle.number c.remove-record.result.0
-    c.remove-record.ensures.taken (sym at.found ∙ (sym at.numbered ∙ c.remove-record.ensures.taken)) c.remove-record.ensures.step;
+          c.remove-record.ensures.taken (sym at.found ∙ (sym at.numbered ∙ c.remove-record.ensures.taken)) c.remove-record.ensures.step;
       store = rw c.remove-record.ensures.step (stocked-removed c.self.invariant.store c.in_ok-handle.handle.number c.remove-record.new.self.kept.places c.remove-record.new.self.kept.room);
     }
 
