@@ -13,9 +13,8 @@ use Rattle.moka_parts.specs.Records.{Notice}
 use Rattle.moka_parts.specs.State.{State, Settings, Events}
 use Rattle.moka_parts.specs.Calls.{only_notices, RemoveStep, NotifiesAfter, oldest_ticket}
 
--- the call is any but the registration of a predicate and another capacity
+-- the call is any but another capacity
 abbrev pub IsServed : {K V P : Type 0} → Call K V P → Type 0
-IsServed (call.InvalidateIf predicate now) = ⊥
 IsServed (call.SetCapacity capacity) = ⊥
 IsServed c = ⊤
 

@@ -23,8 +23,8 @@ use moka_parts::policy::{Expiry, Instant};
 use std::alloc::Global;
 use std::hash::{BuildHasher, Hash};
 
-/// Makes the calls one after the other, and answers each with the reply of the same name. So far these are all but the
-/// registration of a predicate and another capacity. A removal that carries a moment and finds its key is followed by
+/// Makes the calls one after the other, and answers each with the reply of the same name. So far these are all but another
+/// capacity. A removal that carries a moment and finds its key is followed by
 /// `notify_invalidate` at that moment.
 ///
 /// Replies, records and notices are a run of the reference cache, in which each run of maintenance keeps all that is
@@ -135,6 +135,9 @@ fn make<
         Call::InvalidateAll { now } => {
             cache.invalidate_all(now);
             Reply::InvalidateAll
+        }
+        Call::InvalidateIf { predicate, now } => {
+            Reply::InvalidateIf(cache.invalidate_entries_if(predicate, now, ids))
         }
         Call::Keys { segment } => Reply::Keys(cache.keys(segment)),
         Call::Run {

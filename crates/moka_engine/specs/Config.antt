@@ -126,7 +126,3 @@ module _ {X L W : Type 0} where
     write_list = [];
     passes = 0;
   }
-
-  -- so far a cache can be made with this: predicates are not served
-  pub record IsServedConfig (c : Config X L W) : Type 0 where
-    pub no_predicates : c.invalidator ≡ false

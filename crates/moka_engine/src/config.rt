@@ -2,7 +2,7 @@
 ghost use Rattle.std.specs.Prelude.{◌≡◌, ◌≤◌, true, Some, IfOk, option_map};
 ghost use Rattle.std.specs.Duration.{as_nanos};
 ghost use Rattle.std.specs.String.{string_bytes};
-ghost use Rattle.moka_engine.specs.Config.{IsServedConfig, new_cache, with_expiry, with_listener, with_weigher};
+ghost use Rattle.moka_engine.specs.Config.{new_cache, with_expiry, with_listener, with_weigher};
 
 use crate::base_cache::BaseCache;
 use moka_parts::closures::{NoPredicate, NoWeigher, PredicateFn, Weigher};
@@ -266,7 +266,6 @@ impl<X, L, P, W> CacheConfig<X, L, P, W> {
         L: Listener<K, V> + Drop,
         P: PredicateFn<K, V> + Drop,
         W: Weigher<K, V> + Drop,
-        requires served { IsServedConfig self }
         ensures { IfOk result (λ c. c ≡ new_cache self c.hasher now.0) }
     {
         self.build_with_hasher(alloc, DefaultHasher::default(), now)
@@ -290,7 +289,6 @@ impl<X, L, P, W> CacheConfig<X, L, P, W> {
         L: Listener<K, V> + Drop,
         P: PredicateFn<K, V> + Drop,
         W: Weigher<K, V> + Drop,
-        requires served { IsServedConfig self }
         ensures { IfOk result (λ c. c ≡ new_cache self hasher now.0) }
     {
         let choices = self.choices;

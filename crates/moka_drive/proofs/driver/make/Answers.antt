@@ -1,6 +1,8 @@
 use Rattle.std.proofs.Common.{refl, sym, subst, ◌∙◌}
 use Rattle.moka_parts.specs.Calls.{no_events, PeekStep}
 use Rattle.moka_parts.specs.Listed.{ListedRun}
+use Rattle.moka_parts.specs.State.{Events}
+use Rattle.moka_parts.specs.Surroundings.{Leads}
 use Rattle.moka_drive.specs.Meanings.{meaning_of}
 use Rattle.moka_drive.proofs.Quiet.{nothing_befalls, keys_step, pending_step}
 use Rattle.moka_drive.proofs.driver.make.Goals as goal
@@ -29,6 +31,11 @@ returns-in-Key g c =
 
 pub returns-in-InvalidateAll : goal.returns-in-InvalidateAll
 returns-in-InvalidateAll g c = rw c.in-InvalidateAll.is (no_events, (c.invalidate_all.ensures.step, refl), c.invalidate_all.ensures.events, refl, refl)
+
+pub returns-in-InvalidateIf : goal.returns-in-InvalidateIf
+returns-in-InvalidateIf g c =
+    let made = c.invalidate_entries_if.ensures in
+    rw c.in-InvalidateIf.is (made.0, (made.1, made.2), made.3, subst (λ (e : Events g.row.K.Denot g.row.V.Denot). Leads g.C.Clock.reads c.args.clock.now e.readings c.args.clock.now) (sym made.2) refl, made.4)
 
 pub returns-in-DisableAutoRun : goal.returns-in-DisableAutoRun
 returns-in-DisableAutoRun g c = rw c.in-DisableAutoRun.is (no_events, (c.disable_auto_run.ensures.step, refl), c.disable_auto_run.ensures.events, refl, refl)
