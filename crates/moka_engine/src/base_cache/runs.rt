@@ -63,7 +63,8 @@ impl<
         K: Drop,
         V: Drop,
         ensures step { (e : Events K V)
-            × RunStep (ListedRun P.says X.read self.old.write_list self.new.write_list) self.old.state (record { now = now.0; limit = option_map as_nanos limit; batch = batch }) result e self.new.state
+            × RunStep (ListedRun P.says X.read self.old.write_list self.new.write_list) self.old.state
+            (record { now = now.0; limit = option_map as_nanos limit; batch = batch }) result e self.new.state
             × Befalls L.tells e self.old self.new
             × Leads C.reads clock.old e.readings clock.new }
         ensures exact { self.old.state.outstanding ≡ finite.empty → IsExact self.new.state }
