@@ -94,13 +94,16 @@ impl<
     ghost view = { λ c. record {
       name = option_map string_bytes c.name;
       hasher = c.build_hasher;
-      state = state_of c.inner c.valid_after c.invalidator c.entry_count c.weighted_size c.housekeeper c.max_capacity (settings_of c.eviction_policy c.expiration_policy c.weigher c.invalidator_enabled c.housekeeper);
+      state = state_of c.inner c.valid_after c.invalidator c.entry_count c.weighted_size c.housekeeper c.max_capacity
+          (settings_of c.eviction_policy c.expiration_policy c.weigher c.invalidator_enabled c.housekeeper);
       listener = c.notifier;
       write_list = c.inner.kept.written;
       passes = c.passes;
     } };
 
-    ghost invariant = { λ c. IsWhole K.eq X.read c.notifier c.inner.kept (state_of c.inner c.valid_after c.invalidator c.entry_count c.weighted_size c.housekeeper c.max_capacity (settings_of c.eviction_policy c.expiration_policy c.weigher c.invalidator_enabled c.housekeeper)) };
+    ghost invariant = { λ c. IsWhole K.eq X.read c.notifier c.inner.kept
+        (state_of c.inner c.valid_after c.invalidator c.entry_count c.weighted_size c.housekeeper c.max_capacity
+        (settings_of c.eviction_policy c.expiration_policy c.weigher c.invalidator_enabled c.housekeeper)) };
 }
 
 impl<
@@ -411,7 +414,8 @@ impl<
         V: Clone + Drop,
         requires keys { ClonesAreEqual K.is_clone }
         requires values { ClonesAreEqual V.is_clone }
-        ensures { (notices : List (Notice K V)) × NotifyStep self.old.state.settings entry.now now result notices × (self.new.state ≡ self.old.state) × Befalls L.tells (only_notices notices) self.old self.new }
+        ensures { (notices : List (Notice K V)) × NotifyStep self.old.state.settings entry.now now result notices × (self.new.state ≡ self.old.state)
+            × Befalls L.tells (only_notices notices) self.old self.new }
     {
         if !self.is_removal_notifier_enabled() {
             return Ok(());

@@ -27,8 +27,8 @@ use moka_maintenance::queued::{PlacedWrite, QueuedRead, QueuedWrite};
 use moka_maintenance::sketch::enable_frequency_sketch;
 use moka_maintenance::sweep::Tests;
 use moka_parts::calls::Ticket;
-use moka_parts::error::{InsertError, SendError};
 use moka_parts::closures::PredicateFn;
+use moka_parts::error::{InsertError, SendError};
 use moka_parts::housekeeper::Clock;
 use moka_parts::invalidator::Invalidator;
 use moka_parts::notification::{Listener, RemovalNotifier};
@@ -348,7 +348,9 @@ impl<K: Eq + Hash, V, S: BuildHasher> Inner<K, V, S> {
     where
         K: Drop,
         V: Drop,
-        ensures prepared { ArePrepared L.tells capacity policy self.old.kept.ordered has_weigher (after_reads (contents_with self.old.sketch self.old.kept) self.old.reads) (contents_with self.new.sketch self.new.kept) self.old.kept.written self.new.kept.written self.old.writes notifier.old notifier.new }
+        ensures prepared { ArePrepared L.tells capacity policy self.old.kept.ordered has_weigher
+            (after_reads (contents_with self.old.sketch self.old.kept) self.old.reads) (contents_with self.new.sketch self.new.kept)
+            self.old.kept.written self.new.kept.written self.old.writes notifier.old notifier.new }
         ensures timers { KeepsTimers self.old.kept self.new.kept }
         ensures rest { self.new ≡ record self.old { kept = self.new.kept; sketch = self.new.sketch; writes = []; reads = []; operation_room = self.new.operation_room } }
     {
@@ -371,8 +373,9 @@ impl<K: Eq + Hash, V, S: BuildHasher> Inner<K, V, S> {
     where
         K: Drop,
         V: Drop,
-        P: Drop,
-        ensures ran { IsRan L.tells P.says tests C.reads (option_map as_nanos limit) batch self.old.kept.ordered invalidator.old invalidator.new (stock_in self.old.kept) (stock_in self.new.kept) notifier.old notifier.new clock.old clock.new result.passes result.is_left }
+        ensures ran { IsRan L.tells P.says tests C.reads (option_map as_nanos limit) batch self.old.kept.ordered
+            invalidator.old invalidator.new (stock_in self.old.kept) (stock_in self.new.kept) notifier.old notifier.new
+            clock.old clock.new result.passes result.is_left }
         ensures none { HasNoneDue tests.now.0 self.new.kept }
         ensures timers { KeepsTimers self.old.kept self.new.kept }
         ensures rest { self.new ≡ record self.old { kept = self.new.kept; operation_room = self.new.operation_room } }

@@ -100,7 +100,8 @@ pub fn apply_writes<K: Eq + Hash + Drop, V: Drop, S: BuildHasher, L: Listener<K,
     writes: &mut HeapCircularBuffer<QueuedWrite>,
 )
     requires at { (q : QueuedWrite) → Contains writes.old.items q → IsAt store.old.places (number_of q.write.operation) q.write.place }
-    ensures applied { AreApplied L.tells capacity policy store.old.ordered (contents_with sketch.now store.old) (contents_with sketch.now store.new) store.old.written store.new.written (writes_of writes.old.items) notifier.old notifier.new }
+    ensures applied { AreApplied L.tells capacity policy store.old.ordered (contents_with sketch.now store.old)
+        (contents_with sketch.now store.new) store.old.written store.new.written (writes_of writes.old.items) notifier.old notifier.new }
     ensures timers { KeepsTimers store.old store.new }
     ensures places { AddsNoPlace store.old store.new }
     ensures rows { LeavesNoRowBy (writes_of writes.old.items) store.old store.new }
@@ -122,7 +123,8 @@ fn apply_write<K: Eq + Hash + Drop, V: Drop, S: BuildHasher, L: Listener<K, V>>(
     write: PlacedWrite,
 )
     requires at { IsAt store.old.places (number_of write.operation) write.place }
-    ensures applied { IsApplied L.tells capacity policy store.old.ordered (contents_with sketch.now store.old) (contents_with sketch.now store.new) store.old.written store.new.written write.operation notifier.old notifier.new }
+    ensures applied { IsApplied L.tells capacity policy store.old.ordered (contents_with sketch.now store.old)
+        (contents_with sketch.now store.new) store.old.written store.new.written write.operation notifier.old notifier.new }
     ensures timers { KeepsTimers store.old store.new }
     ensures places { AddsNoPlace store.old store.new }
     ensures rows { LeavesNoRowAfter write.operation store.old store.new }
@@ -159,7 +161,9 @@ fn apply_upsert<K: Eq + Hash + Drop, V: Drop, S: BuildHasher, L: Listener<K, V>>
     upsert: PlacedUpsert,
 )
     requires at { IsAt store.old.places upsert.handle.number upsert.handle.place }
-    ensures applied { IsApplied L.tells capacity policy store.old.ordered (contents_with sketch.now store.old) (contents_with sketch.now store.new) store.old.written store.new.written (Upsert upsert.handle.number upsert.generation upsert.weight upsert.hash) notifier.old notifier.new }
+    ensures applied { IsApplied L.tells capacity policy store.old.ordered (contents_with sketch.now store.old)
+        (contents_with sketch.now store.new) store.old.written store.new.written
+        (Upsert upsert.handle.number upsert.generation upsert.weight upsert.hash) notifier.old notifier.new }
     ensures timers { KeepsTimers store.old store.new }
     ensures places { AddsNoPlace store.old store.new }
     ensures rows { LeavesNoRow store.old store.new }
@@ -197,7 +201,9 @@ fn admit_or_reject<K: Eq + Hash + Drop, V: Drop, S: BuildHasher, L: Listener<K, 
     requires handle { IsHandle store.old upsert.handle }
     requires apart { counted_of upsert.handle.number store.old.access ≡ None }
     requires newer { (r : Record K V) → finite.get store.old.records upsert.handle.number ≡ Some r → r.applied < upsert.generation }
-    ensures applied { IsApplied L.tells capacity policy store.old.ordered (contents_with sketch.now store.old) (contents_with sketch.now store.new) store.old.written store.new.written (Upsert upsert.handle.number upsert.generation upsert.weight upsert.hash) notifier.old notifier.new }
+    ensures applied { IsApplied L.tells capacity policy store.old.ordered (contents_with sketch.now store.old)
+        (contents_with sketch.now store.new) store.old.written store.new.written
+        (Upsert upsert.handle.number upsert.generation upsert.weight upsert.hash) notifier.old notifier.new }
     ensures timers { KeepsTimers store.old store.new }
     ensures places { AddsNoPlace store.old store.new }
     ensures rows { LeavesNoRow store.old store.new }
@@ -225,7 +231,10 @@ fn compare<K: Eq + Hash + Drop, V: Drop, S: BuildHasher, L: Listener<K, V>>(
 )
     requires handle { IsHandle store.old candidate.handle }
     requires apart { counted_of candidate.handle.number store.old.access ≡ None }
-    ensures compared { (r : Record K V) → finite.get store.old.records candidate.handle.number ≡ Some r → IsCompared L.tells store.old.ordered (contents_with sketch.now store.old) (contents_with sketch.now store.new) store.old.written store.new.written candidate.handle.number candidate.generation candidate.weight candidate.hash r notifier.old notifier.new }
+    ensures compared { (r : Record K V) → finite.get store.old.records candidate.handle.number ≡ Some r →
+        IsCompared L.tells store.old.ordered (contents_with sketch.now store.old) (contents_with sketch.now store.new)
+        store.old.written store.new.written candidate.handle.number candidate.generation candidate.weight candidate.hash r
+        notifier.old notifier.new }
     ensures timers { KeepsTimers store.old store.new }
     ensures places { AddsNoPlace store.old store.new }
     ensures rows { LeavesNoRow store.old store.new }
@@ -257,7 +266,8 @@ fn has_room(capacity: Option<u64>, total: u128, weight: u32) -> bool
 fn enter<K: Eq + Hash, V, S: BuildHasher>(store: &mut Store<K, V, S>, upsert: PlacedUpsert)
     requires handle { IsHandle store.old upsert.handle }
     requires apart { counted_of upsert.handle.number store.old.access ≡ None }
-    ensures step { (r : Record K V) → finite.get store.old.records upsert.handle.number ≡ Some r → contents_in store.new ≡ entered upsert.handle.number upsert.generation upsert.weight r (contents_in store.old) }
+    ensures step { (r : Record K V) → finite.get store.old.records upsert.handle.number ≡ Some r →
+        contents_in store.new ≡ entered upsert.handle.number upsert.generation upsert.weight r (contents_in store.old) }
     ensures written { store.new.written ≡ entered_by store.old.ordered upsert.handle.number store.old.written }
     ensures timers { KeepsTimers store.old store.new }
     ensures places { store.new.places ≡ store.old.places }
@@ -300,7 +310,12 @@ fn reject<K: Eq + Hash + Drop, V: Drop, S: BuildHasher, L: Listener<K, V>>(
 // The member of this number, if there is one, comes to the back of both orders, and its timer is set again.
 fn pass<K: Eq + Hash, V, S: BuildHasher>(store: &mut Store<K, V, S>, handle: Handle)
     requires { IsHandle store.old handle }
-    ensures step { store.new ≡ record store.old { access = to_back handle.number store.old.access; written = number_to_back handle.number store.old.written; timers = store.new.timers; cursor = cursor_past handle.number store.old.written store.old.cursor } }
+    ensures step { store.new ≡ record store.old {
+      access = to_back handle.number store.old.access;
+      written = number_to_back handle.number store.old.written;
+      timers = store.new.timers;
+      cursor = cursor_past handle.number store.old.written store.old.cursor;
+    } }
     ensures timers { KeepsTimers store.old store.new }
 {
     if store.is_member(handle) {
@@ -356,7 +371,12 @@ fn apply_removal<K: Eq + Hash + Drop, V: Drop, S: BuildHasher>(
 // The member of this number, if there is one, leaves both orders and the timers.
 fn leave<K: Eq + Hash, V, S: BuildHasher>(store: &mut Store<K, V, S>, handle: Handle)
     requires { IsPlaced store.old handle }
-    ensures { store.new ≡ record store.old { access = without_member handle.number store.old.access; written = without_number handle.number store.old.written; timers = finite.remove store.old.timers handle.number; cursor = cursor_past handle.number store.old.written store.old.cursor } }
+    ensures { store.new ≡ record store.old {
+      access = without_member handle.number store.old.access;
+      written = without_number handle.number store.old.written;
+      timers = finite.remove store.old.timers handle.number;
+      cursor = cursor_past handle.number store.old.written store.old.cursor;
+    } }
 {
     if store.is_member(handle) {
         store.leave(handle);

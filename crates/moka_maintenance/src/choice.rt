@@ -111,7 +111,8 @@ pub(crate) fn expel_front<K: Eq + Hash + Drop, V: Drop, S: BuildHasher, L: Liste
     ensures step { contents_in store.new ≡ without_victims (take how_many store.old.access) (contents_in store.old) }
     ensures written { store.new.written ≡ without_numbers (take how_many store.old.access) store.old.written }
     ensures told { Told L.tells notifier.old (left_with (take how_many store.old.access) store.old.records) notifier.new }
-    ensures others { (n : ℕ) → counted_of n store.old.access ≡ None → (counted_of n store.new.access ≡ None) × (finite.get store.new.records n ≡ finite.get store.old.records n) × (finite.get store.new.places n ≡ finite.get store.old.places n) }
+    ensures others { (n : ℕ) → counted_of n store.old.access ≡ None → (counted_of n store.new.access ≡ None)
+        × (finite.get store.new.records n ≡ finite.get store.old.records n) × (finite.get store.new.places n ≡ finite.get store.old.places n) }
     ensures timers { DropsTimers store.old store.new }
     ensures places { AddsNoPlace store.old store.new }
     ensures rows { LeavesNoRow store.old store.new }

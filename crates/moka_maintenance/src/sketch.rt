@@ -69,7 +69,7 @@ mod tests {
 
     // The length of the sketch that comes on where half of a capacity of 256 is taken.
     fn length_at_256(alloc: Global) -> Result<usize, AllocError> {
-        let mut store: TestStore = Store::new(alloc, BuildHasherDefault::new())?;
+        let mut store: TestStore = Store::new(alloc, BuildHasherDefault::new(), false, false)?;
         let mut sketch = FrequencySketch::new(alloc)?;
         store.reserve(1)?;
         if store.find_by_key(&1).is_none() {

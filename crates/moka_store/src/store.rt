@@ -71,7 +71,9 @@ impl<K: Eq + Hash, V, S: BuildHasher> Model for Store<K, V, S> {
 
     ghost view = { λ a. kept_of a.table.rows a.access.members a.written a.timers a.index.room a.table.room (most_of a.access a.written a.timers) };
 
-    ghost invariant = { λ a. IsStore K.eq a.table.rows (record { hash_of = λ k. hash_by S.Hasher.finish S.Hasher.write (S.build_hasher a.hasher) (K.hash_input k); entries = a.index.entries }) (finite.len a.index.entries) a.access.members a.written a.timers (most_of a.access a.written a.timers) a.weight };
+    ghost invariant = { λ a. IsStore K.eq a.table.rows
+        (record { hash_of = λ k. hash_by S.Hasher.finish S.Hasher.write (S.build_hasher a.hasher) (K.hash_input k); entries = a.index.entries })
+        (finite.len a.index.entries) a.access.members a.written a.timers (most_of a.access a.written a.timers) a.weight };
 }
 
 impl<K: Eq + Hash, V, S: BuildHasher> Store<K, V, S> {
@@ -82,7 +84,17 @@ impl<K: Eq + Hash, V, S: BuildHasher> Store<K, V, S> {
         ensures records { IfOk result (λ s. s.records ≡ finite.empty) }
         ensures access { IfOk result (λ s. s.access ≡ []) }
         ensures places { IfOk result (λ s. s.places ≡ finite.empty) }
-        ensures empty { IfOk result (λ s. s ≡ record { records = finite.empty; access = []; written = []; timers = finite.empty; cursor = None; places = finite.empty; room = s.room; ordered = ordered; timed = timed }) }
+        ensures empty { IfOk result (λ s. s ≡ record {
+          records = finite.empty;
+          access = [];
+          written = [];
+          timers = finite.empty;
+          cursor = None;
+          places = finite.empty;
+          room = s.room;
+          ordered = ordered;
+          timed = timed;
+        }) }
     {
         let access = OrderList::new(alloc)?;
         let written = WriteList::new(alloc, ordered)?;
@@ -320,7 +332,11 @@ impl<K: Eq + Hash, V, S: BuildHasher> Store<K, V, S> {
     pub fn move_to_back(&mut self, handle: Handle)
         requires placed { IsPlaced self.old handle }
         requires member { IsSome (counted_of handle.number self.old.access) }
-        ensures step { self.new ≡ record self.old { access = to_back handle.number self.old.access; written = number_to_back handle.number self.old.written; cursor = cursor_past handle.number self.old.written self.old.cursor } }
+        ensures step { self.new ≡ record self.old {
+          access = to_back handle.number self.old.access;
+          written = number_to_back handle.number self.old.written;
+          cursor = cursor_past handle.number self.old.written self.old.cursor;
+        } }
         ensures counted { (n : ℕ) → counted_of n self.new.access ≡ counted_of n self.old.access }
         ensures places { self.new.places ≡ self.old.places }
         ensures records { self.new.records ≡ self.old.records }
@@ -337,7 +353,11 @@ impl<K: Eq + Hash, V, S: BuildHasher> Store<K, V, S> {
     pub fn recount(&mut self, handle: Handle, weight: u32)
         requires placed { IsPlaced self.old handle }
         requires member { IsSome (counted_of handle.number self.old.access) }
-        ensures step { self.new ≡ record self.old { access = without_member handle.number self.old.access ++ member handle.number weight ∷ []; written = number_to_back handle.number self.old.written; cursor = cursor_past handle.number self.old.written self.old.cursor } }
+        ensures step { self.new ≡ record self.old {
+          access = without_member handle.number self.old.access ++ member handle.number weight ∷ [];
+          written = number_to_back handle.number self.old.written;
+          cursor = cursor_past handle.number self.old.written self.old.cursor;
+        } }
         ensures counted { (n : ℕ) → counted_of n self.new.access ≡ (if n == handle.number then Some weight else counted_of n self.old.access) }
         ensures places { self.new.places ≡ self.old.places }
         ensures records { self.new.records ≡ self.old.records }
@@ -356,7 +376,12 @@ impl<K: Eq + Hash, V, S: BuildHasher> Store<K, V, S> {
     pub fn leave(&mut self, handle: Handle)
         requires placed { IsPlaced self.old handle }
         requires member { IsSome (counted_of handle.number self.old.access) }
-        ensures step { self.new ≡ record self.old { access = without_member handle.number self.old.access; written = without_number handle.number self.old.written; timers = finite.remove self.old.timers handle.number; cursor = cursor_past handle.number self.old.written self.old.cursor } }
+        ensures step { self.new ≡ record self.old {
+          access = without_member handle.number self.old.access;
+          written = without_number handle.number self.old.written;
+          timers = finite.remove self.old.timers handle.number;
+          cursor = cursor_past handle.number self.old.written self.old.cursor;
+        } }
         ensures counted { (n : ℕ) → counted_of n self.new.access ≡ (if n == handle.number then None else counted_of n self.old.access) }
         ensures places { self.new.places ≡ self.old.places }
         ensures records { self.new.records ≡ self.old.records }
@@ -386,7 +411,8 @@ impl<K: Eq + Hash, V, S: BuildHasher> Store<K, V, S> {
     pub fn set_timer(&mut self, handle: Handle)
         requires handle { IsHandle self.old handle }
         requires member { IsSome (counted_of handle.number self.old.access) }
-        ensures step { (r : Record K V) → finite.get self.old.records handle.number ≡ Some r → self.new ≡ record self.old { timers = if self.old.timed then with_timer self.old.timers handle.number (moment_of r.expires) else self.old.timers } }
+        ensures step { (r : Record K V) → finite.get self.old.records handle.number ≡ Some r →
+            self.new ≡ record self.old { timers = if self.old.timed then with_timer self.old.timers handle.number (moment_of r.expires) else self.old.timers } }
         ensures rest { self.new ≡ record self.old { timers = self.new.timers } }
     {
         let (before, expires) = changes::timing_at(&self.table, handle.place);
@@ -546,7 +572,14 @@ impl<K: Eq + Hash, V, S: BuildHasher> Store<K, V, S> {
     pub fn take_out(&mut self, handle: Handle) -> Record<K, V>
         requires { IsHandle self.old handle }
         ensures taken { finite.get self.old.records handle.number ≡ Some result }
-        ensures step { self.new ≡ record self.old { records = finite.remove self.old.records handle.number; access = without_member handle.number self.old.access; written = without_number handle.number self.old.written; timers = finite.remove self.old.timers handle.number; cursor = cursor_past handle.number self.old.written self.old.cursor; room = self.new.room } }
+        ensures step { self.new ≡ record self.old {
+          records = finite.remove self.old.records handle.number;
+          access = without_member handle.number self.old.access;
+          written = without_number handle.number self.old.written;
+          timers = finite.remove self.old.timers handle.number;
+          cursor = cursor_past handle.number self.old.written self.old.cursor;
+          room = self.new.room;
+        } }
         ensures room { self.old.room ≤ self.new.room }
         ensures gone { finite.get self.new.records handle.number ≡ None }
         ensures counted { (n : ℕ) → counted_of n self.new.access ≡ (if n == handle.number then None else counted_of n self.old.access) }

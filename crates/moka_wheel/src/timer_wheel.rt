@@ -114,7 +114,10 @@ impl TimerWheel {
     pub fn reschedule(&mut self, slot: u32, at: u64)
         requires { IsSome (get self.old.timers slot) }
         ensures timers { (timer : Timer) → get self.old.timers slot ≡ Some timer → self.new.timers ≡ insert self.old.timers slot (record timer { at = at }) }
-        ensures lookups { (other : ℕ) → get self.new.timers other ≡ (if nat_eq other slot then option_map (λ (timer : Timer). record timer { at = at }) (get self.old.timers slot) else get self.old.timers other) }
+        ensures lookups { (other : ℕ) →
+            get self.new.timers other ≡ (if nat_eq other slot
+            then option_map (λ (timer : Timer). record timer { at = at }) (get self.old.timers slot)
+            else get self.old.timers other) }
         ensures room { self.new.room ≡ self.old.room }
     {
         self.buckets.reset(slot, at);

@@ -59,7 +59,15 @@ where
     P: PredicateFn<K, V>,
     ensures { Finds K.eq inner.now.kept policy.now valid_after P.says invalidator.now key.now false now.0 (option_map (λ f. (f.0, f.1.now)) result) }
 {
-    find_unless(inner, policy, valid_after, invalidator, key, &mut NoTest, now)
+    find_unless(
+        inner,
+        policy,
+        valid_after,
+        invalidator,
+        key,
+        &mut NoTest,
+        now,
+    )
 }
 
 // What a hit makes of a record.

@@ -64,7 +64,8 @@ impl<
         V: Drop,
         P: Drop,
         ensures step { (e : Events K V)
-            × RunStep (ListedRun P.says X.read self.old.write_list self.new.write_list) self.old.state (record { now = now.0; limit = option_map as_nanos limit; batch = batch }) result e self.new.state
+            × RunStep (ListedRun P.says X.read self.old.write_list self.new.write_list) self.old.state
+            (record { now = now.0; limit = option_map as_nanos limit; batch = batch }) result e self.new.state
             × Befalls L.tells e self.old self.new
             × Leads C.reads clock.old e.readings clock.new }
         ensures exact { self.old.state.outstanding ≡ finite.empty → IsExact self.new.state }

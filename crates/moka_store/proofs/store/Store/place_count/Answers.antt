@@ -8,10 +8,10 @@ pub returns-clause-places : goal.returns-clause-places
 returns-clause-places g c =
     let rows = c.self.inside.table.rows in
     rw (← c.self.view_is) (λ n place there.
-        (let w = placed_row rows c.self.invariant.tied.numbered place n there in
-        let within = row_at-within rows place w.0 w.1 in
-        let most = c.capacity.ensures.places in
-        omega arith))
+    (let w = placed_row rows c.self.invariant.tied.numbered place n there in
+    let within = row_at-within rows place w.0 w.1 in
+    let most = c.capacity.ensures.places in
+    omega arith))
 
 pub returns-clause-rowed : goal.returns-clause-rowed
 returns-clause-rowed g c = rw (← c.self.view_is) (record-placed g.K.PartialEq.eq c.self.inside.table.rows _ _ c.self.invariant.tied)

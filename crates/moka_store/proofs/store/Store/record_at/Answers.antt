@@ -12,8 +12,8 @@ returns-clause-found g c =
     let rows = c.self.inside.table.rows in
     let tied = c.self.invariant.tied in
     rw (← c.self.view_is) (λ n there.
-        (let w = placed_row rows tied.numbered c.args.place n there in
-        c.record.ensures ∙ ap (option_and_then (λ (row : Row (Record g.row.K.Denot g.row.V.Denot)). row.stored)) w.1 ∙ sym (get-records rows tied.numbered c.args.place w.0 w.1) ∙ ap (finite.get (records_of rows)) w.2))
+    (let w = placed_row rows tied.numbered c.args.place n there in
+    c.record.ensures ∙ ap (option_and_then (λ (row : Row (Record g.row.K.Denot g.row.V.Denot)). row.stored)) w.1 ∙ sym (get-records rows tied.numbered c.args.place w.0 w.1) ∙ ap (finite.get (records_of rows)) w.2))
 
 pub returns-clause-stored : goal.returns-clause-stored
 returns-clause-stored g c = rw (← c.self.view_is) (stored-own g.K.PartialEq.eq c.self.inside.table.rows _ _ c.self.invariant.tied c.args.place c.record.result c.record.ensures)
