@@ -11,14 +11,15 @@ pub(crate) const LANES: usize = 7;
 
 /// Lanes for places, the first `count` of which are in use: 64 bytes in all.
 ///
-/// The hashes come first, so that a search that finds no match reads one cache line wherever the table begins.
+/// What a search reads of each group it meets comes first, and the places last. So the first 48 bytes serve a search that
+/// finds nothing, and nearly every other: a table in memory of its own begins 16 bytes past the start of a cache line.
 #[derive(Clone, Copy)]
 pub(crate) struct Group {
     pub(crate) hashes: [u32; 7],
-    pub(crate) count: u32,
-    pub(crate) places: [u32; 7],
     /// How many groups past this one a hash may lie whose home this is.
     pub(crate) reach: u32,
+    pub(crate) count: u32,
+    pub(crate) places: [u32; 7],
 }
 
 /// The home of a hash, of `count` groups: the group in which its search begins.
