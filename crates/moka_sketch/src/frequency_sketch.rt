@@ -125,6 +125,7 @@ impl FrequencySketch {
     }
 
     /// Counts a hash once more, if the sketch is on.
+    #[inline(always)]
     pub fn increment(&mut self, hash: u64)
         ensures counted { self.new ≡ counted_once self.old hash }
 

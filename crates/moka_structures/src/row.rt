@@ -24,12 +24,13 @@ pub struct Membership {
 /// Slots are kept as words in which 0 stands for none, since an `Option` would take a word more for each.
 #[derive(Drop)]
 pub struct Row<R> {
-    number: u64,
-    stored: Option<R>,
+    // What maintenance asks of a row stands before the record, beside what a look-up reads of it first.
     counted: u32,
     access: u32,
     written: u32,
     timer: u32,
+    number: u64,
+    stored: Option<R>,
 }
 
 impl<R> Model for Row<R> {
@@ -53,12 +54,12 @@ impl<R> Row<R> {
         ensures { result ≡ record { number = number; stored = Some stored; membership = None; timer = None } }
     {
         Row {
-            number,
-            stored: Some(stored),
             counted: 0,
             access: 0,
             written: 0,
             timer: 0,
+            number,
+            stored: Some(stored),
         }
     }
 
