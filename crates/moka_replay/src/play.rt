@@ -63,7 +63,7 @@ pub fn play(alloc: Global, script: Script) -> Result<Played, OutOfMemory>
         alloc,
         &mut cache,
         calls,
-        &mut CountedIds::new(),
+        &mut CountedIds::new(settings.repeats_ids),
         &mut StoppedClock,
     ) {
         Ok(replies) => Ok(Played { replies, cache }),
@@ -112,7 +112,7 @@ fn new_cache(
         listener,
         expirations_of(settings.time_to_live, settings.time_to_idle, rules),
         config_of(settings.keeper),
-        false,
+        settings.invalidator,
         Instant(settings.start.unwrap_or(0)),
         first,
     )?;
