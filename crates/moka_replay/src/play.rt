@@ -58,14 +58,9 @@ pub fn play(alloc: Global, script: Script) -> Result<Played, OutOfMemory>
         calls,
     } = script;
     let listener = listener_for(alloc, settings.listener, &calls)?;
+    let mut ids = CountedIds::new(settings.repeats_ids);
     let mut cache = new_cache(alloc, settings, rules, listener)?;
-    match drive(
-        alloc,
-        &mut cache,
-        calls,
-        &mut CountedIds::new(settings.repeats_ids),
-        &mut StoppedClock,
-    ) {
+    match drive(alloc, &mut cache, calls, &mut ids, &mut StoppedClock) {
         Ok(replies) => Ok(Played { replies, cache }),
         Err(refused) => Err(refused.error),
     }
