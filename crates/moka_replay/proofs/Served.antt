@@ -11,7 +11,7 @@ use Rattle.moka_replay.specs.declared.script.settings.Setting.{Setting}
 use Rattle.moka_replay.specs.declared.script.Line.TheVariants as line
 use Rattle.moka_replay.specs.Lex.{number_of, lone_number, alone, is_printable, words_of}
 use Rattle.moka_replay.specs.Settings.{Chosen, setting_of, rule_line, put_in}
-use Rattle.moka_replay.specs.Calls.{CallText, told_call, key_and_moment, insert_of, send_of, get_of, peek_of, scan_of, contains_of, key_of, remove_of, invall_of, run_of, due_of, call_of}
+use Rattle.moka_replay.specs.Calls.{CallText, told_call, key_and_moment, insert_of, send_of, get_of, peek_of, scan_of, contains_of, key_of, remove_of, invall_of, invif_of, run_of, due_of, call_of}
 use Rattle.moka_replay.specs.Clock.{is_clock, readings_of}
 use Rattle.moka_replay.specs.Script.{LineText, ScriptText, asked_by_name, asked_by_few, asked_by, asked_in, is_comment, joined, with_line, lines_read, lines_of, no_text, script_of}
 
@@ -66,6 +66,13 @@ serves_remove (key ∷ now ∷ more ∷ rest) = tt
 serves_invall : (arguments : List (List ℕ)) → Serves (invall_of arguments)
 serves_invall arguments = serves_then (lone_number arguments) _ (λ n. tt)
 
+serves_invif : (arguments : List (List ℕ)) → Serves (invif_of arguments)
+serves_invif [] = tt
+serves_invif (low ∷ []) = tt
+serves_invif (low ∷ high ∷ []) = tt
+serves_invif (low ∷ high ∷ now ∷ []) = serves_then (number_of 32 low) _ (λ l. serves_then (number_of 32 high) _ (λ h. serves_then (number_of 64 now) _ (λ n. tt)))
+serves_invif (low ∷ high ∷ now ∷ more ∷ rest) = tt
+
 serves_run : (arguments : List (List ℕ)) → Serves (run_of arguments)
 serves_run [] = tt
 serves_run (now ∷ []) = tt
@@ -92,10 +99,11 @@ serves_call name arguments =
     (serves_if (bytes_eq name (codes "key")) _ _ (serves_key arguments)
     (serves_if (bytes_eq name (codes "remove")) _ _ (serves_remove arguments)
     (serves_if (bytes_eq name (codes "invall")) _ _ (serves_invall arguments)
+    (serves_if (bytes_eq name (codes "invif")) _ _ (serves_invif arguments)
     (serves_if (bytes_eq name (codes "due")) _ _ (serves_due arguments)
     (serves_if (bytes_eq name (codes "keys")) _ _ (serves_alone (Keys 0) arguments tt)
     (serves_if (bytes_eq name (codes "report")) _ _ (serves_alone Report arguments tt)
-    (serves_if (bytes_eq name (codes "pending")) (alone Pending arguments) None (serves_alone Pending arguments tt) tt)))))))))))))
+    (serves_if (bytes_eq name (codes "pending")) (alone Pending arguments) None (serves_alone Pending arguments tt) tt))))))))))))))
 
 -- ---- lines
 

@@ -4,7 +4,7 @@ use Rattle.std.specs.Duration.{as_nanos}
 use Rattle.std.specs.declared.time.Duration.{Duration}
 use Rattle.std.specs.Str.{bytes_eq}
 use Rattle.moka_parts.specs.declared.calls.Call.{Call}
-use Rattle.moka_parts.specs.declared.calls.Call.TheVariants.{Insert, Send, Get, GetUnrecorded, Scan, Contains, Key, Remove, InvalidateAll, Run, RunIfDue, Keys, Report, Pending}
+use Rattle.moka_parts.specs.declared.calls.Call.TheVariants.{Insert, Send, Get, GetUnrecorded, Scan, Contains, Key, Remove, InvalidateAll, InvalidateIf, Run, RunIfDue, Keys, Report, Pending}
 use Rattle.moka_parts.specs.declared.policy.Instant.{Instant}
 use Rattle.moka_replay.specs.declared.key_range.KeyRange.{KeyRange}
 use Rattle.moka_replay.specs.declared.script.calls.LineCall.{LineCall}
@@ -100,6 +100,15 @@ invall_of arguments = do
   n ← lone_number arguments
   Some (InvalidateAll (record { 0 = n }))
 
+-- `invif LOW HIGH NOW`
+abbrev pub invif_of : List (List ℕ) → Option CallText
+invif_of (low ∷ high ∷ now ∷ []) = do
+  l ← number_of 32 low
+  h ← number_of 32 high
+  n ← number_of 64 now
+  Some (InvalidateIf (record { low = l; high = h }) (record { 0 = n }))
+invif_of _ = None
+
 -- `run NOW BATCH`, or `run NOW BATCH LIMIT`: four passes
 abbrev pub run_of : List (List ℕ) → Option CallText
 run_of (now ∷ batch ∷ []) = do
@@ -132,8 +141,9 @@ call_of name arguments =
     else (if bytes_eq name (codes "key") then key_of arguments
     else (if bytes_eq name (codes "remove") then remove_of arguments
     else (if bytes_eq name (codes "invall") then invall_of arguments
+    else (if bytes_eq name (codes "invif") then invif_of arguments
     else (if bytes_eq name (codes "due") then due_of arguments
     else (if bytes_eq name (codes "keys") then alone (Keys 0) arguments
     else (if bytes_eq name (codes "report") then alone Report arguments
     else (if bytes_eq name (codes "pending") then alone Pending arguments
-    else None)))))))))))))
+    else None))))))))))))))

@@ -1,5 +1,5 @@
 -- What comes of the calls of a script: a run of the reference cache.
-use Rattle.std.specs.Prelude.{◌≡◌, ℕ, ◌+◌, ◌-◌, ◌^◌, min, ◌&&◌, nat_eq, nat_le, false, List, map, Option, unwrap_or}
+use Rattle.std.specs.Prelude.{◌≡◌, ℕ, ◌+◌, ◌-◌, ◌^◌, min, ◌&&◌, nat_eq, nat_le, false, List, map, Option, unwrap_or, if◌then◌else◌}
 use Rattle.std.specs.Int.{w128, to_be_bytes}
 use Rattle.moka_parts.specs.declared.calls.Reply.{Reply}
 use Rattle.moka_parts.specs.declared.policy.EvictionPolicy.{EvictionPolicy}
@@ -38,7 +38,7 @@ script_meaning = record {
   says = λ range key _ answer. answer ≡ (nat_le range.low key && nat_le key range.high);
   weighs = λ _ _ value weight. weight ≡ weight_of value;
   observes = λ before moment after. (moment.0 ≡ next_reading before) × (after ≡ readings_left before);
-  gives = λ before id after. (after.given ≡ min (before.given + 1) (2 ^ 64 - 1)) × (id ≡ to_be_bytes w128 after.given);
+  gives = λ before id after. (after.repeats ≡ before.repeats) × (after.given ≡ (if before.repeats then 1 else min (before.given + 1) (2 ^ 64 - 1))) × (id ≡ to_be_bytes w128 after.given);
   created = created_by;
   read = read_by;
   updated = updated_by;
@@ -69,7 +69,7 @@ first_state chosen = record (new_state (record {
   expiry = expiry_of chosen.rules;
   weigher = chosen.settings.weigher;
   listening = chosen.settings.listener;
-  invalidator = false;
+  invalidator = chosen.settings.invalidator;
   run_limit = (chosen_terms chosen.settings.keeper).limit;
   run_repeats = (chosen_terms chosen.settings.keeper).repeats;
   run_batch = (chosen_terms chosen.settings.keeper).batch;

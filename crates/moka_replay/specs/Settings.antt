@@ -8,7 +8,7 @@ use Rattle.moka_replay.specs.declared.rules.Question.TheVariants.{Create, Read, 
 use Rattle.moka_replay.specs.declared.rules.Rule.{Rule}
 use Rattle.moka_replay.specs.declared.script.settings.Settings.{Settings}
 use Rattle.moka_replay.specs.declared.script.settings.Setting.{Setting}
-use Rattle.moka_replay.specs.declared.script.settings.Setting.TheVariants.{First, Capacity, Policy, TimeToLive, TimeToIdle, Weigh, Listener, Start, Keeper, Auto}
+use Rattle.moka_replay.specs.declared.script.settings.Setting.TheVariants.{First, Capacity, Policy, TimeToLive, TimeToIdle, Weigh, Listener, Invalidator, RepeatedIds, Start, Keeper, Auto}
 use Rattle.moka_replay.specs.Lex.{number_of, lone_number, alone, ◌>>=◌}
 
 -- the ticket of that number, which is not 0
@@ -38,6 +38,11 @@ policy_of (name ∷ []) = do
   Some (Policy policy)
 policy_of _ = None
 
+-- `ids repeat`
+abbrev pub ids_of : List (List ℕ) → Option Setting
+ids_of (word ∷ []) = if bytes_eq word (codes "repeat") then Some RepeatedIds else None
+ids_of _ = None
+
 -- the setting of that name
 abbrev pub setting_of : List ℕ → List (List ℕ) → Option Setting
 setting_of name arguments =
@@ -48,10 +53,12 @@ setting_of name arguments =
     else (if bytes_eq name (codes "tti") then option_map TimeToIdle (lone_number arguments)
     else (if bytes_eq name (codes "weigh") then alone (Weigh (record {})) arguments
     else (if bytes_eq name (codes "listener") then alone Listener arguments
+    else (if bytes_eq name (codes "invalidator") then alone Invalidator arguments
+    else (if bytes_eq name (codes "ids") then ids_of arguments
     else (if bytes_eq name (codes "start") then option_map Start (lone_number arguments)
     else (if bytes_eq name (codes "keeper") then keeper_of arguments
     else (if bytes_eq name (codes "auto") then alone Auto arguments
-    else None)))))))))
+    else None)))))))))))
 
 -- the question of that name
 abbrev pub question_named : List ℕ → Option Question
@@ -86,7 +93,7 @@ pub record Chosen : Type 0 where
 
 -- nothing is set
 abbrev pub no_settings : Settings
-no_settings = record { first = None; capacity = None; policy = None; time_to_live = None; time_to_idle = None; weigher = None; listener = false; start = None; keeper = None; automatic = false }
+no_settings = record { first = None; capacity = None; policy = None; time_to_live = None; time_to_idle = None; weigher = None; listener = false; invalidator = false; repeats_ids = false; start = None; keeper = None; automatic = false }
 
 -- a place is filled at most once
 abbrev pub filled : {A : Type 0} → Option A → A → Option (Option A)
@@ -102,6 +109,8 @@ put_in settings (TimeToLive nanos) = option_map (λ place. record settings { tim
 put_in settings (TimeToIdle nanos) = option_map (λ place. record settings { time_to_idle = place }) (filled settings.time_to_idle nanos)
 put_in settings (Weigh weigher) = option_map (λ place. record settings { weigher = place }) (filled settings.weigher weigher)
 put_in settings Listener = if settings.listener then None else Some (record settings { listener = true })
+put_in settings Invalidator = if settings.invalidator then None else Some (record settings { invalidator = true })
+put_in settings RepeatedIds = if settings.repeats_ids then None else Some (record settings { repeats_ids = true })
 put_in settings (Start now) = option_map (λ place. record settings { start = place }) (filled settings.start now)
 put_in settings (Keeper keeper) = option_map (λ place. record settings { keeper = place }) (filled settings.keeper keeper)
 put_in settings Auto = if settings.automatic then None else Some (record settings { automatic = true })

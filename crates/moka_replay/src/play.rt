@@ -59,12 +59,13 @@ pub fn play(alloc: Global, script: Script) -> Result<Played, OutOfMemory>
         calls,
     } = script;
     let listener = listener_for(alloc, settings.listener, &calls)?;
+    let mut ids = CountedIds::new(settings.repeats_ids);
     let mut cache = new_cache(alloc, settings, rules, listener)?;
     match drive(
         alloc,
         &mut cache,
         calls,
-        &mut CountedIds::new(),
+        &mut ids,
         &mut ListedClock::new(clock),
     ) {
         Ok(replies) => Ok(Played { replies, cache }),
@@ -113,7 +114,7 @@ fn new_cache(
         listener,
         expirations_of(settings.time_to_live, settings.time_to_idle, rules),
         config_of(settings.keeper),
-        false,
+        settings.invalidator,
         Instant(settings.start.unwrap_or(0)),
         first,
     )?;

@@ -49,31 +49,37 @@ impl Clock for ListedClock {
     }
 }
 
-/// Counts identifiers up from 1; the greatest is given again and again.
+/// Counts identifiers up from 1, and gives the greatest again and again; or gives 1 each time.
 #[derive(Clone, Copy)]
 pub struct CountedIds {
     given: u64,
+    repeats: bool,
 }
 
 impl CountedIds {
     ghost use Rattle.std.specs.Prelude.{◌≡◌};
 
-    /// Nothing is given yet.
-    pub fn new() -> Self
-        ensures { result.given ≡ 0 }
+    /// Nothing is given yet; each identifier is 1 if it `repeats`.
+    pub fn new(repeats: bool) -> Self
+        ensures given { result.given ≡ 0 }
+        ensures repeats { result.repeats ≡ repeats }
     {
-        CountedIds { given: 0 }
+        CountedIds { given: 0, repeats }
     }
 }
 
 impl IdSource for CountedIds {
-    ghost use Rattle.std.specs.Prelude.{◌≡◌, ◌+◌, ◌-◌, ◌^◌, min};
+    ghost use Rattle.std.specs.Prelude.{◌≡◌, ◌+◌, ◌-◌, ◌^◌, min, if◌then◌else◌};
     ghost use Rattle.std.specs.Int.{w128, to_be_bytes};
 
-    ghost gives = { λ before id after. (after.given ≡ min (before.given + 1) (2 ^ 64 - 1)) × (id ≡ to_be_bytes w128 after.given) };
+    ghost gives = { λ before id after. (after.repeats ≡ before.repeats) × (after.given ≡ (if before.repeats then 1 else min (before.given + 1) (2 ^ 64 - 1))) × (id ≡ to_be_bytes w128 after.given) };
 
     fn next_id(&mut self) -> PredicateId {
-        self.given = self.given.saturating_add(1);
+        self.given = if self.repeats {
+            1
+        } else {
+            self.given.saturating_add(1)
+        };
         Uuid::from_u128(u128::from(self.given))
     }
 }

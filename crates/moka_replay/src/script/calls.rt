@@ -1,7 +1,7 @@
 //! The calls of a script.
 ghost use Rattle.std.specs.Prelude.{◌≡◌, option_map};
 ghost use Rattle.moka_replay.specs.Lex.{texts};
-ghost use Rattle.moka_replay.specs.Calls.{call_of, call_text, key_and_moment, insert_of, send_of, get_of, peek_of, scan_of, contains_of, key_of, remove_of, invall_of, run_of, due_of};
+ghost use Rattle.moka_replay.specs.Calls.{call_of, call_text, key_and_moment, insert_of, send_of, get_of, peek_of, scan_of, contains_of, key_of, remove_of, invall_of, invif_of, run_of, due_of};
 
 use crate::key_range::KeyRange;
 use crate::lex::{alone, lone_number, number, small_number};
@@ -177,6 +177,20 @@ fn invall(arguments: &[&str]) -> Option<ScriptCall>
     Some(Call::InvalidateAll { now })
 }
 
+/// `invif LOW HIGH NOW`
+fn invif(arguments: &[&str]) -> Option<ScriptCall>
+    ensures { result ≡ invif_of (texts arguments.now) }
+{
+    let [low, high, now] = arguments else {
+        return None;
+    };
+    let low = small_number(low)?;
+    let high = small_number(high)?;
+    let now = Instant(number(now)?);
+    let predicate = KeyRange { low, high };
+    Some(Call::InvalidateIf { predicate, now })
+}
+
 /// `run NOW BATCH`, or `run NOW BATCH LIMIT`
 fn run<'a>(arguments: &[&'a str]) -> Option<LineCall<'a>>
     ensures { option_map call_text result ≡ run_of (texts arguments.now) }
@@ -214,6 +228,7 @@ pub fn parse_call<'a>(name: &str, arguments: &[&'a str]) -> Option<LineCall<'a>>
         "key" => key(arguments)?,
         "remove" => remove(arguments)?,
         "invall" => invall(arguments)?,
+        "invif" => invif(arguments)?,
         "due" => due(arguments)?,
         "keys" => alone(Call::Keys { segment: 0 }, arguments)?,
         "report" => alone(Call::Report, arguments)?,

@@ -1,7 +1,7 @@
 //! The settings of a script.
 ghost use Rattle.std.specs.Prelude.{◌≡◌};
 ghost use Rattle.moka_replay.specs.Lex.{texts};
-ghost use Rattle.moka_replay.specs.Settings.{answer_of, keeper_of, policy_of, policy_named, question_named, rule_line, rule_of, setting_of};
+ghost use Rattle.moka_replay.specs.Settings.{answer_of, ids_of, keeper_of, policy_of, policy_named, question_named, rule_line, rule_of, setting_of};
 
 use crate::first_ticket::FirstTicket;
 use crate::lex::{alone, lone_number, number, small_number};
@@ -26,6 +26,10 @@ pub struct Settings {
     pub weigher: Option<NumberWeigher>,
     /// Whether a listener keeps the notices.
     pub listener: bool,
+    /// Whether predicates are supported.
+    pub invalidator: bool,
+    /// Whether each identifier that is asked for is the same.
+    pub repeats_ids: bool,
     /// The moment at which the cache is made.
     pub start: Option<u64>,
     /// What the housekeeper gives to its runs.
@@ -58,6 +62,8 @@ impl Settings {
             time_to_idle: None,
             weigher: None,
             listener: false,
+            invalidator: false,
+            repeats_ids: false,
             start: None,
             keeper: None,
             automatic: false,
@@ -97,6 +103,14 @@ impl Settings {
                 listener: true,
                 ..self
             }),
+            Setting::Invalidator if !self.invalidator => Some(Settings {
+                invalidator: true,
+                ..self
+            }),
+            Setting::RepeatedIds if !self.repeats_ids => Some(Settings {
+                repeats_ids: true,
+                ..self
+            }),
             Setting::Start(now) if self.start.is_none() => Some(Settings {
                 start: Some(now),
                 ..self
@@ -124,6 +138,8 @@ pub enum Setting {
     TimeToIdle(u64),
     Weigh(NumberWeigher),
     Listener,
+    Invalidator,
+    RepeatedIds,
     Start(u64),
     Keeper(KeeperTerms),
     Auto,
@@ -167,6 +183,16 @@ fn policy_named(name: &str) -> Option<EvictionPolicy>
     }
 }
 
+/// `ids repeat`
+fn ids(arguments: &[&str]) -> Option<Setting>
+    ensures { result ≡ ids_of (texts arguments.now) }
+{
+    match arguments {
+        ["repeat"] => Some(Setting::RepeatedIds),
+        _ => None,
+    }
+}
+
 /// The setting of that name, if there is one.
 pub fn parse_setting(name: &str, arguments: &[&str]) -> Option<Setting>
     ensures { result ≡ setting_of name.now (texts arguments.now) }
@@ -181,6 +207,8 @@ pub fn parse_setting(name: &str, arguments: &[&str]) -> Option<Setting>
         "tti" => lone_number(arguments).map(Setting::TimeToIdle),
         "weigh" => alone(Setting::Weigh(NumberWeigher), arguments),
         "listener" => alone(Setting::Listener, arguments),
+        "invalidator" => alone(Setting::Invalidator, arguments),
+        "ids" => ids(arguments),
         "start" => lone_number(arguments).map(Setting::Start),
         "keeper" => keeper(arguments),
         "auto" => alone(Setting::Auto, arguments),
