@@ -3,6 +3,7 @@ pub mod Rules
 pub mod Settings
 pub mod Calls
 pub mod Clock
+pub mod Ids
 pub mod Script
 pub mod Notices
 pub mod Text

@@ -1,5 +1,5 @@
 -- What comes of the calls of a script: a run of the reference cache.
-use Rattle.std.specs.Prelude.{◌≡◌, ℕ, ◌+◌, ◌-◌, ◌^◌, min, ◌&&◌, nat_eq, nat_le, false, List, map, Option, unwrap_or, if◌then◌else◌}
+use Rattle.std.specs.Prelude.{◌≡◌, ℕ, ◌&&◌, nat_eq, nat_le, List, map, Option, unwrap_or}
 use Rattle.std.specs.Int.{w128, to_be_bytes}
 use Rattle.moka_parts.specs.declared.calls.Reply.{Reply}
 use Rattle.moka_parts.specs.declared.policy.EvictionPolicy.{EvictionPolicy}
@@ -7,7 +7,7 @@ use Rattle.moka_parts.specs.declared.policy.EvictionPolicy.TheVariants.{TinyLfu}
 use Rattle.moka_parts.specs.Policy.{Expirations}
 use Rattle.moka_parts.specs.State.{State, Meaning, new_state}
 use Rattle.moka_parts.specs.Housekeeping.{new_housekeeping}
-use Rattle.moka_parts.specs.Runs.{Step, calls_of, replies_of, notices_of, readings_of, last_state, AreSteps, Leads, PromisedRun}
+use Rattle.moka_parts.specs.Runs.{Step, calls_of, replies_of, notices_of, readings_of, ids_of, last_state, AreSteps, Leads, PromisedRun}
 use Rattle.moka_replay.specs.declared.key_range.KeyRange.{KeyRange}
 use Rattle.moka_replay.specs.declared.print.Total.{Total}
 use Rattle.moka_replay.specs.declared.script.settings.KeeperTerms.{KeeperTerms}
@@ -19,6 +19,7 @@ use Rattle.moka_replay.specs.declared.sources.CountedIds.{CountedIds}
 use Rattle.moka_replay.specs.declared.weigher.NumberWeigher.{NumberWeigher}
 use Rattle.moka_replay.specs.Notices.{ScriptNotice, Kept, Keeps}
 use Rattle.moka_replay.specs.Clock.{next_reading, readings_left}
+use Rattle.moka_replay.specs.Ids.{first_ids, next_given}
 use Rattle.moka_replay.specs.Calls.{told_call}
 use Rattle.moka_replay.specs.Script.{ScriptText}
 use Rattle.moka_replay.specs.Lex.{weight_of}
@@ -38,7 +39,7 @@ script_meaning = record {
   says = λ range key _ answer. answer ≡ (nat_le range.low key && nat_le key range.high);
   weighs = λ _ _ value weight. weight ≡ weight_of value;
   observes = λ before moment after. (moment.0 ≡ next_reading before) × (after ≡ readings_left before);
-  gives = λ before id after. (after.repeats ≡ before.repeats) × (after.given ≡ (if before.repeats then 1 else min (before.given + 1) (2 ^ 64 - 1))) × (id ≡ to_be_bytes w128 after.given);
+  gives = λ before id after. (after ≡ record before { given = next_given before }) × (id ≡ to_be_bytes w128 after.given);
   created = created_by;
   read = read_by;
   updated = updated_by;
@@ -79,10 +80,11 @@ first_state chosen = record (new_state (record {
 abbrev pub total_of : ScriptState → Total
 total_of state = record { count = state.count; weight = state.weight }
 
--- the calls, made one after the other on a new reference cache by the script's clock, give the replies, tell the notices and leave that total
+-- the calls, made one after the other on a new reference cache by the script's clock and identifiers, give the replies, tell the notices and leave that total
 abbrev pub AreReplies : ScriptText → List (Reply ℕ (List ℕ) KeyRange) → List ScriptNotice → Total → Type 0
 AreReplies script replies notices total =
     (steps : List ScriptStep) × (map told_call (calls_of steps) ≡ script.2) × (replies_of steps ≡ replies) × (notices_of steps ≡ notices)
     × AreSteps script_meaning (PromisedRun script_meaning.says script_meaning.read) (first_state script.0) steps
     × ((left : List ℕ) × Leads script_meaning.observes script.1 (readings_of steps) left)
+    × ((left : CountedIds) × Leads script_meaning.gives (first_ids script.0.settings.repeats_ids) (ids_of steps) left)
     × (total ≡ total_of (last_state (first_state script.0) steps))

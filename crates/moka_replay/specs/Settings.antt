@@ -38,9 +38,13 @@ policy_of (name ∷ []) = do
   Some (Policy policy)
 policy_of _ = None
 
--- `ids repeat`
+-- how identifiers are given
+abbrev pub ids_given : List ℕ → Option Setting
+ids_given how = if bytes_eq how (codes "repeat") then Some RepeatedIds else None
+
+-- `ids HOW`
 abbrev pub ids_of : List (List ℕ) → Option Setting
-ids_of (word ∷ []) = if bytes_eq word (codes "repeat") then Some RepeatedIds else None
+ids_of (how ∷ []) = ids_given how
 ids_of _ = None
 
 -- the setting of that name

@@ -58,21 +58,22 @@ pub struct CountedIds {
 
 impl CountedIds {
     ghost use Rattle.std.specs.Prelude.{◌≡◌};
+    ghost use Rattle.moka_replay.specs.Ids.{first_ids};
 
-    /// Nothing is given yet; each identifier is 1 if it `repeats`.
+    /// None is given yet; whether each is to be 1.
     pub fn new(repeats: bool) -> Self
-        ensures given { result.given ≡ 0 }
-        ensures repeats { result.repeats ≡ repeats }
+        ensures { result ≡ first_ids repeats }
     {
         CountedIds { given: 0, repeats }
     }
 }
 
 impl IdSource for CountedIds {
-    ghost use Rattle.std.specs.Prelude.{◌≡◌, ◌+◌, ◌-◌, ◌^◌, min, if◌then◌else◌};
+    ghost use Rattle.std.specs.Prelude.{◌≡◌};
     ghost use Rattle.std.specs.Int.{w128, to_be_bytes};
+    ghost use Rattle.moka_replay.specs.Ids.{next_given};
 
-    ghost gives = { λ before id after. (after.repeats ≡ before.repeats) × (after.given ≡ (if before.repeats then 1 else min (before.given + 1) (2 ^ 64 - 1))) × (id ≡ to_be_bytes w128 after.given) };
+    ghost gives = { λ before id after. (after ≡ record before { given = next_given before }) × (id ≡ to_be_bytes w128 after.given) };
 
     fn next_id(&mut self) -> PredicateId {
         self.given = if self.repeats {

@@ -4,6 +4,8 @@ use std::process::Abort;
 use std::test::Fail;
 
 mod expiring;
+mod faults;
+mod predicates;
 
 /// A reader that gives three bytes a call and fails at one call.
 #[derive(Drop)]
@@ -72,6 +74,26 @@ fn check<R: Abort + AllocGlobal>(
     assert_eq!(rt; str::from_utf8(&out)?, printed, "of {script:?}");
     assert_eq!(rt; str::from_utf8(&err)?, said, "of {script:?}");
     assert_eq!(rt; answer, status, "of {script:?}");
+    Ok(())
+}
+
+/// Replays a script that may end in each of these ways: with what it prints, says and answers.
+fn check_one_of<R: Abort + AllocGlobal>(
+    rt: &R,
+    script: &str,
+    ends: &[(&str, &str, u8)],
+) -> Result<(), Fail> {
+    let (mut printed, mut said) = ([0; 256], [0; 256]);
+    let (mut out, mut err) = (printed.as_mut_slice(), said.as_mut_slice());
+    let status = replay(rt.alloc(), &mut script.as_bytes(), &mut out, &mut err);
+    let printed = str::from_utf8(&printed)?.trim_end_matches('\0');
+    let said = str::from_utf8(&said)?.trim_end_matches('\0');
+    for (text, line, number) in ends {
+        if (printed, said, status) == (*text, *line, *number) {
+            return Ok(());
+        }
+    }
+    assert!(rt; false, "status {status}: {printed:?} {said:?}");
     Ok(())
 }
 
@@ -478,176 +500,6 @@ fn replays_long_scripts(rt: HostRuntime) -> Result<(), Fail> {
     fills_the_queue(&rt, true, 1)
 }
 
-#[test]
-fn names_the_first_faulty_line(rt: HostRuntime) -> Result<(), Fail> {
-    for (script, line) in [
-        ("capacity 4\n\ninsert 1 a\n", 3),
-        ("first 0\nreport\n", 1),
-        ("first 1\nfirst 2\n", 2),
-        ("first 1 2\n", 1),
-        ("first\n", 1),
-        ("policy tinylfu\n\npolicy lru\n", 3),
-        ("policy tiny_lfu\n", 1),
-        ("policy\n", 1),
-        ("policy lru lru\n", 1),
-        ("policy lru\n\npolicy lru\n", 3),
-        ("policy lru\ncapacity 4\ncapacity 4\nreport\n", 3),
-        ("capacity 0\ncapacity 0\n", 2),
-        ("policy lru\ncapacity\n", 2),
-        ("policy lru\ncapacity x\n", 2),
-        ("weigh\nweigh\n", 2),
-        ("weigh 1\n", 1),
-        ("report\nweigh\n", 2),
-        ("first 2\ncapacity 4\nfirst 0\n", 3),
-        ("capacity 4\nfirst 0\npolicy lru\n", 2),
-        ("capacity 4\nreport\npolicy lru\n", 3),
-        ("remove 1 4\nremove 1 4 5\n", 2),
-        ("ttl 1\nttl 2\n", 2),
-        ("report\nttl 1\n", 2),
-        ("tti 1\ntti 2\n", 2),
-        ("report\nexpire create 1 2 3\n", 2),
-        (
-            "expire create 1 2 none\nexpire read 1 2 3\nexpire update 1 2 none 4\n",
-            3,
-        ),
-        (
-            "expire update 4294967295 18446744073709551615 0\nexpire update 4294967296 0 0\n",
-            2,
-        ),
-        ("start 1\nstart 1\n", 2),
-        ("keeper 1 2 3\n\nkeeper 1 2 3\n", 3),
-        ("report\nkeeper 1 2 3\n", 2),
-        ("auto\nauto\n", 2),
-        ("report\nauto\n", 2),
-        ("clock 1 2\n\nclock 3\n", 3),
-        ("report\nclock 1\n", 2),
-        ("clock 1 2 3 4 5 6 7 8 9 18446744073709551616\n", 1),
-        ("report\ntti 1\n", 2),
-        ("listener\nlistener\n", 2),
-        ("listener 1\n", 1),
-        ("report\nlistener\n", 2),
-        ("contains 1\n", 1),
-        ("key 1 0\n", 1),
-        ("keys 0\n", 1),
-        ("report\nfirst 2\n", 2),
-        ("report\n# comment\n\n  reports\n", 4),
-        ("report report", 1),
-        ("insert 1 a 0 0\ninsert 1 a\n", 1),
-        ("send\n", 1),
-        ("send +1\n", 1),
-        ("send -1\n", 1),
-        ("send 1a\n", 1),
-        ("run 0 4294967296\n", 1),
-        ("run 0 1 5\nrun 0 1 5 6\n", 2),
-        ("get 1 000000000000000000001\n", 1),
-        ("get 4294967295 18446744073709551615\nget 4294967296 0\n", 2),
-        ("get 1 18446744073709551616\n", 1),
-        ("get 1\t0\n", 1),
-        ("report\r\n", 1),
-        ("report\n# \u{1}\nreports\n", 2),
-        ("\n\u{7f}", 2),
-        ("\n\n# é\n", 3),
-    ] {
-        check_fault(&rt, script, line)?;
-    }
-    Ok(())
-}
-
-/// Every setting and every call with one word more or less, and with each number faulty in turn: behind a right call,
-/// which memory could be refused to, and alone.
-#[test]
-fn finds_each_fault(rt: HostRuntime) -> Result<(), Fail> {
-    for fault in [
-        "first x",
-        "capacity x",
-        "capacity 1 1",
-        "policy x",
-        "expire",
-        "expire create",
-        "expire create 1",
-        "expire create 1 2",
-        "expire creates 1 2 3",
-        "expire read x 2 3",
-        "expire read 1 x 3",
-        "expire read 1 2 x",
-        "ttl",
-        "ttl x",
-        "ttl 1 1",
-        "tti",
-        "tti x",
-        "tti 1 1",
-        "weigh x",
-        "start",
-        "start x",
-        "start 0 0",
-        "auto 1",
-        "clock",
-        "clock x",
-        "clock 1 x",
-        "clock 1 18446744073709551616 1",
-        "keeper 1 2",
-        "keeper 1 2 3 4",
-        "keeper x 2 3",
-        "keeper 1 x 3",
-        "keeper 1 4294967296 3",
-        "keeper 1 2 x",
-        "keeper 1 2 4294967296",
-        "insert",
-        "insert 1 a",
-        "insert 1 a 0 0",
-        "insert x a 0",
-        "insert 4294967296 a 0",
-        "insert 1 a x",
-        "insert 1 a 18446744073709551616",
-        "send",
-        "send 1 1",
-        "send x",
-        "get 1",
-        "get 1 0 0",
-        "get x 0",
-        "get 4294967296 0",
-        "get 1 x",
-        "peek 1",
-        "peek x 0",
-        "peek 1 x",
-        "scan 1",
-        "scan x 0",
-        "scan 1 0 0",
-        "contains 1",
-        "contains 1 0 0",
-        "contains x 0",
-        "contains 1 x",
-        "key",
-        "key 1 0",
-        "key x",
-        "remove",
-        "remove x",
-        "remove 1 0 0",
-        "invall",
-        "invall x",
-        "invall 0 0",
-        "due",
-        "due x",
-        "due 0 0",
-        "run 0",
-        "run x 1",
-        "run 0 x",
-        "run 0 4294967296",
-        "run 0 1 x",
-        "run 0 1 18446744073709551616",
-        "run 0 1 0 0",
-        "keys 0",
-        "report 0",
-        "pending 0",
-        "a b c d e f g",
-    ] {
-        check_fault(&rt, fault, 1)?;
-        let behind = format!(in rt.alloc(); "insert 1 a 0\n{fault}\nreport")?;
-        check_fault(&rt, behind.as_str(), 2)?;
-    }
-    Ok(())
-}
-
 /// Comments, values, spaces and faults that reach over 4,096 bytes.
 #[test]
 fn reads_long_lines(rt: HostRuntime) -> Result<(), Fail> {
@@ -672,65 +524,58 @@ fn reads_long_lines(rt: HostRuntime) -> Result<(), Fail> {
 fn goes_on_where_memory_was_refused_once(rt: HostRuntime) -> Result<(), Fail> {
     let script = "ttl 9\nexpire create 3 0 5\ninsert 1 a 0\nget 1 0\ninsert 1 b 0\nget 1 0\n\
         insert 2 b 0\nget 2 0\nkeys\nkeys\n";
-    let (mut printed, mut said) = ([0; 256], [0; 256]);
-    let (mut out, mut err) = (printed.as_mut_slice(), said.as_mut_slice());
-    let status = replay(rt.alloc(), &mut script.as_bytes(), &mut out, &mut err);
-    let printed = str::from_utf8(&printed)?.trim_end_matches('\0');
-    let said = str::from_utf8(&said)?.trim_end_matches('\0');
-    for (text, line, number) in [
-        (
-            "ticket 1\nvalue a\nticket 2\nvalue b\nticket 3\nvalue b\nkeys 1 2\nkeys 1 2\ncount 0 weight 0\n",
-            "",
-            0,
-        ),
-        ("", "out of memory\n", 3),
-        (
-            "refused memory\nnone\nticket 1\nvalue b\nticket 2\nvalue b\nkeys 1 2\nkeys 1 2\ncount 0 weight 0\n",
-            "",
-            3,
-        ),
-        (
-            "ticket 1\nrefused memory\nticket 2\nvalue b\nticket 3\nvalue b\nkeys 1 2\nkeys 1 2\ncount 0 weight 0\n",
-            "",
-            3,
-        ),
-        (
-            "ticket 1\nvalue a\nrefused memory\nvalue a\nticket 2\nvalue b\nkeys 1 2\nkeys 1 2\ncount 0 weight 0\n",
-            "",
-            3,
-        ),
-        (
-            "ticket 1\nvalue a\nticket 2\nrefused memory\nticket 3\nvalue b\nkeys 1 2\nkeys 1 2\ncount 0 weight 0\n",
-            "",
-            3,
-        ),
-        (
-            "ticket 1\nvalue a\nticket 2\nvalue b\nrefused memory\nnone\nkeys 1\nkeys 1\ncount 0 weight 0\n",
-            "",
-            3,
-        ),
-        (
-            "ticket 1\nvalue a\nticket 2\nvalue b\nticket 3\nrefused memory\nkeys 1 2\nkeys 1 2\ncount 0 weight 0\n",
-            "",
-            3,
-        ),
-        (
-            "ticket 1\nvalue a\nticket 2\nvalue b\nticket 3\nvalue b\nrefused memory\nkeys 1 2\ncount 0 weight 0\n",
-            "",
-            3,
-        ),
-        (
-            "ticket 1\nvalue a\nticket 2\nvalue b\nticket 3\nvalue b\nkeys 1 2\nrefused memory\ncount 0 weight 0\n",
-            "",
-            3,
-        ),
-    ] {
-        if (printed, said, status) == (text, line, number) {
-            return Ok(());
-        }
-    }
-    assert!(rt; false, "status {status}: {printed:?} {said:?}");
-    Ok(())
+    check_one_of(
+        &rt,
+        script,
+        &[
+            (
+                "ticket 1\nvalue a\nticket 2\nvalue b\nticket 3\nvalue b\nkeys 1 2\nkeys 1 2\ncount 0 weight 0\n",
+                "",
+                0,
+            ),
+            ("", "out of memory\n", 3),
+            (
+                "refused memory\nnone\nticket 1\nvalue b\nticket 2\nvalue b\nkeys 1 2\nkeys 1 2\ncount 0 weight 0\n",
+                "",
+                3,
+            ),
+            (
+                "ticket 1\nrefused memory\nticket 2\nvalue b\nticket 3\nvalue b\nkeys 1 2\nkeys 1 2\ncount 0 weight 0\n",
+                "",
+                3,
+            ),
+            (
+                "ticket 1\nvalue a\nrefused memory\nvalue a\nticket 2\nvalue b\nkeys 1 2\nkeys 1 2\ncount 0 weight 0\n",
+                "",
+                3,
+            ),
+            (
+                "ticket 1\nvalue a\nticket 2\nrefused memory\nticket 3\nvalue b\nkeys 1 2\nkeys 1 2\ncount 0 weight 0\n",
+                "",
+                3,
+            ),
+            (
+                "ticket 1\nvalue a\nticket 2\nvalue b\nrefused memory\nnone\nkeys 1\nkeys 1\ncount 0 weight 0\n",
+                "",
+                3,
+            ),
+            (
+                "ticket 1\nvalue a\nticket 2\nvalue b\nticket 3\nrefused memory\nkeys 1 2\nkeys 1 2\ncount 0 weight 0\n",
+                "",
+                3,
+            ),
+            (
+                "ticket 1\nvalue a\nticket 2\nvalue b\nticket 3\nvalue b\nrefused memory\nkeys 1 2\ncount 0 weight 0\n",
+                "",
+                3,
+            ),
+            (
+                "ticket 1\nvalue a\nticket 2\nvalue b\nticket 3\nvalue b\nkeys 1 2\nrefused memory\ncount 0 weight 0\n",
+                "",
+                3,
+            ),
+        ],
+    )
 }
 
 #[test]

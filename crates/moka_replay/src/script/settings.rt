@@ -1,7 +1,7 @@
 //! The settings of a script.
 ghost use Rattle.std.specs.Prelude.{◌≡◌};
 ghost use Rattle.moka_replay.specs.Lex.{texts};
-ghost use Rattle.moka_replay.specs.Settings.{answer_of, ids_of, keeper_of, policy_of, policy_named, question_named, rule_line, rule_of, setting_of};
+ghost use Rattle.moka_replay.specs.Settings.{answer_of, ids_given, ids_of, keeper_of, policy_of, policy_named, question_named, rule_line, rule_of, setting_of};
 
 use crate::first_ticket::FirstTicket;
 use crate::lex::{alone, lone_number, number, small_number};
@@ -183,12 +183,22 @@ fn policy_named(name: &str) -> Option<EvictionPolicy>
     }
 }
 
-/// `ids repeat`
+/// `ids HOW`
 fn ids(arguments: &[&str]) -> Option<Setting>
     ensures { result ≡ ids_of (texts arguments.now) }
 {
-    match arguments {
-        ["repeat"] => Some(Setting::RepeatedIds),
+    let [how] = arguments else {
+        return None;
+    };
+    ids_given(how)
+}
+
+/// How identifiers are given, if there is such a way.
+fn ids_given(how: &str) -> Option<Setting>
+    ensures { result ≡ ids_given how.now }
+{
+    match how {
+        "repeat" => Some(Setting::RepeatedIds),
         _ => None,
     }
 }
