@@ -36,6 +36,17 @@ fn replays_predicates(rt: HostRuntime) -> Result<(), Fail> {
             count 1 weight 1 predicates 1\ndone\ncount 1 weight 1 predicates 0\nkeys 2\n\
             count 1 weight 1\n",
         ),
+        // The cursor is passed on where its member moves to the back, and where it leaves.
+        (
+            "invalidator\ninsert 1 a 1\ninsert 2 b 1\ninsert 3 c 1\ninsert 4 d 1\n\
+            insert 5 e 1\nsend 1\nsend 2\nsend 3\nsend 4\nsend 5\nrun 1 10\ninvif 5 5 5\n\
+            run 6 1\ninsert 2 f 6\nsend 6\nrun 6 1\nremove 4\nsend 7\nrun 7 1\nreport\n\
+            run 8 1\nreport\nkeys\n",
+            "ticket 1\nticket 2\nticket 3\nticket 4\nticket 5\nsent\nsent\nsent\nsent\n\
+            sent\ndone\npredicate 00000000-0000-0000-0000-000000000001\nmore\nticket 6\n\
+            sent\nmore\nremoved d ticket 7\nsent\nmore\ncount 3 weight 3 predicates 1\n\
+            done\ncount 3 weight 3 predicates 0\nkeys 1 2 3\ncount 3 weight 3\n",
+        ),
         ("invif 0 9 5\n", "closures disabled\ncount 0 weight 0\n"),
         (
             "invalidator\ninvif 0 9 5\ninsert 1 a 1\nget 1 9\nrun 6 10\nreport\nsend 1\n\
