@@ -40,7 +40,6 @@ mod tests;
 const SEGMENTS: usize = 1;
 
 /// A cache. moka: `sync::base_cache::BaseCache`.
-#[derive(Drop)]
 pub struct BaseCache<
     K: Eq + Hash,
     V,
@@ -69,6 +68,38 @@ pub struct BaseCache<
     weighted_size: u64,
     // The passes of the last run.
     passes: u64,
+}
+
+// A cache that is let go notifies nobody. This is written out so that a caller's drop is one call.
+impl<
+    K: Eq + Hash + Drop,
+    V: Drop,
+    S: BuildHasher + Drop,
+    X: Expiry<K, V> + Drop,
+    L: Listener<K, V> + Drop,
+    P: PredicateFn<K, V> + Drop,
+    W: Weigher<K, V> + Drop,
+> Drop for BaseCache<K, V, S, X, L, P, W> {
+    fn drop(self) {
+        let BaseCache {
+            alloc: _,
+            name: _,
+            build_hasher: _,
+            inner: _,
+            notifier: _,
+            housekeeper: _,
+            max_capacity: _,
+            eviction_policy: _,
+            expiration_policy: _,
+            weigher: _,
+            invalidator_enabled: _,
+            valid_after: _,
+            invalidator: _,
+            entry_count: _,
+            weighted_size: _,
+            passes: _,
+        } = self;
+    }
 }
 
 impl<
@@ -115,24 +146,31 @@ impl<
     P: PredicateFn<K, V>,
     W: Weigher<K, V>,
 > BaseCache<K, V, S, X, L, P, W> {
-    /// An empty cache, made at the moment `now`. Gets start runs of maintenance until `disable_auto_run` is called.
+    /// An empty cache. Gets start runs of maintenance until `disable_auto_run` is called. `CacheConfig` has a default for
+    /// most of the arguments.
     ///
+    /// - `alloc`: gives the memory that the cache takes.
     /// - `name`: for the caller alone.
     /// - `max_capacity`: the greatest sum of weights that runs of maintenance leave; `None` is no bound, and with 0 the
     ///   cache keeps nothing and takes no inserts.
-    /// - `initial_capacity`: for how many records room is made at once.
+    /// - `initial_capacity`: for how many records room is made at once, whatever they weigh; `None` is 0. It bounds nothing.
     /// - `build_hasher`: hashes keys, for `hash` and for the map.
-    /// - `weigher`: weighs entries as they are inserted; without one each weighs 1.
+    /// - `weigher`: weighs entries as they are inserted, from 0 to 2^32 - 1; without one each weighs 1.
     /// - `eviction_policy`: what leaves where the capacity is exceeded.
     /// - `eviction_listener`: is told key, value and cause of each removal but those by `remove_entry`.
     /// - `expiration_policy`: the time to live, as a duration since the last insert; the time to idle, as one since the last
-    ///   insert or read; and the expiry of single entries, which inserts and gets ask.
+    ///   insert or read; and the expiry of single entries, which inserts and gets ask. Any duration is taken, to the
+    ///   nanosecond: the sum of a moment and a duration saturates at 2^64 - 1 nanoseconds.
     /// - `housekeeper_config`: the time limit, repeats and batch of the runs that the housekeeper starts.
     /// - `invalidator_enabled`: whether predicates can be registered.
-    /// - `first_ticket`: the ticket of the first operation, at least 1.
+    /// - `now`: the moment at which it is made. The housekeeper starts no run in the 300 milliseconds after it, unless 64
+    ///   operations are queued.
+    /// - `first_ticket`: the ticket of the first operation, at least 1. The greater it is, the sooner inserts are refused
+    ///   with `NumbersUsedUp`.
     ///
     /// # Errors
-    /// `OutOfMemory` where memory for the tables or for a clone of the hasher is refused.
+    /// `OutOfMemory` where memory for the tables or for a clone of the hasher is refused, and where `initial_capacity` would
+    /// need a place of more than 32 bits.
     #[allow(clippy::too_many_arguments)]
     pub fn new(
         alloc: Global,
@@ -218,7 +256,7 @@ impl<
         })
     }
 
-    /// What always holds of a cache. It does nothing when it runs.
+    /// What always holds of a cache, for proofs about its callers. It does nothing when it runs.
     pub fn invariant_holds(&self)
         ensures valid { IsValid K.eq self.now.state }
         ensures listening { self.now.state.settings.listening ≡ is_some self.now.listener }
@@ -477,7 +515,7 @@ impl<
         }
     }
 
-    /// How many segments the map has: one.
+    /// How many segments the map has: one. It is for moka's iterators, which go from one to the next.
     pub fn num_cht_segments(&self) -> usize
         ensures { result ≡ 1 }
     {

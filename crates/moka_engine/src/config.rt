@@ -130,8 +130,8 @@ impl<X, L, P, W> CacheConfig<X, L, P, W> {
         self
     }
 
-    /// The number of entries that room is made for at once, whatever their weights. It bounds nothing. By default there
-    /// is room for none.
+    /// The number of entries that room is made for at once, whatever their weights. It bounds nothing, and `build` refuses a
+    /// number for which there is no memory, or that needs a place of more than 32 bits. By default there is room for none.
     pub fn initial_capacity(mut self, number_of_entries: usize) -> Self
         ensures { result ≡ record self { initial_capacity = Some number_of_entries } }
     {
@@ -147,8 +147,8 @@ impl<X, L, P, W> CacheConfig<X, L, P, W> {
         self
     }
 
-    /// How long an entry stays after it was inserted, exact to the nanosecond. The sum of a moment and a duration
-    /// saturates at 2^64 - 1 nanoseconds. By default an entry stays.
+    /// How long an entry stays after it was inserted, exact to the nanosecond. Any duration is taken; with zero an entry
+    /// has expired at once. The sum of a moment and a duration saturates at 2^64 - 1 nanoseconds. By default an entry stays.
     pub fn time_to_live(mut self, duration: Duration) -> Self
         ensures { result ≡ record self { time_to_live = Some (as_nanos duration) } }
     {
@@ -156,8 +156,9 @@ impl<X, L, P, W> CacheConfig<X, L, P, W> {
         self
     }
 
-    /// How long an entry stays after it was inserted or read, exact to the nanosecond. The sum of a moment and a
-    /// duration saturates at 2^64 - 1 nanoseconds. By default an entry stays.
+    /// How long an entry stays after it was inserted or read, exact to the nanosecond. Any duration is taken; with zero an
+    /// entry has expired at once. The sum of a moment and a duration saturates at 2^64 - 1 nanoseconds. By default an entry
+    /// stays.
     pub fn time_to_idle(mut self, duration: Duration) -> Self
         ensures { result ≡ record self { time_to_idle = Some (as_nanos duration) } }
     {
@@ -165,7 +166,9 @@ impl<X, L, P, W> CacheConfig<X, L, P, W> {
         self
     }
 
-    /// Decides when each entry expires. By default no entry has an expiry of its own.
+    /// Decides when each entry expires: inserts and gets ask it how long the entry lasts, and its answer replaces what was
+    /// left. The sum of a moment and an answer saturates at 2^64 - 1 nanoseconds. By default no entry has an expiry of its
+    /// own.
     pub fn expire_after<Y>(self, expiry: Y) -> CacheConfig<Y, L, P, W>
     where
         X: Drop,
@@ -211,7 +214,7 @@ impl<X, L, P, W> CacheConfig<X, L, P, W> {
         }
     }
 
-    /// Predicates of the type `Q` can be registered. By default there are none.
+    /// Predicates of the type `Q` can be registered. By default there are none, and `invalidate_entries_if` refuses each.
     pub fn support_invalidation_closures<Q>(self) -> CacheConfig<X, L, Q, W>
         ensures { result ≡ record self { invalidator = true } }
     {
@@ -227,8 +230,8 @@ impl<X, L, P, W> CacheConfig<X, L, P, W> {
         }
     }
 
-    /// The time limit, the repeats and the batch of the runs of maintenance that the cache starts itself. By default
-    /// they are 100 milliseconds, 4 and 384.
+    /// The time limit, the repeats and the batch of the runs of maintenance that the cache starts itself, as
+    /// `run_pending_tasks` takes them. By default they are 100 milliseconds, 4 and 384.
     pub fn housekeeper_config(mut self, config: HousekeeperConfig) -> Self
         ensures { result ≡ record self {
           run_limit = as_nanos config.maintenance_task_timeout;
@@ -250,10 +253,10 @@ impl<X, L, P, W> CacheConfig<X, L, P, W> {
         self
     }
 
-    /// An empty cache made at the moment `now`, with the default hasher.
+    /// An empty cache made at the moment `now`, with the default hasher. It takes its memory from `alloc`.
     ///
     /// # Errors
-    /// `OutOfMemory` if memory for the tables is refused.
+    /// `OutOfMemory` if memory for the tables is refused, or the initial capacity needs a place of more than 32 bits.
     pub fn build<K, V>(
         self,
         alloc: Global,
@@ -271,10 +274,11 @@ impl<X, L, P, W> CacheConfig<X, L, P, W> {
         self.build_with_hasher(alloc, DefaultHasher::default(), now)
     }
 
-    /// An empty cache made at the moment `now`, with this hasher.
+    /// An empty cache made at the moment `now`, with this hasher. It takes its memory from `alloc`.
     ///
     /// # Errors
-    /// `OutOfMemory` if memory for the tables or for a clone of the hasher is refused.
+    /// `OutOfMemory` if memory for the tables or for a clone of the hasher is refused, or the initial capacity needs a place
+    /// of more than 32 bits.
     pub fn build_with_hasher<K, V, S>(
         self,
         alloc: Global,
