@@ -500,7 +500,7 @@ impl<
     pub fn contains_key_with_hash(&self, key: &K, _hash: u64, now: Instant) -> bool
         ensures { ContainsStep P.says K.eq self.now.state key.now now.0 result }
     {
-        let (policy, valid_after) = (&self.expiration_policy, self.valid_after);
+        let (policy, valid_after) = (&self.expiration_policy, &self.valid_after);
         let invalidator = &self.invalidator;
         gets::find_shown(&self.inner, policy, valid_after, invalidator, key, now).is_some()
     }

@@ -9,19 +9,19 @@ use Rattle.std.proofs.lemmas.Simd.{bitmask_splat}
 use Rattle.std_collections.proofs.IndexTableLemmas.Bits.{bit_mask}
 use Rattle.std_collections.specs.IndexTable.Group.{IsBitSet}
 
--- seven lanes, and the last again
-abbrev pub eight : List ℕ → List ℕ
-eight hs = get_or hs 0 0 ∷ get_or hs 1 0 ∷ get_or hs 2 0 ∷ get_or hs 3 0 ∷ get_or hs 4 0 ∷ get_or hs 5 0 ∷ get_or hs 6 0 ∷ get_or hs 6 0 ∷ []
+-- seven lanes and one more
+abbrev pub eight : List ℕ → ℕ → List ℕ
+eight hs more = get_or hs 0 0 ∷ get_or hs 1 0 ∷ get_or hs 2 0 ∷ get_or hs 3 0 ∷ get_or hs 4 0 ∷ get_or hs 5 0 ∷ get_or hs 6 0 ∷ more ∷ []
 
-lane_set : (hs : List ℕ) (y k : ℕ) → k < 7 → get_or hs k 0 ≡ y → get_or (map (λ x. eqb x y) (eight hs)) k false ≡ true
-lane_set hs y zero l e = eq-eqb _ y e
-lane_set hs y (suc zero) l e = eq-eqb _ y e
-lane_set hs y (suc (suc zero)) l e = eq-eqb _ y e
-lane_set hs y (suc (suc (suc zero))) l e = eq-eqb _ y e
-lane_set hs y (suc (suc (suc (suc zero)))) l e = eq-eqb _ y e
-lane_set hs y (suc (suc (suc (suc (suc zero))))) l e = eq-eqb _ y e
-lane_set hs y (suc (suc (suc (suc (suc (suc zero)))))) l e = eq-eqb _ y e
-lane_set hs y (suc (suc (suc (suc (suc (suc (suc k))))))) l e = absurd (omega arith)
+lane_set : (hs : List ℕ) (more y k : ℕ) → k < 7 → get_or hs k 0 ≡ y → get_or (map (λ x. eqb x y) (eight hs more)) k false ≡ true
+lane_set hs more y zero l e = eq-eqb _ y e
+lane_set hs more y (suc zero) l e = eq-eqb _ y e
+lane_set hs more y (suc (suc zero)) l e = eq-eqb _ y e
+lane_set hs more y (suc (suc (suc zero))) l e = eq-eqb _ y e
+lane_set hs more y (suc (suc (suc (suc zero)))) l e = eq-eqb _ y e
+lane_set hs more y (suc (suc (suc (suc (suc zero))))) l e = eq-eqb _ y e
+lane_set hs more y (suc (suc (suc (suc (suc (suc zero)))))) l e = eq-eqb _ y e
+lane_set hs more y (suc (suc (suc (suc (suc (suc (suc k))))))) l e = absurd (omega arith)
 
-pub bit_of_match : (hs : List ℕ) (y k : ℕ) → k < 7 → get_or hs k 0 ≡ y → IsBitSet (mask_l (map (top 31) (zip2 (λ a b. cond (eqb a b) 4294967295 0) (eight hs) (replicate 8 y))) % 2 ^ 64) k
-bit_of_match hs y k l e = subst (λ n. IsBitSet n k) (sym (bitmask_splat w32 eqb (eight hs) 8 y refl (omega arith))) (bit_mask (map (λ x. eqb x y) (eight hs)) k (lane_set hs y k l e))
+pub bit_of_match : (hs : List ℕ) (more y k : ℕ) → k < 7 → get_or hs k 0 ≡ y → IsBitSet (mask_l (map (top 31) (zip2 (λ a b. cond (eqb a b) 4294967295 0) (eight hs more) (replicate 8 y))) % 2 ^ 64) k
+bit_of_match hs more y k l e = subst (λ n. IsBitSet n k) (sym (bitmask_splat w32 eqb (eight hs more) 8 y refl (omega arith))) (bit_mask (map (λ x. eqb x y) (eight hs more)) k (lane_set hs more y k l e))

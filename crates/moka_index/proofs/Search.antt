@@ -24,6 +24,12 @@ none-left P g hash matches l z lane p e = elim (l.rest lane p e) as (λ _. P p) 
 pub record GroupsLeft (P : ℕ → Type 0) (groups : List Group) (hash step : ℕ) : Type 0 where
   pub seen : (k : ℕ) → k < step → (lane p : ℕ) → entry_in (group_at groups (probe (length groups) (home (length groups) hash) k)) lane ≡ Some (p, hash) → P p
 
+-- the same, at the group that is next
+pub record IsAt (P : ℕ → Type 0) (groups : List Group) (hash step at : ℕ) : Type 0 where
+  pub left : GroupsLeft P groups hash step
+  pub here : at ≡ probe (length groups) (home (length groups) hash) step
+  pub within : at < length groups
+
 pub all-seen : (P : ℕ → Type 0) (groups : List Group) (hash step : ℕ) → IsGroups groups → GroupsLeft P groups hash step → (group_at groups (home (length groups) hash)).reach < step → (q p : ℕ) → entry_at groups q ≡ Some (p, hash) → P p
 all-seen P groups hash step g s far q p e =
     let within = (inside-of groups g q (p, hash) e).0 in

@@ -12,6 +12,10 @@ use Rattle.moka_index.specs.Group.{home, empty_group, entry_in, with_entry, rais
 abbrev pub probe : ℕ → ℕ → ℕ → ℕ
 probe n first k = cond (nat_lt (first + k) n) (first + k) (first + k - n)
 
+-- the group behind one, of n
+abbrev pub behind : ℕ → ℕ → ℕ
+behind n at = cond (nat_lt (at + 1) n) (at + 1) 0
+
 -- how many groups one is past the first, of n
 abbrev pub distance : ℕ → ℕ → ℕ → ℕ
 distance n first at = cond (nat_le first at) (at - first) (at + n - first)

@@ -60,7 +60,8 @@ impl Group {
         ensures { (k : ℕ) → k < 7 → slice_index self.now.hashes k ≡ hash → IsBitSet result k }
     {
         let [a, b, c, d, e, f, g] = self.hashes;
-        let lanes = u32x8::from_array([a, b, c, d, e, f, g, g]);
+        // The word that lies behind the hashes, so that the eight are read at once.
+        let lanes = u32x8::from_array([a, b, c, d, e, f, g, self.reach]);
         lanes.simd_eq(u32x8::splat(hash)).to_bitmask()
     }
 

@@ -2,7 +2,7 @@
 ghost use Rattle.std.specs.Prelude.{◌≡◌, ℕ, ◌+◌, ◌*◌, ◌^◌, ◌<◌, ◌≤◌, true, false, IfSome, IfNone, IfOk, None, Some, length, replicate};
 ghost use Rattle.std.specs.FinMap as finite;
 ghost use Rattle.moka_index.specs.Group.{home, empty_group, entry_in, HasLanes};
-ghost use Rattle.moka_index.specs.Groups.{probe, group_at, entry_at, entries_of, pushed, with_reach, IsGroups};
+ghost use Rattle.moka_index.specs.Groups.{probe, behind, group_at, entry_at, entries_of, pushed, with_reach, IsGroups};
 
 use crate::group::{Group, LANES, home, lowest_set_bit, without_lowest_bit};
 use std::alloc::{AllocError, Global};
@@ -32,6 +32,17 @@ fn probe(first: usize, step: usize, count: usize) -> usize
 {
     let at = first + step;
     if at < count { at } else { at - count }
+}
+
+// The group behind one, of `count`, going round at the end.
+#[inline(always)]
+fn behind(at: usize, count: usize) -> usize
+    requires { at < count }
+    ensures value { result ≡ behind count at }
+    ensures within { result < count }
+{
+    let next = at + 1;
+    if next < count { next } else { 0 }
 }
 
 /// Groups with no places, or an error where there is no memory.
@@ -95,8 +106,8 @@ pub(crate) fn find_entry<F: Fn(usize) -> bool>(
     }
     let first = home(hash, count);
     let reach = groups[first].reach as usize;
-    for step in 0..reach + 1 {
-        let at = probe(first, step, count);
+    let mut at = first;
+    for _step in 0..reach + 1 {
         if let Some((lane, place)) = find_in_group(&groups[at], hash, &is_match) {
             return Some(Found {
                 group: at,
@@ -104,6 +115,7 @@ pub(crate) fn find_entry<F: Fn(usize) -> bool>(
                 place,
             });
         }
+        at = behind(at, count);
     }
     None
 }

@@ -1,7 +1,10 @@
 //! What look-ups find, and what a hit changes. moka: `sync::base_cache::BaseCache::do_get_with_hash`.
 ghost use Rattle.std.specs.Prelude.{◌≡◌, Bool, false, None, Some, IfOk, option_map, if◌then◌else◌};
+ghost use Rattle.std.specs.Duration.{as_nanos};
+ghost use Rattle.moka_parts.specs.Expiry.{time_left};
 ghost use Rattle.moka_parts.specs.Records.{record_of_key};
 ghost use Rattle.moka_parts.specs.Surroundings.{IsAskedOnce};
+ghost use Rattle.moka_parts.specs.Time.{moment_of};
 ghost use Rattle.moka_store.specs.Store.{ClonesAreEqual};
 ghost use Rattle.moka_engine.specs.Looks.{Finds, Touches, value_of};
 
@@ -15,6 +18,7 @@ use moka_parts::policy::{ExpirationPolicy, Expiry, Instant};
 use moka_parts::records::Record;
 use moka_store::Handle;
 use std::hash::{BuildHasher, Hash};
+use std::time::Duration;
 
 // The record whose key is equal, with its handle, unless the caller's test, which is asked of its value first, ignores
 // it, a test by moments hides it or a predicate covers it.
@@ -22,7 +26,7 @@ use std::hash::{BuildHasher, Hash};
 pub(super) fn find_unless<'a, K: Eq + Hash, V, S: BuildHasher, X, P, I: ValueTest<V>>(
     inner: &'a Inner<K, V, S>,
     policy: &ExpirationPolicy<X>,
-    valid_after: Option<Instant>,
+    valid_after: &Option<Instant>,
     invalidator: &Invalidator<P>,
     key: &K,
     test: &mut I,
@@ -33,11 +37,11 @@ where
     requires askable { (v : V) → I.can_ask test.old v }
     ensures { (ignored : Bool)
         × IsAskedOnce I.asks (Some test.old) (value_of (record_of_key K.eq inner.now.kept.records key.now)) ignored (Some test.new)
-        × Finds K.eq inner.now.kept policy.now valid_after P.says invalidator.now key.now ignored now.0 (option_map (λ f. (f.0, f.1.now)) result) }
+        × Finds K.eq inner.now.kept policy.now valid_after.now P.says invalidator.now key.now ignored now.0 (option_map (λ f. (f.0, f.1.now)) result) }
 {
     let (handle, found) = inner.find(key)?;
     if test.ignores(&found.value)
-        || has_lapsed(found, policy, valid_after, now)
+        || has_lapsed(found, policy, *valid_after, now)
         || invalidator.apply_predicates(found)
     {
         return None;
@@ -50,14 +54,14 @@ where
 pub(super) fn find_shown<'a, K: Eq + Hash, V, S: BuildHasher, X, P>(
     inner: &'a Inner<K, V, S>,
     policy: &ExpirationPolicy<X>,
-    valid_after: Option<Instant>,
+    valid_after: &Option<Instant>,
     invalidator: &Invalidator<P>,
     key: &K,
     now: Instant,
 ) -> Option<(Handle, &'a Record<K, V>)>
 where
     P: PredicateFn<K, V>,
-    ensures { Finds K.eq inner.now.kept policy.now valid_after P.says invalidator.now key.now false now.0 (option_map (λ f. (f.0, f.1.now)) result) }
+    ensures { Finds K.eq inner.now.kept policy.now valid_after.now P.says invalidator.now key.now false now.0 (option_map (λ f. (f.0, f.1.now)) result) }
 {
     find_unless(
         inner,
@@ -89,17 +93,16 @@ pub(super) fn hit_of<K, V, X: Expiry<K, V>>(
 ) -> Hit
     ensures { Touches X.read policy.now found.now now.0 result.read.0 result.expires result.is_renewed }
 {
-    let (expires, written) = (found.expires, found.written);
     let Some(expiry) = policy.expiry() else {
         return Hit {
             read: now,
-            expires,
+            expires: found.expires,
             is_renewed: false,
         };
     };
+    let (expires, written) = (found.expires, found.written);
     let read = now.max(written);
-    let (live, idle) = (policy.time_to_live(), policy.time_to_idle());
-    let left = remaining(expires, written, found.read, live, idle, read);
+    let left = left_at(found, policy, read);
     let answer = expiry.expire_after_read(&found.key, &found.value, read, left, written);
     let (expires, is_renewed) = renewed(expires, left, answer, read);
     Hit {
@@ -107,6 +110,21 @@ pub(super) fn hit_of<K, V, X: Expiry<K, V>>(
         expires,
         is_renewed,
     }
+}
+
+// How long a record still lasts at a moment. Caches without an expiry ask nothing of it.
+#[cold]
+fn left_at<K, V, X>(
+    found: &Record<K, V>,
+    policy: &ExpirationPolicy<X>,
+    read: Instant,
+) -> Option<Duration>
+    ensures { option_map as_nanos result
+        ≡ time_left policy.now.time_to_live policy.now.time_to_idle
+        (moment_of found.now.expires) found.now.written.0 found.now.read.0 read.0 }
+{
+    let (live, idle) = (policy.time_to_live(), policy.time_to_idle());
+    remaining(found.expires, found.written, found.read, live, idle, read)
 }
 
 // A clone of the record's value, with one of its key where that is asked for.

@@ -89,12 +89,11 @@ impl<
             × Befalls L.tells e self.old self.new
             × Leads C.reads clock.old e.readings clock.new }
     {
-        let valid_after = self.valid_after;
         if self.is_map_disabled() {
             return Ok(None);
         }
         let policy = &self.expiration_policy;
-        let invalidator = &self.invalidator;
+        let (invalidator, valid_after) = (&self.invalidator, &self.valid_after);
         let shown = gets::find_unless(
             &self.inner,
             policy,
@@ -173,12 +172,11 @@ impl<
             × PeekStep P.says X.read K.eq self.old.state key.now ignored now.0 result self.new.state
             × Befalls L.tells no_events self.old self.new }
     {
-        let valid_after = self.valid_after;
         if self.is_map_disabled() {
             return Ok(None);
         }
         let policy = &self.expiration_policy;
-        let invalidator = &self.invalidator;
+        let (invalidator, valid_after) = (&self.invalidator, &self.valid_after);
         let shown = gets::find_unless(
             &self.inner,
             policy,
@@ -210,7 +208,7 @@ impl<
         requires values { ClonesAreEqual V.is_clone }
         ensures { ScanStep P.says K.eq self.now.state key.now now.0 result }
     {
-        let (policy, valid_after) = (&self.expiration_policy, self.valid_after);
+        let (policy, valid_after) = (&self.expiration_policy, &self.valid_after);
         let invalidator = &self.invalidator;
         let shown = gets::find_shown(&self.inner, policy, valid_after, invalidator, key, now);
         let Some((_, found)) = shown else {

@@ -154,7 +154,7 @@ impl<
 
     // Makes the run that is due, and queues a hit of the key's record. The run may remove that record, so its place is
     // looked up again.
-    #[inline(always)]
+    #[cold]
     pub(super) fn record_hit_when_due<C: Clock>(
         &mut self,
         key: &K,
@@ -180,6 +180,7 @@ impl<
     }
 
     // A run that the housekeeper makes.
+    #[cold]
     fn run_by_housekeeper<C: Clock>(&mut self, now: Instant, clock: &mut C)
     where
         K: Drop,

@@ -1,8 +1,8 @@
 use Rattle.std.proofs.Common.{◌≡◌, ℕ, ◌+◌, ◌*◌, ◌<◌, false, Some, [], length, slice_index_or, inl, inr, sym, ap, subst, ◌∙◌, arith}
 use Rattle.std.proofs.lemmas.Bool.{cases_eq}
 use Rattle.moka_index.specs.Group.{home, entry_in, HasLanes}
-use Rattle.moka_index.specs.Groups.{probe, group_at}
-use Rattle.moka_index.proofs.Probes.{home-lt}
+use Rattle.moka_index.specs.Groups.{probe, behind, group_at}
+use Rattle.moka_index.proofs.Probes.{home-lt, probe-none, probe-behind}
 use Rattle.moka_index.proofs.Lanes.{entry-is, entry-at_lane}
 use Rattle.moka_index.proofs.Changes.{inside-of, lanes-of}
 use Rattle.moka_index.proofs.Moves.{group-read}
@@ -24,58 +24,75 @@ offset_bounds-groups-first g c =
     record { fits = omega (arith, c.requires.groups.bounded) }
 
 pub loop-step-init : goal.loop-step-init
-loop-step-init g c = record { seen = λ k l. absurd (omega arith) }
-
-pub probe-at-requires-clause-first : goal.probe-at-requires-clause-first
-probe-at-requires-clause-first g c =
-    let some : 0 < length c.args.groups.now = omega arith in
-    subst (λ i. i < length c.args.groups.now) (sym c.home-first.ensures) (home-lt (length c.args.groups.now) c.args.hash some)
-
-pub probe-at-requires-clause-step : goal.probe-at-requires-clause-step
-probe-at-requires-clause-step g c =
+loop-step-init g c =
     let some : 0 < length c.args.groups.now = omega arith in
     let in_first : c.home-first.result < length c.args.groups.now = subst (λ i. i < length c.args.groups.now) (sym c.home-first.ensures) (home-lt (length c.args.groups.now) c.args.hash some) in
-    let read = group-read c.args.groups.now c.home-first.result (record { hashes = []; count = 0; places = []; reach = 0 }) in_first in
-    let less = (c.requires.groups.shaped c.home-first.result).reach some in
-    omega (arith, c.loop-step-test.true, ap (λ x. x.reach) read, less)
+    record {
+      left = record { seen = λ k l. absurd (omega arith) };
+      here = c.home-first.ensures ∙ probe-none (length c.args.groups.now) (home (length c.args.groups.now) c.args.hash) (home-lt (length c.args.groups.now) c.args.hash some);
+      within = in_first;
+    }
+
+pub bounds-groups-at : goal.bounds-groups-at
+bounds-groups-at g c = c.loop-step.invariant.within
+
+pub offset_bounds-groups-at : goal.offset_bounds-groups-at
+offset_bounds-groups-at g c = record { fits = omega (arith, c.requires.groups.bounded, c.loop-step.invariant.within) }
+
+pub returns-in-Some-clause-group : goal.returns-in-Some-clause-group
+returns-in-Some-clause-group g c = c.loop-step.invariant.within
+
+pub behind-at-requires : goal.behind-at-requires
+behind-at-requires g c = c.loop-step.invariant.within
 
 pub find_in_group-requires-clause-lanes : goal.find_in_group-requires-clause-lanes
 find_in_group-requires-clause-lanes g c =
-    subst HasLanes (sym (group-read c.args.groups.now c.probe-at.result (record { hashes = []; count = 0; places = []; reach = 0 }) c.probe-at.ensures.within)) (lanes-of c.args.groups.now c.requires.groups c.probe-at.result)
+    subst HasLanes (sym (group-read c.args.groups.now c.loop-step.at (record { hashes = []; count = 0; places = []; reach = 0 }) c.loop-step.invariant.within)) (lanes-of c.args.groups.now c.requires.groups c.loop-step.at)
 
 pub find_in_group-requires-clause-callable : goal.find_in_group-requires-clause-callable
 find_in_group-requires-clause-callable g c lane p e =
-    let read = group-read c.args.groups.now c.probe-at.result (record { hashes = []; count = 0; places = []; reach = 0 }) c.probe-at.ensures.within in
-    let here : entry_in (group_at c.args.groups.now c.probe-at.result) lane ≡ Some (p, c.args.hash) = ap (λ x. entry_in x lane) (sym read) ∙ e in
-    let w = entry-is (group_at c.args.groups.now c.probe-at.result) lane p c.args.hash here in
-    let small : lane < 7 = omega (arith, w.0, (lanes-of c.args.groups.now c.requires.groups c.probe-at.result).count) in
-    c.requires.callable (7 * c.probe-at.result + lane) p (entry-at_lane c.args.groups.now c.probe-at.result lane small ∙ here)
+    let read = group-read c.args.groups.now c.loop-step.at (record { hashes = []; count = 0; places = []; reach = 0 }) c.loop-step.invariant.within in
+    let here : entry_in (group_at c.args.groups.now c.loop-step.at) lane ≡ Some (p, c.args.hash) = ap (λ x. entry_in x lane) (sym read) ∙ e in
+    let w = entry-is (group_at c.args.groups.now c.loop-step.at) lane p c.args.hash here in
+    let small : lane < 7 = omega (arith, w.0, (lanes-of c.args.groups.now c.requires.groups c.loop-step.at).count) in
+    c.requires.callable (7 * c.loop-step.at + lane) p (entry-at_lane c.args.groups.now c.loop-step.at lane small ∙ here)
 
 pub returns-in-Some-clause-found : goal.returns-in-Some-clause-found
 returns-in-Some-clause-found g c =
-    let read = group-read c.args.groups.now c.probe-at.result (record { hashes = []; count = 0; places = []; reach = 0 }) c.probe-at.ensures.within in
-    let here : entry_in (group_at c.args.groups.now c.probe-at.result) c.in-Some.lane ≡ Some (c.in-Some.place, c.args.hash) = ap (λ x. entry_in x c.in-Some.lane) (sym read) ∙ c.in-Some.ensures.found in
-    let w = entry-is (group_at c.args.groups.now c.probe-at.result) c.in-Some.lane c.in-Some.place c.args.hash here in
-    let small : c.in-Some.lane < 7 = omega (arith, w.0, (lanes-of c.args.groups.now c.requires.groups c.probe-at.result).count) in
-    entry-at_lane c.args.groups.now c.probe-at.result c.in-Some.lane small ∙ here
+    let read = group-read c.args.groups.now c.loop-step.at (record { hashes = []; count = 0; places = []; reach = 0 }) c.loop-step.invariant.within in
+    let here : entry_in (group_at c.args.groups.now c.loop-step.at) c.in-Some.lane ≡ Some (c.in-Some.place, c.args.hash) = ap (λ x. entry_in x c.in-Some.lane) (sym read) ∙ c.in-Some.ensures.found in
+    let w = entry-is (group_at c.args.groups.now c.loop-step.at) c.in-Some.lane c.in-Some.place c.args.hash here in
+    let small : c.in-Some.lane < 7 = omega (arith, w.0, (lanes-of c.args.groups.now c.requires.groups c.loop-step.at).count) in
+    entry-at_lane c.args.groups.now c.loop-step.at c.in-Some.lane small ∙ here
 
 pub returns-in-Some-clause-lane : goal.returns-in-Some-clause-lane
 returns-in-Some-clause-lane g c =
-    let read = group-read c.args.groups.now c.probe-at.result (record { hashes = []; count = 0; places = []; reach = 0 }) c.probe-at.ensures.within in
-    let here : entry_in (group_at c.args.groups.now c.probe-at.result) c.in-Some.lane ≡ Some (c.in-Some.place, c.args.hash) = ap (λ x. entry_in x c.in-Some.lane) (sym read) ∙ c.in-Some.ensures.found in
-    let w = entry-is (group_at c.args.groups.now c.probe-at.result) c.in-Some.lane c.in-Some.place c.args.hash here in
-    omega (arith, w.0, (lanes-of c.args.groups.now c.requires.groups c.probe-at.result).count)
+    let read = group-read c.args.groups.now c.loop-step.at (record { hashes = []; count = 0; places = []; reach = 0 }) c.loop-step.invariant.within in
+    let here : entry_in (group_at c.args.groups.now c.loop-step.at) c.in-Some.lane ≡ Some (c.in-Some.place, c.args.hash) = ap (λ x. entry_in x c.in-Some.lane) (sym read) ∙ c.in-Some.ensures.found in
+    let w = entry-is (group_at c.args.groups.now c.loop-step.at) c.in-Some.lane c.in-Some.place c.args.hash here in
+    omega (arith, w.0, (lanes-of c.args.groups.now c.requires.groups c.loop-step.at).count)
 
 pub loop-step-preserved : goal.loop-step-preserved
-loop-step-preserved g c = record {
-  seen = λ k l lane p e. elim (cases_eq k c.loop-step.step) as (λ _. goal.F-post g c.args.is_match p false) [
-    | inl s ↦
-        let read = group-read c.args.groups.now c.probe-at.result (record { hashes = []; count = 0; places = []; reach = 0 }) c.probe-at.ensures.within in
-        let there : c.probe-at.result ≡ probe (length c.args.groups.now) (home (length c.args.groups.now) c.args.hash) k = c.probe-at.ensures.value ∙ (λ i. probe (length c.args.groups.now) (c.home-first.ensures i) (sym s i)) in
-        c.in_default.ensures.absent lane p (ap (λ x. entry_in x lane) read ∙ ap (λ i. entry_in (group_at c.args.groups.now i) lane) there ∙ e)
-    | inr ne ↦ c.loop-step.invariant.seen k (omega arith) lane p e
-  ];
-}
+loop-step-preserved g c =
+    let some : 0 < length c.args.groups.now = omega arith in
+    let first_in = home-lt (length c.args.groups.now) c.args.hash some in
+    let in_first : c.home-first.result < length c.args.groups.now = subst (λ i. i < length c.args.groups.now) (sym c.home-first.ensures) first_in in
+    let first = group-read c.args.groups.now c.home-first.result (record { hashes = []; count = 0; places = []; reach = 0 }) in_first in
+    let less = (c.requires.groups.shaped c.home-first.result).reach some in
+    let near : c.loop-step._step < length c.args.groups.now = omega (arith, c.loop-step-test.true, ap (λ x. x.reach) first, less) in
+    record {
+      left = record {
+        seen = λ k l lane p e. elim (cases_eq k c.loop-step._step) as (λ _. goal.F-post g c.args.is_match p false) [
+          | inl s ↦
+              let read = group-read c.args.groups.now c.loop-step.at (record { hashes = []; count = 0; places = []; reach = 0 }) c.loop-step.invariant.within in
+              let there : c.loop-step.at ≡ probe (length c.args.groups.now) (home (length c.args.groups.now) c.args.hash) k = c.loop-step.invariant.here ∙ (λ i. probe (length c.args.groups.now) (home (length c.args.groups.now) c.args.hash) (sym s i)) in
+              c.in_default.ensures.absent lane p (ap (λ x. entry_in x lane) read ∙ ap (λ i. entry_in (group_at c.args.groups.now i) lane) there ∙ e)
+          | inr ne ↦ c.loop-step.invariant.left.seen k (omega arith) lane p e
+        ];
+      };
+      here = c.behind-at.ensures.value ∙ ap (behind (length c.args.groups.now)) c.loop-step.invariant.here ∙ probe-behind (length c.args.groups.now) (home (length c.args.groups.now) c.args.hash) c.loop-step._step first_in near;
+      within = c.behind-at.ensures.within;
+    }
 
 pub returns-clause-absent : goal.returns-clause-absent
 returns-clause-absent g c q p e =
@@ -83,5 +100,5 @@ returns-clause-absent g c q p e =
     let in_first : c.home-first.result < length c.args.groups.now = subst (λ i. i < length c.args.groups.now) (sym c.home-first.ensures) (home-lt (length c.args.groups.now) c.args.hash some) in
     let read = group-read c.args.groups.now c.home-first.result (record { hashes = []; count = 0; places = []; reach = 0 }) in_first in
     let r : (group_at c.args.groups.now (home (length c.args.groups.now) c.args.hash)).reach ≡ (slice_index_or c.args.groups.now c.home-first.result (record { hashes = []; count = 0; places = []; reach = 0 })).reach = ap (λ i. (group_at c.args.groups.now i).reach) (sym c.home-first.ensures) ∙ ap (λ x. x.reach) (sym read) in
-    let far : (group_at c.args.groups.now (home (length c.args.groups.now) c.args.hash)).reach < c.loop-step.step = omega (arith, c.loop-step-test.false, r) in
-    all-seen (λ (j : ℕ). goal.F-post g c.args.is_match j false) c.args.groups.now c.args.hash c.loop-step.step c.requires.groups c.loop-step.invariant far q p e
+    let far : (group_at c.args.groups.now (home (length c.args.groups.now) c.args.hash)).reach < c.loop-step._step = omega (arith, c.loop-step-test.false, r) in
+    all-seen (λ (j : ℕ). goal.F-post g c.args.is_match j false) c.args.groups.now c.args.hash c.loop-step._step c.requires.groups c.loop-step.invariant.left far q p e
