@@ -10,9 +10,10 @@ use Rattle.moka_index.proofs.Lanes.{entry-is}
 use Rattle.std_collections.proofs.IndexTableLemmas.Bits.{no_bit_zero}
 use Rattle.moka_index.proofs.Changes.{inside-of}
 
--- each lane with the hash still has its bit, or its place failed the test
+-- each lane with the hash still has its bit, or its place failed the test, and no other lane has one
 pub record LanesLeft (P : ℕ → Type 0) (g : Group) (hash matches : ℕ) : Type 0 where
   pub rest : (lane p : ℕ) → entry_in g lane ≡ Some (p, hash) → IsBitSet matches lane ⊎ P p
+  pub only : (lane : ℕ) → lane < 7 → IsBitSet matches lane → lane_hash g lane ≡ hash
 
 pub none-left : (P : ℕ → Type 0) (g : Group) (hash matches : ℕ) → LanesLeft P g hash matches → matches ≡ 0 → (lane p : ℕ) → entry_in g lane ≡ Some (p, hash) → P p
 none-left P g hash matches l z lane p e = elim (l.rest lane p e) as (λ _. P p) [

@@ -54,10 +54,11 @@ pub(crate) fn without_lowest_bit(bits: u64) -> u64
 
 impl Group {
     /// A bit for each lane that has the hash. Lanes that are not in use may have theirs too, as may those past the
-    /// last.
+    /// last, which there are not.
     #[inline(always)]
     pub(crate) fn matches(&self, hash: u32) -> u64
-        ensures { (k : ℕ) → k < 7 → slice_index self.now.hashes k ≡ hash → IsBitSet result k }
+        ensures set { (k : ℕ) → k < 7 → slice_index self.now.hashes k ≡ hash → IsBitSet result k }
+        ensures only { (k : ℕ) → k < 7 → IsBitSet result k → slice_index self.now.hashes k ≡ hash }
     {
         let [a, b, c, d, e, f, g] = self.hashes;
         // The word that lies behind the hashes, so that the eight are read at once.

@@ -74,7 +74,7 @@ fn find_in_group<F: Fn(usize) -> bool>(
     let mut matches = group.matches(hash);
     'matches: while matches != 0 {
         let lane = lowest_set_bit(matches);
-        if lane < group.count as usize && group.hashes[lane] == hash {
+        if lane < group.count as usize {
             let place = group.places[lane] as usize;
             if is_match(place) {
                 return Some((lane, place));

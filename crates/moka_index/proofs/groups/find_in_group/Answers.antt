@@ -4,26 +4,29 @@ use Rattle.std_collections.specs.IndexTable.Group.{IsBitSet}
 use Rattle.moka_index.specs.Group.{entry_in}
 use Rattle.moka_index.proofs.Lanes.{entry-here, entry-is}
 use Rattle.moka_index.proofs.Search.{none-left}
-use Rattle.moka_index.proofs.groups.find_in_group.Goals.{then-lane-group+then-group-lane+else-is_match, else-lane-group, else-lane-group-via-then-lane-group+else-group-lane, else-lane-group-via-else-lane-group}
+use Rattle.moka_index.proofs.groups.find_in_group.Goals.{then-lane-group+else-is_match, else-lane-group}
 use Rattle.moka_index.proofs.groups.find_in_group.Goals as goal
 
 pub matches-init : goal.matches-init
 matches-init g c = record {
   rest = λ lane p e.
       let w = entry-is c.args.group.now lane p c.args.hash e in
-      inl (c.matches-matches.ensures lane (omega (arith, w.0, c.requires.lanes.count)) w.1.1);
+      inl (c.matches-matches.ensures.set lane (omega (arith, w.0, c.requires.lanes.count)) w.1.1);
+  only = λ lane l s. c.matches-matches.ensures.only lane l s;
 }
 
 pub is_match-requires : goal.is_match-requires
 is_match-requires g c =
     let here = entry-here c.args.group.now c.lowest_set_bit-lane.result c.if-lane-group.true in
-    let there = subst (λ h. entry_in c.args.group.now c.lowest_set_bit-lane.result ≡ Some (slice_index_or c.args.group.now.places c.lowest_set_bit-lane.result 0, h)) c.if-group-lane.true here in
+    let same = c.matches.invariant.only c.lowest_set_bit-lane.result (omega (arith, c.if-lane-group.true, c.requires.lanes.count)) c.lowest_set_bit-lane.ensures.set in
+    let there = subst (λ h. entry_in c.args.group.now c.lowest_set_bit-lane.result ≡ Some (slice_index_or c.args.group.now.places c.lowest_set_bit-lane.result 0, h)) same here in
     search (of_calls, c.requires.callable _ _ there)
 
 pub returns-then-is_match-clause-found : goal.returns-then-is_match-clause-found
 returns-then-is_match-clause-found g c =
     let here = entry-here c.args.group.now c.lowest_set_bit-lane.result c.if-lane-group.true in
-    subst (λ h. entry_in c.args.group.now c.lowest_set_bit-lane.result ≡ Some (slice_index_or c.args.group.now.places c.lowest_set_bit-lane.result 0, h)) c.if-group-lane.true here
+    let same = c.matches.invariant.only c.lowest_set_bit-lane.result (omega (arith, c.if-lane-group.true, c.requires.lanes.count)) c.lowest_set_bit-lane.ensures.set in
+    subst (λ h. entry_in c.args.group.now c.lowest_set_bit-lane.result ≡ Some (slice_index_or c.args.group.now.places c.lowest_set_bit-lane.result 0, h)) same here
 
 pub matches-preserved : goal.matches-preserved
 matches-preserved g c = record {
@@ -35,15 +38,13 @@ matches-preserved g c = record {
           | inl s ↦
               let w = entry-is c.args.group.now c.lowest_set_bit-lane.result p c.args.hash (subst (λ l. entry_in c.args.group.now l ≡ Some (p, c.args.hash)) s e) in
               elim c.if-lane-group.branch as (λ _. IsBitSet c.without_lowest_bit-matches.result lane ⊎ goal.F-post g c.args.is_match.now p false) [
-                | then-lane-group+then-group-lane+else-is_match v ↦
+                | then-lane-group+else-is_match v ↦
                     inr (subst (λ j. goal.F-post g c.args.is_match.now j false) w.1.0 (subst (goal.F-post g c.args.is_match.now (slice_index_or c.args.group.now.places c.lowest_set_bit-lane.result 0)) v.if-is_match.false v.is_match.ensures))
-                | else-lane-group v ↦ elim v.else-lane-group.branch as (λ _. IsBitSet c.without_lowest_bit-matches.result lane ⊎ goal.F-post g c.args.is_match.now p false) [
-                  | else-lane-group-via-then-lane-group+else-group-lane u ↦ absurd (u.if-group-lane.false w.1.1)
-                  | else-lane-group-via-else-lane-group u ↦ absurd (omega (arith, w.0, u.if-lane-group.false))
-                ]
+                | else-lane-group v ↦ absurd (omega (arith, w.0, v.if-lane-group.false))
               ]
         ]
       ];
+  only = λ lane l s. c.matches.invariant.only lane l (c.without_lowest_bit-matches.ensures.only lane s);
 }
 
 pub returns-clause-absent : goal.returns-clause-absent
