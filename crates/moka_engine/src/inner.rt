@@ -373,6 +373,7 @@ impl<K: Eq + Hash, V, S: BuildHasher> Inner<K, V, S> {
     where
         K: Drop,
         V: Drop,
+        P: Drop,
         ensures ran { IsRan L.tells P.says tests C.reads (option_map as_nanos limit) batch self.old.kept.ordered
             invalidator.old invalidator.new (stock_in self.old.kept) (stock_in self.new.kept) notifier.old notifier.new
             clock.old clock.new result.passes result.is_left }

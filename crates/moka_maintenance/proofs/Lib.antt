@@ -10,6 +10,7 @@ pub mod Seen
 pub mod Timing
 pub mod Enabled
 pub mod Fronts
+mod Halves
 pub mod Walk
 pub mod Walking
 pub mod Expelling

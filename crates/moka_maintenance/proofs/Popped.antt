@@ -1,21 +1,9 @@
--- What is popped from the front of a list.
-use Rattle.std.proofs.Common.{◌≡◌, ◌<◌, ◌⊎◌, ℕ, zero, suc, List, [], ◌∷◌, Some, None, drop, length, slice_get, get_or, Contains, inl, inr, refl, sym, ap, subst, arith}
+-- What is taken from the front of a list.
+use Rattle.std.proofs.Common.{◌≡◌, ◌<◌, ◌⊎◌, ℕ, zero, suc, List, [], ◌∷◌, None, length, slice_get, get_or, Contains, inl, inr, refl, sym, subst, arith}
 use Rattle.std.proofs.lemmas.List.Elements.{Contains-append_right}
-
-pub popped : {A : Type 0} (xs : List A) (x : A) → slice_get xs 0 ≡ Some x → xs ≡ x ∷ drop 1 xs
-popped [] x h = cc
-popped (y ∷ xs) x h = let same : y ≡ x = cc in ap (λ z. z ∷ xs) same
 
 first_of_cons : {A : Type 0} (x : A) (xs : List A) → Contains (x ∷ xs) x
 first_of_cons x xs = (0, omega arith, refl)
-
--- the first is in the list
-pub first_in : {A : Type 0} (xs : List A) (x : A) → slice_get xs 0 ≡ Some x → Contains xs x
-first_in xs x h = subst (λ ys. Contains ys x) (sym (popped xs x h)) (first_of_cons x (drop 1 xs))
-
--- and so is what is behind it
-pub rest_in : {A : Type 0} (xs : List A) (x y : A) → slice_get xs 0 ≡ Some x → Contains (drop 1 xs) y → Contains xs y
-rest_in xs x y h there = subst (λ ys. Contains ys y) (sym (popped xs x h)) (Contains-append_right (x ∷ []) (drop 1 xs) y there)
 
 at_cases : {A : Type 0} (x y : A) (xs : List A) (k : ℕ) → k < length (x ∷ xs) → get_or (x ∷ xs) k y ≡ y → (x ≡ y) ⊎ Contains xs y
 at_cases x y xs zero lt e = inl e
@@ -33,3 +21,16 @@ none_first (a ∷ xs) e = cc
 -- nothing is in a list of none
 pub nothing_there : {A : Type 0} (x : A) → Contains [] x → ⊥
 nothing_there x h = (let lt = h.1 in omega arith)
+
+-- the first of a list that is split is in it
+pub first_is : {A : Type 0} (xs : List A) (x : A) (rest : List A) → xs ≡ x ∷ rest → Contains xs x
+first_is xs x rest e = subst (λ ys. Contains ys x) (sym e) (first_of_cons x rest)
+
+-- and so is what is behind it
+pub behind_in : {A : Type 0} (xs : List A) (x y : A) (rest : List A) → xs ≡ x ∷ rest → Contains rest y → Contains xs y
+behind_in xs x y rest e there = subst (λ ys. Contains ys y) (sym e) (Contains-append_right (x ∷ []) rest y there)
+
+-- a list of no length is empty
+pub nothing_in : {A : Type 0} (xs : List A) → length xs ≡ 0 → xs ≡ []
+nothing_in [] e = refl
+nothing_in (a ∷ xs) e = absurd (omega (arith, e))

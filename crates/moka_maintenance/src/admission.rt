@@ -54,8 +54,30 @@ pub fn apply_reads<K: Eq + Hash, V, S: BuildHasher>(
     ensures timers { KeepsTimers store.old store.new }
     ensures reads { reads.new ≡ buffer [] reads.old.capacity }
 {
-    while let Some(queued) = reads.pop_front() {
-        apply_read(store, sketch, queued);
+    // The queue is gone through where it lies and emptied at once, so that the next reads lie there again.
+    let (first, second) = reads.as_slices();
+    apply_each_read(store, sketch, first);
+    apply_each_read(store, sketch, second);
+    reads.clear();
+}
+
+// Applies these reads, in order.
+fn apply_each_read<K: Eq + Hash, V, S: BuildHasher>(
+    store: &mut Store<K, V, S>,
+    sketch: &mut FrequencySketch,
+    reads: &[QueuedRead],
+)
+    requires { (q : QueuedRead) → Contains reads.now q → IsReadAt store.old.places q.place q.read }
+    ensures applied { contents_with sketch.new store.new ≡ after_reads (contents_with sketch.old store.old) (reads_of reads.now) }
+    ensures rest { store.new ≡ record store.old { access = store.new.access; timers = store.new.timers } }
+    ensures renewed { (q : QueuedRead) (n hash : ℕ) → Contains reads.now q → q.read ≡ Hit n hash true → StandsAtExpiry n store.new }
+    ensures kept { (n : ℕ) → StandsAtExpiry n store.old → StandsAtExpiry n store.new }
+    ensures timers { KeepsTimers store.old store.new }
+{
+    let mut rest = reads;
+    while let Some((read, behind)) = rest.split_first() {
+        apply_read(store, sketch, *read);
+        rest = behind;
     }
 }
 
@@ -108,8 +130,33 @@ pub fn apply_writes<K: Eq + Hash + Drop, V: Drop, S: BuildHasher, L: Listener<K,
     ensures room { store.old.room ≤ store.new.room }
     ensures writes { writes.new ≡ buffer [] writes.old.capacity }
 {
-    while let Some(queued) = writes.pop_front() {
-        apply_write(store, sketch, notifier, capacity, policy, queued.write);
+    let (first, second) = writes.as_slices();
+    apply_each_write(store, sketch, notifier, capacity, policy, first);
+    apply_each_write(store, sketch, notifier, capacity, policy, second);
+    writes.clear();
+}
+
+// Applies these writes, in order.
+fn apply_each_write<K: Eq + Hash + Drop, V: Drop, S: BuildHasher, L: Listener<K, V>>(
+    store: &mut Store<K, V, S>,
+    sketch: &FrequencySketch,
+    notifier: &mut RemovalNotifier<L>,
+    capacity: Option<u64>,
+    policy: EvictionPolicy,
+    writes: &[QueuedWrite],
+)
+    requires at { (q : QueuedWrite) → Contains writes.now q → IsAt store.old.places (number_of q.write.operation) q.write.place }
+    ensures applied { AreApplied L.tells capacity policy store.old.ordered (contents_with sketch.now store.old)
+        (contents_with sketch.now store.new) store.old.written store.new.written (writes_of writes.now) notifier.old notifier.new }
+    ensures timers { KeepsTimers store.old store.new }
+    ensures places { AddsNoPlace store.old store.new }
+    ensures rows { LeavesNoRowBy (writes_of writes.now) store.old store.new }
+    ensures room { store.old.room ≤ store.new.room }
+{
+    let mut rest = writes;
+    while let Some((sent, behind)) = rest.split_first() {
+        apply_write(store, sketch, notifier, capacity, policy, sent.write);
+        rest = behind;
     }
 }
 

@@ -1,0 +1,66 @@
+use Rattle.std.proofs.Common.{List, sym, subst, arith}
+use Rattle.moka_maintenance.specs.declared.queued.QueuedWrite.{QueuedWrite}
+use Rattle.moka_maintenance.specs.Queued.{writes_of}
+use Rattle.moka_maintenance.specs.Queues.{IsApplied, AreApplied, LeavesNoRowBy}
+use Rattle.moka_maintenance.specs.Steps.{contents_with}
+use Rattle.moka_maintenance.proofs.AllApplied.{applied-none, applied-then}
+use Rattle.moka_maintenance.proofs.Placed.{places-on, rows-none, rows-then}
+use Rattle.moka_maintenance.proofs.Popped.{first_is, behind_in, nothing_in}
+use Rattle.moka_maintenance.proofs.Timing.{keeps-none, keeps-on}
+use Rattle.moka_maintenance.proofs.admission.apply_each_write.Goals as goal
+
+pub apply_write-requires : goal.apply_write-requires
+apply_write-requires g c =
+    let split = c.in-Some.ensures.cases.0 in
+    record { at = c.loop-sent.invariant.located c.in-Some.sent.now (first_is c.loop-sent.rest.now c.in-Some.sent.now c.in-Some.behind.now split) }
+
+pub loop-sent-preserved : goal.loop-sent-preserved
+loop-sent-preserved g c =
+    let inv = c.loop-sent.invariant in
+    let store = c.loop-sent.store in
+    let next = c.apply_write.new.store in
+    let made = c.apply_write.ensures in
+    let split = c.in-Some.ensures.cases.0 in
+    record {
+      applied = λ d ks m are.
+          (let made_ordered = subst (λ b. IsApplied g.L.Listener.tells c.args.capacity c.args.policy b (contents_with c.args.sketch.now store) (contents_with c.args.sketch.now next) store.written next.written c.in-Some.sent.now.write.operation c.loop-sent.notifier c.apply_write.new.notifier) inv.timers.ordered made.applied in
+          inv.applied d ks m
+          (subst (λ (qs : List QueuedWrite). AreApplied g.L.Listener.tells c.args.capacity c.args.policy c.args.store.now.ordered (contents_with c.args.sketch.now store) d store.written ks (writes_of qs) c.loop-sent.notifier m) (sym split)
+          (applied-then g.L.Listener.tells c.args.capacity c.args.policy c.args.store.now.ordered (contents_with c.args.sketch.now store) (contents_with c.args.sketch.now next) d store.written next.written ks c.in-Some.sent.now.write.operation c.in-Some.sent.now.ticket _ c.loop-sent.notifier c.apply_write.new.notifier m made_ordered are)));
+      timers = keeps-on c.args.store.now store next inv.timers made.timers;
+      rows = λ k kept are.
+          inv.rows k (places-on store next k made.places kept)
+          (subst (λ (qs : List QueuedWrite). LeavesNoRowBy (writes_of qs) store k) (sym split)
+          (rows-then store next k c.in-Some.sent.now.write.operation c.in-Some.sent.now.ticket _ kept made.rows are));
+      places = places-on c.args.store.now store next inv.places made.places;
+      room = (let before = inv.room in let after = made.room in omega arith);
+      located = λ q there p at.
+          inv.located q (behind_in c.loop-sent.rest.now c.in-Some.sent.now q c.in-Some.behind.now split there) p (made.places _ p at);
+    }
+
+pub loop-sent-init : goal.loop-sent-init
+loop-sent-init g c = record {
+  applied = λ d ks m are. are;
+  timers = keeps-none c.args.store.now;
+  rows = λ k kept are. are;
+  places = λ n p at. at;
+  room = omega arith;
+  located = c.requires.at;
+}
+
+pub returns-clause-applied : goal.returns-clause-applied
+returns-clause-applied g c =
+    let empty = nothing_in c.loop-sent.rest.now c.in_default.ensures.cases in
+    let k = contents_with c.args.sketch.now c.loop-sent.store in
+    let ks = c.loop-sent.store.written in
+    c.loop-sent.invariant.applied k ks c.loop-sent.notifier
+    (subst (λ (qs : List QueuedWrite). AreApplied g.L.Listener.tells c.args.capacity c.args.policy c.args.store.now.ordered k k ks ks (writes_of qs) c.loop-sent.notifier c.loop-sent.notifier) (sym empty) (applied-none g.L.Listener.tells c.args.capacity c.args.policy c.args.store.now.ordered k ks c.loop-sent.notifier))
+
+pub returns-clause-timers : goal.returns-clause-timers
+returns-clause-timers g c = c.loop-sent.invariant.timers
+
+pub returns-clause-rows : goal.returns-clause-rows
+returns-clause-rows g c =
+    let empty = nothing_in c.loop-sent.rest.now c.in_default.ensures.cases in
+    c.loop-sent.invariant.rows c.loop-sent.store (λ n p at. at)
+    (subst (λ (qs : List QueuedWrite). LeavesNoRowBy (writes_of qs) c.loop-sent.store c.loop-sent.store) (sym empty) (rows-none c.loop-sent.store))
