@@ -335,6 +335,3 @@ fn expirations<X: Drop>(
     }
     policy
 }
-
-#[cfg(test)]
-mod tests;

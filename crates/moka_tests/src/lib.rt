@@ -2,6 +2,10 @@
 #![tactic(auto)]
 
 #[cfg(test)]
+mod engine;
+#[cfg(test)]
+mod maintenance;
+#[cfg(test)]
 mod parts;
 #[cfg(test)]
 mod store;
