@@ -33,8 +33,6 @@ mod invalidation;
 mod looks;
 mod reports;
 mod runs;
-#[cfg(test)]
-mod tests;
 
 // How many segments the map has.
 const SEGMENTS: usize = 1;

@@ -339,6 +339,3 @@ fn expirations<X: Drop>(
     }
     policy
 }
-
-#[cfg(test)]
-mod tests;

@@ -209,19 +209,3 @@ impl<K, V, P> fmt::Display for DriveRefused<K, V, P> {
 
 impl<K: fmt::Debug + Drop, V: fmt::Debug + Drop, P: fmt::Debug + Drop> Error
     for DriveRefused<K, V, P> {}
-
-#[cfg(test)]
-mod tests {
-    use super::*;
-
-    #[test]
-    fn opens_entries(rt: HostRuntime) {
-        let entry = Entry {
-            key: Some(1),
-            value: 'v',
-        };
-        assert_eq!(rt; entry.key(), Some(&1));
-        assert_eq!(rt; *entry.value(), 'v');
-        assert_eq!(rt; entry.into_value(), 'v');
-    }
-}

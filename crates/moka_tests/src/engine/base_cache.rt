@@ -1,34 +1,18 @@
-ghost use Rattle.std.specs.Prelude.{None};
+//! Calls of a cache.
 ghost use Rattle.moka_parts.specs.Closures.{CanAlwaysAsk, HasOneAnswer};
 
-use super::*;
-use moka_parts::closures::{ByClosure, NoPredicate, PairFn};
-use moka_parts::housekeeper::FixedClock;
-use moka_parts::notification::{NoListener, RemovalCause};
-use moka_parts::policy::NoExpiry;
+use super::ByKey;
+use moka_engine::{
+    BaseCache, ByClosure, EvictionPolicy, ExpirationPolicy, FixedClock, HousekeeperConfig, Instant,
+    Listener, NoExpiry, NoListener, NoPredicate, PairFn, Policy, RemovalCause, Weigher,
+};
+use std::alloc::Global;
 use std::cell::Cell;
 use std::hash::{BuildHasherDefault, FoldHasher};
 use std::process::Abort;
 use std::rc::Rc;
 use std::test::Fail;
 use std::time::Duration;
-
-/// What an entry weighs is its key.
-#[derive(Drop)]
-struct ByKey;
-
-impl<V> Weigher<u64, V> for ByKey {
-    ghost use Rattle.std.specs.Prelude.{◌≡◌, min};
-    ghost use Rattle.std.proofs.Common.{sym, ◌∙◌};
-
-    ghost weighs = { λ _ k _ a. a ≡ min k 4294967295 };
-
-    fn weigh(&self, key: &u64, _: &V) -> u32 {
-        u32::try_from(*key).unwrap_or(u32::MAX)
-    }
-
-    ghost one_weight = { λ w k v a b x y. x ∙ sym y };
-}
 
 /// Counts the notices, also for others than the cache.
 #[derive(Drop)]
@@ -132,12 +116,17 @@ fn lets_go_of_all_it_holds(rt: HostRuntime) -> Result<(), Fail> {
 
 type NumberCache = TestCache<u64, NoListener, ByKey>;
 
-/// Puts one key in, and out it goes with the next: its row is one of two.
+/// The first key in the order of the rows.
+fn key_of_first_row(cache: &NumberCache) -> Result<u64, Fail> {
+    let keys = cache.keys(0).ok().flatten().ok_or("keys")?;
+    Ok(*keys.first().ok_or("first")?)
+}
+
+/// Puts one key in, and out goes the one before, whose row is the next one's: so even keys stand in the first row.
 fn pass_through(rt: &impl Abort, cache: &mut NumberCache, key: u64) -> Result<(), Fail> {
     settle(cache, key, key)?;
+    assert_eq!(rt; key_of_first_row(cache)?, key - key % 2);
     assert!(rt; !run(cache, Instant(0)));
-    let (handle, _) = cache.inner.find(&key).ok_or("key")?;
-    assert!(rt; handle.place < 2);
     Ok(())
 }
 
@@ -187,15 +176,19 @@ fn get_unless_ten(cache: &mut NumberCache, key: u64) -> Result<(Option<u64>, u32
     Ok((entry.map(|entry| entry.value), asked))
 }
 
+fn check_look_ups(rt: &impl Abort, cache: &mut NumberCache) -> Result<(), Fail> {
+    settle(cache, 1, 10)?;
+    settle(cache, 2, 20)?;
+    for (key, answer) in [(1, (None, 1)), (2, (Some(20), 1)), (3, (None, 0))] {
+        assert_eq!(rt; get_unless_ten(cache, key)?, answer);
+    }
+    Ok(())
+}
+
 #[test]
 fn looks_up_what_a_test_lets_through(rt: HostRuntime) -> Result<(), Fail> {
     let mut cache: NumberCache = cache_of(rt.alloc(), None, None, None)?;
-    settle(&mut cache, 1, 10)?;
-    settle(&mut cache, 2, 20)?;
-    for (key, answer) in [(1, (None, 1)), (2, (Some(20), 1)), (3, (None, 0))] {
-        assert_eq!(rt; get_unless_ten(&mut cache, key)?, answer);
-    }
-    Ok(())
+    check_look_ups(&rt, &mut cache)
 }
 
 /// The weight that is reported of one entry, which a closure weighs.

@@ -1,7 +1,7 @@
 use Rattle.std.proofs.Common.{◌∙◌, ap}
 use Rattle.std.specs.FinMap.{get, get-empty}
 use Rattle.std.specs.Ordering.{nat_cmp}
-use Rattle.moka_maintenance.proofs.sketch.tests.length_at_256.Goals as goal
+use Rattle.moka_tests.proofs.maintenance.length_at_256.Goals as goal
 
 -- no record has a place in a new store
 pub insert_new-handle-requires-clause-fresh : goal.insert_new-handle-requires-clause-fresh

@@ -1,0 +1,45 @@
+//! What refusals print.
+use moka_parts::error::{InsertError, InsertRefused, PredicateError, PredicateRefused};
+use std::test::Fail;
+
+#[test]
+fn prints_predicate_errors(rt: HostRuntime) -> Result<(), Fail> {
+    let alloc = rt.alloc();
+    for (error, text) in [
+        (
+            PredicateError::InvalidationClosuresDisabled,
+            "Support for invalidation closures is disabled in this cache. Please enable it by calling the support_invalidation_closures method of the builder at the cache creation time",
+        ),
+        (
+            PredicateError::NoFreeId,
+            "Cannot assign a new PredicateId to a predicate",
+        ),
+        (PredicateError::OutOfMemory, "Out of memory"),
+    ] {
+        assert_eq!(rt; format!(in alloc; "{error}")?.as_str(), text);
+    }
+    Ok(())
+}
+
+#[test]
+fn prints_refusals(rt: HostRuntime) -> Result<(), Fail> {
+    let alloc = rt.alloc();
+    let insert = InsertRefused {
+        error: InsertError::NumbersUsedUp,
+        key: 1u8,
+        value: 2u8,
+    };
+    let predicate = PredicateRefused {
+        error: PredicateError::NoFreeId,
+        predicate: 3u8,
+    };
+    assert_eq!(rt;
+        format!(in alloc; "{insert}")?.as_str(),
+        "All tickets are used up"
+    );
+    assert_eq!(rt;
+        format!(in alloc; "{predicate}")?.as_str(),
+        "Cannot assign a new PredicateId to a predicate"
+    );
+    Ok(())
+}

@@ -1,0 +1,95 @@
+//! The tests by moments.
+use moka_parts::expiry::{
+    deadline_of, has_lapsed, is_expired_by_per_entry_ttl, is_expired_by_tti, is_expired_by_ttl,
+    is_invalid_entry, remaining, renewed,
+};
+use moka_parts::policy::{ExpirationPolicy, Instant, NoExpiry};
+use moka_parts::records::Record;
+use std::time::Duration;
+
+fn seconds(number: u64) -> Option<Duration> {
+    Some(Duration::from_secs(number))
+}
+
+fn at(millis: u32) -> Instant {
+    Instant(u64::from(millis) * 1_000_000)
+}
+
+#[test]
+fn expires_at_the_very_moment(rt: HostRuntime) {
+    for (now, is_over) in [(15_999, false), (16_000, true), (16_001, true)] {
+        assert_eq!(rt;
+            is_expired_by_per_entry_ttl(Some(at(16_000)), at(now)),
+            is_over
+        );
+        assert_eq!(rt; is_expired_by_ttl(seconds(16), at(0), at(now)), is_over);
+        assert_eq!(rt; is_expired_by_tti(seconds(7), at(9_000), at(now)), is_over);
+    }
+    assert!(rt; !is_expired_by_per_entry_ttl(None, at(16_000)));
+    assert!(rt; !is_expired_by_ttl(None, at(0), at(16_000)));
+    assert!(rt; !is_expired_by_tti(None, at(0), at(16_000)));
+}
+
+#[test]
+fn invalidates_what_came_before(rt: HostRuntime) {
+    assert!(rt; is_invalid_entry(Some(at(5)), at(4)));
+    assert!(rt; !is_invalid_entry(Some(at(5)), at(5)));
+    assert!(rt; !is_invalid_entry(None, at(4)));
+}
+
+#[test]
+fn hides_what_has_lapsed(rt: HostRuntime) {
+    let mut policy = ExpirationPolicy::<NoExpiry>::default();
+    policy.set_time_to_live(Duration::from_secs(16));
+    policy.set_time_to_idle(Duration::from_secs(7));
+    let record = Record {
+        number: 1,
+        key: 'k',
+        hash: 0,
+        value: 'v',
+        written: at(1_000),
+        read: at(2_000),
+        expires: None,
+        weight: 1,
+        generation: 1,
+        applied: 1,
+    };
+    for (valid_after, now, is_hidden) in [
+        (None, 8_999, false),
+        (None, 9_000, true),
+        (Some(at(1_000)), 8_999, false),
+        (Some(at(1_001)), 8_999, true),
+    ] {
+        assert_eq!(rt;
+            has_lapsed(&record, &policy, valid_after, at(now)),
+            is_hidden
+        );
+    }
+}
+
+/// An entry is created with 8 seconds, and reads at 5 and 11 seconds answer 9 and 10 seconds.
+#[test]
+fn renews(rt: HostRuntime) {
+    let expires = deadline_of(seconds(8), at(0));
+    let left = remaining(expires, at(0), at(0), seconds(16), seconds(7), at(5_000));
+    assert_eq!(rt; (expires, left), (Some(at(8_000)), seconds(2)));
+    let (expires, is_changed) = renewed(expires, left, seconds(9), at(5_000));
+    assert_eq!(rt; (expires, is_changed), (Some(at(14_000)), true));
+
+    let left = remaining(
+        expires,
+        at(0),
+        at(5_000),
+        seconds(16),
+        seconds(7),
+        at(11_000),
+    );
+    let kept = renewed(expires, left, seconds(1), at(11_000));
+    assert_eq!(rt; (left, kept), (seconds(1), (expires, false)));
+    assert_eq!(rt; renewed(expires, left, None, at(11_000)), (None, true));
+    let left = remaining(None, at(0), at(0), None, None, at(1));
+    assert_eq!(rt;
+        (left, renewed(None, left, None, at(1))),
+        (None, (None, false))
+    );
+}

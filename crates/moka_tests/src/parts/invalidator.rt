@@ -1,0 +1,161 @@
+//! The registry of predicates.
+use moka_parts::closures::PredicateFn;
+use moka_parts::error::PredicateError;
+use moka_parts::invalidator::{IdSource, Invalidator, PredicateId};
+use moka_parts::policy::Instant;
+use moka_parts::records::Record;
+use std::cell::Cell;
+use std::test::Fail;
+use uuid::Uuid;
+
+// Says yes to one value, and counts how often it is asked.
+#[derive(Drop)]
+struct IsValue {
+    value: u64,
+    asked: Cell<u32>,
+}
+
+impl IsValue {
+    fn new(value: u64) -> Self {
+        let asked = Cell::new(0);
+        IsValue { value, asked }
+    }
+}
+
+impl PredicateFn<u8, u64> for IsValue {
+    ghost use Rattle.std.specs.Prelude.{◌≡◌, ◌==◌};
+    ghost use Rattle.std.proofs.Common.{◌∙◌, sym};
+
+    ghost says = { λ p _ v answer. answer ≡ (v == p.value) };
+
+    fn applies(&self, _: &u8, value: &u64) -> bool {
+        self.asked.set(self.asked.get().wrapping_add(1));
+        *value == self.value
+    }
+
+    ghost one_answer = { λ p _ v a b x y. x ∙ sym y };
+}
+
+// Gives the identifier 1 so many times, and then the following ones.
+#[derive(Clone, Copy)]
+struct Repeating {
+    repeats: u32,
+    given: u32,
+}
+
+impl IdSource for Repeating {
+    ghost use Rattle.std.specs.Prelude.{⊤};
+
+    ghost gives = { λ before id after. ⊤ };
+
+    fn next_id(&mut self) -> PredicateId {
+        self.given = self.given.wrapping_add(1);
+        Uuid::from_u128(u128::from(self.given.saturating_sub(self.repeats)) + 1)
+    }
+}
+
+fn written(value: u64, written: Instant) -> Record<u8, u64> {
+    Record {
+        number: 1,
+        key: 1,
+        hash: 1,
+        value,
+        written,
+        read: Instant(9),
+        expires: None,
+        weight: 1,
+        generation: 1,
+        applied: 1,
+    }
+}
+
+#[test]
+fn asks_only_what_was_registered_no_earlier(rt: HostRuntime) -> Result<(), Fail> {
+    let mut registry = Invalidator::new(rt.alloc());
+    assert!(rt; registry.is_empty());
+    assert!(rt; !registry.apply_predicates(&written(7, Instant(0))));
+    let mut ids = Repeating {
+        repeats: 0,
+        given: 0,
+    };
+    for (value, now) in [(7, Instant(4)), (8, Instant(6)), (7, Instant(6))] {
+        let result = registry.register_predicate(IsValue::new(value), now, &mut ids);
+        result.map_err(|_| Fail::from("refused"))?;
+    }
+    assert_eq!(rt; registry.len(), 3);
+
+    for (value, moment, is_covered) in [
+        (7, Instant(4), true),
+        (7, Instant(5), true),
+        (7, Instant(7), false),
+        (8, Instant(5), true),
+        (9, Instant(6), false),
+    ] {
+        assert_eq!(rt;
+            registry.apply_predicates(&written(value, moment)),
+            is_covered,
+            "{value} written at {moment:?}"
+        );
+    }
+    assert!(rt; registry.covers_at(2, &written(7, Instant(6))));
+
+    for (id, asked) in [(2, 1), (3, 3), (4, 3)] {
+        assert!(rt; !registry.is_empty());
+        let registered = registry.remove(0);
+        assert_eq!(rt; registered.id, Uuid::from_u128(id));
+        assert_eq!(rt; registered.predicate.asked.get(), asked);
+    }
+    assert!(rt; registry.is_empty());
+    Ok(())
+}
+
+#[test]
+fn asks_for_1000_identifiers(rt: HostRuntime) -> Result<(), Fail> {
+    let mut registry = Invalidator::new(rt.alloc());
+    for (repeats, id) in [(1, 1), (999, 2), (998, 3)] {
+        let mut ids = Repeating { repeats, given: 0 };
+        let result = registry.register_predicate(IsValue::new(id), Instant(1), &mut ids);
+        let found = result.map_err(|_| Fail::from("refused"))?;
+        assert_eq!(rt; found, Uuid::from_u128(u128::from(id)));
+    }
+    let mut ids = Repeating {
+        repeats: 1000,
+        given: 0,
+    };
+    match registry.register_predicate(IsValue::new(5), Instant(1), &mut ids) {
+        Ok(_) => return Err(Fail::from("registered")),
+        Err(refused) => {
+            assert_eq!(rt; refused.error, PredicateError::NoFreeId);
+            assert_eq!(rt; refused.predicate.value, 5);
+        }
+    }
+    assert_eq!(rt; ids.given, 1000);
+    assert_eq!(rt; registry.len(), 3);
+    Ok(())
+}
+
+#[test]
+fn a_refused_growth_changes_nothing(rt: HostRuntime) {
+    let mut registry = Invalidator::new(rt.alloc());
+    let mut ids = Repeating {
+        repeats: 0,
+        given: 0,
+    };
+    for value in 0..20 {
+        let (asked, len) = (ids.given, registry.len());
+        match registry.register_predicate(IsValue::new(value), Instant(1), &mut ids) {
+            Ok(_) => assert_eq!(rt;
+                (ids.given, registry.len()),
+                (asked.wrapping_add(1), len + 1)
+            ),
+            Err(refused) => {
+                assert_eq!(rt; refused.error, PredicateError::OutOfMemory);
+                let after = (refused.predicate.value, ids.given, registry.len());
+                assert_eq!(rt; after, (value, asked, len));
+                let again = registry.register_predicate(refused.predicate, Instant(1), &mut ids);
+                assert!(rt; again.is_ok());
+            }
+        }
+    }
+    assert_eq!(rt; registry.len(), 20);
+}

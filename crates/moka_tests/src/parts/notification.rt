@@ -1,0 +1,51 @@
+//! Listeners and causes.
+use moka_parts::notification::{Listener, NoListener, RemovalCause, RemovalNotifier};
+
+/// Keeps the last value that it was told of, and counts.
+#[derive(Clone, Copy, Debug, PartialEq, Eq)]
+struct LastValue {
+    heard: Option<(u8, u64, RemovalCause)>,
+}
+
+impl Listener<u8, u64> for LastValue {
+    ghost use Rattle.std.specs.Prelude.{◌≡◌, Some};
+
+    ghost tells = { λ _ k v c after. after.heard ≡ Some (k, v, c) };
+
+    fn notify(&mut self, key: u8, value: u64, cause: RemovalCause) {
+        self.heard = Some((key, value, cause));
+    }
+}
+
+#[test]
+fn tells_the_listener(rt: HostRuntime) {
+    let mut notifier = RemovalNotifier::new(Some(LastValue { heard: None }));
+    assert!(rt; notifier.is_enabled());
+    notifier.notify(1, 10, RemovalCause::Size);
+    notifier.notify(2, 20, RemovalCause::Expired);
+    let heard = Some((2, 20, RemovalCause::Expired));
+    assert_eq!(rt; notifier.listener(), Some(&LastValue { heard }));
+}
+
+#[test]
+fn tells_nobody(rt: HostRuntime) {
+    let mut nobody = RemovalNotifier::<LastValue>::new(None);
+    nobody.notify(1, 10, RemovalCause::Explicit);
+    assert!(rt; !nobody.is_enabled() && nobody.listener().is_none());
+
+    let mut deaf = RemovalNotifier::new(Some(NoListener));
+    deaf.notify(1u8, 10u64, RemovalCause::Replaced);
+    assert!(rt; deaf.is_enabled());
+}
+
+#[test]
+fn knows_evictions(rt: HostRuntime) {
+    for (cause, was_evicted) in [
+        (RemovalCause::Expired, true),
+        (RemovalCause::Explicit, false),
+        (RemovalCause::Replaced, false),
+        (RemovalCause::Size, true),
+    ] {
+        assert_eq!(rt; cause.was_evicted(), was_evicted, "{cause:?}");
+    }
+}
