@@ -2,3 +2,5 @@ pub mod Numbers
 pub mod Found
 pub mod Sent
 pub mod Told
+pub mod Ended
+pub mod Covered

@@ -2,6 +2,8 @@
 #![tactic(auto)]
 
 pub mod bounded;
+pub mod expiring;
+pub mod invalidated;
 pub mod late;
 pub mod notified;
 pub mod refused;

@@ -1,0 +1,41 @@
+use Rattle.std.proofs.Common.{◌≡◌, ◌==◌, ◌<◌, ℕ, Bool, true, false, List, Some, Ok, Err, Result, ap, sym, ◌∙◌, nat_lt, arith}
+use Rattle.std.specs.Prelude.{IfOk, IfErr, OnErr}
+use Rattle.uuid.specs.declared.Uuid.{Uuid}
+use Rattle.moka_parts.specs.declared.error.PredicateRefused.{PredicateRefused}
+use Rattle.moka_parts.specs.declared.policy.Instant.{Instant}
+use Rattle.moka_parts.specs.Calls.{InvalidateStep}
+use Rattle.moka_parts.specs.Records.{record_of_key}
+use Rattle.moka_parts.specs.State.{State}
+use Rattle.moka_uses.specs.declared.invalidated.Below.{Below}
+use Rattle.moka_uses.specs.Hidden.{IsBelow, IsNeverShown}
+use Rattle.moka_uses.proofs.Covered.{never_shown}
+use Rattle.moka_uses.proofs.invalidated.hide_below.Goals as goal
+
+-- the test says yes
+says_yes : (value bound : ℕ) → value < bound → true ≡ nat_lt value bound
+says_yes value bound less = grind arith
+
+module _ {X W : Type 0} (s t : State ℕ ℕ X Below W) (bound : ℕ) (now : Instant) (ids : List Uuid) where
+  hidden : (a : Result Uuid (PredicateRefused Below)) → InvalidateStep s (record { 0 = bound }) now a ids t → IfOk a (λ _. (key : ℕ) → IsBelow s key bound now.0 → IsNeverShown t key)
+  hidden (Ok id) step = λ key below. never_shown (λ b _ value answer. answer ≡ nat_lt value b.0) (λ a b. a == b) t s.predicates (record { id = id; predicate = record { 0 = bound }; registered = now }) (ap (λ x. x.predicates) step.3)
+      key below.0 (ap (λ x. record_of_key (λ a b. a == b) x.records key) step.3 ∙ below.1) (below.3, says_yes below.0.value bound below.2)
+  hidden (Err refused) step = tt
+
+  back : (a : Result Uuid (PredicateRefused Below)) → InvalidateStep s (record { 0 = bound }) now a ids t → IfErr a (λ refused. refused.predicate ≡ record { 0 = bound })
+  back (Ok id) step = tt
+  back (Err refused) step = step.0
+
+  unchanged : (a : Result Uuid (PredicateRefused Below)) → InvalidateStep s (record { 0 = bound }) now a ids t → OnErr a (t ≡ s)
+  unchanged (Ok id) step = tt
+  unchanged (Err refused) step = step.2
+
+pub returns : goal.returns
+returns g c =
+    let called = c.invalidate_entries_if.ensures in
+    let s = c.args.numbers.now.state in
+    let t = c.invalidate_entries_if.new.self.state in
+    record {
+      hidden = hidden s t c.args.bound c.args.now called.0.ids c.invalidate_entries_if.result called.1;
+      back = back s t c.args.bound c.args.now called.0.ids c.invalidate_entries_if.result called.1;
+      unchanged = unchanged s t c.args.bound c.args.now called.0.ids c.invalidate_entries_if.result called.1;
+    }

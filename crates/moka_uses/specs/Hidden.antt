@@ -1,0 +1,16 @@
+-- What a predicate of a caller's hides.
+use Rattle.std.specs.Prelude.{◌≡◌, ℕ, Bool, false, ◌==◌, ◌<◌, ◌≤◌, Some, nat_lt}
+use Rattle.moka_parts.specs.declared.records.Record.{Record}
+use Rattle.moka_parts.specs.Calls.{ContainsStep}
+use Rattle.moka_parts.specs.Records.{record_of_key}
+use Rattle.moka_parts.specs.State.{State}
+use Rattle.moka_uses.specs.declared.invalidated.Below.{Below}
+
+module _ {X W : Type 0} (s : State ℕ ℕ X Below W) (key : ℕ) where
+  -- the key's value lies below the bound, and was written at that moment or before
+  abbrev pub IsBelow : ℕ → ℕ → Type 0
+  IsBelow bound now = (r : Record ℕ ℕ) × (record_of_key (λ a b. a == b) s.records key ≡ Some r) × (r.value < bound) × (r.written.0 ≤ now)
+
+  -- whether the key is there is answered with no, at whatever moment
+  abbrev pub IsNeverShown : Type 0
+  IsNeverShown = (later : ℕ) (shown : Bool) → ContainsStep (λ below _ value answer. answer ≡ nat_lt value below.0) (λ a b. a == b) s key later shown → shown ≡ false

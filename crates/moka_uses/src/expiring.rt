@@ -1,0 +1,85 @@
+//! Sessions that end by themselves.
+ghost use Rattle.std.specs.Prelude.{◌≡◌, nat_lt, IfOk};
+ghost use Rattle.std.specs.Duration.{as_nanos};
+ghost use Rattle.moka_parts.specs.Time.{plus};
+
+use anyhow::Result;
+use moka_engine::{Cache, CacheConfig, Expiry, Instant};
+use std::alloc::Global;
+use std::time::Duration;
+
+/// A session lasts so long from when it was opened, and from when it was written again. Reads do not prolong it.
+#[derive(Clone, Copy)]
+pub struct Lasts(pub Duration);
+
+impl<K, V> Expiry<K, V> for Lasts {
+    ghost use Rattle.std.specs.Prelude.{Some};
+    ghost use Rattle.std.specs.Duration.{as_nanos};
+
+    ghost created = { λ lasts _ _ _. Some (as_nanos lasts.0) };
+
+    ghost updated = { λ lasts _ _ _ _. Some (as_nanos lasts.0) };
+
+    fn expire_after_create(&self, _: &K, _: &V, _: Instant) -> Option<Duration> {
+        Some(self.0)
+    }
+
+    fn expire_after_read(
+        &self,
+        _: &K,
+        _: &V,
+        _: Instant,
+        left: Option<Duration>,
+        _: Instant,
+    ) -> Option<Duration> {
+        left
+    }
+
+    fn expire_after_update(
+        &self,
+        _: &K,
+        _: &V,
+        _: Instant,
+        _: Option<Duration>,
+    ) -> Option<Duration> {
+        Some(self.0)
+    }
+}
+
+/// Users' tokens.
+pub type Sessions = Cache<u64, u64, Lasts>;
+
+/// Opens a session at one moment, and tells whether it is open at another: it is until its time is over, and not from
+/// then on.
+pub fn is_open_at(
+    alloc: Global,
+    lasts: Duration,
+    user: u64,
+    token: u64,
+    opened: Instant,
+    asked: Instant,
+) -> Result<bool>
+    ensures { IfOk result (λ is_open. is_open ≡ nat_lt asked.0 (plus opened.0 (as_nanos lasts))) }
+{
+    let config = CacheConfig::default().expire_after(Lasts(lasts));
+    let mut sessions: Sessions = config.build(alloc, opened)?;
+    let hash = sessions.hash(&user);
+    let (ticket, _) = sessions.do_insert_with_hash(user, hash, token, opened)?;
+    sessions.send(ticket)?;
+    Ok(sessions.contains_key_with_hash(&user, hash, asked))
+}
+
+#[cfg(test)]
+mod tests {
+    use super::*;
+
+    #[test]
+    fn ends_at_the_very_moment(rt: HostRuntime) -> Result<()> {
+        let lasts = Duration::from_nanos(100);
+        for (asked, is_open) in [(5, true), (104, true), (105, false), (106, false)] {
+            let found = is_open_at(rt.alloc(), lasts, 1, 10, Instant(5), Instant(asked))?;
+            assert_eq!(rt; found, is_open, "{asked}");
+        }
+        Ok(())
+    }
+}

@@ -1,0 +1,93 @@
+//! A caller that hides values by a predicate of its own.
+ghost use Rattle.std.specs.Prelude.{◌≡◌, ℕ, IfOk, IfErr, OnErr};
+ghost use Rattle.moka_uses.specs.Hidden.{IsBelow, IsNeverShown};
+
+use moka_engine::{
+    Cache, IdSource, Instant, NoExpiry, NoListener, PredicateFn, PredicateId, PredicateRefused,
+};
+
+/// Says yes to the values below a bound.
+#[derive(Clone, Copy, Debug, PartialEq, Eq)]
+pub struct Below(pub u64);
+
+impl<K> PredicateFn<K, u64> for Below {
+    ghost use Rattle.std.specs.Prelude.{◌≡◌, nat_lt};
+    ghost use Rattle.std.proofs.Common.{sym, ◌∙◌};
+
+    ghost says = { λ below _ value answer. answer ≡ nat_lt value below.0 };
+
+    fn applies(&self, _: &K, value: &u64) -> bool {
+        *value < self.0
+    }
+
+    ghost one_answer = { λ _ _ _ _ _ first second. first ∙ sym second };
+}
+
+/// Counts identifiers up. Behind the greatest there is no other, and a predicate may be refused for want of a free one.
+#[derive(Clone, Copy, Debug)]
+pub struct CountedIds(pub u128);
+
+impl IdSource for CountedIds {
+    ghost use Rattle.std.specs.Prelude.{◌≡◌, ◌+◌, ◌-◌, ◌^◌, min};
+    ghost use Rattle.std.specs.Int.{w128, to_be_bytes};
+
+    ghost gives = { λ before id after. (after.0 ≡ min (before.0 + 1) (2 ^ 128 - 1)) × (id ≡ to_be_bytes w128 after.0) };
+
+    fn next_id(&mut self) -> PredicateId {
+        self.0 = self.0.saturating_add(1);
+        PredicateId::from_u128(self.0)
+    }
+}
+
+/// Numbers by number, made by a configuration with `support_invalidation_closures`.
+pub type Numbers = Cache<u64, u64, NoExpiry, NoListener, Below>;
+
+/// Hides the values below a bound that were written at the moment `now` or before. From then on their keys are not there,
+/// at whatever moment the cache is asked, until they are inserted again (`moka_parts::laws::stays_hidden`).
+///
+/// # Errors
+/// The predicate that was refused; the cache is as it was.
+pub fn hide_below<I: IdSource>(
+    numbers: &mut Numbers,
+    bound: u64,
+    now: Instant,
+    ids: &mut I,
+) -> Result<PredicateId, PredicateRefused<Below>>
+    ensures hidden { IfOk result (λ _. (key : ℕ) → IsBelow numbers.old.state key bound now.0 → IsNeverShown numbers.new.state key) }
+    ensures back { IfErr result (λ refused. refused.predicate ≡ record { 0 = bound }) }
+    ensures unchanged { OnErr result (numbers.new.state ≡ numbers.old.state) }
+{
+    numbers.invalidate_entries_if(Below(bound), now, ids)
+}
+
+#[cfg(test)]
+mod tests {
+    use super::*;
+    use anyhow::Result;
+    use moka_engine::{CacheConfig, PredicateError};
+
+    fn has(numbers: &Numbers, key: u64) -> bool {
+        numbers.contains_key_with_hash(&key, numbers.hash(&key), Instant(1))
+    }
+
+    #[test]
+    fn hides_what_lies_below(rt: HostRuntime) -> Result<()> {
+        let config = CacheConfig::default().support_invalidation_closures::<Below>();
+        let mut numbers: Numbers = config.build(rt.alloc(), Instant(0))?;
+        for (key, value) in [(1, 9), (2, 10)] {
+            if !numbers.is_map_disabled() {
+                let hash = numbers.hash(&key);
+                numbers.do_insert_with_hash(key, hash, value, Instant(0))?;
+            }
+        }
+        let mut ids = CountedIds(u128::MAX);
+        hide_below(&mut numbers, 10, Instant(0), &mut ids)?;
+        assert_eq!(rt; (has(&numbers, 1), has(&numbers, 2)), (false, true));
+
+        let refused = hide_below(&mut numbers, 11, Instant(0), &mut ids).err();
+        let back = refused.map(|refused| (refused.error, refused.predicate));
+        assert_eq!(rt; back, Some((PredicateError::NoFreeId, Below(11))));
+        assert!(rt; has(&numbers, 2));
+        Ok(())
+    }
+}
