@@ -16,7 +16,7 @@ use Rattle.moka_parts.specs.Maintenance.{Terms, Course}
 use Rattle.moka_parts.specs.Surroundings.{Heard}
 use Rattle.moka_parts.specs.Calls.{no_events, only_notices, KeysStep, RemoveStep, RemovesAt}
 use Rattle.moka_parts.specs.Runs.{Cache, Befalls, CallStep, MakesCalls}
-use Rattle.moka_drive.specs.Served.{TellsPending}
+use Rattle.moka_drive.specs.Replies.{TellsPending}
 
 -- a list of no length is empty
 pub empty_of_length : {A : Type 0} (xs : List A) → length xs ≡ 0 → xs ≡ []

@@ -1,6 +1,5 @@
 //! Makes calls one after the other.
 ghost use Rattle.std.specs.Prelude.{◌≡◌, length, List, IfOk, IfErr, OnErr};
-ghost use Rattle.std.specs.List.{AllByRecursion};
 ghost use Rattle.moka_parts.specs.State.{Events};
 ghost use Rattle.moka_parts.specs.Surroundings.{Leads};
 ghost use Rattle.moka_parts.specs.Calls.{only_notices, KeyStep};
@@ -10,7 +9,7 @@ ghost use Rattle.moka_parts.specs.Listed.{ListedRun};
 ghost use Rattle.moka_parts.specs.Runs.{Befalls, CallStep};
 ghost use Rattle.moka_parts.specs.declared.calls.Reply.TheVariants.{Report};
 ghost use Rattle.moka_drive.specs.Meanings.{meaning_of};
-ghost use Rattle.moka_drive.specs.Served.{IsServed, RemovesAndNotifies, NotifiesEntry, TellsPending};
+ghost use Rattle.moka_drive.specs.Replies.{RemovesAndNotifies, NotifiesEntry, TellsPending};
 
 use moka_engine::base_cache::BaseCache;
 use moka_parts::calls::{Call, DriveRefused, KvEntry, Reply};
@@ -23,9 +22,8 @@ use moka_parts::policy::{Expiry, Instant};
 use std::alloc::Global;
 use std::hash::{BuildHasher, Hash};
 
-/// Makes the calls one after the other, and answers each with the reply of the same name. So far these are all but another
-/// capacity. A removal that carries a moment and finds its key is followed by
-/// `notify_invalidate` at that moment.
+/// Makes the calls one after the other, and answers each with the reply of the same name. A removal that carries a moment
+/// and finds its key is followed by `notify_invalidate` at that moment.
 ///
 /// Replies, records and notices are a run of the reference cache, in which each run of maintenance keeps all that is
 /// promised of it: one with a batch of at least one that begins with every operation sent, and is not cut short, ends with
@@ -60,7 +58,6 @@ pub fn drive<
 ) -> Result<Vec<Reply<K, V, P>>, DriveRefused<K, V, P>>
     requires keys { (x y : K) → K.is_clone x y → y ≡ x }
     requires values { (x y : V) → V.is_clone x y → y ≡ x }
-    requires served { AllByRecursion IsServed calls.items }
     ensures run { IfOk result (λ replies. Drives
         (meaning_of K.eq L.tells P.says W.weighs C.reads I.gives X.created X.read X.updated)
         calls.items replies.items cache.old clock.old ids.old cache.new clock.new ids.new) }
@@ -98,7 +95,6 @@ fn make<
 ) -> Reply<K, V, P>
     requires keys { (x y : K) → K.is_clone x y → y ≡ x }
     requires values { (x y : V) → V.is_clone x y → y ≡ x }
-    requires served { IsServed call }
     ensures { (e : Events K V)
         × CallStep (meaning_of K.eq L.tells P.says W.weighs C.reads I.gives X.created X.read X.updated)
         (ListedRun P.says X.read cache.old.write_list cache.new.write_list) cache.old.state call result e cache.new.state
@@ -156,7 +152,7 @@ fn make<
         }
         Call::Report => report(cache),
         Call::Pending => pending(cache),
-        _ => unreachable!(),
+        Call::SetCapacity { capacity } => Reply::SetCapacity(cache.set_max_capacity(capacity)),
     }
 }
 

@@ -3,7 +3,7 @@ ghost use Rattle.std.specs.Prelude.{◌≡◌, ℕ, ◌≤◌, ◌||◌, true, f
 ghost use Rattle.std.specs.Duration.{as_nanos};
 ghost use Rattle.std.specs.List.{fold};
 ghost use Rattle.std.specs.String.{string_bytes};
-ghost use Rattle.moka_parts.specs.Calls.{no_events, only_notices, Weighs, InsertsAt, InsertStep, SendStep, RemoveStep, NotifyStep, ContainsStep, KeysStep, GetStep};
+ghost use Rattle.moka_parts.specs.Calls.{no_events, only_notices, CapacityStep, Weighs, InsertsAt, InsertStep, SendStep, RemoveStep, NotifyStep, ContainsStep, KeysStep, GetStep};
 ghost use Rattle.moka_parts.specs.Listed.{ListedRun};
 ghost use Rattle.moka_parts.specs.Order.{IsWriteList};
 ghost use Rattle.moka_parts.specs.Records.{Notice, record_of_key};
@@ -16,7 +16,7 @@ ghost use Rattle.moka_store.specs.Store.{ClonesAreEqual};
 use crate::inner::Inner;
 use moka_parts::calls::{Entry, KvEntry, Ticket};
 use moka_parts::closures::{NoTest, PredicateFn, Weigher};
-use moka_parts::error::{InsertRefused, OutOfMemory, SendError};
+use moka_parts::error::{CapacityError, InsertRefused, OutOfMemory, SendError};
 use moka_parts::housekeeper::{Clock, Housekeeper, HousekeeperConfig};
 use moka_parts::invalidator::Invalidator;
 use moka_parts::notification::{Listener, RemovalNotifier};
@@ -259,6 +259,23 @@ impl<
         ensures { result ≡ is_disabled self.now.state.capacity }
     {
         self.max_capacity == Some(0)
+    }
+
+    /// Sets the greatest total weight that the cache keeps, `None` for no bound. No run starts: what exceeds a lower
+    /// capacity is evicted by the runs that follow. A frequency sketch that is in use stays as it is.
+    ///
+    /// # Errors
+    /// `ZeroCapacity` where the present capacity or the new one is 0: a disabled cache stays disabled, and no other
+    /// becomes so. Nothing has changed.
+    pub fn set_max_capacity(&mut self, capacity: Option<u64>) -> Result<(), CapacityError>
+        ensures step { CapacityStep self.old.state capacity result self.new.state }
+        ensures events { Befalls L.tells no_events self.old self.new }
+    {
+        if self.is_map_disabled() || capacity == Some(0) {
+            return Err(CapacityError::ZeroCapacity);
+        }
+        self.max_capacity = capacity;
+        Ok(())
     }
 
     /// How many members the last run counted, 0 before the first.

@@ -57,7 +57,9 @@ pub fn make_passes<
     limit: Option<Duration>,
     batch: u32,
 ) -> Ran
-    ensures ran { IsRan L.tells P.says tests C.reads (option_map as_nanos limit) batch store.old.ordered invalidator.old invalidator.new (stock_in store.old) (stock_in store.new) notifier.old notifier.new clock.old clock.new result.passes result.is_left }
+    ensures ran { IsRan L.tells P.says tests C.reads (option_map as_nanos limit) batch store.old.ordered invalidator.old
+        invalidator.new (stock_in store.old) (stock_in store.new) notifier.old notifier.new clock.old clock.new
+        result.passes result.is_left }
     ensures none { HasNoneDue tests.now.0 store.new }
     ensures timers { KeepsTimers store.old store.new }
     ensures places { AddsNoPlace store.old store.new }
@@ -92,7 +94,9 @@ fn make_pass<K: Eq + Hash + Drop, V: Drop, S: BuildHasher, L: Listener<K, V>, P:
 ) -> Pass
 where
     P: PredicateFn<K, V>,
-    ensures pass { IsPass L.tells P.says tests batch store.old.ordered invalidator.old invalidator.new (stock_in store.old) (stock_in store.new) notifier.old notifier.new result.removed result.is_left result.is_scan_left }
+    ensures pass { IsPass L.tells P.says tests batch store.old.ordered invalidator.old invalidator.new
+        (stock_in store.old) (stock_in store.new) notifier.old notifier.new result.removed result.is_left
+        result.is_scan_left }
     ensures none { HasNoneDue tests.now.0 store.new }
     ensures timers { KeepsTimers store.old store.new }
     ensures places { AddsNoPlace store.old store.new }

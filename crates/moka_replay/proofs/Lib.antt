@@ -1,5 +1,4 @@
 pub mod Numerals
 pub mod Printable
 pub mod Lines
-pub mod Served
 pub mod KeptNotices

@@ -1,8 +1,6 @@
 //! Makes the calls of a script on a cache.
 ghost use Rattle.std.specs.Prelude.{◌≡◌, is_some, IfOk};
 ghost use Rattle.std.specs.Duration.{as_nanos};
-ghost use Rattle.std.specs.List.{AllByRecursion};
-ghost use Rattle.moka_drive.specs.Served.{IsServed};
 ghost use Rattle.moka_replay.specs.Notices.{told_of, listener_for};
 ghost use Rattle.moka_replay.specs.Script.{text_of};
 ghost use Rattle.moka_replay.specs.Played.{AreReplies, chosen_terms, expirations_of, first_state, total_of};
@@ -49,7 +47,6 @@ pub struct Played {
 /// # Errors
 /// `OutOfMemory` where memory for the cache, for its listener or for the replies is refused.
 pub fn play(alloc: Global, script: Script) -> Result<Played, OutOfMemory>
-    requires served { AllByRecursion IsServed script.calls.items }
     ensures { IfOk result (λ played. AreReplies (text_of script) played.replies.items (told_of played.cache.listener) (total_of played.cache.state)) }
 {
     let Script {

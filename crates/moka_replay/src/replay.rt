@@ -1,7 +1,5 @@
 //! Reads a script, makes its calls on a cache, and prints what comes of it.
 ghost use Rattle.std.specs.Prelude.{◌≡◌, option_copied, IfOk};
-ghost use Rattle.std.specs.List.{AllByRecursion};
-ghost use Rattle.moka_drive.specs.Served.{IsServed};
 ghost use Rattle.moka_replay.specs.Failure.{IsWritten};
 ghost use Rattle.moka_replay.specs.Notices.{told_of};
 ghost use Rattle.moka_replay.specs.Replay.{Reading, Answers, Ends, IsReplayed, IsPlayed, IsScriptRead, played_text, status_of_replies};
@@ -98,8 +96,7 @@ fn status_of(replies: &[ScriptReply]) -> u8
 
 /// Reads a script to its end.
 fn read_script<R: Source>(alloc: Global, input: &mut R) -> Result<Script, Failure>
-    ensures read { (read : Reading) × R.gives input.old read input.new × IsScriptRead read result }
-    ensures served { IfOk result (λ script. AllByRecursion IsServed script.calls.items) }
+    ensures { (read : Reading) × R.gives input.old read input.new × IsScriptRead read result }
 {
     let text = input.read_all(alloc)?;
     Ok(parse(alloc, &text)?)

@@ -1,5 +1,4 @@
 use Rattle.std.proofs.Common.{rules, arith, refl, sym, ap, subst, ◌∙◌, [], ◌∷◌, ◌++◌, append_assoc, append-nil, length}
-use Rattle.std.specs.List.{AllByRecursion}
 use Rattle.std.specs.Vec.Iter.{into_iter_items}
 use Rattle.moka_parts.specs.State.{Meaning}
 use Rattle.moka_parts.specs.Runs.{PromisedRun, Step}
@@ -7,7 +6,6 @@ use Rattle.moka_parts.specs.Listed.{ListedStep}
 use Rattle.moka_parts.proofs.OrderedDrive.{listed_call_promised, lists_go_on, drives_in_order}
 use Rattle.moka_parts.proofs.RunsGoOn.{MakesCalls_push}
 use Rattle.moka_drive.specs.Meanings.{meaning_of}
-use Rattle.moka_drive.specs.Served.{IsServed}
 use Rattle.moka_drive.proofs.Quiet.{no_calls, empty_of_length}
 use Rattle.moka_drive.proofs.driver.drive.Goals as goal
 
@@ -17,12 +15,8 @@ loop-call-init g c = record {
   finite = tt;
   ran = ([], rw c.in-Ok.ensures.items (no_calls (meaning_of g.K.PartialEq.eq g.L.Listener.tells g.P.PredicateFn.says g.W.Weigher.weighs g.C.Clock.reads g.I.IdSource.gives g.X.Expiry.created g.X.Expiry.read g.X.Expiry.updated) (PromisedRun g.P.PredicateFn.says g.X.Expiry.read) c.args.cache.now c.args.clock.now c.args.ids.now), refl);
   rest = search rules;
-  served = grind (rules, c.requires.served);
   room = search rules;
 }
-
-pub make-reply-requires-clause-served : goal.make-reply-requires-clause-served
-make-reply-requires-clause-served g c = (subst (AllByRecursion IsServed) c.in-Some.ensures.steps.0 c.loop-call.invariant.served).0
 
 pub push_reserved-requires : goal.push_reserved-requires
 push_reserved-requires g c = omega (arith, c.loop-call.invariant.room, ap length c.in-Some.ensures.steps.0)
@@ -46,7 +40,6 @@ loop-call-preserved g c =
         lists_go_on m (PromisedRun m.says m.read) c.loop-call.yielded c.loop-call.replies.items h.0 c.args.cache.now c.loop-call.cache c.args.clock.now c.loop-call.clock c.args.ids.now c.loop-call.ids made c.make-reply.new.cache.write_list h.1 h.2 listed,
       );
       rest = c.loop-call.invariant.rest ∙ (ap (λ xs. c.loop-call.yielded ++ xs) step.0 ∙ sym (append_assoc c.loop-call.yielded (c.in-Some.call ∷ []) (into_iter_items c.next.new.self)));
-      served = (subst (AllByRecursion IsServed) step.0 c.loop-call.invariant.served).1;
       room = omega (arith, c.push_reserved.ensures.len, c.push_reserved.ensures.capacity, c.loop-call.invariant.room, ap length step.0);
     }
 

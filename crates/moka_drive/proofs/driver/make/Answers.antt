@@ -51,3 +51,6 @@ returns-in-Report g c =
 pub returns-in-Pending : goal.returns-in-Pending
 returns-in-Pending g c =
     rw c.in-Pending.is (no_events, pending_step (meaning_of g.K.PartialEq.eq g.L.Listener.tells g.P.PredicateFn.says g.W.Weigher.weighs g.C.Clock.reads g.I.IdSource.gives g.X.Expiry.created g.X.Expiry.read g.X.Expiry.updated) (ListedRun g.P.PredicateFn.says g.X.Expiry.read c.args.cache.now.write_list c.args.cache.now.write_list) c.args.cache.now.state c.pending.result c.pending.ensures, nothing_befalls g.L.Listener.tells c.args.cache.now, refl, refl)
+
+pub returns-in-SetCapacity : goal.returns-in-SetCapacity
+returns-in-SetCapacity g c = rw c.in-SetCapacity.is (no_events, (c.set_max_capacity.ensures.step, refl), c.set_max_capacity.ensures.events, refl, refl)

@@ -1,9 +1,7 @@
--- The calls that are there today, and what a removal makes of a cache with the notice after it.
-use Rattle.std.specs.Prelude.{◌≡◌, Bool, List, length, Option, Some, option_map, Result, ⊤}
+-- What a removal makes of a cache with the notice after it, and what tells what waits.
+use Rattle.std.specs.Prelude.{◌≡◌, Bool, List, length, Option, Some, option_map, Result}
 use Rattle.std.specs.FinMap.{len}
 use Rattle.moka_parts.specs.declared.policy.Instant.{Instant}
-use Rattle.moka_parts.specs.declared.calls.Call.{Call}
-use Rattle.moka_parts.specs.declared.calls.Call.TheVariants as call
 use Rattle.moka_parts.specs.declared.calls.Reply.{Reply}
 use Rattle.moka_parts.specs.declared.calls.Reply.TheVariants as reply
 use Rattle.moka_parts.specs.declared.calls.KvEntry.{KvEntry}
@@ -12,11 +10,6 @@ use Rattle.moka_parts.specs.declared.error.OutOfMemory.{OutOfMemory}
 use Rattle.moka_parts.specs.Records.{Notice}
 use Rattle.moka_parts.specs.State.{State, Settings, Events}
 use Rattle.moka_parts.specs.Calls.{only_notices, RemoveStep, NotifiesAfter, oldest_ticket}
-
--- the call is any but another capacity
-abbrev pub IsServed : {K V P : Type 0} → Call K V P → Type 0
-IsServed (call.SetCapacity capacity) = ⊥
-IsServed c = ⊤
 
 -- the reply is that of a removal of the key with these events
 abbrev pub RemovesAndNotifies : {K V X P W : Type 0} → (K → K → Bool) → State K V X P W → K → Option Instant → Reply K V P → Events K V → State K V X P W → Type 0
