@@ -45,7 +45,6 @@ pub struct Update<V> {
 
 /// The records of a cache, found by key or by handle, with their orders of access and of writing, their timers and the
 /// sum of the members' weights.
-#[derive(Drop)]
 pub struct Store<K: Eq + Hash, V, S: BuildHasher> {
     hasher: S,
     // The place of each record, under the hash of its key.
@@ -56,6 +55,21 @@ pub struct Store<K: Eq + Hash, V, S: BuildHasher> {
     timers: Timers,
     // The sum of the weights that are counted for the members.
     weight: u128,
+}
+
+// Written out so that a caller's drop is one call.
+impl<K: Eq + Hash + Drop, V: Drop, S: BuildHasher + Drop> Drop for Store<K, V, S> {
+    fn drop(self) {
+        let Store {
+            hasher: _,
+            index: _,
+            table: _,
+            access: _,
+            written: _,
+            timers: _,
+            weight: _,
+        } = self;
+    }
 }
 
 impl<K: Eq + Hash, V, S: BuildHasher> Model for Store<K, V, S> {

@@ -4,7 +4,9 @@ ghost use Rattle.std.specs.Prelude.{◌≡◌};
 use moka_parts::policy::Instant;
 use moka_parts::records::Record;
 use moka_store::{Store, Update};
+use std::alloc::Global;
 use std::hash::{BuildHasherDefault, FoldHasher};
+use std::process::Abort;
 use std::test::Fail;
 
 type TestStore = Store<u64, u64, BuildHasherDefault<FoldHasher>>;
@@ -90,6 +92,18 @@ fn lets_a_record_go(rt: HostRuntime) -> Result<(), Fail> {
     Ok(())
 }
 
+fn check_keys(
+    rt: &impl Abort,
+    alloc: Global,
+    store: &TestStore,
+    wanted: &[u64],
+) -> Result<(), Fail> {
+    let mut keys = store.keys(alloc)?;
+    keys.sort()?;
+    assert_eq!(rt; keys.as_slice(), wanted);
+    Ok(())
+}
+
 #[test]
 #[tactic(auto, using(moka_structures::proofs::Gets::map_calls))]
 fn lists_its_keys(rt: HostRuntime) -> Result<(), Fail> {
@@ -99,10 +113,7 @@ fn lists_its_keys(rt: HostRuntime) -> Result<(), Fail> {
     let _first = store.insert_new(record(1, 10, 100));
     assert!(rt; store.find_by_key(&20).is_none());
     let second = store.insert_new(record(2, 20, 200));
-    let mut keys = store.keys(rt.alloc())?;
-    keys.sort()?;
-    assert_eq!(rt; keys.as_slice(), [10, 20].as_slice());
+    check_keys(&rt, rt.alloc(), &store, &[10, 20])?;
     let _taken = store.take_out(second);
-    assert_eq!(rt; store.keys(rt.alloc())?.as_slice(), [10].as_slice());
-    Ok(())
+    check_keys(&rt, rt.alloc(), &store, &[10])
 }
