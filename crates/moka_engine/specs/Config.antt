@@ -1,5 +1,5 @@
 -- What a cache is to be made with, and the cache that this makes.
-use Rattle.std.specs.Prelude.{◌≡◌, ℕ, Bool, false, List, [], Option, Some, None, is_some}
+use Rattle.std.specs.Prelude.{ℕ, Bool, false, List, [], Option, Some, None, is_some}
 use Rattle.moka_parts.specs.declared.policy.EvictionPolicy.{EvictionPolicy}
 use Rattle.moka_parts.specs.declared.policy.EvictionPolicy.TheVariants.{TinyLfu}
 use Rattle.moka_parts.specs.Runs.{Cache}

@@ -1,14 +1,13 @@
 //! What queued reads and writes make of the records and their order.
 //!
 //! moka: `sync::base_cache::Inner::apply_reads`, `Inner::apply_writes`, `Inner::handle_upsert`.
-ghost use Rattle.std.specs.Prelude.{◌≡◌, ◌<◌, ◌≤◌, ℕ, IsSome, true, [], None, Some, Contains};
+ghost use Rattle.std.specs.Prelude.{◌≡◌, ◌<◌, ◌≤◌, ℕ, true, [], None, Some, Contains};
 ghost use Rattle.std.specs.FinMap as finite;
 ghost use Rattle.circular_buffer.specs.Buffer.{buffer};
 ghost use Rattle.moka_parts.specs.declared.records.Operation.TheVariants.{Upsert, Removal};
 ghost use Rattle.moka_parts.specs.declared.records.ReadOperation.{ReadOperation};
 ghost use Rattle.moka_parts.specs.declared.records.ReadOperation.TheVariants.{Hit};
 ghost use Rattle.moka_parts.specs.declared.records.Record.{Record};
-ghost use Rattle.moka_parts.specs.Time.{moment_of};
 ghost use Rattle.moka_parts.specs.Records.{counted_of, entered_by, has_room, to_back, without_member, number_to_back, without_number};
 ghost use Rattle.moka_parts.specs.Reads.{after_read, after_reads};
 ghost use Rattle.moka_parts.specs.Settling.{number_of};

@@ -1,5 +1,5 @@
 -- What the settings of a script say.
-use Rattle.std.specs.Prelude.{ℕ, ◌==◌, true, false, List, [], ◌∷◌, Option, Some, None, option_map, codes, if◌then◌else◌}
+use Rattle.std.specs.Prelude.{ℕ, Bool, ◌==◌, true, false, List, [], ◌∷◌, Option, Some, None, option_map, codes, if◌then◌else◌}
 use Rattle.std.specs.Str.{bytes_eq}
 use Rattle.moka_parts.specs.declared.policy.EvictionPolicy.{EvictionPolicy}
 use Rattle.moka_parts.specs.declared.policy.EvictionPolicy.TheVariants.{TinyLfu, Lru}
@@ -104,6 +104,10 @@ abbrev pub filled : {A : Type 0} → Option A → A → Option (Option A)
 filled None value = Some (Some value)
 filled (Some _) value = None
 
+-- a flag is raised at most once
+abbrev pub raised : Bool → Option Bool
+raised flag = if flag then None else Some true
+
 -- a setting stands at most once
 abbrev pub put_in : Settings → Setting → Option Settings
 put_in settings (First first) = option_map (λ place. record settings { first = place }) (filled settings.first first)
@@ -112,9 +116,9 @@ put_in settings (Policy policy) = option_map (λ place. record settings { policy
 put_in settings (TimeToLive nanos) = option_map (λ place. record settings { time_to_live = place }) (filled settings.time_to_live nanos)
 put_in settings (TimeToIdle nanos) = option_map (λ place. record settings { time_to_idle = place }) (filled settings.time_to_idle nanos)
 put_in settings (Weigh weigher) = option_map (λ place. record settings { weigher = place }) (filled settings.weigher weigher)
-put_in settings Listener = if settings.listener then None else Some (record settings { listener = true })
-put_in settings Invalidator = if settings.invalidator then None else Some (record settings { invalidator = true })
-put_in settings RepeatedIds = if settings.repeats_ids then None else Some (record settings { repeats_ids = true })
+put_in settings Listener = option_map (λ flag. record settings { listener = flag }) (raised settings.listener)
+put_in settings Invalidator = option_map (λ flag. record settings { invalidator = flag }) (raised settings.invalidator)
+put_in settings RepeatedIds = option_map (λ flag. record settings { repeats_ids = flag }) (raised settings.repeats_ids)
 put_in settings (Start now) = option_map (λ place. record settings { start = place }) (filled settings.start now)
 put_in settings (Keeper keeper) = option_map (λ place. record settings { keeper = place }) (filled settings.keeper keeper)
-put_in settings Auto = if settings.automatic then None else Some (record settings { automatic = true })
+put_in settings Auto = option_map (λ flag. record settings { automatic = flag }) (raised settings.automatic)

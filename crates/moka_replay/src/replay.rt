@@ -1,5 +1,5 @@
 //! Reads a script, makes its calls on a cache, and prints what comes of it.
-ghost use Rattle.std.specs.Prelude.{◌≡◌, option_copied, IfOk};
+ghost use Rattle.std.specs.Prelude.{◌≡◌, option_copied};
 ghost use Rattle.moka_replay.specs.Failure.{IsWritten};
 ghost use Rattle.moka_replay.specs.Notices.{told_of};
 ghost use Rattle.moka_replay.specs.Replay.{Reading, Answers, Ends, IsReplayed, IsPlayed, IsScriptRead, played_text, status_of_replies};

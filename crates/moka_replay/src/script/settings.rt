@@ -1,7 +1,7 @@
 //! The settings of a script.
 ghost use Rattle.std.specs.Prelude.{◌≡◌};
 ghost use Rattle.moka_replay.specs.Lex.{texts};
-ghost use Rattle.moka_replay.specs.Settings.{answer_of, ids_given, ids_of, keeper_of, policy_of, policy_named, question_named, rule_line, rule_of, setting_of};
+ghost use Rattle.moka_replay.specs.Settings.{answer_of, filled, raised, ids_given, ids_of, keeper_of, policy_of, policy_named, question_named, rule_line, rule_of, setting_of};
 
 use crate::first_ticket::FirstTicket;
 use crate::lex::{alone, lone_number, number, small_number};
@@ -71,61 +71,42 @@ impl Settings {
     }
 
     /// The settings with one more, unless it is there already.
-    pub fn with(self, setting: Setting) -> Option<Settings>
+    pub fn with(mut self, setting: Setting) -> Option<Settings>
         ensures { result ≡ put_in self setting }
     {
         match setting {
-            Setting::First(first) if self.first.is_none() => Some(Settings {
-                first: Some(first),
-                ..self
-            }),
-            Setting::Capacity(capacity) if self.capacity.is_none() => Some(Settings {
-                capacity: Some(capacity),
-                ..self
-            }),
-            Setting::Policy(policy) if self.policy.is_none() => Some(Settings {
-                policy: Some(policy),
-                ..self
-            }),
-            Setting::TimeToLive(nanos) if self.time_to_live.is_none() => Some(Settings {
-                time_to_live: Some(nanos),
-                ..self
-            }),
-            Setting::TimeToIdle(nanos) if self.time_to_idle.is_none() => Some(Settings {
-                time_to_idle: Some(nanos),
-                ..self
-            }),
-            Setting::Weigh(weigher) if self.weigher.is_none() => Some(Settings {
-                weigher: Some(weigher),
-                ..self
-            }),
-            Setting::Listener if !self.listener => Some(Settings {
-                listener: true,
-                ..self
-            }),
-            Setting::Invalidator if !self.invalidator => Some(Settings {
-                invalidator: true,
-                ..self
-            }),
-            Setting::RepeatedIds if !self.repeats_ids => Some(Settings {
-                repeats_ids: true,
-                ..self
-            }),
-            Setting::Start(now) if self.start.is_none() => Some(Settings {
-                start: Some(now),
-                ..self
-            }),
-            Setting::Keeper(keeper) if self.keeper.is_none() => Some(Settings {
-                keeper: Some(keeper),
-                ..self
-            }),
-            Setting::Auto if !self.automatic => Some(Settings {
-                automatic: true,
-                ..self
-            }),
-            _ => None,
+            Setting::First(first) => self.first = filled(self.first, first)?,
+            Setting::Capacity(capacity) => self.capacity = filled(self.capacity, capacity)?,
+            Setting::Policy(policy) => self.policy = filled(self.policy, policy)?,
+            Setting::TimeToLive(nanos) => self.time_to_live = filled(self.time_to_live, nanos)?,
+            Setting::TimeToIdle(nanos) => self.time_to_idle = filled(self.time_to_idle, nanos)?,
+            Setting::Weigh(weigher) => self.weigher = filled(self.weigher, weigher)?,
+            Setting::Listener => self.listener = raised(self.listener)?,
+            Setting::Invalidator => self.invalidator = raised(self.invalidator)?,
+            Setting::RepeatedIds => self.repeats_ids = raised(self.repeats_ids)?,
+            Setting::Start(now) => self.start = filled(self.start, now)?,
+            Setting::Keeper(keeper) => self.keeper = filled(self.keeper, keeper)?,
+            Setting::Auto => self.automatic = raised(self.automatic)?,
         }
+        Some(self)
     }
+}
+
+/// A place with a value, unless it has one already.
+fn filled<T: Copy>(place: Option<T>, value: T) -> Option<Option<T>>
+    ensures { result ≡ filled place value }
+{
+    match place {
+        None => Some(Some(value)),
+        Some(_) => None,
+    }
+}
+
+/// A flag that is raised, unless it is already.
+fn raised(flag: bool) -> Option<bool>
+    ensures { result ≡ raised flag }
+{
+    if flag { None } else { Some(true) }
 }
 
 /// A line that sets something.

@@ -1,4 +1,4 @@
-use Rattle.std.proofs.Common.{rules, arith, refl, sym, ap, subst, ◌∙◌, [], ◌∷◌, ◌++◌, append_assoc, append-nil, length}
+use Rattle.std.proofs.Common.{rules, arith, refl, sym, ap, ◌∙◌, [], ◌∷◌, ◌++◌, append_assoc, append-nil, length}
 use Rattle.std.specs.Vec.Iter.{into_iter_items}
 use Rattle.moka_parts.specs.State.{Meaning}
 use Rattle.moka_parts.specs.Runs.{PromisedRun, Step}
