@@ -55,21 +55,11 @@ module _ {K V : Type 0} where
         let at' : get old.places k ≡ Some p = subst (λ (s : Kept K V). get s.places k ≡ Some p) same at in
         (subst (λ (s : Kept K V). get s.records k ≡ None) same gone, λ _ e. (let there : get old.places n ≡ Some p = subst (λ m. get old.places m ≡ Some p) (sym (ap number_of e)) at' in away (there ∙ ap (λ q. Some q) (is_at p there))))
 
-    -- the number has a record again
-    pub rows-kept : (r : Record K V) → new.records ≡ old.records → get old.records n ≡ Some r → LeavesNoRowAfter (Removal n generation) old new
-    rows-kept r same there k p at gone =
-        let gone' = sym (ap (λ m. get m k) same) ∙ gone in
-        (gone', λ _ e. (let gone_too = ap (get old.records) (ap number_of e) in cc))
-
     -- its row is given back
     pub rows-forgotten : new.records ≡ old.records → new.places ≡ remove old.places n → LeavesNoRowAfter (Removal n generation) old new
     rows-forgotten same places k p at gone =
         let other = (after_remove old.places n k p (sym (ap (λ m. get m k) places) ∙ at)).0 in
         (sym (ap (λ m. get m k) same) ∙ gone, λ _ e. other (sym (ap number_of e)))
-
-  -- an upsert is no removal
-  pub rows-upsert : (old new : Kept K V) (o : Operation) → ((n generation : ℕ) → o ≢ Removal n generation) → LeavesNoRow old new → LeavesNoRowAfter o old new
-  rows-upsert old new o other h k p at gone = (h k p at gone, other k)
 
   -- no operation
   pub rows-none : (k : Kept K V) → LeavesNoRowBy [] k k

@@ -394,10 +394,6 @@ module _ {K V X P W L C : Type 0} {tells : L → K → V → RemovalCause → L 
   pub run_keeps_listening : is_some n ≡ is_some l
   run_keeps_listening = told_same tells m n (left_by_steps (stock_of c ms) ran.by.steps) ran.by.told ∙ told_same tells l m (left_by_writes s.capacity s.settings.policy b s.writes applied.moves) applied.told
 
-  -- afterwards only what was not sent waits
-  pub run_leaves_consistent : IsConsistentState (with_contents s d qs)
-  run_leaves_consistent = end_consistent s simple terms q by_state applied_to_state sketched ran_by_terms
-
   -- where no record has an expiry of its own, none has one
   pub run_leaves_lasting : ((k : ℕ) (r : Record K V) → get s.records k ≡ Some r → r.expires ≡ None) → (k : ℕ) (r : Record K V) → get d.records k ≡ Some r → r.expires ≡ None
   run_leaves_lasting = end_lasting s simple terms q by_state applied_to_state sketched ran_by_terms

@@ -152,10 +152,6 @@ module _ {K V : Type 0} where
   stands-moved old new k timed records counted timers stands kept p there is_in =
       ap (λ m. get m k) timers ∙ stands (sym timed ∙ kept) p (sym (ap (λ m. get m k) records) ∙ there) (sym (ap is_some counted) ∙ is_in)
 
-  -- no member has no timer to stand anywhere
-  pub stands-outside : (k : Kept K V) (n : ℕ) → is_member n k.access ≡ false → StandsAtExpiry n k
-  stands-outside k n out kept p there is_in = absurd (true≢false (sym is_in ∙ out))
-
 -- ---- what is past its own expiry
 
 module _ {K V : Type 0} where

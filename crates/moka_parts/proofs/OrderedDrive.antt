@@ -114,9 +114,6 @@ module _ {K V X L P W C I : Type 0} (m : Meaning K V X L P W C I) where
             | inr as_before ↦ subst (λ ns. IsListedIn s.settings ns x.after) (sym (step.1 as_before.0)) as_before.1
           ]
 
-      pub listed_keeps_order : KeepsOrder s before x.call x.after after
-      listed_keeps_order kept orderly order = (listed_call_ends orderly (λ k. order)).1 kept
-
   -- their runs keep their promises
   pub listed_steps_promised : (s : State K V X P W) (before last : List ℕ) (xs : List (Step K V X P W)) → AreListedSteps m s before xs last → AreSteps m (PromisedRun m.says m.read) s xs
   listed_steps_promised s before last [] done = tt

@@ -131,7 +131,3 @@ module _ {K V : Type 0} where
   pub choices_listed : (c : Contents K V) (ns : List ℕ) (xs : List Choice) → IsListOf c.access ns → IsListOf (after_choices c xs).access (written_after_choices ns xs)
   choices_listed c ns [] h = h
   choices_listed c ns (x ∷ xs) h = choices_listed (after_choice c x) (written_after_choice ns x) xs (choice_listed c ns x h)
-
--- a run by whatever choices
-pub run_listed : {K V X P W : Type 0} (s : State K V X P W) (ns : List ℕ) (ch : Freedom) → keeps_write_list s.settings ≡ true → IsWriteList s ns → IsWriteList (after_run s ch) (write_list_at_end s ns ch)
-run_listed s ns ch kept h = rw kept (choices_listed _ _ ch.steps (writes_listed s.capacity s.settings.policy (after_queued_reads s) ns s.writes ch.moves (reads_listed (contents s) ns s.reads h)))

@@ -18,16 +18,6 @@ use Rattle.moka_parts.specs.Listed.{LeavesList, ListedRun}
 use Rattle.moka_parts.proofs.AtEnd.{bare_is_exact}
 use Rattle.moka_parts.proofs.Maps.{nothing_at}
 
--- where no write list is kept, a run that keeps its promises leaves any list as it is
-pub promised_is_listed : {K V X P W : Type 0} (says : P → K → V → Bool → Type 0) (read : X → K → V → ℕ → Option ℕ → ℕ → Option ℕ) (ns : List ℕ) (s : State K V X P W) (terms : Terms) (course : Course) (notices : List (Notice K V)) (t : State K V X P W) →
-    keeps_write_list s.settings ≡ false → PromisedRun says read s terms course notices t → ListedRun says read ns ns s terms course notices t
-promised_is_listed says read ns s terms course notices t none run = (go (is_disabled s.capacity) run.0, (run.1, λ off. refl))
-  where
-    go : (b : Bool) → MatchBool b (DoesNothing s course notices t) ((ch : Freedom) × RunsBy says s terms ch course notices t × IsBounded s terms ch course) →
-        MatchBool b (DoesNothing s course notices t) ((ch : Freedom) × RunsBy says s terms ch course notices t × (IsBounded s terms ch course × LeavesList ns ns s terms ch course))
-    go true nothing = nothing
-    go false (ch, by, bounded) = (ch, by, (bounded, record { list = λ kept. absurd (true≢false (sym kept ∙ none)); rests = λ whole all kept. absurd (true≢false (sym kept ∙ none)) }))
-
 -- a run with all that is promised of it, from one write list to the other, and what listener and clock go through
 pub record IsPromised {K V X P W L C : Type 0} (says : P → K → V → Bool → Type 0) (read : X → K → V → ℕ → Option ℕ → ℕ → Option ℕ) (tells : L → K → V → RemovalCause → L → Type 0) (reads : C → Instant → C → Type 0)
     (before after : List ℕ) (s : State K V X P W) (terms : Terms) (answer : Bool) (passes : ℕ) (t : State K V X P W) (l m : Option L) (clock clock_after : C) : Type 0 where

@@ -53,7 +53,3 @@ module _ {K V P : Type 0} (says : P → K → V → Bool → Type 0) (ps : List 
   -- none of them covers the record, so one does not
   pub not_one_covers : (p : Registered P) (r : Record K V) → NoneCovers says ps r → Contains ps p → Covers says p r → ⊥
   not_one_covers p r none there = All-contains (λ p. Covers says p r → ⊥) ps p (all_uncovering ps r none) there
-
-  -- a whole round over records that are all settled and listed: each predicate covers nothing
-  pub covers_nothing : (c : Contents K V) (numbers : List ℕ) → AreUncovered says ps c.records numbers → ((n : ℕ) (r : Record K V) → get c.records n ≡ Some r → (is_applied r ≡ true) × (is_listed n numbers ≡ true)) → (p : Registered P) → Contains ps p → CoversNothing says c p
-  covers_nothing c numbers h all p there n r at covers = let a = all n r at in not_one_covers p r (h.settled n r a.1 at a.0) there covers

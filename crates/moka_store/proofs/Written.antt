@@ -123,13 +123,6 @@ module _ {K V : Type 0} (rows : List (Option (Row (Record K V)))) (nodes : List 
       | inr s ↦ ap (option_map (λ (m : ℕ × ℕ). number_at rows m.1)) (is ∙ ap (option_map (λ (slot : ℕ). (slot, place))) s.1) ∙ ap Some (number-of rows place row at_is)
     ]
 
-    -- the row's node is there
-    pub node-there : (node : Option (ℕ × ℕ)) → node ≡ option_map (λ slot. (slot, place)) (written_in row) → IfSome node (λ m. lookup (nat_eq m.0) nodes ≡ Some m.1)
-    node-there node is = elim (option-cases (written_in row)) as (λ _. IfSome node (λ m. lookup (nat_eq m.0) nodes ≡ Some m.1)) [
-      | inl none ↦ subst (λ o. IfSome o (λ m. lookup (nat_eq m.0) nodes ≡ Some m.1)) (sym (is ∙ ap (option_map (λ (slot : ℕ). (slot, place))) none)) tt
-      | inr s ↦ subst (λ o. IfSome o (λ m. lookup (nat_eq m.0) nodes ≡ Some m.1)) (sym (is ∙ ap (option_map (λ (slot : ℕ). (slot, place))) s.1)) (node-of written_in rows nodes l place row at_is s.0 s.1)
-    ]
-
   -- the cursor's number
   pub cursor-none : cursor_of rows None ≡ None
   unfolding cursor_of
