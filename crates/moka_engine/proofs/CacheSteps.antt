@@ -16,15 +16,15 @@ use Rattle.moka_engine.proofs.Stocked.{stocked-roomier}
 use Rattle.moka_engine.specs.Interior.{Interior}
 
 -- the state with this inner part
-abbrev pub with_inner : {K V X P W : Type 0} → State K V X P W → Interior K V → State K V X P W
+abbrev pub with_inner : {K V X P W S : Type 0} → State K V X P W → Interior K V S → State K V X P W
 with_inner s i = record s { records = i.kept.records; outstanding = i.outstanding; writes = i.writes; reads = i.reads; access = i.kept.access; sketch = i.sketch; next_ticket = i.next_ticket; next_number = i.next_number }
 
 -- the inner part with no room
-abbrev pub without_room : {K V : Type 0} → Interior K V → Interior K V
+abbrev pub without_room : {K V S : Type 0} → Interior K V S → Interior K V S
 without_room i = record i { kept = record i.kept { room = 0 }; operation_room = 0 }
 
 -- room is nothing that the state has
-pub inside-roomier : {K V X P W : Type 0} (s : State K V X P W) (i j : Interior K V) → with_inner s i ≡ s → without_room j ≡ without_room i → with_inner s j ≡ s
+pub inside-roomier : {K V X P W S : Type 0} (s : State K V X P W) (i j : Interior K V S) → with_inner s i ≡ s → without_room j ≡ without_room i → with_inner s j ≡ s
 inside-roomier s i j inside same = ap (with_inner s) same ∙ inside
 
 -- ---- the listener
@@ -51,13 +51,13 @@ pub befalls-listed : {K V S X L P W : Type 0} (tells : L → K → V → Removal
 befalls-listed tells c t ns same = record { kept = refl; heard = nothing_heard tells c.listener; passes = refl; listed = λ none. same }
 
 -- room is nothing that the order of writing has
-pub list-roomier : {K V : Type 0} (i j : Interior K V) → without_room j ≡ without_room i → j.kept.written ≡ i.kept.written
-list-roomier {K} {V} i j same = ap (λ (x : Interior K V). x.kept.written) same
+pub list-roomier : {K V S : Type 0} (i j : Interior K V S) → without_room j ≡ without_room i → j.kept.written ≡ i.kept.written
+list-roomier {K} {V} i j same = ap (λ (x : Interior K V _). x.kept.written) same
 
 -- nor have the timers
-pub stocked-room : {K V X W : Type 0} {read : X → K → V → ℕ → Option ℕ → ℕ → Option ℕ} {settings : Settings X W} (i j : Interior K V) → without_room j ≡ without_room i → IsStocked read settings i.kept → IsStocked read settings j.kept
+pub stocked-room : {K V X W S : Type 0} {read : X → K → V → ℕ → Option ℕ → ℕ → Option ℕ} {settings : Settings X W} (i j : Interior K V S) → without_room j ≡ without_room i → IsStocked read settings i.kept → IsStocked read settings j.kept
 stocked-room {read = read} {settings = settings} i j same h =
-    stocked-roomier (subst (λ (x : Interior _ _). IsStocked read settings x.kept) (sym same) (stocked-roomier h 0)) j.kept.room
+    stocked-roomier (subst (λ (x : Interior _ _ _). IsStocked read settings x.kept) (sym same) (stocked-roomier h 0)) j.kept.room
 
 -- ---- expiries
 
@@ -77,7 +77,7 @@ module _ {K V : Type 0} (records : Records K V) (none : NoneExpires records) whe
 
 module _ {K V X L P W : Type 0} {eq : K → K → Bool} {l : Option L} {s : State K V X P W} (h : IsCache eq l s) where
   -- another inner part, whose records do not expire either without an expiry, and whoever listens
-  pub cache-inner : (m : Option L) (j : Interior K V) → is_some m ≡ is_some l → IsValid eq (with_inner s j) → (s.settings.expiry ≡ None → NoneExpires j.kept.records) → IsCache eq m (with_inner s j)
+  pub cache-inner : {S : Type 0} → (m : Option L) (j : Interior K V S) → is_some m ≡ is_some l → IsValid eq (with_inner s j) → (s.settings.expiry ≡ None → NoneExpires j.kept.records) → IsCache eq m (with_inner s j)
   cache-inner m j same valid none = record {
     valid = valid;
     served = record {
@@ -87,7 +87,7 @@ module _ {K V X L P W : Type 0} {eq : K → K → Bool} {l : Option L} {s : Stat
     listens = h.listens ∙ sym same;
   }
 
-  module _ (i : Interior K V) (inside : with_inner s i ≡ s) where
+  module _ {S : Type 0} (i : Interior K V S) (inside : with_inner s i ≡ s) where
     -- without an expiry none of the inner part's records expires
     pub unexpiring-inside : s.settings.expiry ≡ None → NoneExpires i.kept.records
     unexpiring-inside none = subst (λ (t : State K V X P W). NoneExpires t.records) (sym inside) (h.served.unexpiring none)

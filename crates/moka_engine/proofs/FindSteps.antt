@@ -18,7 +18,7 @@ pub ignores_nothing : {V I : Type 0} (asks : I → V → Bool → I → Type 0) 
 ignores_nothing asks never before after None ignored asked = asked.0
 ignores_nothing asks never before after (Some value) ignored asked = never before value ignored after asked
 
-module _ {K V X I P : Type 0} (asks : I → V → Bool → I → Type 0) (eq : K → K → Bool) (kept : Kept K V) (x : Expirations X) (bound : Option Instant) (says : P → K → V → Bool → Type 0) (predicates : List (Registered P)) (key : K) (now : ℕ) where
+module _ {K V X I P S : Type 0} (asks : I → V → Bool → I → Type 0) (eq : K → K → Bool) (kept : Kept K V S) (x : Expirations X) (bound : Option Instant) (says : P → K → V → Bool → Type 0) (predicates : List (Registered P)) (key : K) (now : ℕ) where
   -- a look-up of the key: what the caller's test answered, and what was found
   abbrev pub FindsUnless : I → I → Option (Handle × Record K V) → Type 0
   FindsUnless before after found = (ignored : Bool) × IsAskedOnce asks (Some before) (value_of (record_of_key eq kept.records key)) ignored (Some after) × Finds eq kept x bound says predicates key ignored now found

@@ -99,42 +99,42 @@ module _ {K V X P W : Type 0} (says : P → K → V → Bool → Type 0) (read :
 
 -- ---- steps of the inner part
 
-module _ {K V X P W : Type 0} (s : State K V X P W) (i : Interior K V) (inside : with_inner s i ≡ s) where
+module _ {K V X P W S : Type 0} (s : State K V X P W) (i : Interior K V S) (inside : with_inner s i ≡ s) where
   -- a read is queued
-  pub reads_queued : (j : Interior K V) (read : ReadOperation) → j ≡ record i { reads = if nat_lt (length i.reads) queue_length then i.reads ++ read ∷ [] else i.reads } → with_inner s j ≡ queueing s read
+  pub reads_queued : (j : Interior K V S) (read : ReadOperation) → j ≡ record i { reads = if nat_lt (length i.reads) queue_length then i.reads ++ read ∷ [] else i.reads } → with_inner s j ≡ queueing s read
   reads_queued j read step = ap (with_inner s) step ∙ ap (λ t. queueing t read) inside
 
   -- a record is read
   pub record_read : (read : X → K → V → ℕ → Option ℕ → ℕ → Option ℕ) (n : ℕ) (r : Record K V) → r.number ≡ n → (now : ℕ) (at : Instant) (expires : Option Instant) (is_renewed : Bool) → Touches read (expirations_of s.settings) r now at.0 expires is_renewed
-      → (j : Interior K V) → j ≡ record i { kept = j.kept } → j.kept ≡ record i.kept { records = insert i.kept.records n (record r { read = at; expires = expires }) } → with_inner s j ≡ after_hit read s r now
+      → (j : Interior K V S) → j ≡ record i { kept = j.kept } → j.kept ≡ record i.kept { records = insert i.kept.records n (record r { read = at; expires = expires }) } → with_inner s j ≡ after_hit read s r now
   record_read read n r number now at expires is_renewed t j rest kept =
       let here : with_inner s (record i { kept = record i.kept { records = insert i.kept.records n (record r { read = at; expires = expires }) } }) ≡ record (with_inner s i) { records = with_record (with_inner s i).records (record r { read = at; expires = expires }) } = rw number refl in
-      ap (with_inner s) (rest ∙ ap (λ (k : Kept K V). record i { kept = k }) kept) ∙ here
+      ap (with_inner s) (rest ∙ ap (λ (k : Kept K V S). record i { kept = k }) kept) ∙ here
       ∙ ap (λ (u : State K V X P W). record u { records = with_record u.records (record r { read = at; expires = expires }) }) inside
       ∙ ap (λ (q : Record K V). record s { records = with_record s.records q }) (record_is read s r now at expires is_renewed t)
 
 -- a record that was found and read is located
-pub located-read : {K V X L P W : Type 0} {eq : K → K → Bool} {l : Option L} {s : State K V X P W} (h : IsCache eq l s) (i : Interior K V) (inside : with_inner s i ≡ s) (n place : ℕ) (r : Record K V) → get i.kept.records n ≡ Some r → get i.kept.places n ≡ Some place
-    → (q : Record K V) (mid : Interior K V) → mid ≡ record i { kept = mid.kept } → mid.kept ≡ record i.kept { records = insert i.kept.records n q } → IsLocated mid.kept.places mid.next_number n place
+pub located-read : {K V X L P W S : Type 0} {eq : K → K → Bool} {l : Option L} {s : State K V X P W} (h : IsCache eq l s) (i : Interior K V S) (inside : with_inner s i ≡ s) (n place : ℕ) (r : Record K V) → get i.kept.records n ≡ Some r → get i.kept.places n ≡ Some place
+    → (q : Record K V) (mid : Interior K V S) → mid ≡ record i { kept = mid.kept } → mid.kept ≡ record i.kept { records = insert i.kept.records n q } → IsLocated mid.kept.places mid.next_number n place
 located-read {K} {V} h i inside n place r there placed q mid rest kept =
     let given = (number-inside h i inside n r there).1 in
     let next = ap (λ (t : State _ _ _ _ _). t.next_number) inside in
-    let next_so = ap (λ (j : Interior K V). j.next_number) rest in
-    let places = ap (λ (k : Kept K V). get k.places n) kept in
+    let next_so = ap (λ (j : Interior K V _). j.next_number) rest in
+    let places = ap (λ (k : Kept K V _). get k.places n) kept in
     record { given = omega arith; at = λ p at. cc }
 
 -- ---- what always holds
 
-module _ {K V X L P W : Type 0} {eq : K → K → Bool} {l : Option L} {s : State K V X P W} (h : IsCache eq l s) (i : Interior K V) (inside : with_inner s i ≡ s) where
+module _ {K V X L P W S : Type 0} {eq : K → K → Bool} {l : Option L} {s : State K V X P W} (h : IsCache eq l s) (i : Interior K V S) (inside : with_inner s i ≡ s) where
   -- after a read was queued
-  pub cache-queued : (read : ReadOperation) (j : Interior K V) → j ≡ record i { reads = if nat_lt (length i.reads) queue_length then i.reads ++ read ∷ [] else i.reads } → IsCache eq l (with_inner s j)
+  pub cache-queued : (read : ReadOperation) (j : Interior K V S) → j ≡ record i { reads = if nat_lt (length i.reads) queue_length then i.reads ++ read ∷ [] else i.reads } → IsCache eq l (with_inner s j)
   cache-queued read j step =
       cache-inner h l j refl (subst (IsValid eq) (sym (reads_queued s i inside j read step)) (valid_with eq s (queueing s read).reads s.invalid_before s.predicates s.housekeeping h.valid))
-      (λ none. subst (λ (x : Interior K V). NoneExpires x.kept.records) (sym step) (unexpiring-inside h i inside none))
+      (λ none. subst (λ (x : Interior K V S). NoneExpires x.kept.records) (sym step) (unexpiring-inside h i inside none))
 
   module _ (says : P → K → V → Bool → Type 0) (read : X → K → V → ℕ → Option ℕ → ℕ → Option ℕ) (key : K) (n : ℕ) (r : Record K V) (there : get i.kept.records n ≡ Some r) (found : record_of_key eq i.kept.records key ≡ Some r)
       (now : ℕ) (at : Instant) (expires : Option Instant) (is_renewed : Bool) (t : Touches read (expirations_of s.settings) r now at.0 expires is_renewed)
-      (j : Interior K V) (rest : j ≡ record i { kept = j.kept }) (kept : j.kept ≡ record i.kept { records = insert i.kept.records n (record r { read = at; expires = expires }) }) where
+      (j : Interior K V S) (rest : j ≡ record i { kept = j.kept }) (kept : j.kept ≡ record i.kept { records = insert i.kept.records n (record r { read = at; expires = expires }) }) where
     -- after a record was read
     pub cache-touched : IsCache eq l (with_inner s j)
     cache-touched =
@@ -143,7 +143,7 @@ module _ {K V X L P W : Type 0} {eq : K → K → Bool} {l : Option L} {s : Stat
         cache-inner h l j refl (subst (IsValid eq) (sym (record_read s i inside read n r number now at expires is_renewed t j rest kept)) valid)
         (λ none.
         let lasts = lasts_on read s r now at expires is_renewed t none (unexpiring-inside h i inside none n r there) in
-        subst (λ (k : Kept K V). NoneExpires k.records) (sym kept) (unexpiring-inserted i.kept.records (unexpiring-inside h i inside none) n (record r { read = at; expires = expires }) lasts))
+        subst (λ (k : Kept K V S). NoneExpires k.records) (sym kept) (unexpiring-inserted i.kept.records (unexpiring-inside h i inside none) n (record r { read = at; expires = expires }) lasts))
 
     -- with its store
     pub stocked-read : IsStocked read s.settings i.kept → IsStocked read s.settings j.kept
@@ -155,7 +155,7 @@ module _ {K V X L P W : Type 0} {eq : K → K → Bool} {l : Option L} {s : Stat
     pub number-read : IsEquivalence eq → option_map (λ (x : Record K V). x.number) (record_of_key eq (with_inner s j).records key) ≡ Some n
     number-read laws =
         let q : Record K V = record r { read = at; expires = expires } in
-        let here : get (with_inner s j).records n ≡ Some q = ap (λ (k : Kept K V). get k.records n) kept ∙ get_inserted i.kept.records n q in
+        let here : get (with_inner s j).records n ≡ Some q = ap (λ (k : Kept K V S). get k.records n) kept ∙ get_inserted i.kept.records n q in
         let asked = (record_of_key_found eq s.records key r (key-inside h i inside key (Some r) found)).2 in
         ap (option_map (λ (x : Record K V). x.number)) (present_key eq (with_inner s j).records key laws cache-touched.valid.numbered.numbered.one_each n q here asked) ∙ ap Some (number-inside h i inside n r there).0
 
@@ -184,7 +184,7 @@ module _ {K V S X L P W C : Type 0} (says : P → K → V → Bool → Type 0) (
   pub get_finds_nothing : is_disabled old.state.capacity ≡ true → Gets now (Ok None) now clock
   get_finds_nothing disabled = subst (λ c. Gets c (Ok None) c clock) is (no_events, rw disabled (refl, (refl, refl)), befalls-quietly tells old old.state, refl)
 
-  module _ {l : Option L} (h : IsCache eq l old.state) (enabled : is_disabled old.state.capacity ≡ false) (i : Interior K V) (inside : with_inner old.state i ≡ old.state) where
+  module _ {l : Option L} (h : IsCache eq l old.state) (enabled : is_disabled old.state.capacity ≡ false) (i : Interior K V S) (inside : with_inner old.state i ≡ old.state) where
     -- of nothing visible, with what recording the read does
     pub get_misses : ((r : Record K V) → record_of_key eq i.kept.records key ≡ Some r → IsMissed says old.state ignored r moment.0) → {new : Cache K V S X L P W} {after : C}
         → Records moment (Miss hash) now new after → Gets now (Ok None) new after
@@ -199,7 +199,7 @@ module _ {K V S X L P W C : Type 0} (says : P → K → V → Bool → Type 0) (
       found_in_state = key-inside h i inside key (Some r) found
 
       module _ (at : Instant) (expires : Option Instant) (is_renewed : Bool) (t : Touches read (expirations_of old.state.settings) r moment.0 at.0 expires is_renewed)
-          (mid : Interior K V) (rest : mid ≡ record i { kept = mid.kept }) (kept : mid.kept ≡ record i.kept { records = insert i.kept.records n (record r { read = at; expires = expires }) }) where
+          (mid : Interior K V S) (rest : mid ≡ record i { kept = mid.kept }) (kept : mid.kept ≡ record i.kept { records = insert i.kept.records n (record r { read = at; expires = expires }) }) where
         -- the cache with the record noted as read
         abbrev noted : Cache K V S X L P W
         noted = record old { state = with_inner old.state mid; write_list = mid.kept.written }
@@ -210,7 +210,7 @@ module _ {K V S X L P W C : Type 0} (says : P → K → V → Bool → Type 0) (
         -- of what is visible, with what recording the read does
         pub get_hits : i.kept.written ≡ old.write_list → (entry : Entry K V) → entry.value ≡ r.value → entry.key ≡ (if need_key then Some r.key else None) → {new : Cache K V S X L P W} {after : C} → Records at (Hit n r.hash is_renewed) noted new after → Gets now (Ok (Some entry)) new after
         get_hits listed entry value own {new} {after} made =
-            let same : mid.kept.written ≡ old.write_list = ap (λ (k : Kept K V). k.written) kept ∙ listed in
+            let same : mid.kept.written ≡ old.write_list = ap (λ (k : Kept K V S). k.written) kept ∙ listed in
             let recorded = subst (λ ns. Records at (Hit n r.hash is_renewed) (record old { state = with_inner old.state mid; write_list = ns }) new after) same made in
             let e = recorded.0 in
             let hit_there : RecordsRead (Runs old.write_list) (after_hit read old.state r moment.0) at.0 (Hit n r.hash is_renewed) e new.state = subst (λ s. RecordsRead (Runs old.write_list) s at.0 (Hit n r.hash is_renewed) e new.state) touched recorded.1 in
@@ -222,9 +222,9 @@ module _ {K V S X L P W C : Type 0} (says : P → K → V → Bool → Type 0) (
             subst (λ c. Gets c (Ok (Some entry)) new after) is (e, hit says read (Runs old.write_list) eq old.state enabled key hash need_key ignored moment.0 r found_in_state accepted shown uncovered entry value own e new.state hit_so, befalls, recorded.3)
 
         -- where no run is due the read is only queued
-        pub queues_read : is_due old.state.housekeeping (length mid.reads) at.0 ≡ false → (j : Interior K V) (operation : ReadOperation) → j ≡ record mid { reads = if nat_lt (length mid.reads) queue_length then mid.reads ++ operation ∷ [] else mid.reads }
+        pub queues_read : is_due old.state.housekeeping (length mid.reads) at.0 ≡ false → (j : Interior K V S) (operation : ReadOperation) → j ≡ record mid { reads = if nat_lt (length mid.reads) queue_length then mid.reads ++ operation ∷ [] else mid.reads }
             → Records at operation noted (record old { state = with_inner old.state j; write_list = j.kept.written }) clock
-        queues_read due j operation step = (no_events, (noted.state, rw due (refl, refl), reads_queued noted.state mid refl j operation step), befalls-listed tells noted (with_inner old.state j) j.kept.written (ap (λ (x : Interior K V). x.kept.written) step), refl)
+        queues_read due j operation step = (no_events, (noted.state, rw due (refl, refl), reads_queued noted.state mid refl j operation step), befalls-listed tells noted (with_inner old.state j) j.kept.written (ap (λ (x : Interior K V S). x.kept.written) step), refl)
 
       -- of what cannot be cloned
       pub get_refused : (err : OutOfMemory) → Gets now (Err err) now clock

@@ -145,7 +145,7 @@ module _ {X : Type 0} (m : FinMap nat_cmp X) (n : ℕ) where
 
 -- ---- one change each
 
-module _ {K V : Type 0} (kept after : Kept K V) (out handed : Pending PlacedWrite) (writes : Buffer QueuedWrite) (reads : Buffer QueuedRead) (t n : ℕ) (h : IsInner kept out writes reads t n) where
+module _ {K V S : Type 0} (kept after : Kept K V S) (out handed : Pending PlacedWrite) (writes : Buffer QueuedWrite) (reads : Buffer QueuedRead) (t n : ℕ) (h : IsInner kept out writes reads t n) where
   -- a new record with its operation
   pub inner-inserted : (r : Record K V) (w : PlacedWrite) → after.records ≡ insert kept.records n r → after.places ≡ insert kept.places n w.place → handed.items ≡ insert out.items t w → r.generation ≡ 1 → number_of w.operation ≡ n → t + len kept.records + 1 < 2 ^ 64 → len kept.records + 1 ≤ handed.room → IsInner after handed writes reads (t + 1) (n + 1)
   inner-inserted r w records places items generation number tickets room =
@@ -260,7 +260,7 @@ module _ {K V : Type 0} (kept after : Kept K V) (out handed : Pending PlacedWrit
         read_queue = (let e = h.read_queue in (e.0, omega arith));
       }
 
-module _ {K V : Type 0} (kept : Kept K V) (out left : Pending PlacedWrite) (writes : Buffer QueuedWrite) (reads : Buffer QueuedRead) (t n : ℕ) (h : IsInner kept out writes reads t n) where
+module _ {K V S : Type 0} (kept : Kept K V S) (out left : Pending PlacedWrite) (writes : Buffer QueuedWrite) (reads : Buffer QueuedRead) (t n : ℕ) (h : IsInner kept out writes reads t n) where
   -- an operation that is not there is taken
   pub inner-unsent : (ticket : ℕ) → get out.items ticket ≡ None → left.items ≡ remove out.items ticket → out.room ≤ left.room → IsInner kept left writes reads t n
   inner-unsent ticket none items room =
@@ -336,7 +336,7 @@ module _ {K V : Type 0} (kept : Kept K V) (out left : Pending PlacedWrite) (writ
   })
 
 -- with no record and nothing waiting
-pub inner-new : {K V : Type 0} (kept : Kept K V) (out : Pending PlacedWrite) (writes : Buffer QueuedWrite) (reads : Buffer QueuedRead) (t : ℕ) → kept.records ≡ empty → kept.places ≡ empty → out.items ≡ empty → writes ≡ buffer [] queue_length → reads ≡ buffer [] queue_length → 1 ≤ t → t ≤ 2 ^ 64 → IsInner kept out writes reads t 1
+pub inner-new : {K V S : Type 0} (kept : Kept K V S) (out : Pending PlacedWrite) (writes : Buffer QueuedWrite) (reads : Buffer QueuedRead) (t : ℕ) → kept.records ≡ empty → kept.places ≡ empty → out.items ≡ empty → writes ≡ buffer [] queue_length → reads ≡ buffer [] queue_length → 1 ≤ t → t ≤ 2 ^ 64 → IsInner kept out writes reads t 1
 inner-new {K} {V} kept out writes reads t records places items no_writes no_reads first last =
     let e = ap len records ∙ len-empty nat_cmp (Record K V) in
     rw (no_writes, no_reads) (record {

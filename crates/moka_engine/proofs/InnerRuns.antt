@@ -28,9 +28,9 @@ use Rattle.moka_engine.proofs.InnerLemmas.{inner-left}
 nothing_in : {A : Type 0} (q : A) → Contains [] q → ⊥
 nothing_in q h = (let lt = h.1 in omega arith)
 
-module _ {K V L : Type 0} (tells : L → K → V → RemovalCause → L → Type 0) (kept after : Kept K V) (out : Pending PlacedWrite) (writes : Buffer QueuedWrite) (reads : Buffer QueuedRead) (t n : ℕ) (h : IsInner kept out writes reads t n) (l m : Option L) where
+module _ {K V L S : Type 0} (tells : L → K → V → RemovalCause → L → Type 0) (kept after : Kept K V S) (out : Pending PlacedWrite) (writes : Buffer QueuedWrite) (reads : Buffer QueuedRead) (t n : ℕ) (h : IsInner kept out writes reads t n) (l m : Option L) where
   -- both queues were applied
-  pub inner-applied : (capacity : Option ℕ) (policy : EvictionPolicy) (sketch : Option Table) (mid : Kept K V) → mid.records ≡ kept.records → mid.places ≡ kept.places → AreApplied tells capacity policy mid.ordered (contents_with sketch mid) (contents_with sketch after) mid.written after.written (writes_of writes.items) l m
+  pub inner-applied : (capacity : Option ℕ) (policy : EvictionPolicy) (sketch : Option Table) (mid : Kept K V S) → mid.records ≡ kept.records → mid.places ≡ kept.places → AreApplied tells capacity policy mid.ordered (contents_with sketch mid) (contents_with sketch after) mid.written after.written (writes_of writes.items) l m
       → AddsNoPlace mid after → LeavesNoRowBy (writes_of writes.items) mid after → IsInner after out (buffer [] writes.capacity) (buffer [] reads.capacity) t n
   inner-applied capacity policy sketch mid records places applied fewer rows =
       let keeps : Keeps mid.records after.records = subst (λ (c : Contents K V). Keeps mid.records c.records) (sym applied.led) (keeps_writes capacity policy (contents_with sketch mid) (writes_of writes.items) applied.moves) in

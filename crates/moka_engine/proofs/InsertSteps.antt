@@ -62,7 +62,7 @@ module _ {K V X P W : Type 0} (created : X → K → V → ℕ → Option ℕ) (
   ExpiresUpdated s r key value now expires = expires ≡ expires_updated created updating (expiring_by (expirations_of s.settings)) s.settings.expiry key value (record r { written = now; read = now }) now.0
 
   -- the state with the new value
-  replaces : (s : State K V X P W) (i j : Interior K V) (inside : with_inner s i ≡ s) (r : Record K V) (n : ℕ) → r.number ≡ n → (key : K) (hash : ℕ) (value : V) (now : Instant) (w : ℕ) (expires : Option Instant) → ExpiresUpdated s r key value now expires
+  replaces : {S : Type 0} → (s : State K V X P W) (i j : Interior K V S) (inside : with_inner s i ≡ s) (r : Record K V) (n : ℕ) → r.number ≡ n → (key : K) (hash : ℕ) (value : V) (now : Instant) (w : ℕ) (expires : Option Instant) → ExpiresUpdated s r key value now expires
       → j ≡ handing_out_inside i (insert i.kept.records n (updated (record { value = value; now = now; expires = expires; weight = w }) r)) (Upsert n (r.generation + 1) w hash) j
       → with_inner s j ≡ replaced created updating s r key hash value now w
   replaces s i j inside r n number key hash value now w expires is step =
@@ -74,7 +74,7 @@ module _ {K V X P W : Type 0} (created : X → K → V → ℕ → Option ℕ) (
       ∙ ap (λ (e : Option Instant). handing_out (record s { records = with_record s.records (updated (record { value = value; now = now; expires = e; weight = w }) r) }) (Upsert r.number (r.generation + 1) w hash)) so
 
   -- the state with a new record
-  inserts : (s : State K V X P W) (i j : Interior K V) (inside : with_inner s i ≡ s) (key : K) (hash : ℕ) (value : V) (now : Instant) (w : ℕ) (expires : Option Instant) → expires ≡ expires_at_first created s.settings.expiry key value now.0
+  inserts : {S : Type 0} → (s : State K V X P W) (i j : Interior K V S) (inside : with_inner s i ≡ s) (key : K) (hash : ℕ) (value : V) (now : Instant) (w : ℕ) (expires : Option Instant) → expires ≡ expires_at_first created s.settings.expiry key value now.0
       → j ≡ record (handing_out_inside i (with_record i.kept.records (first_record i.next_number key hash (record { value = value; now = now; expires = expires; weight = w }))) (Upsert i.next_number 1 w hash) j) { next_number = i.next_number + 1 }
       → with_inner s j ≡ inserted created updating s key hash value now w
   inserts s i j inside key hash value now w expires is step =
@@ -82,7 +82,7 @@ module _ {K V X P W : Type 0} (created : X → K → V → ℕ → Option ℕ) (
       ∙ ap (λ (e : Option Instant). with_inner s (record (handing_out_inside i (with_record i.kept.records (first_record i.next_number key hash (record { value = value; now = now; expires = e; weight = w }))) (Upsert i.next_number 1 w hash) j) { next_number = i.next_number + 1 })) is
       ∙ ap (λ t. inserted created updating t key hash value now w) inside
 
-module _ {K V X L P W : Type 0} {eq : K → K → Bool} {l : Option L} {s : State K V X P W} (h : IsCache eq l s) (before : Interior K V) (inside_before : with_inner s before ≡ s) (i j : Interior K V) (rooms : without_room i ≡ without_room before) where
+module _ {K V X L P W S : Type 0} {eq : K → K → Bool} {l : Option L} {s : State K V X P W} (h : IsCache eq l s) (before : Interior K V S) (inside_before : with_inner s before ≡ s) (i j : Interior K V S) (rooms : without_room i ≡ without_room before) where
   -- room was made
   inside : with_inner s i ≡ s
   inside = inside-roomier s before i inside_before rooms
@@ -97,7 +97,7 @@ module _ {K V X L P W : Type 0} {eq : K → K → Bool} {l : Option L} {s : Stat
       (subst (IsValid eq) (sym (replaces created updating s i j inside r n (number-inside h before inside_before n r there).0 key hash value now w expires is step)) valid)
       (λ none.
       let lasts = is ∙ lasts_updated created updating s.settings s.settings.expiry none key value (record r { written = now; read = now }) now.0 ∙ unexpiring-inside h before inside_before none n r there in
-      subst (λ (x : Interior K V). NoneExpires x.kept.records) (sym step) (unexpiring-inserted i.kept.records (unexpiring-inside h i inside none) n (updated (record { value = value; now = now; expires = expires; weight = w }) r) lasts))
+      subst (λ (x : Interior K V S). NoneExpires x.kept.records) (sym step) (unexpiring-inserted i.kept.records (unexpiring-inside h i inside none) n (updated (record { value = value; now = now; expires = expires; weight = w }) r) lasts))
 
   -- what always holds after an insert of a new key
   pub cache-inserted : (created : X → K → V → ℕ → Option ℕ) (laws : IsEquivalence eq) → is_disabled s.capacity ≡ false → (key : K) → record_of_key eq s.records key ≡ None → (hash : ℕ) (value : V) (now : Instant) (w : ℕ) (expires : Option Instant) → expires ≡ expires_at_first created s.settings.expiry key value now.0
@@ -109,26 +109,26 @@ module _ {K V X L P W : Type 0} {eq : K → K → Bool} {l : Option L} {s : Stat
       (subst (IsValid eq) (sym (inserts created updating s i j inside key hash value now w expires is step)) (inserted_valid eq created updating s key hash value now w laws enabled absent h.valid))
       (λ none.
       let lasts : expires ≡ None = is ∙ rw none refl in
-      subst (λ (x : Interior K V). NoneExpires x.kept.records) (sym step) (unexpiring-inserted i.kept.records (unexpiring-inside h i inside none) i.next_number new lasts))
+      subst (λ (x : Interior K V S). NoneExpires x.kept.records) (sym step) (unexpiring-inserted i.kept.records (unexpiring-inside h i inside none) i.next_number new lasts))
 
 -- the store after an insert of a key that is there
-pub stocked-updated : {K V X L P W : Type 0} {read : X → K → V → ℕ → Option ℕ → ℕ → Option ℕ} {eq : K → K → Bool} {l : Option L} {s : State K V X P W} (h : IsCache eq l s) (before : Interior K V) → with_inner s before ≡ s → (i j : Interior K V) → without_room i ≡ without_room before → IsStocked read s.settings before.kept
+pub stocked-updated : {K V X L P W S : Type 0} {read : X → K → V → ℕ → Option ℕ → ℕ → Option ℕ} {eq : K → K → Bool} {l : Option L} {s : State K V X P W} (h : IsCache eq l s) (before : Interior K V S) → with_inner s before ≡ s → (i j : Interior K V S) → without_room i ≡ without_room before → IsStocked read s.settings before.kept
     → (n : ℕ) (r : Record K V) → get before.kept.records n ≡ Some r → (hash : ℕ) (update : Update V) → j ≡ handing_out_inside i (insert i.kept.records n (updated update r)) (Upsert n (r.generation + 1) update.weight hash) j → IsStocked read s.settings j.kept
 stocked-updated {read = read} {s = s} h before inside i j rooms stored n r there hash update step =
     let found : get s.records n ≡ Some r = sym (ap (λ (t : State _ _ _ _ _). get t.records n) inside) ∙ there in
     let waits = update_waits s h.valid.consistent n r found update in
-    subst (λ (x : Interior _ _). IsStocked read s.settings x.kept) (sym step) (stocked-inserted (stocked-room before i rooms stored) n (updated update r) j.kept.places j.kept.room waits)
+    subst (λ (x : Interior _ _ _). IsStocked read s.settings x.kept) (sym step) (stocked-inserted (stocked-room before i rooms stored) n (updated update r) j.kept.places j.kept.room waits)
 
 -- and of a new key
-pub stocked-new-record : {K V X W : Type 0} {read : X → K → V → ℕ → Option ℕ → ℕ → Option ℕ} {settings : Settings X W} (before i j : Interior K V) → without_room i ≡ without_room before → IsStocked read settings before.kept → (key : K) (hash : ℕ) (update : Update V)
+pub stocked-new-record : {K V X W S : Type 0} {read : X → K → V → ℕ → Option ℕ → ℕ → Option ℕ} {settings : Settings X W} (before i j : Interior K V S) → without_room i ≡ without_room before → IsStocked read settings before.kept → (key : K) (hash : ℕ) (update : Update V)
     → j ≡ record (handing_out_inside i (with_record i.kept.records (first_record i.next_number key hash update)) (Upsert i.next_number 1 update.weight hash) j) { next_number = i.next_number + 1 } → IsStocked read settings j.kept
 stocked-new-record {read = read} {settings = settings} before i j rooms stored key hash update step =
-    subst (λ (x : Interior _ _). IsStocked read settings x.kept) (sym step) (stocked-inserted (stocked-room before i rooms stored) i.next_number (first_record i.next_number key hash update) j.kept.places j.kept.room refl)
+    subst (λ (x : Interior _ _ _). IsStocked read settings x.kept) (sym step) (stocked-inserted (stocked-room before i rooms stored) i.next_number (first_record i.next_number key hash update) j.kept.places j.kept.room refl)
 
 -- ---- what the calls return
 
 module _ {K V S X L P W : Type 0} (created : X → K → V → ℕ → Option ℕ) (updating : X → K → V → ℕ → Option ℕ → Option ℕ) (weighs : W → K → V → ℕ → Type 0) (tells : L → K → V → RemovalCause → L → Type 0) (eq : K → K → Bool)
-    {old now : Cache K V S X L P W} (is : old ≡ now) (before : Interior K V) (inside_before : with_inner old.state before ≡ old.state) (listed : before.kept.written ≡ old.write_list) (i : Interior K V) (rooms : without_room i ≡ without_room before) (key : K) (hash : ℕ) (value : V) (moment : Instant) where
+    {old now : Cache K V S X L P W} (is : old ≡ now) (before : Interior K V S) (inside_before : with_inner old.state before ≡ old.state) (listed : before.kept.written ≡ old.write_list) (i : Interior K V S) (rooms : without_room i ≡ without_room before) (key : K) (hash : ℕ) (value : V) (moment : Instant) where
   -- a call that answers so
   abbrev Inserts : Result (Ticket × Instant) (InsertRefused K V) → State K V X P W → Option L → List ℕ → Cache K V S X L P W → Type 0
   Inserts a t m ns before = (e : Events K V) × InsertStep created updating weighs eq before.state key hash value moment a e t × Befalls tells e before (record old { state = t; listener = m; write_list = ns })
@@ -143,6 +143,30 @@ module _ {K V S X L P W : Type 0} (created : X → K → V → ℕ → Option �
   found_in_state : (o : Option (Record K V)) → record_of_key eq before.kept.records key ≡ o → record_of_key eq old.state.records key ≡ o
   found_in_state o found = ap (λ (t : State K V X P W). record_of_key eq t.records key) (sym inside_before) ∙ found
 
+  -- a new key, with no room for its record or the operation
+  pub new_refused : record_of_key eq before.kept.records key ≡ None → (error : InsertError) → (refusal error ≡ refusal NumbersUsedUp) ↔ (2 ^ 64 ≤ before.next_ticket + len before.kept.records + 1)
+      → Inserts (Err (record { error = error; key = key; value = value })) (with_inner old.state i) old.listener i.kept.written now
+  new_refused none error used_up =
+      let refused : HasInsertError (with_inner old.state before) 1 error = has_error (with_inner old.state before) 1 error used_up in
+      subst (Inserts (Err (record { error = error; key = key; value = value })) (with_inner old.state i) old.listener i.kept.written) is (
+        no_events,
+        rw (found_in_state None none) ((refl, refl, subst (λ t. HasInsertError t 1 error) inside_before refused), (inside_still, refl)),
+        befalls-listed tells old (with_inner old.state i) i.kept.written list_still,
+      )
+
+  -- a new key, with its record
+  pub new_returns : record_of_key eq before.kept.records key ≡ None → (j : Interior K V S) (w : ℕ) → Weighs weighs old.state.settings.weigher key value w
+      → (2 ^ 64 ≤ before.next_ticket + len before.kept.records + 1 → ⊥) → (ticket : Ticket) → ticket.0 ≡ i.next_ticket → (expires : Option Instant) → expires ≡ expires_at_first created old.state.settings.expiry key value moment.0
+      → j ≡ record (handing_out_inside i (with_record i.kept.records (first_record i.next_number key hash (record { value = value; now = moment; expires = expires; weight = w }))) (Upsert i.next_number 1 w hash) j) { next_number = i.next_number + 1 }
+      → Inserts (Ok (ticket, moment)) (with_inner old.state j) old.listener j.kept.written now
+  new_returns none j w weighed enough ticket next expires first step =
+      let numbers : nat_le (2 ^ 64) (before.next_ticket + len before.kept.records + 1) ≡ false = not_at_least (2 ^ 64) (before.next_ticket + len before.kept.records + 1) enough in
+      subst (Inserts (Ok (ticket, moment)) (with_inner old.state j) old.listener j.kept.written) is (
+        no_events,
+        rw (found_in_state None none) (w, weighed, subst (λ (t : State K V X P W). nat_le (2 ^ 64) (t.next_ticket + len t.records + 1) ≡ false) inside_before numbers, next ∙ ap (λ (t : State K V X P W). t.next_ticket) inside_still, refl, inserts created updating old.state i j inside_still key hash value moment w expires first step, refl),
+        befalls-listed tells old (with_inner old.state j) j.kept.written (ap (λ (x : Interior K V S). x.kept.written) step ∙ list_still),
+      )
+
   -- a key that is there, with no room for its operation
   pub update_refused : (r : Record K V) → record_of_key eq before.kept.records key ≡ Some r → (error : InsertError) → (refusal error ≡ refusal NumbersUsedUp) ↔ (2 ^ 64 ≤ before.next_ticket + len before.kept.records)
       → Inserts (Err (record { error = error; key = key; value = value })) (with_inner old.state i) old.listener i.kept.written now
@@ -155,7 +179,7 @@ module _ {K V S X L P W : Type 0} (created : X → K → V → ℕ → Option �
       )
 
   -- a key that is there, with a new value
-  pub update_returns : (l : Option L) (h : IsCache eq l old.state) (told : l ≡ old.listener) (m : Option L) (j : Interior K V) (n : ℕ) (r : Record K V) → get before.kept.records n ≡ Some r → record_of_key eq before.kept.records key ≡ Some r → (w : ℕ) → Weighs weighs old.state.settings.weigher key value w
+  pub update_returns : (l : Option L) (h : IsCache eq l old.state) (told : l ≡ old.listener) (m : Option L) (j : Interior K V S) (n : ℕ) (r : Record K V) → get before.kept.records n ≡ Some r → record_of_key eq before.kept.records key ≡ Some r → (w : ℕ) → Weighs weighs old.state.settings.weigher key value w
       → (2 ^ 64 ≤ before.next_ticket + len before.kept.records → ⊥) → (ticket : Ticket) → ticket.0 ≡ i.next_ticket → (expires : Option Instant) → ExpiresUpdated created updating old.state r key value moment expires
       → j ≡ handing_out_inside i (insert i.kept.records n (updated (record { value = value; now = moment; expires = expires; weight = w }) r)) (Upsert n (r.generation + 1) w hash) j
       → (left : V) → left ≡ r.value → (cause : RemovalCause) → cause ≡ cause_of_replacement old.state.settings old.state.invalid_before r moment.0 → HearsOnce tells old.listener key left cause m
@@ -170,6 +194,6 @@ module _ {K V S X L P W : Type 0} (created : X → K → V → ℕ → Option �
           kept = refl;
           heard = rw (h.listens ∙ ap is_some told, ← same_value, ← same_cause) heard;
           passes = refl;
-          listed = λ none. ap (λ (x : Interior K V). x.kept.written) step ∙ list_still;
+          listed = λ none. ap (λ (x : Interior K V S). x.kept.written) step ∙ list_still;
         },
       )

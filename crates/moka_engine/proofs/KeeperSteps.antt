@@ -50,7 +50,7 @@ cache-housekept {eq = eq} s housekeeping h = record {
 
 -- ---- the housekeeper of a cache
 
-module _ {K V X P W : Type 0} (i : Interior K V) (bound : Option Instant) (predicates : List (Registered P)) (count weight : ℕ) (h k : Keeper) (capacity : Option ℕ) (policy : EvictionPolicy) (expirations : Expirations X) (weigher : Option W) (invalidator : Bool)
+module _ {K V X P W S : Type 0} (i : Interior K V S) (bound : Option Instant) (predicates : List (Registered P)) (count weight : ℕ) (h k : Keeper) (capacity : Option ℕ) (policy : EvictionPolicy) (expirations : Expirations X) (weigher : Option W) (invalidator : Bool)
     (same : k ≡ record h { housekeeping = k.housekeeping }) where
   -- the state with the first, and with the second
   abbrev with_first : State K V X P W
@@ -114,11 +114,11 @@ module _ {K V S X L P W C : Type 0} (Runs : List ℕ → State K V X P W → Ter
   abbrev pub RunsBefore : Cache K V S X L P W → Type 0
   RunsBefore mid = (e : Events K V) × RunsIfDue (Runs mid.write_list) old.state (length old.state.reads) now e mid.state × Befalls tells e old mid × Leads reads clock e.readings clock_after
 
-  pub read_follows : {at mid : Cache K V S X L P W} → at ≡ mid → RunsBefore mid → (i j : Interior K V) → with_inner at.state i ≡ at.state → i.kept.written ≡ at.write_list → (read : ReadOperation) → j ≡ record i { reads = if nat_lt (length i.reads) queue_length then i.reads ++ read ∷ [] else i.reads } →
+  pub read_follows : {at mid : Cache K V S X L P W} → at ≡ mid → RunsBefore mid → (i j : Interior K V S) → with_inner at.state i ≡ at.state → i.kept.written ≡ at.write_list → (read : ReadOperation) → j ≡ record i { reads = if nat_lt (length i.reads) queue_length then i.reads ++ read ∷ [] else i.reads } →
       (e : Events K V) × RecordsRead (Runs j.kept.written) old.state now read e (with_inner at.state j) × Befalls tells e old (record at { state = with_inner at.state j; write_list = j.kept.written }) × Leads reads clock e.readings clock_after
   read_follows {at} is ran i j inside listed read step =
       let before : RunsBefore at = subst RunsBefore (sym is) ran in
-      let same : j.kept.written ≡ at.write_list = ap (λ (x : Interior K V). x.kept.written) step ∙ listed in
+      let same : j.kept.written ≡ at.write_list = ap (λ (x : Interior K V S). x.kept.written) step ∙ listed in
       subst (λ ns. (e : Events K V) × RecordsRead (Runs ns) old.state now read e (with_inner at.state j) × Befalls tells e old (record at { state = with_inner at.state j; write_list = ns }) × Leads reads clock e.readings clock_after) (sym same) (
         before.0,
         (at.state, before.1, reads_queued at.state i inside j read step),

@@ -12,7 +12,7 @@ use Rattle.moka_engine.specs.BaseCache.{IsCache, settings_of, state_of}
 use Rattle.moka_engine.specs.Interior.{Interior, nothing_inside}
 
 -- it keeps nothing and listens where a listener is set
-pub cache-new : {K V X L P W : Type 0} (eq : K → K → Bool) (listener : Option L) (i : Interior K V) (ordered timed : Bool) (first_ticket : ℕ) → i ≡ nothing_inside ordered timed first_ticket i → (predicates : List (Registered P)) → predicates ≡ []
+pub cache-new : {K V X L P W S : Type 0} (eq : K → K → Bool) (listener : Option L) (i : Interior K V S) (ordered timed : Bool) (first_ticket : ℕ) → i ≡ nothing_inside ordered timed first_ticket i → (predicates : List (Registered P)) → predicates ≡ []
     → (keeper : Keeper) (listening : Bool) (config : HousekeeperConfig) (now : ℕ) → keeper ≡ new_keeper listening config now → listening ≡ is_some listener
     → (capacity : Option ℕ) (policy : EvictionPolicy) (expirations : Expirations X) (weigher : Option W) (invalidator : Bool)
     → IsCache eq listener (state_of i None predicates 0 0 keeper capacity (settings_of policy expirations weigher invalidator keeper))
@@ -31,6 +31,6 @@ cache-new {K} {V} {X} {L} {P} {W} eq listener i ordered timed first_ticket empty
 
     is : state_of {X = X} i None predicates 0 0 keeper capacity (settings_of policy expirations weigher invalidator keeper) ≡ new_state {K = K} {V = V} {P = P} settings capacity now first_ticket
     is =
-        ap (λ (x : Interior K V). state_of x None predicates 0 0 keeper capacity (settings_of policy expirations weigher invalidator keeper)) empty
+        ap (λ (x : Interior K V _). state_of x None predicates 0 0 keeper capacity (settings_of policy expirations weigher invalidator keeper)) empty
         ∙ ap (λ ps. state_of (nothing_inside ordered timed first_ticket i) None ps 0 0 keeper capacity (settings_of policy expirations weigher invalidator keeper)) none
         ∙ ap (λ k. state_of (nothing_inside ordered timed first_ticket i) None [] 0 0 k capacity (settings_of policy expirations weigher invalidator k)) kept

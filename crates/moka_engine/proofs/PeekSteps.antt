@@ -27,7 +27,7 @@ module _ {K V S X L P W : Type 0} (says : P → K → V → Bool → Type 0) (re
   pub peek_finds_nothing : is_disabled old.state.capacity ≡ true → PeekStep says read eq now.state key ignored moment.0 (Ok None) now.state × Befalls tells no_events now now
   peek_finds_nothing disabled = subst (λ c. PeekStep says read eq c.state key ignored moment.0 (Ok None) c.state × Befalls tells no_events c c) is (rw disabled (refl, refl), befalls-quietly tells old old.state)
 
-  module _ {l : Option L} (h : IsCache eq l old.state) (enabled : is_disabled old.state.capacity ≡ false) (i : Interior K V) (inside : with_inner old.state i ≡ old.state) where
+  module _ {l : Option L} (h : IsCache eq l old.state) (enabled : is_disabled old.state.capacity ≡ false) (i : Interior K V S) (inside : with_inner old.state i ≡ old.state) where
     -- of nothing visible
     pub peek_misses : ((r : Record K V) → record_of_key eq i.kept.records key ≡ Some r → IsMissed says old.state ignored r moment.0)
         → PeekStep says read eq now.state key ignored moment.0 (Ok None) now.state × Befalls tells no_events now now
@@ -40,11 +40,11 @@ module _ {K V S X L P W : Type 0} (says : P → K → V → Bool → Type 0) (re
     module _ (n : ℕ) (r : Record K V) (there : get i.kept.records n ≡ Some r) (found : record_of_key eq i.kept.records key ≡ Some r) (accepted : ignored ≡ false) (shown : has_lapsed old.state.settings old.state.invalid_before r moment.0 ≡ false) (uncovered : NoneCovers says old.state.predicates r) where
       -- of what is visible
       pub peek_hits : (at : Instant) (expires : Option Instant) (is_renewed : Bool) → Touches read (expirations_of old.state.settings) r moment.0 at.0 expires is_renewed
-          → (j : Interior K V) → j ≡ record i { kept = j.kept } → j.kept ≡ record i.kept { records = insert i.kept.records n (record r { read = at; expires = expires }) } → i.kept.written ≡ old.write_list → (value : V) → value ≡ r.value → Peeks (Ok (Some value)) (with_inner old.state j) j.kept.written now
+          → (j : Interior K V S) → j ≡ record i { kept = j.kept } → j.kept ≡ record i.kept { records = insert i.kept.records n (record r { read = at; expires = expires }) } → i.kept.written ≡ old.write_list → (value : V) → value ≡ r.value → Peeks (Ok (Some value)) (with_inner old.state j) j.kept.written now
       peek_hits at expires is_renewed t j rest kept listed value same =
           let done : PeekStep says read eq old.state key ignored moment.0 (Ok (Some value)) (after_hit read old.state r moment.0) = rw (enabled, key-inside h i inside key (Some r) found) ((accepted, (shown, uncovered)), same, refl) in
           let touched = record_read old.state i inside read n r (number-inside h i inside n r there).0 moment.0 at expires is_renewed t j rest kept in
-          subst (Peeks (Ok (Some value)) (with_inner old.state j) j.kept.written) is (subst (λ u. PeekStep says read eq old.state key ignored moment.0 (Ok (Some value)) u) (sym touched) done, befalls-listed tells old (with_inner old.state j) j.kept.written (ap (λ (k : Kept K V). k.written) kept ∙ listed))
+          subst (Peeks (Ok (Some value)) (with_inner old.state j) j.kept.written) is (subst (λ u. PeekStep says read eq old.state key ignored moment.0 (Ok (Some value)) u) (sym touched) done, befalls-listed tells old (with_inner old.state j) j.kept.written (ap (λ (k : Kept K V S). k.written) kept ∙ listed))
 
       -- of what cannot be cloned
       pub peek_refused : (e : OutOfMemory) → PeekStep says read eq now.state key ignored moment.0 (Err e) now.state × Befalls tells no_events now now

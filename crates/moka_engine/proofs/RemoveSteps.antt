@@ -13,7 +13,7 @@ use Rattle.moka_engine.specs.BaseCache.{IsCache, NoneExpires}
 use Rattle.moka_engine.specs.Interior.{Interior, handing_out_inside}
 use Rattle.moka_engine.proofs.CacheSteps.{with_inner, unexpiring-removed, cache-inner, unexpiring-inside, number-inside, key-inside}
 
-module _ {K V X L P W : Type 0} {eq : K → K → Bool} {l : Option L} {s : State K V X P W} (h : IsCache eq l s) (i j : Interior K V) (inside : with_inner s i ≡ s)
+module _ {K V X L P W S : Type 0} {eq : K → K → Bool} {l : Option L} {s : State K V X P W} (h : IsCache eq l s) (i j : Interior K V S) (inside : with_inner s i ≡ s)
     (key : K) (n : ℕ) (r : Record K V) (there : get i.kept.records n ≡ Some r) (found : record_of_key eq i.kept.records key ≡ Some r)
     (step : j ≡ handing_out_inside i (remove i.kept.records n) (Removal n (r.generation + 1)) j) where
   removed : with_inner s j ≡ handing_out (record s { records = remove s.records r.number }) (Removal r.number (r.generation + 1))
@@ -32,10 +32,10 @@ module _ {K V X L P W : Type 0} {eq : K → K → Bool} {l : Option L} {s : Stat
   cache-removed =
       cache-inner h l j refl
       (remove_keeps eq s (with_inner s j) key (Some (entry_of r, record { 0 = i.next_ticket })) h.valid (removes (record { 0 = i.next_ticket }) refl))
-      (λ none. subst (λ (x : Interior K V). NoneExpires x.kept.records) (sym step) (unexpiring-removed i.kept.records (unexpiring-inside h i inside none) n))
+      (λ none. subst (λ (x : Interior K V S). NoneExpires x.kept.records) (sym step) (unexpiring-removed i.kept.records (unexpiring-inside h i inside none) n))
 
 -- the same of a cache
-pub remove_returns : {K V S X L P W : Type 0} {eq : K → K → Bool} {old now : Cache K V S X L P W} (is : old ≡ now) {l : Option L} (h : IsCache eq l old.state) (i j : Interior K V) (inside : with_inner old.state i ≡ old.state)
+pub remove_returns : {K V S X L P W : Type 0} {eq : K → K → Bool} {old now : Cache K V S X L P W} (is : old ≡ now) {l : Option L} (h : IsCache eq l old.state) (i j : Interior K V S) (inside : with_inner old.state i ≡ old.state)
     (key : K) (n : ℕ) (r : Record K V) → get i.kept.records n ≡ Some r → record_of_key eq i.kept.records key ≡ Some r → j ≡ handing_out_inside i (remove i.kept.records n) (Removal n (r.generation + 1)) j
     → (ticket : Ticket) → ticket.0 ≡ i.next_ticket → RemoveStep eq now.state key (Some (entry_of r, ticket)) (with_inner old.state j)
 remove_returns {eq = eq} {old = old} is h i j inside key n r there found step ticket next =

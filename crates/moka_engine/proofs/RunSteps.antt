@@ -44,8 +44,8 @@ simple_of s h enabled = record {
 
 -- ---- a cache that is not disabled: its inner part at first, with its queues applied, and after the passes
 
-module _ {K V X L P W C : Type 0} {tells : L → K → V → RemovalCause → L → Type 0} {reads : C → Instant → C → Type 0} {eq : K → K → Bool} {l m n : Option L}
-    (i a j : Interior K V) (invalid_before : Option Instant) (predicates : List (Registered P)) (count weight : ℕ) (keeper : Keeper) (capacity : Option ℕ) (settings : Settings X W)
+module _ {K V X L P W C S : Type 0} {tells : L → K → V → RemovalCause → L → Type 0} {reads : C → Instant → C → Type 0} {eq : K → K → Bool} {l m n : Option L}
+    (i a j : Interior K V S) (invalid_before : Option Instant) (predicates : List (Registered P)) (count weight : ℕ) (keeper : Keeper) (capacity : Option ℕ) (settings : Settings X W)
     (h : IsCache eq l (state_of i invalid_before predicates count weight keeper capacity settings)) (enabled : is_disabled capacity ≡ false)
     {has_weigher : Bool} (weighs : has_weigher ≡ is_some settings.weigher) (applied_with : ArePrepared tells capacity settings.policy i.kept.ordered has_weigher (after_reads (contents_with i.sketch i.kept) i.reads) (contents_with a.sketch a.kept) i.kept.written a.kept.written i.writes l m)
     (applied_rest : a ≡ record i { kept = a.kept; sketch = a.sketch; writes = []; reads = []; operation_room = a.operation_room })
@@ -68,14 +68,14 @@ module _ {K V X L P W C : Type 0} {tells : L → K → V → RemovalCause → L 
   applied = subst (λ b. ArePrepared tells capacity settings.policy i.kept.ordered b (after_reads (contents_with i.sketch i.kept) i.reads) (contents_with a.sketch a.kept) i.kept.written a.kept.written i.writes l m) weighs applied_with
 
   sketched : j.sketch ≡ a.sketch
-  sketched = ap (λ (x : Interior K V). x.sketch) ran_rest
+  sketched = ap (λ (x : Interior K V S). x.sketch) ran_rest
 
   ends : t ≡ with_contents s (contents_with j.sketch j.kept) left_predicates
   ends =
       ap (λ n. state_of j invalid_before left_predicates n weight_after keeper capacity settings) counted
       ∙ ap (λ n. state_of j invalid_before left_predicates (length j.kept.access) n keeper capacity settings) weighed
-      ∙ ap (λ (x : Interior K V). state_of (record x { kept = j.kept; sketch = j.sketch }) invalid_before left_predicates (length j.kept.access) (min (total_weight j.kept.access) greatest) keeper capacity settings) ran_rest
-      ∙ ap (λ (x : Interior K V). state_of (record x { kept = j.kept; sketch = j.sketch }) invalid_before left_predicates (length j.kept.access) (min (total_weight j.kept.access) greatest) keeper capacity settings) applied_rest
+      ∙ ap (λ (x : Interior K V S). state_of (record x { kept = j.kept; sketch = j.sketch }) invalid_before left_predicates (length j.kept.access) (min (total_weight j.kept.access) greatest) keeper capacity settings) ran_rest
+      ∙ ap (λ (x : Interior K V S). state_of (record x { kept = j.kept; sketch = j.sketch }) invalid_before left_predicates (length j.kept.access) (min (total_weight j.kept.access) greatest) keeper capacity settings) applied_rest
 
   simple : IsSimple s
   simple = simple_of s h enabled

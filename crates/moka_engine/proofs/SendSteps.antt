@@ -10,7 +10,7 @@ use Rattle.moka_engine.specs.BaseCache.{IsCache}
 use Rattle.moka_engine.specs.Interior.{Interior}
 use Rattle.moka_engine.proofs.CacheSteps.{with_inner, cache-inner, unexpiring-inside}
 
-module _ {K V X L P W : Type 0} {eq : K → K → Bool} {l : Option L} {s : State K V X P W} (h : IsCache eq l s) (i j : Interior K V) (inside : with_inner s i ≡ s) where
+module _ {K V X L P W S : Type 0} {eq : K → K → Bool} {l : Option L} {s : State K V X P W} (h : IsCache eq l s) (i j : Interior K V S) (inside : with_inner s i ≡ s) where
   -- whatever the answer
   pub cache-sent : (ticket : ℕ) (a : Result (Unit {0}) SendError)
       → OnOk a ((o : Operation) × (get i.outstanding ticket ≡ Some o) × (j ≡ record i { outstanding = remove i.outstanding ticket; writes = i.writes ++ record { ticket = ticket; operation = o } ∷ []; operation_room = j.operation_room }))
@@ -25,5 +25,5 @@ module _ {K V X L P W : Type 0} {eq : K → K → Bool} {l : Option L} {s : Stat
   pub send-keeps : (ticket : ℕ) (a : Result (Unit {0}) SendError)
       → OnOk a ((o : Operation) × (get i.outstanding ticket ≡ Some o) × (j ≡ record i { outstanding = remove i.outstanding ticket; writes = i.writes ++ record { ticket = ticket; operation = o } ∷ []; operation_room = j.operation_room }))
       → OnErr a (j ≡ record i { operation_room = j.operation_room }) → j.kept ≡ i.kept
-  send-keeps ticket (Ok _) ok err = ap (λ (x : Interior K V). x.kept) ok.2
-  send-keeps ticket (Err e) ok err = ap (λ (x : Interior K V). x.kept) err
+  send-keeps ticket (Ok _) ok err = ap (λ (x : Interior K V S). x.kept) ok.2
+  send-keeps ticket (Err e) ok err = ap (λ (x : Interior K V S). x.kept) err

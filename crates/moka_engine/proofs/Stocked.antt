@@ -19,9 +19,9 @@ use Rattle.moka_maintenance.proofs.Timing.{still-timed}
 use Rattle.moka_engine.specs.BaseCache.{IsStocked, NeverRenews}
 use Rattle.moka_engine.specs.Interior.{Interior, nothing_inside}
 
-module _ {K V X W : Type 0} {read : X → K → V → ℕ → Option ℕ → ℕ → Option ℕ} {settings : Settings X W} {kept : Kept K V} (h : IsStocked read settings kept) where
+module _ {K V X W S : Type 0} {read : X → K → V → ℕ → Option ℕ → ℕ → Option ℕ} {settings : Settings X W} {kept : Kept K V S} (h : IsStocked read settings kept) where
   -- where timers are kept up
-  pub stocked-on : (after : Kept K V) → KeepsTimers kept after → IsStocked read settings after
+  pub stocked-on : (after : Kept K V S) → KeepsTimers kept after → IsStocked read settings after
   stocked-on after keeps = record {
     ordered = keeps.ordered ∙ h.ordered;
     timed = keeps.timed ∙ h.timed;
@@ -90,11 +90,11 @@ module _ {K V X W : Type 0} (read : X → K → V → ℕ → Option ℕ → ℕ
 
 -- ---- a new store
 
-pub stocked-new : {K V X W : Type 0} (read : X → K → V → ℕ → Option ℕ → ℕ → Option ℕ) (settings : Settings X W) (i : Interior K V) (ordered timed : Bool) (first_ticket : ℕ) → i ≡ nothing_inside ordered timed first_ticket i → ordered ≡ keeps_write_list settings → timed ≡ is_some settings.expiry → IsStocked read settings i.kept
+pub stocked-new : {K V X W S : Type 0} (read : X → K → V → ℕ → Option ℕ → ℕ → Option ℕ) (settings : Settings X W) (i : Interior K V S) (ordered timed : Bool) (first_ticket : ℕ) → i ≡ nothing_inside ordered timed first_ticket i → ordered ≡ keeps_write_list settings → timed ≡ is_some settings.expiry → IsStocked read settings i.kept
 stocked-new read settings i ordered timed first_ticket empty kept wheel = record {
-  ordered = ap (λ (x : Interior _ _). x.kept.ordered) empty ∙ kept;
-  timed = ap (λ (x : Interior _ _). x.kept.timed) empty ∙ wheel;
-  timers = λ never on n r there is_in applied. absurd (nothing_at n r (sym (ap (λ (x : Interior _ _). get x.kept.records n) empty) ∙ there));
+  ordered = ap (λ (x : Interior _ _ _). x.kept.ordered) empty ∙ kept;
+  timed = ap (λ (x : Interior _ _ _). x.kept.timed) empty ∙ wheel;
+  timers = λ never on n r there is_in applied. absurd (nothing_at n r (sym (ap (λ (x : Interior _ _ _). get x.kept.records n) empty) ∙ there));
 }
 
 pub is_some_mapped : {A B : Type 0} (f : A → B) (o : Option A) → is_some (option_map f o) ≡ is_some o

@@ -23,11 +23,11 @@ pub record AreLocated (places : FinMap nat_cmp ℕ) (next_number : ℕ) (items :
   pub seen : (q : QueuedRead) → Contains reads q → IsReadLocated places next_number q.place q.read
 
 -- a number that has a row has its record in the map, or its removal waits
-abbrev pub HasUse : {K V : Type 0} → Kept K V → FinMap nat_cmp PlacedWrite → List QueuedWrite → Type 0
+abbrev pub HasUse : {K V S : Type 0} → Kept K V S → FinMap nat_cmp PlacedWrite → List QueuedWrite → Type 0
 HasUse kept items writes = (n place : ℕ) → get kept.places n ≡ Some place → get kept.records n ≡ None → (generation : ℕ) × IsWaitingIn (operations_of items) (writes_of writes) (Removal n generation)
 
 -- what waits is located, each row is in use, and no number, ticket or place runs out
-pub record IsInner {K V : Type 0} (kept : Kept K V) (out : Pending PlacedWrite) (writes : Buffer QueuedWrite) (reads : Buffer QueuedRead) (next_ticket next_number : ℕ) : Type 0 where
+pub record IsInner {K V S : Type 0} (kept : Kept K V S) (out : Pending PlacedWrite) (writes : Buffer QueuedWrite) (reads : Buffer QueuedRead) (next_ticket next_number : ℕ) : Type 0 where
   pub located : AreLocated kept.places next_number out.items writes.items reads.items
   pub used : HasUse kept out.items writes.items
   pub ticketed : (t : ℕ) (w : PlacedWrite) → get out.items t ≡ Some w → t < next_ticket

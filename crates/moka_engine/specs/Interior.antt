@@ -16,8 +16,8 @@ use Rattle.moka_maintenance.specs.Queued.{IsAt}
 use Rattle.moka_engine.specs.Values.{map_values}
 
 -- the store, the sketch, the operations that wait, and the numbers that come next
-pub record Interior (K V : Type 0) : Type 0 where
-  pub kept : Kept K V
+pub record Interior (K V S : Type 0) : Type 0 where
+  pub kept : Kept K V S
   pub sketch : Option Table
   pub outstanding : Operations
   pub writes : List Ticketed
@@ -43,9 +43,9 @@ IsReadLocated places next_number place (Miss hash) = Unit {0}
 
 module _ {K V : Type 0} where
   -- nothing is kept, and nothing waits; the order of writing and timers are kept or not, and the rooms are those of the second
-  abbrev pub nothing_inside : Bool → Bool → ℕ → Interior K V → Interior K V
+  abbrev pub nothing_inside : {S : Type 0} → Bool → Bool → ℕ → Interior K V S → Interior K V S
   nothing_inside ordered timed first_ticket i = record {
-    kept = record { records = empty; access = []; written = []; timers = empty; cursor = None; places = empty; room = i.kept.room; ordered = ordered; timed = timed };
+    kept = record { records = empty; access = []; written = []; timers = empty; cursor = None; places = empty; room = i.kept.room; ordered = ordered; timed = timed; hasher = i.kept.hasher };
     sketch = None;
     outstanding = empty;
     writes = [];
@@ -60,7 +60,7 @@ module _ {K V : Type 0} where
   first_record number key hash update = record { number = number; key = key; hash = hash; value = update.value; written = update.now; read = update.now; expires = update.expires; weight = update.weight; generation = 1; applied = 0 }
 
   -- with these records, and with the operation under the next ticket; the places and rooms are those of the last
-  abbrev pub handing_out_inside : Interior K V → Records K V → Operation → Interior K V → Interior K V
+  abbrev pub handing_out_inside : {S : Type 0} → Interior K V S → Records K V → Operation → Interior K V S → Interior K V S
   handing_out_inside i records o j = record i {
     kept = record i.kept { records = records; places = j.kept.places; room = j.kept.room };
     outstanding = insert i.outstanding i.next_ticket o;

@@ -3,7 +3,7 @@ ghost use Rattle.std.specs.Prelude.{◌≡◌, ◌≤◌, ◌||◌, true, false,
 ghost use Rattle.std.specs.Duration.{as_nanos};
 ghost use Rattle.std.specs.List.{fold};
 ghost use Rattle.std.specs.String.{string_bytes};
-ghost use Rattle.moka_parts.specs.Calls.{no_events, only_notices, CapacityStep, Weighs, InsertsAt, InsertStep, SendStep, RemoveStep, NotifyStep, ContainsStep, KeysStep, GetStep};
+ghost use Rattle.moka_parts.specs.Calls.{no_events, only_notices, CapacityStep, InsertStep, SendStep, RemoveStep, NotifyStep, ContainsStep, KeysStep, GetStep};
 ghost use Rattle.moka_parts.specs.Listed.{ListedRun};
 ghost use Rattle.moka_parts.specs.Order.{IsWriteList};
 ghost use Rattle.moka_parts.specs.Records.{Notice, record_of_key};
@@ -371,8 +371,26 @@ impl<
         ensures { (e : Events K V) × InsertStep X.created X.updated W.weighs K.eq self.old.state key hash value now result e self.new.state × Befalls L.tells e self.old self.new }
     {
         let weight = inserts::weigh(&self.weigher, &key, &value);
-        let Some((handle, found)) = self.inner.find(&key) else {
-            return self.insert_new(key, hash, value, now, weight);
+        let (handle, found) = match self.inner.find_or_hash(&key) {
+            Ok(found) => found,
+            Err(key_hash) => {
+                let expires = inserts::expires_at_creation(
+                    &self.expiration_policy,
+                    &key,
+                    &value,
+                    now,
+                );
+                if let Err(error) = self.inner.reserve_record() {
+                    return Err(InsertRefused { error, key, value });
+                }
+                let update = Update {
+                    value,
+                    now,
+                    expires,
+                    weight,
+                };
+                return Ok((self.inner.insert(key, key_hash, hash, update), now));
+            }
         };
         let (policy, valid_after) = (&self.expiration_policy, self.valid_after);
         let cause = causes::cause_of_replacement(found, policy, valid_after, now);
@@ -389,34 +407,6 @@ impl<
         let (old, ticket) = self.inner.update(handle, hash, update);
         self.notifier.notify(key, old, cause);
         Ok((ticket, now))
-    }
-
-    // A new record for a key that has none. All room is made before anything changes.
-    #[inline(always)]
-    fn insert_new(
-        &mut self,
-        key: K,
-        hash: u64,
-        value: V,
-        now: Instant,
-        weight: u32,
-    ) -> Result<(Ticket, Instant), InsertRefused<K, V>>
-        requires enabled { is_disabled self.old.state.capacity ≡ false }
-        requires fresh { record_of_key K.eq self.old.state.records key ≡ None }
-        requires weighed { Weighs W.weighs self.old.state.settings.weigher key value weight }
-        ensures { (e : Events K V) × InsertsAt X.created X.updated W.weighs self.old.state None key hash value now result e self.new.state × Befalls L.tells e self.old self.new }
-    {
-        let expires = inserts::expires_at_creation(&self.expiration_policy, &key, &value, now);
-        if let Err(error) = self.inner.reserve_record() {
-            return Err(InsertRefused { error, key, value });
-        }
-        let update = Update {
-            value,
-            now,
-            expires,
-            weight,
-        };
-        Ok((self.inner.insert(key, hash, update), now))
     }
 
     /// Moves the operation of the ticket to the back of the queue of writes. No run starts.

@@ -1,5 +1,5 @@
 //! The map, the operations that wait, and both queues.
-ghost use Rattle.std.specs.Prelude.{◌≡◌, ◌+◌, ◌^◌, ◌<◌, ◌≤◌, ◌↔◌, true, [], ◌∷◌, ◌++◌, None, Some, Ok, Err, OnOk, OnErr, IfOk, IfSome, if◌then◌else◌, length, map, nat_lt, option_map, slice_get, IsPermutation};
+ghost use Rattle.std.specs.Prelude.{◌≡◌, ◌+◌, ◌^◌, ◌<◌, ◌≤◌, ◌↔◌, true, [], ◌∷◌, ◌++◌, None, Some, Ok, Err, OnOk, OnErr, IfErr, IfOk, IfSome, if◌then◌else◌, length, map, nat_lt, option_map, slice_get, IsPermutation};
 ghost use Rattle.std.specs.Duration.{as_nanos};
 ghost use Rattle.std.specs.FinMap as finite;
 ghost use Rattle.moka_parts.specs.Calls.{queue_length};
@@ -11,7 +11,8 @@ ghost use Rattle.moka_parts.specs.declared.records.Operation.{Operation};
 ghost use Rattle.moka_parts.specs.declared.records.Operation.TheVariants.{Upsert, Removal};
 ghost use Rattle.moka_parts.specs.declared.records.ReadOperation.TheVariants.{Hit};
 ghost use Rattle.moka_parts.specs.declared.records.Record.{Record};
-ghost use Rattle.moka_store.specs.Store.{ChangesRecord, ClonesAreEqual, IsHandle};
+ghost use Rattle.moka_store.specs.Hashing.{IsKeyHash};
+ghost use Rattle.moka_store.specs.Store.{ChangesRecord, ClonesAreEqual, ExpiresAsBefore, IsHandle};
 ghost use Rattle.moka_store.specs.Updates.{updated};
 ghost use Rattle.moka_maintenance.specs.Passes.{IsRan};
 ghost use Rattle.moka_maintenance.specs.Queues.{ArePrepared};
@@ -35,7 +36,7 @@ use moka_parts::notification::{Listener, RemovalNotifier};
 use moka_parts::policy::{EvictionPolicy, Instant};
 use moka_parts::records::{Operation, ReadOperation, Record};
 use moka_sketch::frequency_sketch::FrequencySketch;
-use moka_store::{Handle, Store, Update};
+use moka_store::{Handle, KeyHash, Store, Update};
 use moka_structures::outstanding::Outstanding;
 use std::alloc::{AllocError, Global};
 use std::hash::{BuildHasher, Hash};
@@ -46,7 +47,6 @@ use std::time::Duration;
 const QUEUE_SIZE: usize = 384;
 
 /// The inner part of the cache. moka: `sync::base_cache::Inner`.
-#[derive(Drop)]
 pub struct Inner<K: Eq + Hash, V, S: BuildHasher> {
     store: Store<K, V, S>,
     // How often hashes were seen lately, once it is on.
@@ -59,6 +59,21 @@ pub struct Inner<K: Eq + Hash, V, S: BuildHasher> {
     next_number: u64,
 }
 
+// Written out so that a caller's drop is one call.
+impl<K: Eq + Hash + Drop, V: Drop, S: BuildHasher + Drop> Drop for Inner<K, V, S> {
+    fn drop(self) {
+        let Inner {
+            store: _,
+            sketch: _,
+            outstanding: _,
+            writes: _,
+            reads: _,
+            last_ticket: _,
+            next_number: _,
+        } = self;
+    }
+}
+
 impl<K: Eq + Hash, V, S: BuildHasher> Model for Inner<K, V, S> {
     ghost use Rattle.std.specs.Prelude.{◌+◌, ◌-◌};
     ghost use Rattle.std.specs.Coded.{codes, coded_ℕ};
@@ -67,9 +82,9 @@ impl<K: Eq + Hash, V, S: BuildHasher> Model for Inner<K, V, S> {
     ghost use Rattle.moka_maintenance.specs.Queued.{writes_of, reads_of};
     ghost use Rattle.moka_engine.specs.Interior.{Interior, operations_of};
 
-    ghost Value = { Interior K V };
+    ghost Value = { Interior K V S };
 
-    ghost coded = { Prim.hlevel (codes, finite.code, coded_ℕ, K.code, V.code) };
+    ghost coded = { Prim.hlevel (codes, finite.code, coded_ℕ, K.code, V.code, S.code) };
 
     ghost use Rattle.moka_engine.specs.Inner.{IsInner};
 
@@ -140,6 +155,18 @@ impl<K: Eq + Hash, V, S: BuildHasher> Inner<K, V, S> {
         self.store.find_by_key(key)
     }
 
+    /// The record whose key is equal, with its handle, or the hash under which a new record of the key comes in.
+    #[inline(always)]
+    pub fn find_or_hash(&self, key: &K) -> Result<(Handle, &Record<K, V>), KeyHash>
+        ensures handle { IfOk result (λ f. IsHandle self.now.kept f.0) }
+        ensures numbered { IfOk result (λ f. finite.get self.now.kept.records f.0.number ≡ Some f.1.now) }
+        ensures known { IfOk result (λ f. record_of_key K.eq self.now.kept.records key.now ≡ Some f.1.now) }
+        ensures unknown { IfErr result (λ _. record_of_key K.eq self.now.kept.records key.now ≡ None) }
+        ensures hashed { IfErr result (λ hash. IsKeyHash S.build_hasher S.Hasher.finish S.Hasher.write self.now.kept.hasher (K.hash_input key.now) hash) }
+    {
+        self.store.find_or_hash(key)
+    }
+
     /// Makes room for one more record with its operation and its removal.
     #[inline(always)]
     pub fn reserve_record(&mut self) -> Result<(), InsertError>
@@ -183,13 +210,15 @@ impl<K: Eq + Hash, V, S: BuildHasher> Inner<K, V, S> {
         u64::MAX - self.last_ticket - self.store.record_count() as u64 > more
     }
 
-    /// Puts a new record into the map, and hands its upsert out under the next ticket. It takes no memory.
+    /// Puts a new record into the map under its key's hash there, and hands its upsert, with the hash of the call, out
+    /// under the next ticket. It takes no memory.
     #[inline(always)]
-    pub fn insert(&mut self, key: K, hash: u64, update: Update<V>) -> Ticket
+    pub fn insert(&mut self, key: K, key_hash: KeyHash, hash: u64, update: Update<V>) -> Ticket
         requires rows { 0 < self.old.kept.room }
         requires operations { 1 < self.old.operation_room }
         requires tickets { self.old.next_ticket + finite.len self.old.kept.records + 1 < 2 ^ 64 }
         requires fresh { record_of_key K.eq self.old.kept.records key ≡ None }
+        requires hashed { IsKeyHash S.build_hasher S.Hasher.finish S.Hasher.write self.old.kept.hasher (K.hash_input key) key_hash }
         ensures ticket { result.0 ≡ self.old.next_ticket }
         ensures step { self.new ≡ record (handing_out_inside self.old
             (with_record self.old.kept.records (first_record self.old.next_number key hash update))
@@ -200,7 +229,7 @@ impl<K: Eq + Hash, V, S: BuildHasher> Inner<K, V, S> {
         let weight = update.weight;
         let handle = self
             .store
-            .insert_new(first_record(number, key, hash, update));
+            .insert_new(first_record(number, key, hash, update), key_hash);
         let place = handle.place;
         let operation = Operation::Upsert {
             number,
@@ -300,14 +329,22 @@ impl<K: Eq + Hash, V, S: BuildHasher> Inner<K, V, S> {
         }
     }
 
-    /// Notes that the record at this handle was read at this moment, and when it expires since then.
+    /// Notes that the record at this handle was read at this moment, and when it expires since then: as before, unless
+    /// the read renewed it.
     #[inline(always)]
-    pub fn touch(&mut self, handle: Handle, read: Instant, expires: Option<Instant>)
-        requires { IsHandle self.old.kept handle }
+    pub fn touch(
+        &mut self,
+        handle: Handle,
+        read: Instant,
+        expires: Option<Instant>,
+        is_renewed: bool,
+    )
+        requires handle { IsHandle self.old.kept handle }
+        requires kept { ExpiresAsBefore self.old.kept handle.number expires is_renewed }
         ensures step { ChangesRecord handle.number (λ r. record r { read = read; expires = expires }) self.old.kept self.new.kept }
         ensures rest { self.new ≡ record self.old { kept = self.new.kept } }
     {
-        self.store.touch(handle, read, expires);
+        self.store.touch(handle, read, expires, is_renewed);
     }
 
     /// Queues a read, or drops it where the queue is full.

@@ -124,6 +124,3 @@ impl PlaceIndex {
         self.len -= 1;
     }
 }
-
-#[cfg(test)]
-mod tests;

@@ -68,7 +68,7 @@ module _ {K V : Type 0} where
 
 -- ---- one timer
 
-module _ {K V : Type 0} (now n : ℕ) (old new : Kept K V) (untimed : get old.timers n ≡ None) where
+module _ {K V S : Type 0} (now n : ℕ) (old new : Kept K V S) (untimed : get old.timers n ≡ None) where
   -- its member is not settled
   pub reset-waiting : is_settled old.records n ≡ false → IsReset now n old old
   reset-waiting waiting = record {
@@ -90,12 +90,12 @@ module _ {K V : Type 0} (now n : ℕ) (old new : Kept K V) (untimed : get old.ti
   -- it is set again
   pub reset-set : (r : Record K V) → get old.records n ≡ Some r → has_passed (moment_of r.expires) now ≡ false → new ≡ record old { timers = if old.timed then with_timer old.timers n (moment_of r.expires) else old.timers } → IsReset now n old new
   reset-set r found later step = record {
-    ordered = ap (λ (k : Kept K V). k.ordered) step;
-    timed = ap (λ (k : Kept K V). k.timed) step;
-    timers = subst (λ ts. (ts ≡ old.timers) ⊎ ((t : ℕ) × (now < t) × (ts ≡ insert old.timers n t))) (sym (ap (λ (k : Kept K V). k.timers) step)) (set old.timed (moment_of r.expires) later);
+    ordered = ap (λ (k : Kept K V S). k.ordered) step;
+    timed = ap (λ (k : Kept K V S). k.timed) step;
+    timers = subst (λ ts. (ts ≡ old.timers) ⊎ ((t : ℕ) × (now < t) × (ts ≡ insert old.timers n t))) (sym (ap (λ (k : Kept K V S). k.timers) step)) (set old.timed (moment_of r.expires) later);
     own = λ kept p there applied.
-        (let is : r ≡ p = (let f = sym found ∙ (sym (ap (λ (k : Kept K V). get k.records n) step) ∙ there) in cc) in
-        ap (λ (k : Kept K V). get k.timers n) step ∙ ap (λ b. get (if b then with_timer old.timers n (moment_of r.expires) else old.timers) n) kept ∙ set-own old.timers n (moment_of r.expires) ∙ ap (λ (x : Record K V). moment_of x.expires) is);
+        (let is : r ≡ p = (let f = sym found ∙ (sym (ap (λ (k : Kept K V S). get k.records n) step) ∙ there) in cc) in
+        ap (λ (k : Kept K V S). get k.timers n) step ∙ ap (λ b. get (if b then with_timer old.timers n (moment_of r.expires) else old.timers) n) kept ∙ set-own old.timers n (moment_of r.expires) ∙ ap (λ (x : Record K V). moment_of x.expires) is);
   }
     where
       set : (b : Bool) (o : Option ℕ) → has_passed o now ≡ false → ((if b then with_timer old.timers n o else old.timers) ≡ old.timers) ⊎ ((t : ℕ) × (now < t) × ((if b then with_timer old.timers n o else old.timers) ≡ insert old.timers n t))
@@ -137,17 +137,17 @@ module _ {K V L : Type 0} (tells : L → K → V → RemovalCause → L → Type
   expires-few a b l m r h = let less = shrinks a h.by.steps (may-also (MayStep (tests_in q)) MayLeave (step_leaves (tests_in q)) a h.by.steps (may_expire a h.by.steps h.by.may)) in let count = h.count in omega arith
 
   -- a timer that was due is taken out, and then its member leaves or stays
-  module _ (old mid new : Kept K V) (l m : Option L) (n r : ℕ) (taken : mid ≡ record old { timers = remove old.timers n }) (reset : IsReset q.now.0 n mid new) (expired : ExpiresDue tells q (stock_in mid) (stock_in new) l m r) where
+  module _ {S : Type 0} (old mid new : Kept K V S) (l m : Option L) (n r : ℕ) (taken : mid ≡ record old { timers = remove old.timers n }) (reset : IsReset q.now.0 n mid new) (expired : ExpiresDue tells q (stock_in mid) (stock_in new) l m r) where
     pub keeps-due : KeepsTimers old new
     keeps-due = record {
-      ordered = reset.ordered ∙ ap (λ (k : Kept K V). k.ordered) taken;
-      timed = reset.timed ∙ ap (λ (k : Kept K V). k.timed) taken;
+      ordered = reset.ordered ∙ ap (λ (k : Kept K V S). k.ordered) taken;
+      timed = reset.timed ∙ ap (λ (k : Kept K V S). k.timed) taken;
       set = λ kept k p there is_in applied. elim (cases_eq k n) [
-        | inl same ↦ inr (ap (get new.timers) same ∙ reset.own (ap (λ (k : Kept K V). k.timed) taken ∙ kept) p (sym (ap (get new.records) same) ∙ there) applied)
+        | inl same ↦ inr (ap (get new.timers) same ∙ reset.own (ap (λ (k : Kept K V S). k.timed) taken ∙ kept) p (sym (ap (get new.records) same) ∙ there) applied)
         | inr other ↦ inl (
-          sym (ap (λ (s : Kept K V). get s.records k) taken) ∙ still-was (stock_in mid) expired.by.steps k p (sym (ap (λ (s : Stock K V). get s.records k) expired.by.led) ∙ there),
-          sym (ap (λ (s : Kept K V). is_member k s.access) taken) ∙ still-member (stock_in mid) expired.by.steps k (sym (ap (λ (s : Stock K V). is_member k s.access) expired.by.led) ∙ is_in),
-          others k other ∙ ap (λ (s : Kept K V). get s.timers k) taken ∙ get-past_remove old.timers n k other,
+          sym (ap (λ (s : Kept K V S). get s.records k) taken) ∙ still-was (stock_in mid) expired.by.steps k p (sym (ap (λ (s : Stock K V). get s.records k) expired.by.led) ∙ there),
+          sym (ap (λ (s : Kept K V S). is_member k s.access) taken) ∙ still-member (stock_in mid) expired.by.steps k (sym (ap (λ (s : Stock K V). is_member k s.access) expired.by.led) ∙ is_in),
+          others k other ∙ ap (λ (s : Kept K V S). get s.timers k) taken ∙ get-past_remove old.timers n k other,
         )
       ];
     }
@@ -160,4 +160,4 @@ module _ {K V L : Type 0} (tells : L → K → V → RemovalCause → L → Type
 
     pub fewer-due : (t : ℕ) → get old.timers n ≡ Some t → t ≤ q.now.0 → get mid.timers n ≡ None → how_many_due q.now.0 new.timers < how_many_due q.now.0 old.timers
     fewer-due t there is untimed =
-        subst (λ k. k < how_many_due q.now.0 old.timers) (sym (reset-due q.now.0 n mid new untimed reset ∙ ap (λ (k : Kept K V). how_many_due q.now.0 k.timers) taken)) (less-due q.now.0 old.timers n t there is)
+        subst (λ k. k < how_many_due q.now.0 old.timers) (sym (reset-due q.now.0 n mid new untimed reset ∙ ap (λ (k : Kept K V S). how_many_due q.now.0 k.timers) taken)) (less-due q.now.0 old.timers n t there is)

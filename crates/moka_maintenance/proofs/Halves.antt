@@ -73,7 +73,7 @@ module _ {K V L : Type 0} (tells : L → K → V → RemovalCause → L → Type
   })
 
 -- rows that operations leave, and then others
-pub rows-both : {K V : Type 0} (a b c : Kept K V) (xs ys : List QueuedWrite) → AddsNoPlace b c → LeavesNoRowBy (writes_of xs) a b → LeavesNoRowBy (writes_of ys) b c → LeavesNoRowBy (writes_of (xs ++ ys)) a c
+pub rows-both : {K V S : Type 0} (a b c : Kept K V S) (xs ys : List QueuedWrite) → AddsNoPlace b c → LeavesNoRowBy (writes_of xs) a b → LeavesNoRowBy (writes_of ys) b c → LeavesNoRowBy (writes_of (xs ++ ys)) a c
 rows-both a b c xs ys kept first then = subst (λ os. LeavesNoRowBy os a c) (sym (writes-both xs ys)) (λ n p at gone.
     let later = then n p at gone in
     let before = first n p (kept n p at) later.0 in (

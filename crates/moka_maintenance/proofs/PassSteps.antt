@@ -221,7 +221,7 @@ idle_sweeps false true invalid over = refl
 idle_sweeps false false true over = refl
 idle_sweeps false false false over = refl
 
-module _ {K V L P : Type 0} (tells : L → K → V → RemovalCause → L → Type 0) (says : P → K → V → Bool → Type 0) (ps qs : List (Registered P)) (q : Tests) (batch : ℕ) (a b c : Stock K V) (d0 d1 : Kept K V) (e : Stock K V) (l m n o u p : Option L) (due wrote read room : ℕ) (x y z scan : Bool)
+module _ {K V L P S : Type 0} (tells : L → K → V → RemovalCause → L → Type 0) (says : P → K → V → Bool → Type 0) (ps qs : List (Registered P)) (q : Tests) (batch : ℕ) (a b c : Stock K V) (d0 d1 : Kept K V S) (e : Stock K V) (l m n o u p : Option L) (due wrote read room : ℕ) (x y z scan : Bool)
     (by_timers : ExpiresDue tells q a b l m due) (by_write : IsSwept tells q Written batch b c m n wrote x) (by_read : IsSwept tells q Read batch c (stock_in d0) n o read y) (by_scan : IsScanned tells says ps batch d0 d1 qs o u scan) (surplus : IsSwept tells q Surplus batch (stock_in d1) e u p room z) where
   abbrev d : Stock K V
   d = stock_in d0

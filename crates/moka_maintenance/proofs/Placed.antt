@@ -29,31 +29,31 @@ module _ {X : Type 0} where
 
 module _ {K V : Type 0} where
   -- a record that changes keeps its row
-  pub rows-changed : (old new : Kept K V) (n : ℕ) (r : Record K V) → new.records ≡ insert old.records n r → LeavesNoRow old new
+  pub rows-changed : {S : Type 0} → (old new : Kept K V S) (n : ℕ) (r : Record K V) → new.records ≡ insert old.records n r → LeavesNoRow old new
   rows-changed old new n r is k p at gone = none_inserted old.records n r k (sym (ap (λ m. get m k) is) ∙ gone)
 
   -- the row goes with the record
-  pub rows-gone : (old new : Kept K V) (n : ℕ) → new.records ≡ remove old.records n → new.places ≡ remove old.places n → LeavesNoRow old new
+  pub rows-gone : {S : Type 0} → (old new : Kept K V S) (n : ℕ) → new.records ≡ remove old.records n → new.places ≡ remove old.places n → LeavesNoRow old new
   rows-gone old new n records places k p at gone =
       let other = (after_remove old.places n k p (sym (ap (λ m. get m k) places) ∙ at)).0 in
       none_removed old.records n k other (sym (ap (λ m. get m k) records) ∙ gone)
 
-  pub places-gone : (old new : Kept K V) (n : ℕ) → new.places ≡ remove old.places n → AddsNoPlace old new
+  pub places-gone : {S : Type 0} → (old new : Kept K V S) (n : ℕ) → new.places ≡ remove old.places n → AddsNoPlace old new
   places-gone old new n places k p at = (after_remove old.places n k p (sym (ap (λ m. get m k) places) ∙ at)).1
 
   -- one change and then another
-  pub places-on : (a b c : Kept K V) → AddsNoPlace a b → AddsNoPlace b c → AddsNoPlace a c
+  pub places-on : {S : Type 0} → (a b c : Kept K V S) → AddsNoPlace a b → AddsNoPlace b c → AddsNoPlace a c
   places-on a b c h k n p at = h n p (k n p at)
 
-  pub rows-on : (a b c : Kept K V) → AddsNoPlace b c → LeavesNoRow a b → LeavesNoRow b c → LeavesNoRow a c
+  pub rows-on : {S : Type 0} → (a b c : Kept K V S) → AddsNoPlace b c → LeavesNoRow a b → LeavesNoRow b c → LeavesNoRow a c
   rows-on a b c kept h k n p at gone = h n p (kept n p at) (k n p at gone)
 
-  module _ (old new : Kept K V) (n generation : ℕ) where
+  module _ {S : Type 0} (old new : Kept K V S) (n generation : ℕ) where
     -- an operation of a number that has no row
     pub rows-unplaced : (place : ℕ) → IsAt old.places n place → (get old.places n ≡ Some place → ⊥) → new ≡ old → LeavesNoRowAfter (Removal n generation) old new
     rows-unplaced place is_at away same k p at gone =
-        let at' : get old.places k ≡ Some p = subst (λ (s : Kept K V). get s.places k ≡ Some p) same at in
-        (subst (λ (s : Kept K V). get s.records k ≡ None) same gone, λ _ e. (let there : get old.places n ≡ Some p = subst (λ m. get old.places m ≡ Some p) (sym (ap number_of e)) at' in away (there ∙ ap (λ q. Some q) (is_at p there))))
+        let at' : get old.places k ≡ Some p = subst (λ (s : Kept K V S). get s.places k ≡ Some p) same at in
+        (subst (λ (s : Kept K V S). get s.records k ≡ None) same gone, λ _ e. (let there : get old.places n ≡ Some p = subst (λ m. get old.places m ≡ Some p) (sym (ap number_of e)) at' in away (there ∙ ap (λ q. Some q) (is_at p there))))
 
     -- its row is given back
     pub rows-forgotten : new.records ≡ old.records → new.places ≡ remove old.places n → LeavesNoRowAfter (Removal n generation) old new
@@ -62,11 +62,11 @@ module _ {K V : Type 0} where
         (sym (ap (λ m. get m k) same) ∙ gone, λ _ e. other (sym (ap number_of e)))
 
   -- no operation
-  pub rows-none : (k : Kept K V) → LeavesNoRowBy [] k k
+  pub rows-none : {S : Type 0} → (k : Kept K V S) → LeavesNoRowBy [] k k
   rows-none k n p at gone = (gone, λ _ _ there. (let lt = there.1 in omega arith))
 
   -- one operation and then others
-  pub rows-then : (a b c : Kept K V) (o : Operation) (ticket : ℕ) (os : List Ticketed) → AddsNoPlace b c → LeavesNoRowAfter o a b → LeavesNoRowBy os b c → LeavesNoRowBy (record { ticket = ticket; operation = o } ∷ os) a c
+  pub rows-then : {S : Type 0} → (a b c : Kept K V S) (o : Operation) (ticket : ℕ) (os : List Ticketed) → AddsNoPlace b c → LeavesNoRowAfter o a b → LeavesNoRowBy os b c → LeavesNoRowBy (record { ticket = ticket; operation = o } ∷ os) a c
   rows-then a b c o ticket os kept first then n p at gone =
       let later = then n p at gone in
       let before = first n p (kept n p at) later.0 in (

@@ -116,7 +116,7 @@ some_ahead (n ∷ ns) next at some = omega arith
 
 -- ---- one walk, and then another
 
-module _ {K V L P : Type 0} (tells : L → K → V → RemovalCause → L → Type 0) (says : P → K → V → Bool → Type 0) (ps : List (Registered P)) (batch : ℕ) (old mid : Kept K V) (l m : Option L) (before rest : List ℕ) (looked passed : ℕ)
+module _ {K V L P S : Type 0} (tells : L → K → V → RemovalCause → L → Type 0) (says : P → K → V → Bool → Type 0) (ps : List (Registered P)) (batch : ℕ) (old mid : Kept K V S) (l m : Option L) (before rest : List ℕ) (looked passed : ℕ)
     (h : IsWalked tells says ps old mid l m before rest mid.cursor looked passed) (list : old.written ≡ before ++ rest) (known : old.ordered ≡ true → IsListOf old.access old.written) (most : looked ≤ batch) where
   lengths : length old.written ≡ length before + (passed + length h.ahead)
   lengths =
@@ -138,7 +138,7 @@ module _ {K V L P : Type 0} (tells : L → K → V → RemovalCause → L → Ty
       beyond : old.ordered ≡ true → length old.access ≤ passed → ⊥
       beyond ordered all = let few = written_few old.access old.written (known ordered) in let more = some_ahead h.ahead mid.cursor h.at on in let sum = lengths in omega arith
 
-  module _ (new : Kept K V) (k : Option L) (looked_then passed_then : ℕ) (over : is_none mid.cursor ≡ true) (j : IsWalked tells says ps mid new m k [] mid.written new.cursor looked_then passed_then) (few_then : looked_then ≤ batch - looked)
+  module _ (new : Kept K V S) (k : Option L) (looked_then passed_then : ℕ) (over : is_none mid.cursor ≡ true) (j : IsWalked tells says ps mid new m k [] mid.written new.cursor looked_then passed_then) (few_then : looked_then ≤ batch - looked)
       (stopped : is_none new.cursor ≡ false → (length old.access - passed ≤ passed_then) ⊎ (batch - looked ≤ looked_then)) where
     none_ahead : h.ahead ≡ []
     none_ahead = nothing_ahead h.ahead mid.cursor h.at over

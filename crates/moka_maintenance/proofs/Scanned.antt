@@ -97,7 +97,7 @@ covers_fewer {K} {V} {P} says ps (q ∷ qs) less r covered = elim covered [
 
 -- ---- the scan
 
-module _ {K V L P : Type 0} (tells : L → K → V → RemovalCause → L → Type 0) (says : P → K → V → Bool → Type 0) (batch : ℕ) (old : Kept K V) (ps : List (Registered P)) (l : Option L) where
+module _ {K V L P S : Type 0} (tells : L → K → V → RemovalCause → L → Type 0) (says : P → K → V → Bool → Type 0) (batch : ℕ) (old : Kept K V S) (ps : List (Registered P)) (l : Option L) where
   pub scanned-none : length ps ≡ 0 → IsScanned tells says ps batch old old ps l l false
   unfolding stepped-none
   scanned-none none = record {
@@ -115,7 +115,7 @@ module _ {K V L P : Type 0} (tells : L → K → V → RemovalCause → L → Ty
       nothing [] e = refl
       nothing (p ∷ ps) e = absurd (omega arith)
 
-  module _ (new : Kept K V) (k : Option L) (looked : ℕ) (end : Bool) (h : IsRound tells says ps batch old new l k looked end) (known : old.ordered ≡ true → IsListOf old.access old.written) (some : 1 ≤ length ps)
+  module _ (new : Kept K V S) (k : Option L) (looked : ℕ) (end : Bool) (h : IsRound tells says ps batch old new l k looked end) (known : old.ordered ≡ true → IsListOf old.access old.written) (some : 1 ≤ length ps)
       (qs : List (Registered P)) (left : Bool) (met : left ≡ true → 1 ≤ looked) (more : left ≡ true → 0 < length qs) (further : 1 ≤ looked → 0 < length qs → left ≡ true) where
     settled_none : looked ≡ 0 → HasNoSettled (stock_in old) → HasNoSettled (stock_in new)
     settled_none none = subst HasNoSettled (sym (h.by.led ∙ ap (after_steps (stock_in old)) (no_steps h.by.steps (let f = h.few in omega arith))))

@@ -32,10 +32,10 @@ module _ (timers : FinMap nat_cmp ℕ) (n : ℕ) where
   set-other (Some at) k other = get-past_insert timers n at k other
 
 module _ {K V : Type 0} where
-  pub keeps-none : (k : Kept K V) → KeepsTimers k k
+  pub keeps-none : {S : Type 0} → (k : Kept K V S) → KeepsTimers k k
   keeps-none k = record { ordered = refl; timed = refl; set = λ _ n r there is_in applied. inl (there, is_in, refl) }
 
-  pub keeps-on : (a b c : Kept K V) → KeepsTimers a b → KeepsTimers b c → KeepsTimers a c
+  pub keeps-on : {S : Type 0} → (a b c : Kept K V S) → KeepsTimers a b → KeepsTimers b c → KeepsTimers a c
   keeps-on a b c h j = record {
     ordered = j.ordered ∙ h.ordered;
     timed = j.timed ∙ h.timed;
@@ -48,17 +48,17 @@ module _ {K V : Type 0} where
     ];
   }
 
-  pub drops-none : (k : Kept K V) → DropsTimers k k
+  pub drops-none : {S : Type 0} → (k : Kept K V S) → DropsTimers k k
   drops-none k = record { keeps = keeps-none k; fewer = λ n t there. there }
 
-  pub drops-on : (a b c : Kept K V) → DropsTimers a b → DropsTimers b c → DropsTimers a c
+  pub drops-on : {S : Type 0} → (a b c : Kept K V S) → DropsTimers a b → DropsTimers b c → DropsTimers a c
   drops-on a b c h j = record { keeps = keeps-on a b c h.keeps j.keeps; fewer = λ n t there. h.fewer n t (j.fewer n t there) }
 
   -- no timer is due where none is new
-  pub none-due : (now : ℕ) (a b : Kept K V) → DropsTimers a b → HasNoneDue now a → HasNoneDue now b
+  pub none-due : {S : Type 0} → (now : ℕ) (a b : Kept K V S) → DropsTimers a b → HasNoneDue now a → HasNoneDue now b
   none-due now a b h none n t there = none n t (h.fewer n t there)
 
-  module _ (old new : Kept K V) (ordered : new.ordered ≡ old.ordered) (timed : new.timed ≡ old.timed) where
+  module _ {S : Type 0} (old new : Kept K V S) (ordered : new.ordered ≡ old.ordered) (timed : new.timed ≡ old.timed) where
     -- members move, and all else stays
     pub keeps-moved : new.records ≡ old.records → ((k : ℕ) → counted_of k new.access ≡ counted_of k old.access) → new.timers ≡ old.timers → KeepsTimers old new
     keeps-moved records counted timers = record {
@@ -92,27 +92,27 @@ module _ {K V : Type 0} where
     }
 
   -- a number leaves the orders and the timers, and perhaps its row goes
-  pub keeps-left : (old mid new : Kept K V) (n : ℕ) (places : FinMap nat_cmp ℕ) → mid ≡ record old { access = without_member n old.access; written = without_number n old.written; timers = remove old.timers n; cursor = cursor_past n old.written old.cursor } → new ≡ record mid { places = places; room = new.room } → KeepsTimers old new
+  pub keeps-left : {S : Type 0} → (old mid new : Kept K V S) (n : ℕ) (places : FinMap nat_cmp ℕ) → mid ≡ record old { access = without_member n old.access; written = without_number n old.written; timers = remove old.timers n; cursor = cursor_past n old.written old.cursor } → new ≡ record mid { places = places; room = new.room } → KeepsTimers old new
   keeps-left old mid new n places left rest =
       keeps-outside old new
-      (ap (λ (k : Kept K V). k.ordered) rest ∙ ap (λ (k : Kept K V). k.ordered) left)
-      (ap (λ (k : Kept K V). k.timed) rest ∙ ap (λ (k : Kept K V). k.timed) left) n
-      (ap (λ (k : Kept K V). counted_of n k.access) rest ∙ ap (λ (k : Kept K V). counted_of n k.access) left ∙ counted_taken_out n old.access)
-      (λ k _. ap (λ (s : Kept K V). get s.records k) rest ∙ ap (λ (s : Kept K V). get s.records k) left)
-      (λ k is_in. member-was n k old.access (sym (ap (λ (s : Kept K V). is_member k s.access) rest ∙ ap (λ (s : Kept K V). is_member k s.access) left) ∙ is_in))
-      (λ k other. ap (λ (s : Kept K V). get s.timers k) rest ∙ ap (λ (s : Kept K V). get s.timers k) left ∙ get-past_remove old.timers n k other)
+      (ap (λ (k : Kept K V _). k.ordered) rest ∙ ap (λ (k : Kept K V _). k.ordered) left)
+      (ap (λ (k : Kept K V _). k.timed) rest ∙ ap (λ (k : Kept K V _). k.timed) left) n
+      (ap (λ (k : Kept K V _). counted_of n k.access) rest ∙ ap (λ (k : Kept K V _). counted_of n k.access) left ∙ counted_taken_out n old.access)
+      (λ k _. ap (λ (s : Kept K V _). get s.records k) rest ∙ ap (λ (s : Kept K V _). get s.records k) left)
+      (λ k is_in. member-was n k old.access (sym (ap (λ (s : Kept K V _). is_member k s.access) rest ∙ ap (λ (s : Kept K V _). is_member k s.access) left) ∙ is_in))
+      (λ k other. ap (λ (s : Kept K V _). get s.timers k) rest ∙ ap (λ (s : Kept K V _). get s.timers k) left ∙ get-past_remove old.timers n k other)
 
   -- the timer of a number is set to its record's expiry, and other records, members and timers stay
-  pub keeps-set : (old mid new : Kept K V) (n : ℕ) (r : Record K V) → get mid.records n ≡ Some r → mid.ordered ≡ old.ordered → mid.timed ≡ old.timed → mid.timers ≡ old.timers
+  pub keeps-set : {S : Type 0} → (old mid new : Kept K V S) (n : ℕ) (r : Record K V) → get mid.records n ≡ Some r → mid.ordered ≡ old.ordered → mid.timed ≡ old.timed → mid.timers ≡ old.timers
       → ((k : ℕ) → k ≢ n → get mid.records k ≡ get old.records k) → ((k : ℕ) → k ≢ n → counted_of k mid.access ≡ counted_of k old.access)
       → new ≡ record mid { timers = if mid.timed then with_timer mid.timers n (moment_of r.expires) else mid.timers } → KeepsTimers old new
   keeps-set old mid new n r found ordered timed timers records counted step = record {
-    ordered = ap (λ (k : Kept K V). k.ordered) step ∙ ordered;
-    timed = ap (λ (k : Kept K V). k.timed) step ∙ timed;
+    ordered = ap (λ (k : Kept K V _). k.ordered) step ∙ ordered;
+    timed = ap (λ (k : Kept K V _). k.timed) step ∙ timed;
     set = λ kept k p there is_in applied.
-        (let set : new.timers ≡ with_timer mid.timers n (moment_of r.expires) = ap (λ (k : Kept K V). k.timers) step ∙ ap (λ b. if b then with_timer mid.timers n (moment_of r.expires) else mid.timers) (timed ∙ kept) in
-        let there' : get mid.records k ≡ Some p = sym (ap (λ (s : Kept K V). get s.records k) step) ∙ there in
-        let is_in' : is_member k mid.access ≡ true = sym (ap (λ (s : Kept K V). is_member k s.access) step) ∙ is_in in
+        (let set : new.timers ≡ with_timer mid.timers n (moment_of r.expires) = ap (λ (k : Kept K V _). k.timers) step ∙ ap (λ b. if b then with_timer mid.timers n (moment_of r.expires) else mid.timers) (timed ∙ kept) in
+        let there' : get mid.records k ≡ Some p = sym (ap (λ (s : Kept K V _). get s.records k) step) ∙ there in
+        let is_in' : is_member k mid.access ≡ true = sym (ap (λ (s : Kept K V _). is_member k s.access) step) ∙ is_in in
         elim (cases_eq k n) [
           | inl same ↦
               let own : get mid.records n ≡ Some p = sym (ap (get mid.records) same) ∙ there' in
@@ -128,13 +128,13 @@ module _ {K V : Type 0} where
 
   -- ---- at its record's expiry
 
-  module _ (mid new : Kept K V) (n : ℕ) (r : Record K V) (found : get mid.records n ≡ Some r) (step : new ≡ record mid { timers = if mid.timed then with_timer mid.timers n (moment_of r.expires) else mid.timers }) where
+  module _ {S : Type 0} (mid new : Kept K V S) (n : ℕ) (r : Record K V) (found : get mid.records n ≡ Some r) (step : new ≡ record mid { timers = if mid.timed then with_timer mid.timers n (moment_of r.expires) else mid.timers }) where
     set_to : new.timed ≡ true → new.timers ≡ with_timer mid.timers n (moment_of r.expires)
-    set_to kept = ap (λ (k : Kept K V). k.timers) step ∙ ap (λ b. if b then with_timer mid.timers n (moment_of r.expires) else mid.timers) (sym (ap (λ (k : Kept K V). k.timed) step) ∙ kept)
+    set_to kept = ap (λ (k : Kept K V S). k.timers) step ∙ ap (λ b. if b then with_timer mid.timers n (moment_of r.expires) else mid.timers) (sym (ap (λ (k : Kept K V S). k.timed) step) ∙ kept)
 
     pub stands-set : StandsAtExpiry n new
     stands-set kept p there is_in =
-        let own : get mid.records n ≡ Some p = sym (ap (λ (s : Kept K V). get s.records n) step) ∙ there in
+        let own : get mid.records n ≡ Some p = sym (ap (λ (s : Kept K V S). get s.records n) step) ∙ there in
         let is : r ≡ p = (let f = found in cc) in
         ap (λ m. get m n) (set_to kept) ∙ set-own mid.timers n (moment_of r.expires) ∙ ap (λ (x : Record K V). moment_of x.expires) is
 
@@ -144,11 +144,11 @@ module _ {K V : Type 0} where
           ap (get new.timers) same ∙ stands-set kept p (sym (ap (get new.records) same) ∙ there) (sym (ap (λ x. is_member x new.access) same) ∙ is_in)
       | inr other ↦
           ap (λ m. get m k) (set_to kept) ∙ set-other mid.timers n (moment_of r.expires) k other
-          ∙ stands (sym (ap (λ (s : Kept K V). s.timed) step) ∙ kept) p (sym (ap (λ (s : Kept K V). get s.records k) step) ∙ there) (sym (ap (λ (s : Kept K V). is_member k s.access) step) ∙ is_in)
+          ∙ stands (sym (ap (λ (s : Kept K V S). s.timed) step) ∙ kept) p (sym (ap (λ (s : Kept K V S). get s.records k) step) ∙ there) (sym (ap (λ (s : Kept K V S). is_member k s.access) step) ∙ is_in)
     ]
 
   -- where members move alone
-  pub stands-moved : (old new : Kept K V) (k : ℕ) → new.timed ≡ old.timed → new.records ≡ old.records → counted_of k new.access ≡ counted_of k old.access → new.timers ≡ old.timers → StandsAtExpiry k old → StandsAtExpiry k new
+  pub stands-moved : {S : Type 0} → (old new : Kept K V S) (k : ℕ) → new.timed ≡ old.timed → new.records ≡ old.records → counted_of k new.access ≡ counted_of k old.access → new.timers ≡ old.timers → StandsAtExpiry k old → StandsAtExpiry k new
   stands-moved old new k timed records counted timers stands kept p there is_in =
       ap (λ m. get m k) timers ∙ stands (sym timed ∙ kept) p (sym (ap (λ m. get m k) records) ∙ there) (sym (ap is_some counted) ∙ is_in)
 
@@ -156,14 +156,14 @@ module _ {K V : Type 0} where
 
 module _ {K V : Type 0} where
   -- timers stay at their records' expiries
-  pub still-timed : (old new : Kept K V) → old.timed ≡ true → KeepsTimers old new → AreTimed old → AreTimed new
+  pub still-timed : {S : Type 0} → (old new : Kept K V S) → old.timed ≡ true → KeepsTimers old new → AreTimed old → AreTimed new
   still-timed old new kept h timed n r there is_in applied = elim (h.set kept n r there is_in applied) [
     | inl same ↦ same.2 ∙ timed n r same.0 same.1 applied
     | inr at ↦ at
   ]
 
   -- where none is due, no settled member has expired
-  pub lasts-timed : (now : ℕ) (k : Kept K V) → AreTimed k → HasNoneDue now k → (n : ℕ) (r : Record K V) → get k.records n ≡ Some r → is_member n k.access ≡ true → is_applied r ≡ true → is_expired r now ≡ false
+  pub lasts-timed : {S : Type 0} → (now : ℕ) (k : Kept K V S) → AreTimed k → HasNoneDue now k → (n : ℕ) (r : Record K V) → get k.records n ≡ Some r → is_member n k.access ≡ true → is_applied r ≡ true → is_expired r now ≡ false
   lasts-timed now k timed none n r there is_in applied = go (moment_of r.expires) (timed n r there is_in applied)
     where
       go : (o : Option ℕ) → get k.timers n ≡ o → has_passed o now ≡ false

@@ -8,7 +8,7 @@ use Rattle.moka_parts.specs.Records.{counted_of, is_listed}
 use Rattle.moka_parts.proofs.Maps.{itself_tested, same_by_test, same_or_apart}
 use Rattle.moka_parts.proofs.WriteList.{listed_past_taken_out, once_taken_out}
 use Rattle.moka_store.specs.declared.store.Handle.{Handle}
-use Rattle.moka_store.specs.Store.{Kept, IsPlaced, number_after}
+use Rattle.moka_store.specs.Store.{Kept, IsPlaced, IsOrdered, number_after}
 use Rattle.moka_store.proofs.Gets.{get-past_remove}
 use Rattle.moka_store.proofs.Members.{counted-without}
 use Rattle.moka_maintenance.specs.Expelled.{without_record}
@@ -37,7 +37,7 @@ if_some None f h = h
 if_some (Some a) f h = f a refl h
 
 -- another number keeps its row and both its places, and no number stands twice then either
-pub record KeepsOthers {K V : Type 0} (old new : Kept K V) (n : ℕ) : Type 0 where
+pub record KeepsOthers {K V S : Type 0} (old new : Kept K V S) (n : ℕ) : Type 0 where
   pub placed : (h : Handle) → h.number ≢ n → IsPlaced old h → IsPlaced new h
   pub members : (k : ℕ) → k ≢ n → IsSome (counted_of k old.access) → IsSome (counted_of k new.access)
   pub listed : (k : ℕ) → k ≢ n → is_listed k old.written ≡ true → is_listed k new.written ≡ true
@@ -48,10 +48,14 @@ pub record KeepsOthers {K V : Type 0} (old new : Kept K V) (n : ℕ) : Type 0 wh
   pub room : old.room ≤ new.room
 
 module _ {K V : Type 0} where
-  keeps_same : (old : Kept K V) (n : ℕ) → KeepsOthers old old n
+  -- another member stays in the order of writing
+  pub still-ordered : {S : Type 0} → (old new : Kept K V S) (n : ℕ) → KeepsOthers old new n → (h : Handle) → h.number ≢ n → IsOrdered old h → IsOrdered new h
+  still-ordered old new n keeps h other at = record { placed = keeps.placed h other at.placed; member = keeps.members h.number other at.member; listed = keeps.listed h.number other at.listed }
+
+  keeps_same : {S : Type 0} → (old : Kept K V S) (n : ℕ) → KeepsOthers old old n
   keeps_same old n = record { placed = λ h other at. at; members = λ k other there. there; listed = λ k other there. there; once = λ o. o; timers = drops-none old; places = λ k p at. at; rows = λ k p at gone. gone; room = omega arith }
 
-  keeps_past : (old : Kept K V) (n room : ℕ) → old.room ≤ room → KeepsOthers old (without_record n room old) n
+  keeps_past : {S : Type 0} → (old : Kept K V S) (n room : ℕ) → old.room ≤ room → KeepsOthers old (without_record n room old) n
   keeps_past old n room more = record {
     placed = λ h other at. get-past_remove old.places n h.number other ∙ at;
     members = λ k other there. subst (λ o. is_some o ≡ true) (sym (counted-without n k old.access ∙ cond-false (k == n) None (counted_of k old.access) (ne_eqb k n other))) there;
@@ -64,7 +68,7 @@ module _ {K V : Type 0} where
   }
 
   module _ {L P : Type 0} (tells : L → K → V → RemovalCause → L → Type 0) (says : P → K → V → Bool → Type 0) (ps : List (Registered P)) where
-    pub turn_keeps : (old new : Kept K V) (l m : Option L) (n : ℕ) (settled : Bool) → LooksAt tells says ps old new l m n settled → KeepsOthers old new n
+    pub turn_keeps : {S : Type 0} → (old new : Kept K V S) (l m : Option L) (n : ℕ) (settled : Bool) → LooksAt tells says ps old new l m n settled → KeepsOthers old new n
     turn_keeps old new l m n false turn = subst (λ new. KeepsOthers old new n) (sym turn.1) (keeps_same old n)
     turn_keeps old new l m n true turn = elim turn.1 [
       | inl same ↦ subst (λ new. KeepsOthers old new n) (sym same.0) (keeps_same old n)

@@ -74,7 +74,7 @@ no_steps (x ∷ xs) h = absurd (omega arith)
 
 -- ---- the walk
 
-module _ {K V L P : Type 0} (tells : L → K → V → RemovalCause → L → Type 0) (says : P → K → V → Bool → Type 0) (ps : List (Registered P)) (old : Kept K V) (l : Option L) (before rest : List ℕ) where
+module _ {K V L P S : Type 0} (tells : L → K → V → RemovalCause → L → Type 0) (says : P → K → V → Bool → Type 0) (ps : List (Registered P)) (old : Kept K V S) (l : Option L) (before rest : List ℕ) where
   pub walked-none : (next : Option ℕ) → old.written ≡ before ++ rest → next ≡ slice_get rest 0 → IsWalked tells says ps old old l l before rest next 0 0
   unfolding stepped-none
   walked-none next list at = record {
@@ -92,7 +92,7 @@ module _ {K V L P : Type 0} (tells : L → K → V → RemovalCause → L → Ty
     uncovered = uncovered-none says ps old.records;
   }
 
-  module _ (mid : Kept K V) (m : Option L) (n looked passed : ℕ) (h : IsWalked tells says ps old mid l m before rest (Some n) looked passed) (once : IsDistinct (◌==◌) mid.written) where
+  module _ (mid : Kept K V S) (m : Option L) (n looked passed : ℕ) (h : IsWalked tells says ps old mid l m before rest (Some n) looked passed) (once : IsDistinct (◌==◌) mid.written) where
     here : Head n h.ahead
     here = head_of n h.ahead h.at
 
@@ -140,7 +140,7 @@ module _ {K V L P : Type 0} (tells : L → K → V → RemovalCause → L → Ty
       uncovered = uncovered-push says ps mid.records h.walked n found h.uncovered;
     }
 
-    pub walked-unsettled : (new : Kept K V) (k : Option L) → LooksAt tells says ps mid new m k n false → IsWalked tells says ps old new l k before rest (number_after n mid.written) looked (passed + 1)
+    pub walked-unsettled : (new : Kept K V S) (k : Option L) → LooksAt tells says ps mid new m k n false → IsWalked tells says ps old new l k before rest (number_after n mid.written) looked (passed + 1)
     walked-unsettled new k turn =
         subst (λ k. IsWalked tells says ps old new l k before rest (number_after n mid.written) looked (passed + 1)) (sym turn.2)
         (subst (λ new. IsWalked tells says ps old new l m before rest (number_after n mid.written) looked (passed + 1)) (sym turn.1)
@@ -149,7 +149,7 @@ module _ {K V L P : Type 0} (tells : L → K → V → RemovalCause → L → Ty
         settled_is : (r : Record K V) → get mid.records n ≡ Some r → is_settled mid.records n ≡ is_applied r
         settled_is r at = ap (λ o. option_map_or is_applied o false) at
 
-    pub walked-settled : (new : Kept K V) (k : Option L) → LooksAt tells says ps mid new m k n true → IsWalked tells says ps old new l k before rest (number_after n mid.written) (looked + 1) (passed + 1)
+    pub walked-settled : (new : Kept K V S) (k : Option L) → LooksAt tells says ps mid new m k n true → IsWalked tells says ps old new l k before rest (number_after n mid.written) (looked + 1) (passed + 1)
     unfolding stepped-one stepped-on
     walked-settled new k turn = elim turn.1 [
       | inl same ↦
@@ -157,14 +157,14 @@ module _ {K V L P : Type 0} (tells : L → K → V → RemovalCause → L → Ty
           (subst (λ new. IsWalked tells says ps old new l m before rest (number_after n mid.written) (looked + 1) (passed + 1)) (sym same.0)
           (stays (looked + 1) (omega arith) (let f = h.fewer in omega arith) (λ none. absurd (omega arith)) (λ r at applied. same.2 r at)))
       | inr left ↦
-          let records : new.records ≡ remove mid.records n = ap (λ (s : Kept K V). s.records) left.1 in
+          let records : new.records ≡ remove mid.records n = ap (λ (s : Kept K V S). s.records) left.1 in
           let gone : (j : ℕ) (r : Record K V) → get new.records j ≡ Some r → (j ≡ n → ⊥) × (get mid.records j ≡ Some r) = λ j r at. after_remove mid.records n j r (sym (ap (λ rs. get rs j) records) ∙ at) in
           record {
             walked = h.walked ++ n ∷ [];
             kept = h.kept;
             ahead = here.behind;
             split = split_is;
-            list = ap (λ (s : Kept K V). s.written) left.1 ∙ ap (without_number n) list_is ∙ without_split (before ++ h.kept) here.behind n once_there ∙ append_assoc before h.kept here.behind;
+            list = ap (λ (s : Kept K V S). s.written) left.1 ∙ ap (without_number n) list_is ∙ without_split (before ++ h.kept) here.behind n once_there ∙ append_assoc before h.kept here.behind;
             at = next_is;
             count = count_is;
             by = stepped-on tells (MayScan says ps) (stock_in old) (stock_in mid) (stock_in new) l m k h.by (stepped-one tells (MayScan says ps) (stock_in mid) (stock_in new) m k (Removes n Explicit) left.0 (ap stock_in left.1) left.3);
@@ -176,5 +176,5 @@ module _ {K V L P : Type 0} (tells : L → K → V → RemovalCause → L → Ty
     ]
 
   -- a cursor put elsewhere
-  pub walked-cursor : (new : Kept K V) (m : Option L) (next at : Option ℕ) (looked passed : ℕ) → IsWalked tells says ps old new l m before rest next looked passed → IsWalked tells says ps old (record new { cursor = at }) l m before rest next looked passed
+  pub walked-cursor : (new : Kept K V S) (m : Option L) (next at : Option ℕ) (looked passed : ℕ) → IsWalked tells says ps old new l m before rest next looked passed → IsWalked tells says ps old (record new { cursor = at }) l m before rest next looked passed
   walked-cursor new m next at looked passed h = record { walked = h.walked; kept = h.kept; ahead = h.ahead; split = h.split; list = h.list; at = h.at; count = h.count; by = h.by; few = h.few; fewer = h.fewer; unlooked = h.unlooked; uncovered = h.uncovered }

@@ -5,7 +5,7 @@ use Rattle.moka_parts.specs.Records.{without_member, without_number}
 use Rattle.moka_store.specs.Store.{Kept, cursor_past}
 
 -- the store without this number, with so much room: it has left the map, both orders and the timers, and its row is given back
-abbrev pub without_record : {K V : Type 0} → ℕ → ℕ → Kept K V → Kept K V
+abbrev pub without_record : {K V S : Type 0} → ℕ → ℕ → Kept K V S → Kept K V S
 without_record n room k = record k {
   records = finite.remove k.records n;
   access = without_member n k.access;

@@ -53,9 +53,9 @@ module _ {K V L : Type 0} (tells : L → K → V → RemovalCause → L → Type
     pub told : Told tells l (left_by_writes capacity policy before os moves) m
 
 -- a number that has kept its row without a record had no record before, and the operation is no removal of it
-abbrev pub LeavesNoRowAfter : {K V : Type 0} → Operation → Kept K V → Kept K V → Type 0
+abbrev pub LeavesNoRowAfter : {K V S : Type 0} → Operation → Kept K V S → Kept K V S → Type 0
 LeavesNoRowAfter o old new = (n p : ℕ) → get new.places n ≡ Some p → get new.records n ≡ None → (get old.records n ≡ None) × ((generation : ℕ) → o ≢ Removal n generation)
 
 -- a number that has kept its row without a record had no record before, and no removal of it was among the operations
-abbrev pub LeavesNoRowBy : {K V : Type 0} → List Ticketed → Kept K V → Kept K V → Type 0
+abbrev pub LeavesNoRowBy : {K V S : Type 0} → List Ticketed → Kept K V S → Kept K V S → Type 0
 LeavesNoRowBy os old new = (n p : ℕ) → get new.places n ≡ Some p → get new.records n ≡ None → (get old.records n ≡ None) × ((ticket generation : ℕ) → Contains os (record { ticket = ticket; operation = Removal n generation }) → ⊥)

@@ -46,14 +46,14 @@ module _ {K V P : Type 0} (says : P → K → V → Bool → Type 0) where
 
 module _ {K V L P : Type 0} (tells : L → K → V → RemovalCause → L → Type 0) (says : P → K → V → Bool → Type 0) (ps : List (Registered P)) where
   -- a member is looked at: one that is not settled stays; a settled one stays where no predicate covers it, and else leaves
-  abbrev pub LooksAt : Kept K V → Kept K V → Option L → Option L → ℕ → Bool → Type 0
+  abbrev pub LooksAt : {S : Type 0} → Kept K V S → Kept K V S → Option L → Option L → ℕ → Bool → Type 0
   LooksAt old new l m n false = (is_settled old.records n ≡ false) × (new ≡ old) × (m ≡ l)
   LooksAt old new l m n true = (is_settled old.records n ≡ true)
       × (((new ≡ old) × (m ≡ l) × ((r : Record K V) → get old.records n ≡ Some r → NoneCovers says ps r))
       ⊎ (MayScan says ps (stock_in old) (Removes n Explicit) × (new ≡ without_record n new.room old) × (old.room ≤ new.room) × Told tells l (left_by_step (stock_in old) (Removes n Explicit)) m))
 
   -- a walk along the members of `rest`, which stand behind `before`, up to the one before the next
-  pub record IsWalked (old new : Kept K V) (l m : Option L) (before rest : List ℕ) (next : Option ℕ) (looked passed : ℕ) : Type 0 where
+  pub record IsWalked {S : Type 0} (old new : Kept K V S) (l m : Option L) (before rest : List ℕ) (next : Option ℕ) (looked passed : ℕ) : Type 0 where
     pub walked : List ℕ
     pub kept : List ℕ
     pub ahead : List ℕ
@@ -70,7 +70,7 @@ module _ {K V L P : Type 0} (tells : L → K → V → RemovalCause → L → Ty
     pub uncovered : AreUncovered says ps new.records walked
 
   -- a walk from the cursor, at most once round: the members looked at, and whether it came to the end
-  pub record IsRound (batch : ℕ) (old new : Kept K V) (l m : Option L) (looked : ℕ) (end : Bool) : Type 0 where
+  pub record IsRound {S : Type 0} (batch : ℕ) (old new : Kept K V S) (l m : Option L) (looked : ℕ) (end : Bool) : Type 0 where
     pub by : IsStepped tells (MayScan says ps) (stock_in old) (stock_in new) l m
     pub few : length by.steps ≤ looked
     pub most : looked ≤ batch
@@ -79,7 +79,7 @@ module _ {K V L P : Type 0} (tells : L → K → V → RemovalCause → L → Ty
     pub whole : old.ordered ≡ true → length old.access ≤ batch → AreUncovered says ps new.records old.written × (end ≡ true)
 
   -- a scan with the drop behind it, and whether it leaves more
-  pub record IsScanned (batch : ℕ) (old new : Kept K V) (qs : List (Registered P)) (l m : Option L) (left : Bool) : Type 0 where
+  pub record IsScanned {S : Type 0} (batch : ℕ) (old new : Kept K V S) (qs : List (Registered P)) (l m : Option L) (left : Bool) : Type 0 where
     pub by : IsStepped tells (MayScan says ps) (stock_in old) (stock_in new) l m
     pub dropped : AreDropped says (contents_in new) ps qs
     pub few : length by.steps ≤ batch

@@ -22,15 +22,15 @@ pub record Stock (K V : Type 0) : Type 0 where
 
 module _ {K V : Type 0} where
   -- what queues work on, in a store with a sketch
-  abbrev pub contents_with : Option Table → Kept K V → Contents K V
+  abbrev pub contents_with : {S : Type 0} → Option Table → Kept K V S → Contents K V
   contents_with sketch k = record { records = k.records; access = k.access; sketch = sketch }
 
   -- the same without a sketch
-  abbrev pub contents_in : Kept K V → Contents K V
+  abbrev pub contents_in : {S : Type 0} → Kept K V S → Contents K V
   contents_in k = contents_with None k
 
   -- what steps work on, in a store
-  abbrev pub stock_in : Kept K V → Stock K V
+  abbrev pub stock_in : {S : Type 0} → Kept K V S → Stock K V
   stock_in k = record { records = k.records; access = k.access; written = k.written }
 
   -- of these contents, with a write list
@@ -42,11 +42,11 @@ module _ {K V : Type 0} where
   contents_of c = record { records = c.records; access = c.access; sketch = None }
 
   -- no number gains a row, and none moves
-  abbrev pub AddsNoPlace : Kept K V → Kept K V → Type 0
+  abbrev pub AddsNoPlace : {S : Type 0} → Kept K V S → Kept K V S → Type 0
   AddsNoPlace old new = (n p : ℕ) → get new.places n ≡ Some p → get old.places n ≡ Some p
 
   -- a number that has kept its row without a record had none before
-  abbrev pub LeavesNoRow : Kept K V → Kept K V → Type 0
+  abbrev pub LeavesNoRow : {S : Type 0} → Kept K V S → Kept K V S → Type 0
   LeavesNoRow old new = (n p : ℕ) → get new.places n ≡ Some p → get new.records n ≡ None → get old.records n ≡ None
 
   -- ---- one step

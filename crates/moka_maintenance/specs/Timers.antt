@@ -8,35 +8,35 @@ use Rattle.moka_store.specs.Store.{Kept}
 
 module _ {K V : Type 0} where
   -- the timer of each settled member stands at its record's expiry
-  abbrev pub AreTimed : Kept K V → Type 0
+  abbrev pub AreTimed : {S : Type 0} → Kept K V S → Type 0
   AreTimed k = (n : ℕ) (r : Record K V) → get k.records n ≡ Some r → is_member n k.access ≡ true → is_applied r ≡ true → get k.timers n ≡ moment_of r.expires
 
   -- where timers are kept, the timer of the number, if it is a member with a record, stands at the record's expiry
-  abbrev pub StandsAtExpiry : ℕ → Kept K V → Type 0
+  abbrev pub StandsAtExpiry : {S : Type 0} → ℕ → Kept K V S → Type 0
   StandsAtExpiry n k = k.timed ≡ true → (r : Record K V) → get k.records n ≡ Some r → is_member n k.access ≡ true → get k.timers n ≡ moment_of r.expires
 
   -- no timer stands at or before the moment
-  abbrev pub HasNoneDue : ℕ → Kept K V → Type 0
+  abbrev pub HasNoneDue : {S : Type 0} → ℕ → Kept K V S → Type 0
   HasNoneDue now k = (n t : ℕ) → get k.timers n ≡ Some t → now < t
 
   -- a settled member had this record and this timer before, or its timer stands at its record's expiry
-  abbrev pub SetsTimers : Kept K V → Kept K V → Type 0
+  abbrev pub SetsTimers : {S : Type 0} → Kept K V S → Kept K V S → Type 0
   SetsTimers old new = (n : ℕ) (r : Record K V) → get new.records n ≡ Some r → is_member n new.access ≡ true → is_applied r ≡ true
       → ((get old.records n ≡ Some r) × (is_member n old.access ≡ true) × (get new.timers n ≡ get old.timers n)) ⊎ (get new.timers n ≡ moment_of r.expires)
 
   -- what orders and timers a store keeps never changes; where timers are kept they stand as before, or anew at their records' expiries
-  pub record KeepsTimers (old new : Kept K V) : Type 0 where
+  pub record KeepsTimers {S : Type 0} (old new : Kept K V S) : Type 0 where
     pub ordered : new.ordered ≡ old.ordered
     pub timed : new.timed ≡ old.timed
     pub set : old.timed ≡ true → SetsTimers old new
 
   -- and no timer is new
-  pub record DropsTimers (old new : Kept K V) : Type 0 where
+  pub record DropsTimers {S : Type 0} (old new : Kept K V S) : Type 0 where
     pub keeps : KeepsTimers old new
     pub fewer : (n t : ℕ) → get new.timers n ≡ Some t → get old.timers n ≡ Some t
 
   -- the timer of a number that had none is set again behind the moment, or there is still none; then no settled record of the number has a moment at which it expires
-  pub record IsReset (now n : ℕ) (old new : Kept K V) : Type 0 where
+  pub record IsReset {S : Type 0} (now n : ℕ) (old new : Kept K V S) : Type 0 where
     pub ordered : new.ordered ≡ old.ordered
     pub timed : new.timed ≡ old.timed
     pub timers : (new.timers ≡ old.timers) ⊎ ((t : ℕ) × (now < t) × (new.timers ≡ insert old.timers n t))

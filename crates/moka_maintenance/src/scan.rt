@@ -6,8 +6,8 @@ ghost use Rattle.std.specs.Prelude.{◌≡◌, ◌≤◌, ◌<◌, ℕ, ◌++◌
 ghost use Rattle.std.specs.List.{IsDistinct};
 ghost use Rattle.moka_parts.specs.declared.records.Registered.{Registered};
 ghost use Rattle.moka_parts.specs.Maintenance.{CoversNothing};
-ghost use Rattle.moka_parts.specs.Records.{counted_of, is_listed};
-ghost use Rattle.moka_store.specs.Store.{IsPlaced};
+ghost use Rattle.moka_parts.specs.Records.{counted_of};
+ghost use Rattle.moka_store.specs.Store.{IsPlaced, IsOrdered};
 ghost use Rattle.moka_maintenance.specs.Scanning.{CoversSome, LooksAt, IsWalked, IsRound, AllDropped, IsScanned};
 ghost use Rattle.moka_maintenance.specs.Steps.{contents_in, AddsNoPlace, LeavesNoRow};
 ghost use Rattle.moka_maintenance.specs.Timers.{DropsTimers};
@@ -92,9 +92,7 @@ where
 
 // The member at the cursor, or else the first.
 fn start_of<K: Eq + Hash, V, S: BuildHasher>(store: &Store<K, V, S>) -> Option<Handle>
-    ensures placed { IfSome result (λ h. IsPlaced store.now h) }
-    ensures member { IfSome result (λ h. IsSome (counted_of h.number store.now.access)) }
-    ensures listed { IfSome result (λ h. is_listed h.number store.now.written ≡ true) }
+    ensures ordered { IfSome result (IsOrdered store.now) }
     ensures none { result ≡ None → slice_get store.now.written 0 ≡ None }
 {
     match store.cursor() {
@@ -115,9 +113,7 @@ fn scan_along<K: Eq + Hash + Drop, V: Drop, S: BuildHasher, L: Listener<K, V>, P
 ) -> Stretch
 where
     P: PredicateFn<K, V>,
-    requires placed { IfSome start (λ h. IsPlaced store.old h) }
-    requires member { IfSome start (λ h. IsSome (counted_of h.number store.old.access)) }
-    requires listed { IfSome start (λ h. is_listed h.number store.old.written ≡ true) }
+    requires ordered { IfSome start (IsOrdered store.old) }
     requires once { IsDistinct (◌==◌) store.old.written }
     ensures walked { (before rest : List ℕ) → store.old.written ≡ before ++ rest → option_map (λ h. h.number) start ≡ slice_get rest 0
         → IsWalked L.tells P.says invalidator.now store.old store.new notifier.old notifier.new before rest store.new.cursor result.looked result.passed }

@@ -12,7 +12,7 @@ use Rattle.moka_parts.specs.Records.{Notice, is_listed, is_member, is_settled}
 use Rattle.moka_parts.specs.State.{State, Settings, Meaning, is_disabled, keeps_write_list}
 use Rattle.moka_parts.specs.Maintenance.{Freedom, Terms, Course, RunsBy, DoesNothing, MaintenanceRun}
 use Rattle.moka_parts.specs.Settling.{IsValid}
-use Rattle.moka_parts.specs.Order.{waiting_by_ticket, written_at, written_by, IsWriteList, IsInOrder, IsOrderly, KeepsOrder, write_list_at_end}
+use Rattle.moka_parts.specs.Order.{waiting_by_ticket, written_at, written_by, IsWriteList, IsInOrder, IsOrderly, write_list_at_end}
 use Rattle.moka_parts.specs.Laws.{StaysInOrder}
 use Rattle.moka_parts.specs.Runs.{Cache, CallStep, Step, AreSteps, AreOrderly, MakesCalls, PromisedRun, OrderlyRun, IsEmpty, last_state}
 use Rattle.moka_parts.specs.Listed.{ListedRun, ListedStep, AreListedSteps}

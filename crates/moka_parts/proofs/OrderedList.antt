@@ -13,12 +13,12 @@ use Rattle.moka_parts.specs.declared.records.Operation.TheVariants.{Upsert, Remo
 use Rattle.moka_parts.specs.declared.records.ReadOperation.{ReadOperation}
 use Rattle.moka_parts.specs.declared.records.ReadOperation.TheVariants.{Hit, Miss}
 use Rattle.moka_parts.specs.Records.{member, counted_of, is_member, without_member, without_members, to_back, all_to_back, total_weight, has_room, without_number, without_numbers, number_to_back}
-use Rattle.moka_parts.specs.State.{State, Contents, contents, keeps_write_list}
+use Rattle.moka_parts.specs.State.{Contents}
 use Rattle.moka_parts.specs.Reads.{after_read, after_reads}
 use Rattle.moka_parts.specs.Candidates.{victims_for, is_preferred}
 use Rattle.moka_parts.specs.Writes.{Fate, Ignored, Overtaken, Counted, Admitted, TooHeavy, Preferred, Refused, fate_by_frequency, fate_by_policy, fate_of_newcomer, fate_of_record, after_fate, after_write, after_writes}
-use Rattle.moka_parts.specs.Maintenance.{Choice, Removes, MovesToBack, Drops, Freedom, after_choice, after_choices, after_queued_reads, after_run}
-use Rattle.moka_parts.specs.Order.{IsListOf, IsWriteList, written_after_fate, written_after_write, written_after_writes, written_after_choice, written_after_choices, write_list_at_end}
+use Rattle.moka_parts.specs.Maintenance.{Choice, Removes, MovesToBack, Drops, after_choice, after_choices}
+use Rattle.moka_parts.specs.Order.{IsListOf, written_after_fate, written_after_write, written_after_writes, written_after_choice, written_after_choices}
 use Rattle.moka_parts.proofs.AccessList.{counted_taken_out, counted-all_to_back, uncounted_without}
 use Rattle.moka_parts.proofs.WriteList.{once_taken_out, once_pushed, once_moved, once_without}
 use Rattle.moka_parts.proofs.InOrder.{members_taken_out, members_moved, members_all_moved, members_both_moved, members_pushed, members_without}

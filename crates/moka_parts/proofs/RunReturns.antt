@@ -1,20 +1,19 @@
 -- A run with all that is promised of it, as a call of a cache; and one of a disabled cache.
-use Rattle.std.proofs.Common.{◌≡◌, refl, ℕ, Bool, true, false, true≢false, ◌&&◌, List, [], inl, Option, Some, None, ap, sym, subst, ◌∙◌, arith, MatchBool}
+use Rattle.std.proofs.Common.{◌≡◌, refl, ℕ, Bool, true, false, true≢false, ◌&&◌, List, [], inl, Option, Some, None, ap, sym, subst, ◌∙◌, arith}
 use Rattle.std.specs.List.{list_any}
 use Rattle.std.specs.FinMap.{get, len}
 use Rattle.moka_parts.specs.declared.notification.RemovalCause.{RemovalCause}
 use Rattle.moka_parts.specs.declared.policy.Instant.{Instant}
 use Rattle.moka_parts.specs.declared.records.Record.{Record}
 use Rattle.moka_parts.specs.Records.{Notice, is_settled}
-use Rattle.moka_parts.specs.State.{State, Events, is_disabled, keeps_write_list}
+use Rattle.moka_parts.specs.State.{State, Events, is_disabled}
 use Rattle.moka_parts.specs.Surroundings.{Leads, Heard}
-use Rattle.moka_parts.specs.Maintenance.{Freedom, Terms, Course, RunsBy, DoesNothing, is_late}
+use Rattle.moka_parts.specs.Maintenance.{Terms, Course, is_late}
 use Rattle.moka_parts.specs.Exact.{IsWithin}
 use Rattle.moka_parts.specs.Settling.{IsBare, LeavesBehind, Settles}
 use Rattle.moka_parts.specs.Calls.{run_events, RunStep}
-use Rattle.moka_parts.specs.Bounds.{IsBounded}
-use Rattle.moka_parts.specs.Runs.{Cache, Befalls, PromisedRun}
-use Rattle.moka_parts.specs.Listed.{LeavesList, ListedRun}
+use Rattle.moka_parts.specs.Runs.{Cache, Befalls}
+use Rattle.moka_parts.specs.Listed.{ListedRun}
 use Rattle.moka_parts.proofs.AtEnd.{bare_is_exact}
 use Rattle.moka_parts.proofs.Maps.{nothing_at}
 

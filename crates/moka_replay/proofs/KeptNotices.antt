@@ -27,11 +27,11 @@ use Rattle.moka_parts.specs.declared.records.Record.{Record}
 use Rattle.moka_parts.proofs.NewCache.{new_is_valid}
 use Rattle.moka_parts.proofs.Values.{values-empty}
 use Rattle.moka_parts.proofs.Promises.{weaker_steps}
-use Rattle.moka_replay.specs.declared.key_range.KeyRange.{KeyRange}
-use Rattle.moka_replay.specs.Calls.{CallText}
+use Rattle.moka_script.specs.declared.key_range.KeyRange.{KeyRange}
+use Rattle.moka_script.specs.Calls.{CallText}
 use Rattle.moka_parts.proofs.RunsGoOn.{promised_is_run}
-use Rattle.moka_replay.specs.Notices.{ScriptNotice, Kept, Keeps, needs_room, room_of, listener_for, told_of}
-use Rattle.moka_replay.specs.Settings.{Chosen}
+use Rattle.moka_script.specs.Notices.{ScriptNotice, Kept, Keeps, needs_room, room_of, listener_for, told_of}
+use Rattle.moka_script.specs.Settings.{Chosen}
 use Rattle.moka_replay.specs.Played.{ScriptStep, script_meaning, first_state, start_of}
 
 -- ---- the listener

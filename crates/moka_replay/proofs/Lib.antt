@@ -1,4 +1,1 @@
-pub mod Numerals
-pub mod Printable
-pub mod Lines
 pub mod KeptNotices

@@ -1,13 +1,3 @@
-pub mod Lex
-pub mod Rules
-pub mod Settings
-pub mod Calls
-pub mod Clock
-pub mod Ids
-pub mod Script
-pub mod Notices
-pub mod Text
-pub mod Failure
 pub mod Arguments
 pub mod Replay
 pub mod Played

@@ -8,21 +8,21 @@ use Rattle.moka_parts.specs.Policy.{Expirations}
 use Rattle.moka_parts.specs.State.{State, Meaning, new_state}
 use Rattle.moka_parts.specs.Housekeeping.{new_housekeeping}
 use Rattle.moka_parts.specs.Runs.{Step, calls_of, replies_of, notices_of, readings_of, ids_of, last_state, AreSteps, Leads, PromisedRun}
-use Rattle.moka_replay.specs.declared.key_range.KeyRange.{KeyRange}
-use Rattle.moka_replay.specs.declared.print.Total.{Total}
-use Rattle.moka_replay.specs.declared.script.settings.KeeperTerms.{KeeperTerms}
-use Rattle.moka_replay.specs.declared.rules.Rule.{Rule}
-use Rattle.moka_replay.specs.declared.script.settings.Settings.{Settings}
-use Rattle.moka_replay.specs.Rules.{created_by, read_by, updated_by, expiry_of}
-use Rattle.moka_replay.specs.Settings.{Chosen}
-use Rattle.moka_replay.specs.declared.sources.CountedIds.{CountedIds}
-use Rattle.moka_replay.specs.declared.weigher.NumberWeigher.{NumberWeigher}
-use Rattle.moka_replay.specs.Notices.{ScriptNotice, Kept, Keeps}
-use Rattle.moka_replay.specs.Clock.{next_reading, readings_left}
-use Rattle.moka_replay.specs.Ids.{first_ids, next_given}
-use Rattle.moka_replay.specs.Calls.{told_call}
-use Rattle.moka_replay.specs.Script.{ScriptText}
-use Rattle.moka_replay.specs.Lex.{weight_of}
+use Rattle.moka_script.specs.declared.key_range.KeyRange.{KeyRange}
+use Rattle.moka_script.specs.declared.print.Total.{Total}
+use Rattle.moka_script.specs.declared.script.settings.KeeperTerms.{KeeperTerms}
+use Rattle.moka_script.specs.declared.rules.Rule.{Rule}
+use Rattle.moka_script.specs.declared.script.settings.Settings.{Settings}
+use Rattle.moka_script.specs.Rules.{created_by, read_by, updated_by, expiry_of}
+use Rattle.moka_script.specs.Settings.{Chosen}
+use Rattle.moka_script.specs.declared.sources.CountedIds.{CountedIds}
+use Rattle.moka_script.specs.declared.weigher.NumberWeigher.{NumberWeigher}
+use Rattle.moka_script.specs.Notices.{ScriptNotice, Kept, Keeps}
+use Rattle.moka_script.specs.Clock.{next_reading, readings_left}
+use Rattle.moka_script.specs.Ids.{first_ids, next_given}
+use Rattle.moka_script.specs.Calls.{told_call}
+use Rattle.moka_script.specs.Script.{ScriptText}
+use Rattle.moka_script.specs.Lex.{weight_of}
 
 -- keys are numbers, values are words
 abbrev pub ScriptState : Type 0

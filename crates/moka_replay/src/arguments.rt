@@ -3,7 +3,7 @@ ghost use Rattle.std.specs.Prelude.{◌≡◌, map, string_bytes, option_copied}
 ghost use Rattle.std.specs.Result.{result_map_both};
 ghost use Rattle.moka_replay.specs.Arguments.{path_of};
 
-use crate::failure::Failure;
+use moka_script::failure::Failure;
 
 /// The path of the script's file, if the arguments name one. The first argument is the program's name.
 ///

@@ -4,25 +4,13 @@
 ghost use Rattle.moka_replay.specs.Replay.{IsReplayedBuffered};
 
 mod arguments;
-mod failure;
-mod first_ticket;
-mod key_range;
-mod lex;
-mod notices;
 mod play;
-mod print;
 mod replay;
-mod rules;
-mod script;
-mod sources;
-mod streams;
-mod weigher;
-mod word;
 
 use crate::arguments::script_path;
-use crate::failure::{Failure, tell};
 use crate::replay::replay_opened;
-use crate::streams::{Sink, Source};
+use moka_script::failure::{Failure, tell};
+use moka_script::streams::{Sink, Source};
 use std::alloc::Global;
 use std::env;
 use std::fs::File;

@@ -1,22 +1,22 @@
 //! Makes the calls of a script on a cache.
 ghost use Rattle.std.specs.Prelude.{◌≡◌, is_some, IfOk};
 ghost use Rattle.std.specs.Duration.{as_nanos};
-ghost use Rattle.moka_replay.specs.Notices.{told_of, listener_for};
-ghost use Rattle.moka_replay.specs.Script.{text_of};
+ghost use Rattle.moka_script.specs.Notices.{told_of, listener_for};
+ghost use Rattle.moka_script.specs.Script.{text_of};
 ghost use Rattle.moka_replay.specs.Played.{AreReplies, chosen_terms, expirations_of, first_state, total_of};
 
-use crate::key_range::KeyRange;
-use crate::notices::{Notices, room_for};
-use crate::rules::{Rule, Rules};
-use crate::script::{KeeperTerms, Script, ScriptCall, ScriptReply, Settings};
-use crate::sources::{CountedIds, ListedClock};
-use crate::weigher::NumberWeigher;
-use crate::word::Word;
 use moka_drive::drive;
 use moka_engine::base_cache::BaseCache;
 use moka_parts::error::OutOfMemory;
 use moka_parts::housekeeper::HousekeeperConfig;
 use moka_parts::policy::{EvictionPolicy, ExpirationPolicy, Instant};
+use moka_script::key_range::KeyRange;
+use moka_script::notices::{Notices, room_for};
+use moka_script::rules::{Rule, Rules};
+use moka_script::script::{KeeperTerms, Script, ScriptCall, ScriptReply, Settings};
+use moka_script::sources::{CountedIds, ListedClock};
+use moka_script::weigher::NumberWeigher;
+use moka_script::word::Word;
 use std::alloc::Global;
 use std::hash::{BuildHasherDefault, FoldHasher};
 use std::time::Duration;

@@ -1,15 +1,15 @@
 //! Reads a script, makes its calls on a cache, and prints what comes of it.
 ghost use Rattle.std.specs.Prelude.{◌≡◌, option_copied};
-ghost use Rattle.moka_replay.specs.Failure.{IsWritten};
-ghost use Rattle.moka_replay.specs.Notices.{told_of};
+ghost use Rattle.moka_script.specs.Failure.{IsWritten};
+ghost use Rattle.moka_script.specs.Notices.{told_of};
 ghost use Rattle.moka_replay.specs.Replay.{Reading, Answers, Ends, IsReplayed, IsPlayed, IsScriptRead, played_text, status_of_replies};
 
-use crate::failure::{Failure, REFUSED, REPLAYED, tell, write_with_status};
-use crate::notices::{Notice, Notices};
 use crate::play::{Played, play};
-use crate::print::{ReplayText, Total, in_order, is_refused_memory};
-use crate::script::{Script, ScriptReply, parse};
-use crate::streams::{Sink, Source};
+use moka_script::failure::{Failure, REFUSED, REPLAYED, tell, write_with_status};
+use moka_script::notices::{Notice, Notices};
+use moka_script::print::{ReplayText, Total, in_order, is_refused_memory};
+use moka_script::script::{Script, ScriptReply, parse};
+use moka_script::streams::{Sink, Source};
 use std::alloc::Global;
 use std::io;
 

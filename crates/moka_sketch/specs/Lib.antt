@@ -1,3 +1,2 @@
 pub mod Frequency
 pub mod Packing
-pub mod Plain

@@ -2,8 +2,4 @@
 #![tactic(auto)]
 
 pub mod frequency_sketch;
-#[cfg(test)]
-mod plain_sketch;
-#[cfg(test)]
-mod tests;
 mod words;

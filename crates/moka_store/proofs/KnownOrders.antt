@@ -60,8 +60,8 @@ module _ {K V : Type 0} (eq : K → K → Bool) (rows : List (Option (Row (Recor
       cc))
 
   -- a row that is no member
-  pub off-row : (timing : Timing) → IsTimed rows timing.timers → (place : ℕ) (row : Row (Record K V)) → row_at rows place ≡ Some row → row.membership ≡ None → (number : ℕ) → row.number ≡ number → (spare room most : ℕ) → IsOff (kept_of rows nodes list timing spare room most) number
-  off-row timing timed place row at_is alone number same spare room most = subst (λ n. IsOff (kept_of rows nodes list timing spare room most) n) same (record {
+  pub off-row : {S : Type 0} (hasher : S) (timing : Timing) → IsTimed rows timing.timers → (place : ℕ) (row : Row (Record K V)) → row_at rows place ≡ Some row → row.membership ≡ None → (number : ℕ) → row.number ≡ number → (spare room most : ℕ) → IsOff (kept_of hasher rows nodes list timing spare room most) number
+  off-row hasher timing timed place row at_is alone number same spare room most = subst (λ n. IsOff (kept_of hasher rows nodes list timing spare room most) n) same (record {
     unlisted = listed-row rows list.nodes w.listed t.numbered place row at_is ∙ ap is_some slotless;
     untimed = moment-row rows timing.timers timed place row at_is t.numbered ∙ ap (option_and_then (λ slot. option_map (λ (x : Timer). x.at) (get timing.timers slot))) (untimed rows timing.timers timed place row at_is alone);
     passed = λ e. elsewhere list.cursor w.cursor e;
@@ -107,13 +107,13 @@ unkept-order rows nodes none = ap (λ (ns : List (ℕ × ℕ)). map (λ node. nu
 
 -- ---- what is no member's stays as a member leaves
 
-pub off-written : {K V : Type 0} (s : Kept K V) (n : ℕ) → IsOff s n → without_number n s.written ≡ s.written
+pub off-written : {K V S : Type 0} (s : Kept K V S) (n : ℕ) → IsOff s n → without_number n s.written ≡ s.written
 off-written s n off = unlisted_taken_out n s.written off.unlisted
 
-pub off-timers : {K V : Type 0} (s : Kept K V) (n : ℕ) → IsOff s n → remove s.timers n ≡ s.timers
+pub off-timers : {K V S : Type 0} (s : Kept K V S) (n : ℕ) → IsOff s n → remove s.timers n ≡ s.timers
 off-timers s n off = remove-none s.timers n off.untimed
 
-pub off-cursor : {K V : Type 0} (s : Kept K V) (n : ℕ) → IsOff s n → cursor_past n s.written s.cursor ≡ s.cursor
+pub off-cursor : {K V S : Type 0} (s : Kept K V S) (n : ℕ) → IsOff s n → cursor_past n s.written s.cursor ≡ s.cursor
 off-cursor s n off = go s.cursor off.passed
   where
     go : (cursor : Option ℕ) → cursor ≢ Some n → cursor_past n s.written cursor ≡ cursor

@@ -412,20 +412,20 @@ module _ {K V : Type 0} (eq : K → K → Bool) (rows : List (Option (Row (Recor
       }
 
 -- a store after a write into a record
-pub record Changed {K V : Type 0} (eq : K → K → Bool) (old new : Table (Record K V)) (index : KeyIndex K) (nodes : List (ℕ × ℕ)) (list : Listing) (timing : Timing) (keys spare most weight number : ℕ) (f : Record K V → Record K V) : Type 0 where
+pub record Changed {K V S : Type 0} (hasher : S) (eq : K → K → Bool) (old new : Table (Record K V)) (index : KeyIndex K) (nodes : List (ℕ × ℕ)) (list : Listing) (timing : Timing) (keys spare most weight number : ℕ) (f : Record K V → Record K V) : Type 0 where
   pub store : IsStore eq new.rows index keys nodes list timing most weight
-  pub step : ChangesRecord number f (kept_of old.rows nodes list timing spare old.room most) (kept_of new.rows nodes list timing spare new.room most)
+  pub step : ChangesRecord number f (kept_of hasher old.rows nodes list timing spare old.room most) (kept_of hasher new.rows nodes list timing spare new.room most)
   pub stored : IsSome (get (records_of new.rows) number)
   pub places : places_of new.rows ≡ places_of old.rows
   pub access : map (member_at new.rows) nodes ≡ map (member_at old.rows) nodes
 
-module _ {K V : Type 0} (eq : K → K → Bool) (laws : IsEquivalence eq) (old new : Table (Record K V)) (index : KeyIndex K) (nodes : List (ℕ × ℕ)) (list : Listing) (timing : Timing) (keys spare most weight : ℕ) (s : IsStore eq old.rows index keys nodes list timing most weight) (handle : Handle) (h : IsHandle (kept_of old.rows nodes list timing spare old.room most) handle) where
+module _ {K V S : Type 0} {hasher : S} (eq : K → K → Bool) (laws : IsEquivalence eq) (old new : Table (Record K V)) (index : KeyIndex K) (nodes : List (ℕ × ℕ)) (list : Listing) (timing : Timing) (keys spare most weight : ℕ) (s : IsStore eq old.rows index keys nodes list timing most weight) (handle : Handle) (h : IsHandle (kept_of hasher old.rows nodes list timing spare old.room most) handle) where
   -- the record that a handle leads to
   pub handled_at : Handled old.rows handle.place handle.number
   handled_at = handled eq old.rows index nodes s.tied handle.place handle.number h.placed h.stored
 
   pub changed : (at : Handled old.rows handle.place handle.number) (f : Record K V → Record K V) → (f at.stored).number ≡ at.stored.number → (f at.stored).key ≡ at.stored.key → new ≡ record old { rows = with_stored old.rows handle.place (f at.stored) }
-      → Changed eq old new index nodes list timing keys spare most weight handle.number f
+      → Changed hasher eq old new index nodes list timing keys spare most weight handle.number f
   changed at f n k e =
       let r = f at.stored in
       let rows = with_stored old.rows handle.place r in

@@ -1,5 +1,5 @@
 -- The order of writing, and the cursor in it, after each change.
-use Rattle.std.proofs.Common.{◌≡◌, ℕ, Bool, true, false, cond, ◌==◌, List, [], ◌∷◌, ◌++◌, map, Option, Some, None, IsSome, is_some, inl, inr, refl, sym, ap, subst, ◌∙◌, nat_eq, Contains}
+use Rattle.std.proofs.Common.{◌≡◌, ℕ, Bool, true, false, cond, ◌==◌, List, [], ◌∷◌, ◌++◌, map, Option, Some, None, IsSome, is_some, inl, inr, refl, sym, ap, ◌∙◌, nat_eq, Contains}
 use Rattle.std.proofs.lemmas.Bool.{cases_Bool, cond-true, cond-false, false≢true}
 use Rattle.std.proofs.lemmas.List.{map-append}
 use Rattle.std.specs.Map.{lookup, remove_entry}

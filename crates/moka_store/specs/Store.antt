@@ -8,10 +8,10 @@ use Rattle.moka_store.specs.declared.store.Handle.{Handle}
 use Rattle.moka_parts.specs.declared.policy.Instant.{Instant}
 use Rattle.moka_parts.specs.declared.records.Record.{Record}
 use Rattle.moka_parts.specs.declared.records.Member.{Member}
-use Rattle.moka_parts.specs.Records.{Records, is_listed}
+use Rattle.moka_parts.specs.Records.{Records, counted_of, is_listed}
 
 -- the records by number, both orders, the timers, the place of each number that has a row, and how many new records need no memory
-pub record Kept (K V : Type 0) : Type 0 where
+pub record Kept (K V S : Type 0) : Type 0 where
   pub records : Records K V
   pub access : List Member
   -- the members' numbers in the order of writing, where that is kept
@@ -25,6 +25,7 @@ pub record Kept (K V : Type 0) : Type 0 where
   -- these never change: the order of writing is kept, and timers are
   pub ordered : Bool
   pub timed : Bool
+  pub hasher : S
 
 -- a moment is stored as its number
 abbrev pub instant_code : Coded Instant
@@ -45,13 +46,13 @@ abbrev pub member_code : Coded Member
 member_code = code_by (ℕ × ℕ) (coded× coded_ℕ coded_ℕ) (λ m. (m.number, m.counted)) (λ p. record { number = p.0; counted = p.1 }) (λ _. refl)
 
 -- what a store keeps is stored as the tuple of its fields
-abbrev pub kept_code : {K V : Type 0} → Coded K → Coded V → Coded (Kept K V)
-kept_code {K} {V} k v =
+abbrev pub kept_code : {K V S : Type 0} → Coded K → Coded V → Coded S → Coded (Kept K V S)
+kept_code {K} {V} {S} k v s =
     code_by
-    (Records K V × (List Member × (List ℕ × (FinMap nat_cmp ℕ × (Option ℕ × (FinMap nat_cmp ℕ × (ℕ × (Bool × Bool))))))))
-    (coded× (finite.code coded_ℕ (record_code k v)) (coded× (coded_list member_code) (coded× (coded_list coded_ℕ) (coded× (finite.code coded_ℕ coded_ℕ) (coded× (coded_option coded_ℕ) (coded× (finite.code coded_ℕ coded_ℕ) (coded× coded_ℕ (coded× coded_bool coded_bool))))))))
-    (λ s. (s.records, (s.access, (s.written, (s.timers, (s.cursor, (s.places, (s.room, (s.ordered, s.timed)))))))))
-    (λ p. record { records = p.0; access = p.1.0; written = p.1.1.0; timers = p.1.1.1.0; cursor = p.1.1.1.1.0; places = p.1.1.1.1.1.0; room = p.1.1.1.1.1.1.0; ordered = p.1.1.1.1.1.1.1.0; timed = p.1.1.1.1.1.1.1.1 })
+    (Records K V × (List Member × (List ℕ × (FinMap nat_cmp ℕ × (Option ℕ × (FinMap nat_cmp ℕ × (ℕ × (Bool × (Bool × S)))))))))
+    (coded× (finite.code coded_ℕ (record_code k v)) (coded× (coded_list member_code) (coded× (coded_list coded_ℕ) (coded× (finite.code coded_ℕ coded_ℕ) (coded× (coded_option coded_ℕ) (coded× (finite.code coded_ℕ coded_ℕ) (coded× coded_ℕ (coded× coded_bool (coded× coded_bool s)))))))))
+    (λ k. (k.records, (k.access, (k.written, (k.timers, (k.cursor, (k.places, (k.room, (k.ordered, (k.timed, k.hasher))))))))))
+    (λ p. record { records = p.0; access = p.1.0; written = p.1.1.0; timers = p.1.1.1.0; cursor = p.1.1.1.1.0; places = p.1.1.1.1.1.0; room = p.1.1.1.1.1.1.0; ordered = p.1.1.1.1.1.1.1.0; timed = p.1.1.1.1.1.1.1.1.0; hasher = p.1.1.1.1.1.1.1.1.1 })
     (λ _. refl)
 
 -- the one behind the first that passes a test
@@ -79,16 +80,26 @@ with_timer timers n (Some at) = finite.insert timers n at
 
 module _ {K V : Type 0} where
   -- the number has a row at the place
-  abbrev pub IsPlaced : Kept K V → Handle → Type 0
+  abbrev pub IsPlaced : {S : Type 0} → Kept K V S → Handle → Type 0
   IsPlaced s handle = finite.get s.places handle.number ≡ Some handle.place
 
   -- the handle leads to a record that is in the map
-  pub record IsHandle (s : Kept K V) (handle : Handle) : Type 0 where
+  pub record IsHandle {S : Type 0} (s : Kept K V S) (handle : Handle) : Type 0 where
     pub placed : IsPlaced s handle
     pub stored : IsSome (finite.get s.records handle.number)
 
+  -- the record of the number is to expire when it did, unless that was renewed
+  abbrev pub ExpiresAsBefore : {S : Type 0} → Kept K V S → ℕ → Option Instant → Bool → Type 0
+  ExpiresAsBefore s n expires is_renewed = is_renewed ≡ false → (r : Record K V) → finite.get s.records n ≡ Some r → expires ≡ r.expires
+
+  -- the handle leads to a member that stands in the order of writing
+  pub record IsOrdered {S : Type 0} (s : Kept K V S) (handle : Handle) : Type 0 where
+    pub placed : IsPlaced s handle
+    pub member : IsSome (counted_of handle.number s.access)
+    pub listed : is_listed handle.number s.written ≡ true
+
   -- the number stands nowhere in the order of writing, no timer is its, and the cursor is not at it
-  pub record IsOff (s : Kept K V) (n : ℕ) : Type 0 where
+  pub record IsOff {S : Type 0} (s : Kept K V S) (n : ℕ) : Type 0 where
     pub unlisted : is_listed n s.written ≡ false
     pub untimed : finite.get s.timers n ≡ None
     pub passed : s.cursor ≢ Some n
@@ -99,7 +110,7 @@ module _ {K V : Type 0} where
     pub one_each : (n m : ℕ) (p q : Record K V) → finite.get records n ≡ Some p → finite.get records m ≡ Some q → eq p.key q.key ≡ true → n ≡ m
 
   -- the record of a number becomes what f makes of it, and all else stays
-  abbrev pub ChangesRecord : ℕ → (Record K V → Record K V) → Kept K V → Kept K V → Type 0
+  abbrev pub ChangesRecord : {S : Type 0} → ℕ → (Record K V → Record K V) → Kept K V S → Kept K V S → Type 0
   ChangesRecord number f before after = (r : Record K V) → finite.get before.records number ≡ Some r → after ≡ record before { records = finite.insert before.records number (f r) }
 
 -- a clone is equal to what it is a clone of

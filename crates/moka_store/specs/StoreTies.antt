@@ -69,8 +69,8 @@ abbrev pub most_of : Order → Listing → Timing → ℕ
 most_of access list timing = min (length access.members + access.room) (min list.most timing.most)
 
 -- what a contract sees of the parts, where so many places of the index, rows and nodes fit with no memory
-abbrev pub kept_of : {K V : Type 0} → List (Option (Row (Record K V))) → List (ℕ × ℕ) → Listing → Timing → ℕ → ℕ → ℕ → Kept K V
-kept_of rows nodes list timing spare room most = record {
+abbrev pub kept_of : {K V S : Type 0} → S → List (Option (Row (Record K V))) → List (ℕ × ℕ) → Listing → Timing → ℕ → ℕ → ℕ → Kept K V S
+kept_of hasher rows nodes list timing spare room most = record {
   records = records_of rows;
   access = map (member_at rows) nodes;
   written = written_of rows list.nodes;
@@ -80,4 +80,5 @@ kept_of rows nodes list timing spare room most = record {
   room = min spare (min (row_room rows room) (most - count_by is_some rows));
   ordered = list.ordered;
   timed = timing.timed;
+  hasher = hasher;
 }

@@ -5,4 +5,4 @@ pub mod store;
 mod timers;
 mod write_list;
 
-pub use store::{Handle, Store, Update};
+pub use store::{Handle, KeyHash, Store, Update};

@@ -1,12 +1,13 @@
 //! Records, their orders and timers and the index of their keys, in one.
 //!
 //! moka: `sync::base_cache::Inner`, whose maps and deques these are.
-ghost use Rattle.std.specs.Prelude.{◌==◌, if◌then◌else◌, ◌≡◌, ◌≢◌, ◌+◌, ◌^◌, ◌<◌, ◌≤◌, ℕ, [], ◌∷◌, ◌++◌, length, map, IsPermutation, OnOk, IfOk, IfSome, IfNone, true, false, IsOk, IsSome, IsNone, None, Some, slice_get, option_map, option_copied, IsTrue, ◌↔◌};
+ghost use Rattle.std.specs.Prelude.{◌==◌, if◌then◌else◌, ◌≡◌, ◌≢◌, ◌+◌, ◌^◌, ◌<◌, ◌≤◌, ℕ, [], ◌∷◌, ◌++◌, length, map, IsPermutation, OnOk, IfOk, IfSome, IfNone, true, false, IsOk, IsSome, IsNone, None, Some, slice_get, option_map, option_copied, IsTrue, IfErr, ◌↔◌};
 ghost use Rattle.std.specs.FinMap as finite;
 ghost use Rattle.std.specs.List.{IsDistinct};
-ghost use Rattle.moka_store.specs.Store.{member_after, number_after, cursor_past, with_timer, ChangesRecord, ClonesAreEqual, IsOff, IsPlaced, IsHandle, IsOneEach};
+ghost use Rattle.moka_store.specs.Store.{member_after, number_after, cursor_past, with_timer, ChangesRecord, ClonesAreEqual, ExpiresAsBefore, IsOff, IsPlaced, IsHandle, IsOneEach, IsOrdered};
 ghost use Rattle.moka_store.specs.declared.store.Handle.{Handle};
 ghost use Rattle.moka_parts.specs.declared.records.Record.{Record};
+ghost use Rattle.moka_store.specs.Hashing.{IsKeyHash};
 ghost use Rattle.moka_store.specs.Updates.{updated};
 ghost use Rattle.moka_parts.specs.Order.{IsListOf};
 ghost use Rattle.moka_parts.specs.Time.{moment_of};
@@ -14,6 +15,7 @@ ghost use Rattle.moka_parts.specs.Records.{member, counted_of, record_of_key, wi
 
 use crate::timers::Timers;
 use crate::write_list::WriteList;
+pub use hashing::KeyHash;
 use moka_index::PlaceIndex;
 use moka_parts::policy::Instant;
 use moka_parts::records::Record;
@@ -77,13 +79,13 @@ impl<K: Eq + Hash, V, S: BuildHasher> Model for Store<K, V, S> {
     ghost use Rattle.moka_store.specs.Hashing.{hash_by};
     ghost use Rattle.moka_store.specs.Store.{Kept, kept_code};
 
-    ghost Value = { Kept K V };
+    ghost Value = { Kept K V S };
 
-    ghost coded = { kept_code K.code V.code };
+    ghost coded = { kept_code K.code V.code S.code };
 
     ghost use Rattle.moka_store.specs.StoreTies.{IsStore, kept_of, most_of};
 
-    ghost view = { λ a. kept_of a.table.rows a.access.members a.written a.timers a.index.room a.table.room (most_of a.access a.written a.timers) };
+    ghost view = { λ a. kept_of a.hasher a.table.rows a.access.members a.written a.timers a.index.room a.table.room (most_of a.access a.written a.timers) };
 
     ghost invariant = { λ a. IsStore K.eq a.table.rows
         (record { hash_of = λ k. hash_by S.Hasher.finish S.Hasher.write (S.build_hasher a.hasher) (K.hash_input k); entries = a.index.entries })
@@ -108,6 +110,7 @@ impl<K: Eq + Hash, V, S: BuildHasher> Store<K, V, S> {
           room = s.room;
           ordered = ordered;
           timed = timed;
+          hasher = hasher;
         }) }
     {
         let access = OrderList::new(alloc)?;
@@ -148,11 +151,24 @@ impl<K: Eq + Hash, V, S: BuildHasher> Store<K, V, S> {
         ensures value { option_map (λ f. f.1.now) result ≡ record_of_key K.eq self.now.records key.now }
         ensures one_each { IsOneEach K.eq self.now.records }
     {
+        self.find_or_hash(key).ok()
+    }
+
+    /// The record whose key is equal, with its handle, or the hash under which a new record of the key comes in.
+    #[inline(always)]
+    pub fn find_or_hash(&self, key: &K) -> Result<(Handle, &Record<K, V>), KeyHash>
+        ensures handle { IfOk result (λ f. IsHandle self.now f.0) }
+        ensures found { IfOk result (λ f. finite.get self.now.records f.0.number ≡ Some f.1.now) }
+        ensures known { IfOk result (λ f. record_of_key K.eq self.now.records key.now ≡ Some f.1.now) }
+        ensures unknown { IfErr result (λ _. record_of_key K.eq self.now.records key.now ≡ None) }
+        ensures hashed { IfErr result (λ hash. IsKeyHash S.build_hasher S.Hasher.finish S.Hasher.write self.now.hasher (K.hash_input key.now) hash) }
+        ensures one_each { IsOneEach K.eq self.now.records }
+    {
         let hash = hashing::key_hash(&self.hasher, key);
         let table = &self.table;
         let is_match = |place| changes::has_key(table, place, key);
         let Some(place) = self.index.find(hash, is_match) else {
-            return None;
+            return Err(KeyHash(hash));
         };
         let Some(row) = table.row(place) else {
             unreachable!()
@@ -164,7 +180,7 @@ impl<K: Eq + Hash, V, S: BuildHasher> Store<K, V, S> {
             number: row.number(),
             place,
         };
-        Some((handle, stored))
+        Ok((handle, stored))
     }
 
     /// The record at this handle, if it is still there.
@@ -191,12 +207,13 @@ impl<K: Eq + Hash, V, S: BuildHasher> Store<K, V, S> {
         }
     }
 
-    /// A new record of a key that has none. It takes no memory.
+    /// A new record of a key that has none, under the key's hash. It takes no memory.
     #[inline(always)]
-    pub fn insert_new(&mut self, stored: Record<K, V>) -> Handle
+    pub fn insert_new(&mut self, stored: Record<K, V>, hash: KeyHash) -> Handle
         requires room { 0 < self.old.room }
         requires fresh { finite.get self.old.places stored.number ≡ None }
         requires unknown { record_of_key K.eq self.old.records stored.key ≡ None }
+        requires hashed { IsKeyHash S.build_hasher S.Hasher.finish S.Hasher.write self.old.hasher (K.hash_input stored.key) hash }
         ensures number { result.number ≡ stored.number }
         ensures step { self.new ≡ record self.old { records = with_record self.old.records stored; places = finite.insert self.old.places stored.number result.place; room = self.new.room } }
         ensures room { self.old.room ≡ self.new.room + 1 }
@@ -206,11 +223,10 @@ impl<K: Eq + Hash, V, S: BuildHasher> Store<K, V, S> {
         ensures access { self.new.access ≡ self.old.access }
     {
         let number = stored.number;
-        let hash = hashing::key_hash(&self.hasher, &stored.key);
         let place = self.table.insert(number, stored);
         // A place is below the table's capacity, so it has 32 bits.
         let _capacity = self.table.capacity();
-        self.index.insert(hash, place);
+        self.index.insert(hash.0, place);
         Handle { number, place }
     }
 
@@ -229,16 +245,23 @@ impl<K: Eq + Hash, V, S: BuildHasher> Store<K, V, S> {
         changes::update(&mut self.table, handle.place, update)
     }
 
-    /// The record at this handle was read at this moment, and expires then.
+    /// The record at this handle was read at this moment, and expires then: as before, unless the read renewed it.
     #[inline(always)]
-    pub fn touch(&mut self, handle: Handle, read: Instant, expires: Option<Instant>)
-        requires { IsHandle self.old handle }
+    pub fn touch(
+        &mut self,
+        handle: Handle,
+        read: Instant,
+        expires: Option<Instant>,
+        is_renewed: bool,
+    )
+        requires handle { IsHandle self.old handle }
+        requires kept { ExpiresAsBefore self.old handle.number expires is_renewed }
         ensures step { ChangesRecord handle.number (λ r. record r { read = read; expires = expires }) self.old self.new }
         ensures handle { IsHandle self.new handle }
         ensures places { self.new.places ≡ self.old.places }
         ensures access { self.new.access ≡ self.old.access }
     {
-        changes::touch(&mut self.table, handle.place, read, expires);
+        changes::touch(&mut self.table, handle.place, read, expires, is_renewed);
     }
 
     /// The operation of this generation was applied to the record at this handle.
@@ -451,9 +474,7 @@ impl<K: Eq + Hash, V, S: BuildHasher> Store<K, V, S> {
 
     /// The first member in the order of writing, where that is kept.
     pub fn front_written(&self) -> Option<Handle>
-        ensures placed { IfSome result (λ h. IsPlaced self.now h) }
-        ensures member { IfSome result (λ h. IsSome (counted_of h.number self.now.access)) }
-        ensures listed { IfSome result (λ h. is_listed h.number self.now.written ≡ true) }
+        ensures ordered { IfSome result (IsOrdered self.now) }
         ensures front { option_map (λ h. h.number) result ≡ slice_get self.now.written 0 }
     {
         let (_, place) = self.written.front()?;
@@ -464,9 +485,7 @@ impl<K: Eq + Hash, V, S: BuildHasher> Store<K, V, S> {
     pub fn next_written(&self, handle: Handle) -> Option<Handle>
         requires placed { IsPlaced self.now handle }
         requires member { IsSome (counted_of handle.number self.now.access) }
-        ensures placed { IfSome result (λ h. IsPlaced self.now h) }
-        ensures member { IfSome result (λ h. IsSome (counted_of h.number self.now.access)) }
-        ensures listed { IfSome result (λ h. is_listed h.number self.now.written ≡ true) }
+        ensures ordered { IfSome result (IsOrdered self.now) }
         ensures next { option_map (λ h. h.number) result ≡ number_after handle.number self.now.written }
     {
         let slot = changes::written_slot(&self.table, handle.place);
@@ -476,9 +495,7 @@ impl<K: Eq + Hash, V, S: BuildHasher> Store<K, V, S> {
 
     /// The member at which a scan of the order of writing goes on; none is the front.
     pub fn cursor(&self) -> Option<Handle>
-        ensures placed { IfSome result (λ h. IsPlaced self.now h) }
-        ensures member { IfSome result (λ h. IsSome (counted_of h.number self.now.access)) }
-        ensures listed { IfSome result (λ h. is_listed h.number self.now.written ≡ true) }
+        ensures ordered { IfSome result (IsOrdered self.now) }
         ensures cursor { option_map (λ h. h.number) result ≡ self.now.cursor }
     {
         let (_, place) = self.written.cursor()?;

@@ -2,10 +2,8 @@ pub mod Gets
 pub mod Linked
 pub mod Lookups
 pub mod Newest
-pub mod Nodes
 pub mod Orders
 pub mod Parts
-pub mod Plain
 pub mod Rings
 pub mod TableMaps
 pub mod TableCalls

@@ -9,12 +9,12 @@ use Rattle.std.specs.Map.{lookup, remove_entry, keys_of}
 use Rattle.std.proofs.lemmas.Map.Keys.{IsDistinct-from_apart}
 use Rattle.std.proofs.lemmas.Map.Entries.{lookup_from_place}
 use Rattle.std.specs.Cmp.{nat_eq_equiv}
-use Rattle.moka_structures.specs.declared.order_list.Node.{Node}
+use Rattle.moka_links.proofs.Chains.{no-frees}
+use Rattle.moka_links.proofs.Nodes.{set-keeps, set-other, set-same, Detached-detached, Attached-attached}
 use Rattle.moka_structures.specs.Order.{next_after}
 use Rattle.moka_structures.specs.Rings.{Ring}
-use Rattle.moka_structures.specs.Links.{IsOrder, blank, at, with_behind, with_number, detached, attached, behinds, befores, ring_of, walk, member, members_of}
+use Rattle.moka_structures.specs.Links.{Node, IsOrder, blank, at, with_behind, with_number, detached, attached, behinds, befores, numbers, ring_of, walk, member, members_of}
 use Rattle.moka_structures.proofs.Parts.{ring-next, Neighbours, neighbours, Parts, Outside, parts-of, order-of, last-in, parts-detached, outside-detached, parts-attached, parts-released, parts-taken, outside-taken, parts-grown, outside-grown}
-use Rattle.moka_structures.proofs.Nodes.{set-keeps, set-other, set-same, numbers, Detached-detached, Attached-attached}
 
 -- the walk from place i + 1 finds the rest of the slots
 walk-rest : (ns : List Node) (g : ℕ → ℕ) (xs : List ℕ) (size : ℕ) → Ring (behinds ns) g (ring_of xs) (length xs) size
@@ -86,7 +86,7 @@ pub unlink-leaves : (ns : List Node) (len free s h : ℕ) (o : IsOrder ns len fr
     → Leaves (with_behind (detached ns s) s free) (len - 1) s (map (member ns) (remove o.slots h)) (length ns)
 unlink-leaves ns len free s h o l e =
     let near = neighbours ns o.slots s h l e o.ring in
-    let d = Detached-detached ns s near.before_within near.behind_within in
+    let d = Detached-detached 0 ns s near.before_within near.behind_within in
     let ds = detached ns s in
     let p = parts-of ns len free o in
     let v : Node = record (at ds s) { behind = free } in
@@ -96,7 +96,7 @@ unlink-leaves ns len free s h o l e =
     let order = order-of ms (len - 1) s (remove o.slots h) (s ∷ o.frees)
     (parts-released ds (remove o.slots h) o.frees free (parts-detached ns o.slots o.frees free p s h l e) s (outside-detached ns o.slots o.frees free p s h l e))
     (omega (arith, o.counted)) (omega (arith, o.total)) (rw size o.bounded) in
-    let nums : (i : ℕ) → numbers ms i ≡ numbers ns i = λ i. set-keeps (λ n. n.number) ds s v i (omega (arith, near.within, d.size)) refl ∙ d.number i in
+    let nums : (i : ℕ) → numbers ms i ≡ numbers ns i = λ i. set-keeps 0 (λ n. n.value) ds s v i (omega (arith, near.within, d.size)) refl ∙ d.value i in
     record { order = order; members_are = members-from ms (len - 1) s order ns nums; size_is = size }
 
 -- what `move_to_back` leaves
@@ -104,12 +104,12 @@ pub move-leaves : (ns : List Node) (len free s h : ℕ) (o : IsOrder ns len free
     → Leaves (attached (detached ns s) s) len free (map (member ns) (remove o.slots h) ++ member ns s ∷ []) (length ns)
 move-leaves ns len free s h o l e =
     let near = neighbours ns o.slots s h l e o.ring in
-    let d = Detached-detached ns s near.before_within near.behind_within in
+    let d = Detached-detached 0 ns s near.before_within near.behind_within in
     let ds = detached ns s in
     let xs = remove o.slots h in
     let p = parts-detached ns o.slots o.frees free (parts-of ns len free o) s h l e in
     let u = outside-detached ns o.slots o.frees free (parts-of ns len free o) s h l e in
-    let a = Attached-attached ds s (omega (arith, u.within)) u.within (last-in ds xs o.frees free p) in
+    let a = Attached-attached 0 ds s 0 u.within (omega (arith, u.within)) (last-in ds xs o.frees free p) in
     let ms = attached ds s in
     let size : length ms ≡ length ns = a.size ∙ d.size in
     let left = length-remove o.slots h l in
@@ -117,7 +117,7 @@ move-leaves ns len free s h o l e =
     let order = order-of ms len free (xs ++ s ∷ []) o.frees (parts-attached ds xs o.frees free p s u) (omega (arith, o.counted)) (omega (arith, o.total)) (rw size o.bounded) in
     record {
       order = order;
-      members_are = members-from ms len free order ns (λ i. a.number i ∙ d.number i) ∙ map_push (member ns) xs s;
+      members_are = members-from ms len free order ns (λ i. a.value i ∙ d.value i) ∙ map_push (member ns) xs s;
       size_is = size;
     }
 
@@ -139,15 +139,15 @@ push-leaves : (ns ns1 : List Node) (len free s n : ℕ) (xs fs : List ℕ) (next
     → len ≡ length xs → length xs + length fs + 2 ≡ length ns1 → length ns1 ≤ 2 ^ 32
     → Leaves (attached ns1 s) (len + 1) next (map (member ns) xs ++ (s, n) ∷ []) (length ns1)
 push-leaves ns ns1 len free s n xs fs next p u kept here counted total bounded =
-    let a = Attached-attached ns1 s (omega (arith, u.within)) u.within (last-in ns1 xs fs next p) in
+    let a = Attached-attached 0 ns1 s 0 u.within (omega (arith, u.within)) (last-in ns1 xs fs next p) in
     let ms = attached ns1 s in
     let longer = length_push xs s in
     let order = order-of ms (len + 1) next (xs ++ s ∷ []) fs (parts-attached ns1 xs fs next p s u) (omega arith) (omega (arith, a.size)) (rw a.size bounded) in
     record {
       order = order;
       members_are = members-are ms (len + 1) next order ∙ map_push (member ms) xs s
-          ∙ ap (λ l. l ++ member ms s ∷ []) (members-same-on ns ms xs (λ k l. a.number (get_or xs k 0) ∙ kept k l))
-          ∙ ap (λ i. map (member ns) xs ++ (s, i) ∷ []) (a.number s ∙ here);
+          ∙ ap (λ l. l ++ member ms s ∷ []) (members-same-on ns ms xs (λ k l. a.value (get_or xs k 0) ∙ kept k l))
+          ∙ ap (λ i. map (member ns) xs ++ (s, i) ∷ []) (a.value s ∙ here);
       size_is = a.size;
     }
 
@@ -157,23 +157,23 @@ pub reuse-leaves : (ns : List Node) (len free n : ℕ) (o : IsOrder ns len free)
 reuse-leaves ns len free n o more =
     let p = parts-of ns len free o in
     let some : 0 < length o.frees = omega (arith, o.total, o.counted) in
-    let v : Node = record (at ns free) { number = n } in
+    let v : Node = record (at ns free) { value = n } in
     let size : length (set ns free v) ≡ length ns = length-set ns free v in
     let u = outside-taken ns o.slots o.frees free p n some in
     rw size at (push-leaves ns (set ns free v) len free free n o.slots (drop 1 o.frees) (behinds ns free) (parts-taken ns o.slots o.frees free p n some) u
-    (λ k l. set-other (λ m. m.number) ns free v (get_or o.slots k 0) (λ z. u.unplaced (k + 1) (omega arith) (ring-next o.slots k ∙ z)))
-    (set-same (λ m. m.number) ns free v (omega (arith, u.within, size)))
+    (λ k l. ap (λ m. m.value) (set-other 0 ns free v (get_or o.slots k 0) (λ z. u.unplaced (k + 1) (omega arith) (ring-next o.slots k ∙ z))))
+    (ap (λ m. m.value) (set-same 0 ns free v (omega (arith, u.within, size))))
     o.counted (omega (arith, o.total, length-drop 1 o.frees)) (rw size o.bounded))
 
 -- what a push into a new node leaves
-pub fresh-leaves : (ns : List Node) (len free n : ℕ) (o : IsOrder ns len free) (v : Node) → length ns < 2 ^ 32 → v.number ≡ n
+pub fresh-leaves : (ns : List Node) (len free n : ℕ) (o : IsOrder ns len free) (v : Node) → length ns < 2 ^ 32 → v.value ≡ n
     → Leaves (attached (ns ++ v ∷ []) (length ns)) (len + 1) free (map (member ns) o.slots ++ (length ns, n) ∷ []) (length ns + 1)
 fresh-leaves ns len free n o v small e =
     let p = parts-of ns len free o in
     let size : length (ns ++ v ∷ []) ≡ length ns + 1 = length_push ns v in
     rw size at (push-leaves ns (ns ++ v ∷ []) len free (length ns) n o.slots o.frees free (parts-grown ns o.slots o.frees free p v) (outside-grown ns o.slots o.frees free p v)
-    (λ k l. ap (λ m. m.number) (get_or_append_left ns (v ∷ []) blank (get_or o.slots k 0) (omega (arith, ring-next o.slots k, o.ring.within (k + 1) (omega arith)))))
-    (ap (λ m. m.number) (get_or_push ns v blank (length ns) refl) ∙ e)
+    (λ k l. ap (λ m. m.value) (get_or_append_left ns (v ∷ []) blank (get_or o.slots k 0) (omega (arith, ring-next o.slots k, o.ring.within (k + 1) (omega arith)))))
+    (ap (λ m. m.value) (get_or_push ns v blank (length ns) refl) ∙ e)
     o.counted (omega (arith, o.total)) (rw size (omega arith)))
 
 -- the calls, by what a contract sees
@@ -193,7 +193,7 @@ pub last-within : (ns : List Node) (len free s : ℕ) (o : IsOrder ns len free) 
 last-within ns len free s o p =
     let w = placed ns len free s o p in
     let n = near ns len free s o p in
-    let d = Detached-detached ns s n.before_within n.behind_within in
+    let d = Detached-detached 0 ns s n.before_within n.behind_within in
     (omega (arith, d.size, last-in (detached ns s) (remove o.slots w.place) o.frees free (parts-detached ns o.slots o.frees free (parts-of ns len free o) s w.place w.within w.here)), d.size)
 
 -- the members after `move_to_back`
@@ -297,12 +297,7 @@ sole v e z = record {
     apart = λ i j p q. absurd (omega arith);
     within = λ i q. let n : i ≡ 0 = omega arith in rw (n) (omega arith);
   };
-  chain = record {
-    first = λ p. absurd (omega arith);
-    next = λ i p. absurd (omega arith);
-    apart = λ i j p q. absurd (omega arith);
-    within = λ i p. absurd (omega arith);
-  };
+  chain = no-frees (behinds (v ∷ [])) 0 1;
   apart = λ i j p q. absurd (omega arith);
 }
 
@@ -310,15 +305,15 @@ sole v e z = record {
 pub unlinked-number : (ns : List Node) (len free s : ℕ) (o : IsOrder ns len free) → IsSome (lookup (nat_eq s) (members_of ns len)) → numbers (with_behind (detached ns s) s free) s ≡ numbers ns s
 unlinked-number ns len free s o p =
     let n = near ns len free s o p in
-    let d = Detached-detached ns s n.before_within n.behind_within in
-    set-keeps (λ k. k.number) (detached ns s) s (record (at (detached ns s) s) { behind = free }) s (omega (arith, n.within, d.size)) refl ∙ d.number s
+    let d = Detached-detached 0 ns s n.before_within n.behind_within in
+    set-keeps 0 (λ k. k.value) (detached ns s) s (record (at (detached ns s) s) { behind = free }) s (omega (arith, n.within, d.size)) refl ∙ d.value s
 
 -- the members after a push into a free slot
 pub added-reuse : (ns : List Node) (len free n : ℕ) (o : IsOrder ns len free) → len + 1 < length ns → members_of (attached (with_number ns free n) free) (len + 1) ≡ members_of ns len ++ (free, n) ∷ []
 added-reuse ns len free n o more = (reuse-leaves ns len free n o more).members_are ∙ ap (λ l. l ++ (free, n) ∷ []) (sym (members-are ns len free o))
 
 -- the members after a push into a new slot
-pub added-fresh : (ns : List Node) (len free n : ℕ) (o : IsOrder ns len free) (v : Node) → length ns < 2 ^ 32 → v.number ≡ n → members_of (attached (ns ++ v ∷ []) (length ns)) (len + 1) ≡ members_of ns len ++ (length ns, n) ∷ []
+pub added-fresh : (ns : List Node) (len free n : ℕ) (o : IsOrder ns len free) (v : Node) → length ns < 2 ^ 32 → v.value ≡ n → members_of (attached (ns ++ v ∷ []) (length ns)) (len + 1) ≡ members_of ns len ++ (length ns, n) ∷ []
 added-fresh ns len free n o v small e = (fresh-leaves ns len free n o v small e).members_are ∙ ap (λ l. l ++ (length ns, n) ∷ []) (sym (members-are ns len free o))
 
 -- the slots of the members

@@ -1,14 +1,15 @@
 -- The slots of the ring and the free ones, after each write.
 use Rattle.std.proofs.Common.{◌≡◌, ◌≢◌, ℕ, ◌+◌, ◌-◌, ◌<◌, ◌≤◌, ◌^◌, List, [], ◌∷◌, ◌++◌, inl, inr, refl, sym, ap, ◌∙◌, arith, add-one, length, set, get_or, drop, length-set}
 use Rattle.std.proofs.lemmas.Bool.{cases_lt, cases_order}
-use Rattle.std.proofs.lemmas.List.{length_push, get_or_append_left, get_or_push, get_or_past, length-drop, get_or-drop}
+use Rattle.std.proofs.lemmas.List.{length_push, get_or_append_left, get_or_push, get_or_past}
 use Rattle.std.proofs.lemmas.List.Edits.{length-remove, get_or-remove_below, get_or-remove_above}
 use Rattle.std.specs.List.{remove}
-use Rattle.moka_structures.specs.declared.order_list.Node.{Node}
-use Rattle.moka_structures.specs.Rings.{Ring, Frees}
-use Rattle.moka_structures.specs.Links.{IsOrder, blank, at, with_behind, with_number, detached, attached, behinds, befores, ring_of, free_of}
-use Rattle.moka_structures.proofs.Rings.{Ring-detach, Ring-attach, Ring-same, Ring-within, Frees-same, Frees-push, Frees-pop}
-use Rattle.moka_structures.proofs.Nodes.{set-keeps, set-other, set-same, Detached-detached, Attached-attached}
+use Rattle.moka_links.specs.Chains.{Frees, free_of}
+use Rattle.moka_links.proofs.Chains.{Frees-same, more-frees, fewer-frees, free_of-rest, length-rest}
+use Rattle.moka_links.proofs.Nodes.{set-keeps, set-other, set-same, Detached-detached, Attached-attached}
+use Rattle.moka_structures.specs.Rings.{Ring}
+use Rattle.moka_structures.specs.Links.{Node, IsOrder, blank, at, with_behind, with_number, detached, attached, behinds, befores, ring_of}
+use Rattle.moka_structures.proofs.Rings.{Ring-detach, Ring-attach, Ring-same, Ring-within}
 
 -- the ring past the sentinel is the list of slots
 pub ring-next : (xs : List ℕ) (i : ℕ) → ring_of xs (i + 1) ≡ get_or xs i 0
@@ -167,7 +168,7 @@ module _ (ns : List Node) (xs fs : List ℕ) (free : ℕ) (o : Parts ns xs fs fr
     pub parts-detached : Parts (detached ns s) (remove xs h) fs free
     parts-detached =
         let near = neighbours ns xs s h l e o.ring in
-        let d = Detached-detached ns s near.before_within near.behind_within in
+        let d = Detached-detached 0 ns s near.before_within near.behind_within in
         let ms = detached ns s in
         let left = length-remove xs h l in
         record {
@@ -184,7 +185,7 @@ module _ (ns : List Node) (xs fs : List ℕ) (free : ℕ) (o : Parts ns xs fs fr
     pub outside-detached : Outside (detached ns s) (remove xs h) fs s
     outside-detached =
         let near = neighbours ns xs s h l e o.ring in
-        let d = Detached-detached ns s near.before_within near.behind_within in
+        let d = Detached-detached 0 ns s near.before_within near.behind_within in
         record {
           within = omega (arith, near.within, d.size);
           unplaced = λ i p. left-apart (behinds ns) (befores ns) xs s h (length ns) i l near.at_place o.ring p;
@@ -195,7 +196,7 @@ module _ (ns : List Node) (xs fs : List ℕ) (free : ℕ) (o : Parts ns xs fs fr
     -- a slot comes behind all others
     pub parts-attached : Parts (attached ns s) (xs ++ s ∷ []) fs free
     parts-attached =
-        let a = Attached-attached ns s (omega (arith, u.within)) u.within last-in in
+        let a = Attached-attached 0 ns s 0 u.within (omega (arith, u.within)) last-in in
         let ms = attached ns s in
         let longer = length_push xs s in
         let not_last : s ≢ befores ns 0 = λ z. u.unplaced (length xs) (omega arith) (sym last-is ∙ sym z) in
@@ -205,7 +206,7 @@ module _ (ns : List Node) (xs fs : List ℕ) (free : ℕ) (o : Parts ns xs fs fr
               (λ i np nq. a.behind i (λ z. np (z ∙ last-is)) nq)
               (ap (behinds ms) (sym last-is) ∙ a.behind_last)
               (a.behind_at not_last)
-              a.before a.before_start (a.before_at not_start ∙ last-is));
+              a.before a.before_head (a.before_at not_start ∙ last-is));
           chain = Frees-same (behinds ns) (behinds ms) (free_of fs) (length fs) free (length ns) (length ms) o.chain (omega (arith, a.size))
               (λ j p. a.behind (free_of fs j) (λ z. o.apart (length xs) j (omega arith) p (sym last-is ∙ sym z)) (u.used j p));
           apart = λ i j p q. elim (cases_order i (length xs + 1)) as (λ _. ring_of (xs ++ s ∷ []) i ≢ free_of fs j) [
@@ -221,14 +222,12 @@ module _ (ns : List Node) (xs fs : List ℕ) (free : ℕ) (o : Parts ns xs fs fr
         let v : Node = record (at ns s) { behind = free } in
         let ms = set ns s v in
         let size : length ms ≡ length ns = length-set ns s v in
-        let f_is : (i : ℕ) → i ≢ s → behinds ms i ≡ behinds ns i = set-other (λ n. n.behind) ns s v in
-        let chain : Frees (behinds ms) (free_of (s ∷ fs)) (length fs + 1) s (length ms) =
-        rw size (Frees-push (behinds ns) (behinds ms) (free_of fs) (free_of (s ∷ fs)) (length fs) free (length ns) s o.chain u.within u.used
-        (λ i p. f_is (free_of fs i) (u.used i p)) (set-same (λ n. n.behind) ns s v u.within) refl (λ i. rw add-one refl)) in
+        let f_is : (i : ℕ) → i ≢ s → behinds ms i ≡ behinds ns i = λ i ne. ap (λ n. n.behind) (set-other 0 ns s v i ne) in
         record {
           ring = Ring-same (behinds ns) (befores ns) (behinds ms) (befores ms) (ring_of xs) (length xs) (length ns) (length ms) o.ring (omega (arith, size))
-              (λ i p. f_is (ring_of xs i) (u.unplaced i p)) (λ i p. set-keeps (λ n. n.before) ns s v (ring_of xs (i + 1)) u.within refl);
-          chain = rw add-one at chain;
+              (λ i p. f_is (ring_of xs i) (u.unplaced i p)) (λ i p. set-keeps 0 (λ n. n.before) ns s v (ring_of xs (i + 1)) u.within refl);
+          chain = rw size (more-frees (behinds ns) (behinds ms) fs free (length ns) s o.chain u.within u.used
+              (λ i p. f_is (free_of fs i) (u.used i p)) (ap (λ n. n.behind) (set-same 0 ns s v u.within)));
           apart = λ i j p q. elim (cases_order j 0) as (λ _. ring_of xs i ≢ free_of (s ∷ fs) j) [
             | inl z ↦ rw z (u.unplaced i p)
             | inr (inl k) ↦ absurd (omega arith)
@@ -241,30 +240,26 @@ module _ (ns : List Node) (xs fs : List ℕ) (free : ℕ) (o : Parts ns xs fs fr
     first-in : free < length ns
     first-in = rw (o.chain.first some) (o.chain.within 0 some)
 
-    rest-is : (i : ℕ) → free_of (drop 1 fs) i ≡ free_of fs (i + 1)
-    rest-is i = get_or-drop 1 fs i 0 ∙ ap (free_of fs) (omega arith)
-
     pub parts-taken : Parts (with_number ns free n) xs (drop 1 fs) (behinds ns free)
     parts-taken =
-        let v : Node = record (at ns free) { number = n } in
+        let v : Node = record (at ns free) { value = n } in
         let ms = set ns free v in
         let size : length ms ≡ length ns = length-set ns free v in
-        let f_is : (i : ℕ) → behinds ms i ≡ behinds ns i = λ i. set-keeps (λ k. k.behind) ns free v i first-in refl in
-        let shorter : length (drop 1 fs) + 1 ≡ length fs = omega (arith, length-drop 1 fs) in
+        let f_is : (i : ℕ) → behinds ms i ≡ behinds ns i = λ i. set-keeps 0 (λ k. k.behind) ns free v i first-in refl in
         record {
           ring = Ring-same (behinds ns) (befores ns) (behinds ms) (befores ms) (ring_of xs) (length xs) (length ns) (length ms) o.ring (omega (arith, size))
-              (λ i p. f_is (ring_of xs i)) (λ i p. set-keeps (λ k. k.before) ns free v (ring_of xs (i + 1)) first-in refl);
-          chain = rw size (Frees-pop (behinds ns) (behinds ms) (free_of fs) (free_of (drop 1 fs)) (length (drop 1 fs)) free (behinds ns free) (length ns) (rw shorter o.chain) (λ i _ _. f_is (free_of fs i)) refl rest-is);
-          apart = λ i j p q z. o.apart i (j + 1) p (omega (arith, shorter)) (z ∙ rest-is j);
+              (λ i p. f_is (ring_of xs i)) (λ i p. set-keeps 0 (λ k. k.before) ns free v (ring_of xs (i + 1)) first-in refl);
+          chain = rw size (fewer-frees (behinds ns) (behinds ms) fs free (behinds ns free) (length ns) o.chain some (λ i _ _. f_is (free_of fs i)) refl);
+          apart = λ i j p q z. o.apart i (j + 1) p (omega (arith, length-rest fs some)) (z ∙ free_of-rest fs j);
         }
 
     pub outside-taken : Outside (with_number ns free n) xs (drop 1 fs) free
     outside-taken =
         let first = o.chain.first some in
         record {
-          within = omega (arith, first-in, length-set ns free (record (at ns free) { number = n }));
+          within = omega (arith, first-in, length-set ns free (record (at ns free) { value = n }));
           unplaced = λ i p z. o.apart i 0 p some (z ∙ first);
-          used = λ j q z. o.chain.apart 0 (j + 1) (omega arith) (omega (arith, length-drop 1 fs)) (sym first ∙ sym z ∙ rest-is j);
+          used = λ j q z. o.chain.apart 0 (j + 1) (omega arith) (omega (arith, length-rest fs some)) (sym first ∙ sym z ∙ free_of-rest fs j);
         }
 
   -- a new node

@@ -1,7 +1,7 @@
--- The ring and the free chain, over plain functions.
-use Rattle.std.proofs.Common.{◌≡◌, ◌≢◌, ℕ, ◌+◌, ◌-◌, ◌<◌, ◌≤◌, inl, inr, sym, ap, ◌∙◌, arith}
+-- The ring, over plain functions.
+use Rattle.std.proofs.Common.{◌≡◌, ◌≢◌, ℕ, ◌+◌, ◌<◌, ◌≤◌, inl, inr, sym, ap, ◌∙◌, arith}
 use Rattle.std.proofs.lemmas.Bool.{cases_order}
-use Rattle.moka_structures.specs.Rings.{Ring, Frees}
+use Rattle.moka_structures.specs.Rings.{Ring}
 
 -- the slot at place h + 1 leaves
 pub Ring-detach : (f g f' g' r r' : ℕ → ℕ) (n size h : ℕ) → Ring f g r (n + 1) size → h ≤ n
@@ -113,54 +113,4 @@ Ring-same f g f' g' r n size size' ring grown fs gs =
       before = λ i q. gs i q ∙ ring.before i q;
       apart = ring.apart;
       within = λ i q. omega (arith, ring.within i q);
-    }
-
--- links that agree at the free slots keep the chain
-pub Frees-same : (f f' q : ℕ → ℕ) (m free size size' : ℕ) → Frees f q m free size → size ≤ size'
-    → ((i : ℕ) → i < m → f' (q i) ≡ f (q i)) → Frees f' q m free size'
-Frees-same f f' q m free size size' frees grown fs =
-    record {
-      first = frees.first;
-      next = λ i l. fs i (omega arith) ∙ frees.next i l;
-      apart = frees.apart;
-      within = λ i l. omega (arith, frees.within i l);
-    }
-
--- the slot s becomes the first free one
-pub Frees-push : (f f' q q' : ℕ → ℕ) (m free size s : ℕ) → Frees f q m free size → s < size
-    → ((i : ℕ) → i < m → q i ≢ s) → ((i : ℕ) → i < m → f' (q i) ≡ f (q i)) → f' s ≡ free
-    → q' 0 ≡ s → ((i : ℕ) → q' (i + 1) ≡ q i)
-    → Frees f' q' (m + 1) s size
-Frees-push f f' q q' m free size s frees inside fresh fs here zeroth later =
-    let at_least : (i : ℕ) → 0 < i → q' i ≡ q (i - 1) = λ i p. ap q' (omega arith) ∙ later (i - 1) in
-    record {
-      first = λ _. sym zeroth;
-      next = λ i l. elim (cases_order i 0) as (λ _. f' (q' i) ≡ q' (i + 1)) [
-        | inl e ↦ ap (λ k. f' (q' k)) e ∙ ap f' zeroth ∙ here ∙ frees.first (omega arith) ∙ ap q (sym e) ∙ sym (later i)
-        | inr (inl k) ↦ absurd (omega arith)
-        | inr (inr k) ↦ ap f' (at_least i k) ∙ fs (i - 1) (omega arith) ∙ frees.next (i - 1) (omega arith) ∙ ap q (omega arith) ∙ sym (later i)
-      ];
-      apart = λ i j l k. elim (cases_order i 0) as (λ _. q' i ≢ q' j) [
-        | inl e ↦ λ same. fresh (j - 1) (omega arith) (sym (at_least j (omega arith)) ∙ sym same ∙ ap q' e ∙ zeroth)
-        | inr (inl p) ↦ absurd (omega arith)
-        | inr (inr p) ↦ rw (at_least i p, at_least j (omega arith)) (frees.apart (i - 1) (j - 1) (omega arith) (omega arith))
-      ];
-      within = λ i l. elim (cases_order i 0) as (λ _. q' i < size) [
-        | inl e ↦ rw (e, zeroth) inside
-        | inr (inl p) ↦ absurd (omega arith)
-        | inr (inr p) ↦ rw (at_least i p) (frees.within (i - 1) (omega arith))
-      ];
-    }
-
--- the first free slot is taken
-pub Frees-pop : (f f' q q' : ℕ → ℕ) (m free next size : ℕ) → Frees f q (m + 1) free size
-    → ((i : ℕ) → 0 < i → i < m + 1 → f' (q i) ≡ f (q i)) → next ≡ f free
-    → ((i : ℕ) → q' i ≡ q (i + 1))
-    → Frees f' q' m next size
-Frees-pop f f' q q' m free next size frees fs nexts later =
-    record {
-      first = λ p. nexts ∙ ap f (frees.first (omega arith)) ∙ frees.next 0 (omega arith) ∙ sym (later 0);
-      next = λ i l. ap f' (later i) ∙ fs (i + 1) (omega arith) (omega arith) ∙ frees.next (i + 1) (omega arith) ∙ sym (later (i + 1));
-      apart = λ i j l k. rw (later i, later j) (frees.apart (i + 1) (j + 1) (omega arith) (omega arith));
-      within = λ i l. rw (later i) (frees.within (i + 1) (omega arith));
     }

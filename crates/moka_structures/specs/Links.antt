@@ -1,57 +1,53 @@
 -- How the nodes are linked. No public clause cites this module.
-use Rattle.std.specs.Prelude.{◌≡◌, ◌≢◌, ℕ, zero, suc, ◌+◌, ◌<◌, ◌≤◌, ◌^◌, List, [], ◌∷◌, map, length, slice_index_or, slice_set}
-use Rattle.std.specs.Global.{Vec}
-use Rattle.std.specs.Vec.{vec_capacity}
-use Rattle.moka_structures.specs.declared.order_list.Node.{Node}
-use Rattle.moka_structures.specs.Rings.{Ring, Frees}
+use Rattle.std.specs.Prelude.{◌≡◌, ◌≢◌, ℕ, zero, suc, ◌+◌, ◌<◌, ◌≤◌, ◌^◌, List, [], ◌∷◌, map, length, slice_index_or}
+use Rattle.moka_links.specs.declared.Node.{Node as Linked}
+use Rattle.moka_links.specs.Chains.{Frees, free_of}
+use Rattle.moka_links.specs.Links as links
+use Rattle.moka_structures.specs.Rings.{Ring}
+
+-- a number with its neighbours
+abbrev pub Node : Type 0
+Node = Linked ℕ
 
 -- what is read past the end
 abbrev pub blank : Node
-blank = record { number = 0; before = 0; behind = 0 }
+blank = links.blank 0
 
 -- the node at a slot
 abbrev pub at : List Node → ℕ → Node
-at ns i = slice_index_or ns i blank
+at = links.at 0
 
--- one field of a node is written
+-- the slot behind a node is written
 abbrev pub with_behind : List Node → ℕ → ℕ → List Node
-with_behind ns i to = slice_set ns i (record (at ns i) { behind = to })
+with_behind = links.with_behind 0
 
--- the same of `before`
-abbrev pub with_before : List Node → ℕ → ℕ → List Node
-with_before ns i to = slice_set ns i (record (at ns i) { before = to })
-
--- the same of the number
+-- the number of a node is written
 abbrev pub with_number : List Node → ℕ → ℕ → List Node
-with_number ns i n = slice_set ns i (record (at ns i) { number = n })
+with_number = links.with_value 0
 
 -- the node at the slot is taken out of the ring
 abbrev pub detached : List Node → ℕ → List Node
-detached ns s = with_before (with_behind ns (at ns s).before (at ns s).behind) (at ns s).behind (at ns s).before
+detached = links.detached 0
 
 -- the node at the slot is put before the sentinel
 abbrev pub attached : List Node → ℕ → List Node
-attached ns s = with_before (with_behind (with_behind (with_before ns s (at ns 0).before) s 0) (at ns 0).before s) 0 s
+attached ns s = links.attached 0 ns s 0
 
--- there is as much room for nodes as before
-abbrev pub KeepsCapacity : {X : Type 0} → (old new : Vec X) → Type 0
-KeepsCapacity old new = vec_capacity new ≡ vec_capacity old
+-- the numbers as a plain function of the slot
+abbrev pub numbers : List Node → ℕ → ℕ
+numbers = links.values 0
 
 -- the links as plain functions of the slot
 abbrev pub behinds : List Node → ℕ → ℕ
-behinds ns i = (at ns i).behind
+behinds = links.behinds 0
 
 -- the links back
 abbrev pub befores : List Node → ℕ → ℕ
-befores ns i = (at ns i).before
+befores = links.befores 0
 
 -- the slot at each place of the ring: the sentinel's, then the members', then the sentinel's again
 abbrev pub ring_of : List ℕ → ℕ → ℕ
 ring_of xs i = slice_index_or (0 ∷ xs) i 0
-
--- the free slot at each place of the chain
-abbrev pub free_of : List ℕ → ℕ → ℕ
-free_of fs i = slice_index_or fs i 0
 
 -- the members' slots form one ring with the sentinel, and all other slots a chain that begins at `free`
 pub record IsOrder (ns : List Node) (len free : ℕ) : Type 0 where
@@ -71,7 +67,7 @@ walk ns (suc n) s = s ∷ walk ns n (at ns s).behind
 
 -- what a contract sees of the node in a slot
 abbrev pub member : List Node → ℕ → ℕ × ℕ
-member ns s = (s, (at ns s).number)
+member ns s = (s, numbers ns s)
 
 -- the members from the front to the back
 abbrev pub members_of : List Node → ℕ → List (ℕ × ℕ)

@@ -1,4 +1,4 @@
--- Rings and chains of slots, over plain functions that lead from slot to slot.
+-- A ring of slots, over plain functions that lead from slot to slot.
 use Rattle.std.specs.Prelude.{◌≡◌, ◌≢◌, ℕ, ◌+◌, ◌<◌, ◌≤◌}
 
 -- from the places 0 to n, at each of which r names a slot, f leads on and g leads back; place n + 1 is place 0 again
@@ -9,10 +9,3 @@ pub record Ring (f g r : ℕ → ℕ) (n size : ℕ) : Type 0 where
   pub before : (i : ℕ) → i ≤ n → g (r (i + 1)) ≡ r i
   pub apart : (i j : ℕ) → i < j → j ≤ n → r i ≢ r j
   pub within : (i : ℕ) → i ≤ n → r i < size
-
--- q names the m free slots, of which each leads to the next
-pub record Frees (f q : ℕ → ℕ) (m free size : ℕ) : Type 0 where
-  pub first : 0 < m → free ≡ q 0
-  pub next : (i : ℕ) → i + 1 < m → f (q i) ≡ q (i + 1)
-  pub apart : (i j : ℕ) → i < j → j < m → q i ≢ q j
-  pub within : (i : ℕ) → i < m → q i < size

@@ -4,8 +4,6 @@
 mod older;
 pub mod order_list;
 pub mod outstanding;
-#[cfg(test)]
-mod plain_order;
 pub mod record_table;
 pub mod row;
 

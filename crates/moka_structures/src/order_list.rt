@@ -2,58 +2,23 @@
 ghost use Rattle.std.specs.Prelude.{◌≡◌, ◌≢◌, ◌+◌, ◌^◌, ◌<◌, ◌≤◌, ℕ, [], ◌∷◌, ◌++◌, length, ◌↔◌, OnOk, IfOk, IsOk, IfSome, IsSome, IsNone, None, Some, nat_eq, slice_get, vec_len, if◌then◌else◌};
 ghost use Rattle.std.specs.Map.{lookup, remove_entry, keys_of};
 ghost use Rattle.std.specs.List.{IsDistinct};
-ghost use Rattle.moka_structures.specs.Links.{at, detached, attached, with_behind, with_number, KeepsCapacity};
+ghost use Rattle.moka_links.specs.Links.{KeepsCapacity};
+ghost use Rattle.moka_structures.specs.Links.{at, detached, attached, with_behind, with_number};
 ghost use Rattle.moka_structures.specs.Order.{moved_to_back, next_after};
 
+use moka_links::{Node, attach, detach};
 use std::alloc::{AllocError, Global};
 use std::marker::Model;
 
 // A slot is a `u32`.
 const MOST_NODES: usize = 1 << 32;
 
-// A node of the ring, which begins and ends at the sentinel in slot 0, or a free node, whose `behind` is the next
-// free one.
-#[derive(Clone, Copy)]
-struct Node {
-    number: u64,
-    before: u32,
-    behind: u32,
-}
-
-// Takes the node at `slot` out of the ring.
-#[inline(always)]
-fn detach(nodes: &mut Vec<Node>, slot: u32)
-    requires slot { slot < vec_len nodes.old }
-    requires before { (at nodes.old.items slot).before < vec_len nodes.old }
-    requires behind { (at nodes.old.items slot).behind < vec_len nodes.old }
-    ensures nodes { nodes.new.items ≡ detached nodes.old.items slot }
-    ensures capacity { KeepsCapacity nodes.old nodes.new }
-{
-    let before = nodes[slot as usize].before;
-    let behind = nodes[slot as usize].behind;
-    nodes[before as usize].behind = behind;
-    nodes[behind as usize].before = before;
-}
-
-// Puts the node at `slot` before the sentinel, which is behind all others.
-#[inline(always)]
-fn attach(nodes: &mut Vec<Node>, slot: u32)
-    requires some { 0 < vec_len nodes.old }
-    requires slot { slot < vec_len nodes.old }
-    requires last { (at nodes.old.items 0).before < vec_len nodes.old }
-    ensures nodes { nodes.new.items ≡ attached nodes.old.items slot }
-    ensures capacity { KeepsCapacity nodes.old nodes.new }
-{
-    let last = nodes[0].before;
-    nodes[slot as usize].before = last;
-    nodes[slot as usize].behind = 0;
-    nodes[last as usize].behind = slot;
-    nodes[0].before = slot;
-}
+// The slot where the ring begins and ends.
+const SENTINEL: u32 = 0;
 
 // Takes the node at `slot` out of the ring, and puts it before the free ones.
 #[inline(always)]
-fn release(nodes: &mut Vec<Node>, slot: u32, free: u32)
+fn release(nodes: &mut Vec<Node<u64>>, slot: u32, free: u32)
     requires slot { slot < vec_len nodes.old }
     requires before { (at nodes.old.items slot).before < vec_len nodes.old }
     requires behind { (at nodes.old.items slot).behind < vec_len nodes.old }
@@ -66,7 +31,7 @@ fn release(nodes: &mut Vec<Node>, slot: u32, free: u32)
 
 // Gives the free node at `slot` a number and attaches it. The answer is the slot that was free behind it.
 #[inline(always)]
-fn reuse(nodes: &mut Vec<Node>, slot: u32, number: u64) -> u32
+fn reuse(nodes: &mut Vec<Node<u64>>, slot: u32, number: u64) -> u32
     requires slot { slot < vec_len nodes.old }
     requires last { (at nodes.old.items 0).before < vec_len nodes.old }
     ensures next { result ≡ (at nodes.old.items slot).behind }
@@ -74,8 +39,8 @@ fn reuse(nodes: &mut Vec<Node>, slot: u32, number: u64) -> u32
     ensures capacity { KeepsCapacity nodes.old nodes.new }
 {
     let next = nodes[slot as usize].behind;
-    nodes[slot as usize].number = number;
-    attach(nodes, slot);
+    nodes[slot as usize].value = number;
+    attach(nodes, slot, SENTINEL);
     next
 }
 
@@ -85,7 +50,8 @@ fn reuse(nodes: &mut Vec<Node>, slot: u32, number: u64) -> u32
 /// moka: `common::deque::Deque`, whose nodes are reached by raw pointers; here a slot stands for the pointer.
 #[derive(Drop)]
 pub struct OrderList {
-    nodes: Vec<Node>,
+    // The ring, and the free nodes, each of which leads to the next.
+    nodes: Vec<Node<u64>>,
     len: usize,
     free: u32,
 }
@@ -112,9 +78,9 @@ impl OrderList {
     {
         let mut nodes = Vec::with_capacity(alloc, 1)?;
         nodes.push_reserved(Node {
-            number: 0,
-            before: 0,
-            behind: 0,
+            value: 0,
+            before: SENTINEL,
+            behind: SENTINEL,
         });
         Ok(OrderList {
             nodes,
@@ -183,11 +149,11 @@ impl OrderList {
         }
         let slot = self.nodes.len() as u32;
         self.nodes.push_reserved(Node {
-            number,
-            before: 0,
-            behind: 0,
+            value: number,
+            before: SENTINEL,
+            behind: SENTINEL,
         });
-        attach(&mut self.nodes, slot);
+        attach(&mut self.nodes, slot, SENTINEL);
         self.len += 1;
         slot
     }
@@ -205,7 +171,7 @@ impl OrderList {
         ensures room { self.new.room ≡ self.old.room }
     {
         detach(&mut self.nodes, slot);
-        attach(&mut self.nodes, slot);
+        attach(&mut self.nodes, slot, SENTINEL);
     }
 
     /// Takes the number in `slot` out and gives it back. The slot may be given to a later number.
@@ -224,7 +190,7 @@ impl OrderList {
         release(&mut self.nodes, slot, self.free);
         self.free = slot;
         self.len -= 1;
-        self.nodes[slot as usize].number
+        self.nodes[slot as usize].value
     }
 
     /// The slot of the first number, and that number.
@@ -241,7 +207,7 @@ impl OrderList {
         if slot == 0 {
             return None;
         }
-        Some((slot, self.nodes[slot as usize].number))
+        Some((slot, self.nodes[slot as usize].value))
     }
 
     /// The slot of the number behind the one in `slot`, and that number.
@@ -259,54 +225,6 @@ impl OrderList {
         if next == 0 {
             return None;
         }
-        Some((next, self.nodes[next as usize].number))
-    }
-}
-
-#[cfg(test)]
-mod tests {
-    use super::*;
-    use std::test::Fail;
-
-    #[test]
-    fn moves_and_unlinks(rt: HostRuntime) -> Result<(), Fail> {
-        let mut list = OrderList::new(rt.alloc())?;
-        assert!(rt; list.is_empty());
-        list.reserve(3)?;
-        let a = list.push_back(10);
-        let b = list.push_back(20);
-        let c = list.push_back(30);
-        list.move_to_back(a);
-        assert_eq!(rt; list.front(), Some((b, 20)));
-        assert_eq!(rt; list.next(b), Some((c, 30)));
-        assert_eq!(rt; list.unlink(c), 30);
-        assert_eq!(rt; list.next(b), Some((a, 10)));
-        assert_eq!(rt; list.next(a), None);
-        let d = list.push_back(40);
-        assert_eq!(rt; list.next(a), Some((d, 40)));
-        assert_eq!(rt; list.len(), 3);
-        Ok(())
-    }
-
-    #[test]
-    fn a_refused_growth_changes_nothing(rt: HostRuntime) -> Result<(), Fail> {
-        let Ok(mut list) = OrderList::new(rt.alloc()) else {
-            return Ok(());
-        };
-        for additional in [1, 2, 100, usize::MAX] {
-            let grown = list.reserve(additional).is_ok();
-            assert_eq!(rt; (list.is_empty(), list.front()), (true, None));
-            if grown {
-                let slot = list.push_back(7);
-                let grown = list.reserve(usize::MAX).is_ok();
-                let (front, next) = (list.front(), list.next(slot));
-                let number = list.unlink(slot);
-                assert_eq!(rt;
-                    (grown, front, next, number),
-                    (false, Some((slot, 7)), None, 7)
-                );
-            }
-        }
-        Ok(())
+        Some((next, self.nodes[next as usize].value))
     }
 }

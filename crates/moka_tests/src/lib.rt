@@ -4,8 +4,18 @@
 #[cfg(test)]
 mod engine;
 #[cfg(test)]
+mod index;
+#[cfg(test)]
 mod maintenance;
 #[cfg(test)]
 mod parts;
 #[cfg(test)]
+mod script;
+#[cfg(test)]
+mod sketch;
+#[cfg(test)]
 mod store;
+#[cfg(test)]
+mod structures;
+#[cfg(test)]
+mod wheel;

@@ -14,8 +14,8 @@ fn length_at_256(alloc: Global) -> Result<usize, AllocError> {
     let mut store: TestStore = Store::new(alloc, BuildHasherDefault::new(), false, false)?;
     let mut sketch = FrequencySketch::new(alloc)?;
     store.reserve(1)?;
-    if store.find_by_key(&1).is_none() {
-        let handle = store.insert_new(Record {
+    if let Err(hash) = store.find_or_hash(&1) {
+        let first = Record {
             number: 1,
             key: 1,
             hash: 1,
@@ -26,7 +26,8 @@ fn length_at_256(alloc: Global) -> Result<usize, AllocError> {
             weight: 128,
             generation: 1,
             applied: 0,
-        });
+        };
+        let handle = store.insert_new(first, hash);
         store.admit(handle, 128);
     }
     enable_frequency_sketch(

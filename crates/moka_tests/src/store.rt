@@ -35,10 +35,14 @@ fn record(number: u64, key: u64, value: u64) -> Record<u64, u64>
 fn keeps_an_order(rt: HostRuntime) -> Result<(), Fail> {
     let mut store: TestStore = Store::new(rt.alloc(), BuildHasherDefault::new(), true, true)?;
     store.reserve(2)?;
-    assert!(rt; store.find_by_key(&10).is_none());
-    let first = store.insert_new(record(1, 10, 100));
-    assert!(rt; store.find_by_key(&20).is_none());
-    let second = store.insert_new(record(2, 20, 200));
+    let Err(hash) = store.find_or_hash(&10) else {
+        return Err("10 is there".into());
+    };
+    let first = store.insert_new(record(1, 10, 100), hash);
+    let Err(hash) = store.find_or_hash(&20) else {
+        return Err("20 is there".into());
+    };
+    let second = store.insert_new(record(2, 20, 200), hash);
     store.admit(first, 7);
     store.admit(second, 8);
     assert_eq!(rt; store.front(), Some((first, 7)));
@@ -61,8 +65,10 @@ fn keeps_an_order(rt: HostRuntime) -> Result<(), Fail> {
 fn lets_a_record_go(rt: HostRuntime) -> Result<(), Fail> {
     let mut store: TestStore = Store::new(rt.alloc(), BuildHasherDefault::new(), true, true)?;
     store.reserve(1)?;
-    assert!(rt; store.find_by_key(&10).is_none());
-    let handle = store.insert_new(record(1, 10, 100));
+    let Err(hash) = store.find_or_hash(&10) else {
+        return Err("10 is there".into());
+    };
+    let handle = store.insert_new(record(1, 10, 100), hash);
     store.admit(handle, 7);
     let old = store.update(
         handle,
@@ -74,7 +80,7 @@ fn lets_a_record_go(rt: HostRuntime) -> Result<(), Fail> {
         },
     );
     assert_eq!(rt; old, 100);
-    store.touch(handle, Instant(8), Some(Instant(9)));
+    store.touch(handle, Instant(8), Some(Instant(9)), true);
     store.set_applied(handle, 2);
     assert_eq!(rt;
         store.find(handle).map(|r| (r.value, r.read, r.applied)),
@@ -109,10 +115,14 @@ fn check_keys(
 fn lists_its_keys(rt: HostRuntime) -> Result<(), Fail> {
     let mut store: TestStore = Store::new(rt.alloc(), BuildHasherDefault::new(), true, true)?;
     store.reserve(2)?;
-    assert!(rt; store.find_by_key(&10).is_none());
-    let _first = store.insert_new(record(1, 10, 100));
-    assert!(rt; store.find_by_key(&20).is_none());
-    let second = store.insert_new(record(2, 20, 200));
+    let Err(hash) = store.find_or_hash(&10) else {
+        return Err("10 is there".into());
+    };
+    let _first = store.insert_new(record(1, 10, 100), hash);
+    let Err(hash) = store.find_or_hash(&20) else {
+        return Err("20 is there".into());
+    };
+    let second = store.insert_new(record(2, 20, 200), hash);
     check_keys(&rt, rt.alloc(), &store, &[10, 20])?;
     let _taken = store.take_out(second);
     check_keys(&rt, rt.alloc(), &store, &[10])

@@ -1,36 +1,32 @@
--- The fields of the nodes after each write.
-use Rattle.std.proofs.Common.{◌≡◌, ◌≢◌, ℕ, ◌<◌, List, inl, inr, refl, sym, ap, ◌∙◌, arith, length, set, get_or-set_same, get_or-set_other, length-set}
-use Rattle.std.proofs.lemmas.Bool.{cases_eq}
-use Rattle.moka_wheel.specs.declared.nodes.Node.{Node}
-use Rattle.moka_wheel.specs.Nodes.{blank, at, befores, behinds, buckets, moments, numbers, detached, attached}
+-- The fields of the nodes after each step.
+use Rattle.std.proofs.Common.{◌≡◌, ◌≢◌, ℕ, ◌<◌, List, refl, ap, ◌∙◌, arith, length, set, length-set}
+use Rattle.moka_links.specs.Links as links
+use Rattle.moka_links.proofs.Nodes as linked
+use Rattle.moka_wheel.specs.declared.nodes.Entry.{Entry}
+use Rattle.moka_wheel.specs.Nodes.{Node, nothing, at, befores, behinds, buckets, moments, numbers, detached, attached}
 
--- what a write at p keeps of a node
-pub set-keeps : (h : Node → ℕ) (ns : List Node) (p : ℕ) (v : Node) (i : ℕ) → p < length ns → h v ≡ h (at ns p) → h (at (set ns p v) i) ≡ h (at ns i)
-set-keeps h ns p v i l e = elim (cases_eq i p) as (λ _. h (at (set ns p v) i) ≡ h (at ns i)) [
-  | inl same ↦ ap (λ k. h (at (set ns p v) k)) same ∙ ap h (get_or-set_same ns p v blank l) ∙ e ∙ ap (λ k. h (at ns k)) (sym same)
-  | inr other ↦ ap (λ k. h k) (get_or-set_other ns p i v blank other)
-]
+abbrev bucket : Entry → ℕ
+bucket e = e.bucket
 
-pub set-other : (ns : List Node) (p : ℕ) (v : Node) (i : ℕ) → i ≢ p → at (set ns p v) i ≡ at ns i
-set-other ns p v i ne = get_or-set_other ns p i v blank ne
+abbrev moment : Entry → ℕ
+moment e = e.at
 
-pub set-same : (ns : List Node) (p : ℕ) (v : Node) → p < length ns → at (set ns p v) p ≡ v
-set-same ns p v l = get_or-set_same ns p v blank l
+abbrev number : Entry → ℕ
+number e = e.number
 
-abbrev behind : Node → ℕ
-behind n = n.behind
+-- what a node keeps while another bucket is written into one
+module _ (ms : List Node) (s to : ℕ) (inside : s < length ms) where
+  abbrev written : Node
+  written = record (at ms s) { value = record (at ms s).value { bucket = to } }
 
-abbrev before : Node → ℕ
-before n = n.before
+  keeps : (h : Node → ℕ) → h written ≡ h (at ms s) → (i : ℕ) → h (at (set ms s written) i) ≡ h (at ms i)
+  keeps h e i = linked.set-keeps nothing h ms s written i inside e
 
-abbrev bucket : Node → ℕ
-bucket n = n.bucket
+  others : (i : ℕ) → i ≢ s → at (set ms s written) i ≡ at ms i
+  others i ne = linked.set-other nothing ms s written i ne
 
-abbrev moment : Node → ℕ
-moment n = n.at
-
-abbrev number : Node → ℕ
-number n = n.number
+  here : at (set ms s written) s ≡ written
+  here = linked.set-same nothing ms s written inside
 
 -- the nodes after `detach`, where p stood before the slot s and b behind it
 pub record Detached (ns ms : List Node) (s p b : ℕ) : Type 0 where
@@ -47,26 +43,21 @@ pub record Detached (ns ms : List Node) (s p b : ℕ) : Type 0 where
 
 pub Detached-detached : (ns : List Node) (s : ℕ) → s < length ns → befores ns s < length ns → behinds ns s < length ns → Detached ns (detached ns s) s (befores ns s) (behinds ns s)
 Detached-detached ns s ls lp lb =
-    let p = befores ns s in
-    let b = behinds ns s in
-    let v : Node = record (at ns p) { behind = b } in
-    let ms = set ns p v in
-    let w : Node = record (at ms b) { before = p } in
-    let os = set ms b w in
-    let x : Node = record (at os s) { bucket = 2049 } in
-    let lm : b < length ms = omega (arith, length-set ns p v) in
-    let lo : s < length os = omega (arith, length-set ns p v, length-set ms b w) in
+    let d = linked.Detached-detached nothing ns s lp lb in
+    let ms = links.detached nothing ns s in
+    let inside : s < length ms = omega (arith, d.size) in
+    let kept = keeps ms s 2049 inside in
     record {
-      size = length-set os s x ∙ length-set ms b w ∙ length-set ns p v;
-      behind = λ i ne. set-keeps behind os s x i lo refl ∙ set-keeps behind ms b w i lm refl ∙ ap behind (set-other ns p v i ne);
-      behind_at = set-keeps behind os s x p lo refl ∙ set-keeps behind ms b w p lm refl ∙ ap behind (set-same ns p v lp);
-      before = λ i ne. set-keeps before os s x i lo refl ∙ ap before (set-other ms b w i ne) ∙ set-keeps before ns p v i lp refl;
-      before_at = set-keeps before os s x b lo refl ∙ ap before (set-same ms b w lm);
-      bucket = λ i ne. ap bucket (set-other os s x i ne) ∙ set-keeps bucket ms b w i lm refl ∙ set-keeps bucket ns p v i lp refl;
-      bucket_at = ap bucket (set-same os s x lo);
-      number = λ i. set-keeps number os s x i lo refl ∙ set-keeps number ms b w i lm refl ∙ set-keeps number ns p v i lp refl;
-      moment = λ i. set-keeps moment os s x i lo refl ∙ set-keeps moment ms b w i lm refl ∙ set-keeps moment ns p v i lp refl;
-      whole = λ i n1 n2 n3. set-other os s x i n1 ∙ set-other ms b w i n3 ∙ set-other ns p v i n2;
+      size = length-set ms s (written ms s 2049 inside) ∙ d.size;
+      behind = λ i ne. kept (λ n. n.behind) refl i ∙ d.behind i ne;
+      behind_at = kept (λ n. n.behind) refl (befores ns s) ∙ d.behind_at;
+      before = λ i ne. kept (λ n. n.before) refl i ∙ d.before i ne;
+      before_at = kept (λ n. n.before) refl (behinds ns s) ∙ d.before_at;
+      bucket = λ i ne. ap (λ n. n.value.bucket) (others ms s 2049 inside i ne) ∙ ap bucket (d.value i);
+      bucket_at = ap (λ n. n.value.bucket) (here ms s 2049 inside);
+      number = λ i. kept (λ n. n.value.number) refl i ∙ ap number (d.value i);
+      moment = λ i. kept (λ n. n.value.at) refl i ∙ ap moment (d.value i);
+      whole = λ i ne np nb. others ms s 2049 inside i ne ∙ d.whole i np nb;
     }
 
 -- the nodes after `attach` of the slot s to the head h, before which `last` stood
@@ -86,35 +77,21 @@ pub record Attached (ns ms : List Node) (s h last : ℕ) : Type 0 where
 
 pub Attached-attached : (ns : List Node) (s h : ℕ) → s < length ns → h < length ns → befores ns h < length ns → Attached ns (attached ns s h) s h (befores ns h)
 Attached-attached ns s h ls lh ll =
-    let last = befores ns h in
-    let v1 : Node = record (at ns s) { before = last } in
-    let ms1 = set ns s v1 in
-    let e1 : length ms1 ≡ length ns = length-set ns s v1 in
-    let v2 : Node = record (at ms1 s) { behind = h } in
-    let ms2 = set ms1 s v2 in
-    let e2 : length ms2 ≡ length ns = length-set ms1 s v2 ∙ e1 in
-    let v3 : Node = record (at ms2 s) { bucket = h } in
-    let ms3 = set ms2 s v3 in
-    let e3 : length ms3 ≡ length ns = length-set ms2 s v3 ∙ e2 in
-    let v4 : Node = record (at ms3 last) { behind = s } in
-    let ms4 = set ms3 last v4 in
-    let e4 : length ms4 ≡ length ns = length-set ms3 last v4 ∙ e3 in
-    let v5 : Node = record (at ms4 h) { before = s } in
-    let l1 : s < length ms1 = omega arith in
-    let l2 : s < length ms2 = omega arith in
-    let l3 : last < length ms3 = omega arith in
-    let l4 : h < length ms4 = omega arith in
+    let a = linked.Attached-attached nothing ns s h ls lh ll in
+    let ms = links.attached nothing ns s h in
+    let inside : s < length ms = omega (arith, a.size) in
+    let kept = keeps ms s h inside in
     record {
-      size = length-set ms4 h v5 ∙ e4;
-      behind = λ i nl ne. set-keeps behind ms4 h v5 i l4 refl ∙ ap behind (set-other ms3 last v4 i nl) ∙ set-keeps behind ms2 s v3 i l2 refl ∙ ap behind (set-other ms1 s v2 i ne) ∙ set-keeps behind ns s v1 i ls refl;
-      behind_last = set-keeps behind ms4 h v5 last l4 refl ∙ ap behind (set-same ms3 last v4 l3);
-      behind_at = λ ne. set-keeps behind ms4 h v5 s l4 refl ∙ ap behind (set-other ms3 last v4 s ne) ∙ set-keeps behind ms2 s v3 s l2 refl ∙ ap behind (set-same ms1 s v2 l1);
-      before = λ i nh ne. ap before (set-other ms4 h v5 i nh) ∙ set-keeps before ms3 last v4 i l3 refl ∙ set-keeps before ms2 s v3 i l2 refl ∙ set-keeps before ms1 s v2 i l1 refl ∙ ap before (set-other ns s v1 i ne);
-      before_head = ap before (set-same ms4 h v5 l4);
-      before_at = λ ne. ap before (set-other ms4 h v5 s ne) ∙ set-keeps before ms3 last v4 s l3 refl ∙ set-keeps before ms2 s v3 s l2 refl ∙ set-keeps before ms1 s v2 s l1 refl ∙ ap before (set-same ns s v1 ls);
-      bucket = λ i ne. set-keeps bucket ms4 h v5 i l4 refl ∙ set-keeps bucket ms3 last v4 i l3 refl ∙ ap bucket (set-other ms2 s v3 i ne) ∙ set-keeps bucket ms1 s v2 i l1 refl ∙ set-keeps bucket ns s v1 i ls refl;
-      bucket_at = set-keeps bucket ms4 h v5 s l4 refl ∙ set-keeps bucket ms3 last v4 s l3 refl ∙ ap bucket (set-same ms2 s v3 l2);
-      number = λ i. set-keeps number ms4 h v5 i l4 refl ∙ set-keeps number ms3 last v4 i l3 refl ∙ set-keeps number ms2 s v3 i l2 refl ∙ set-keeps number ms1 s v2 i l1 refl ∙ set-keeps number ns s v1 i ls refl;
-      moment = λ i. set-keeps moment ms4 h v5 i l4 refl ∙ set-keeps moment ms3 last v4 i l3 refl ∙ set-keeps moment ms2 s v3 i l2 refl ∙ set-keeps moment ms1 s v2 i l1 refl ∙ set-keeps moment ns s v1 i ls refl;
-      whole = λ i ne nl nh. set-other ms4 h v5 i nh ∙ set-other ms3 last v4 i nl ∙ set-other ms2 s v3 i ne ∙ set-other ms1 s v2 i ne ∙ set-other ns s v1 i ne;
+      size = length-set ms s (written ms s h inside) ∙ a.size;
+      behind = λ i nl ne. kept (λ n. n.behind) refl i ∙ a.behind i nl ne;
+      behind_last = kept (λ n. n.behind) refl (befores ns h) ∙ a.behind_last;
+      behind_at = λ ne. kept (λ n. n.behind) refl s ∙ a.behind_at ne;
+      before = λ i nh ne. kept (λ n. n.before) refl i ∙ a.before i nh ne;
+      before_head = kept (λ n. n.before) refl h ∙ a.before_head;
+      before_at = λ ne. kept (λ n. n.before) refl s ∙ a.before_at ne;
+      bucket = λ i ne. ap (λ n. n.value.bucket) (others ms s h inside i ne) ∙ ap bucket (a.value i);
+      bucket_at = ap (λ n. n.value.bucket) (here ms s h inside);
+      number = λ i. kept (λ n. n.value.number) refl i ∙ ap number (a.value i);
+      moment = λ i. kept (λ n. n.value.at) refl i ∙ ap moment (a.value i);
+      whole = λ i ne nl nh. others ms s h inside i ne ∙ a.whole i ne nl nh;
     }

@@ -3,11 +3,11 @@ use Rattle.std.proofs.Common.{◌≡◌, ◌≢◌, ℕ, ◌+◌, ◌<◌, ◌�
 use Rattle.std.proofs.lemmas.Bool.{cases_eq, cases_lt, cond-true, cond-false, eq-eqb, ne_eqb}
 use Rattle.std.proofs.lemmas.List.Sums.{sum_by-set}
 use Rattle.std.specs.List.{sum_by}
-use Rattle.moka_wheel.specs.declared.nodes.Node.{Node}
+use Rattle.moka_links.proofs.Nodes as linked
+use Rattle.moka_wheel.specs.declared.nodes.Entry.{Entry}
 use Rattle.moka_wheel.specs.Wheel.{Timer}
-use Rattle.moka_wheel.specs.Nodes.{blank, at, befores, behinds, buckets, moments, numbers, detached, attached, held, timer_at}
+use Rattle.moka_wheel.specs.Nodes.{Node, nothing, blank, at, befores, behinds, buckets, moments, numbers, detached, attached, held, timer_at}
 use Rattle.moka_wheel.specs.Buckets.{IsTimer, IsPlaced, Keeps}
-use Rattle.moka_wheel.proofs.Fields.{set-keeps, Detached}
 use Rattle.moka_wheel.proofs.Sound.{detached-fields, attached-fields}
 
 -- what decides a node's timer
@@ -111,46 +111,44 @@ move-keeps ns ms os s t r a = record {
   free = λ i l.
       let ne : i ≢ s = λ e. omega (arith, ap (buckets ns) e, t.held, l) in
       let same = r.free i l in
-      a.free i ne (subst (λ n. 2049 ≤ n.bucket) (sym same) l) ∙ same;
+      a.free i ne (subst (λ n. 2049 ≤ n.value.bucket) (sym same) l) ∙ same;
 }
 
 pub keeps-trans : (ns ms os : List Node) → Keeps ns ms → Keeps ms os → Keeps ns os
 keeps-trans ns ms os a b = record {
   size = b.size ∙ a.size;
   timers = λ i. b.timers i ∙ a.timers i;
-  free = λ i l. b.free i (subst (λ n. 2049 ≤ n.bucket) (sym (a.free i l)) l) ∙ a.free i l;
+  free = λ i l. b.free i (subst (λ n. 2049 ≤ n.value.bucket) (sym (a.free i l)) l) ∙ a.free i l;
 }
 
 -- ---- how many nodes name a bucket
 
 abbrev pub names : ℕ → Node → ℕ
-names k n = cond (nat_eq n.bucket k) 1 0
+names k n = cond (nat_eq n.value.bucket k) 1 0
 
 abbrev pub count : ℕ → List Node → ℕ
 count k ns = sum_by (names k) ns
 
-count-kept : (k : ℕ) (ns : List Node) (p : ℕ) (v : Node) → p < length ns → v.bucket ≡ buckets ns p → count k (set ns p v) ≡ count k ns
+count-kept : (k : ℕ) (ns : List Node) (p : ℕ) (v : Node) → p < length ns → v.value.bucket ≡ buckets ns p → count k (set ns p v) ≡ count k ns
 count-kept k ns p v l e =
     let same : names k v ≡ names k (at ns p) = ap (λ b. cond (nat_eq b k) 1 0) e in
     omega (arith, sum_by-set (names k) ns p v blank l, same)
 
-pub count-detached : (k : ℕ) (ns : List Node) (s : ℕ) → k < 2049 → s < length ns → befores ns s < length ns → behinds ns s < length ns → buckets ns s ≡ k → Detached ns (detached ns s) s (befores ns s) (behinds ns s)
+pub count-detached : (k : ℕ) (ns : List Node) (s : ℕ) → k < 2049 → s < length ns → befores ns s < length ns → behinds ns s < length ns → buckets ns s ≡ k
     → count k (detached ns s) + 1 ≡ count k ns
-count-detached k ns s low ls lp lb e d =
+count-detached k ns s low ls lp lb e =
     let p = befores ns s in
     let b = behinds ns s in
     let v : Node = record (at ns p) { behind = b } in
     let ms = set ns p v in
     let w : Node = record (at ms b) { before = p } in
     let os = set ms b w in
-    let x : Node = record (at os s) { bucket = 2049 } in
-    let lm : b < length ms = omega (arith, length-set ns p v) in
-    let lo : s < length os = omega (arith, length-set ns p v, length-set ms b w) in
-    let same : count k os ≡ count k ns = count-kept k ms b w lm refl ∙ count-kept k ns p v lp refl in
-    let bs : buckets os s ≡ k = set-keeps (λ n. n.bucket) ms b w s lm refl ∙ set-keeps (λ n. n.bucket) ns p v s lp refl ∙ e in
-    let was : names k (at os s) ≡ 1 = cond-true (nat_eq (buckets os s) k) 1 0 (eq-eqb _ _ bs) in
+    let d = linked.Detached-detached nothing ns s lp lb in
+    let x : Node = record (at os s) { value = record (at os s).value { bucket = 2049 } } in
+    let same : count k os ≡ count k ns = count-kept k ms b w (omega (arith, length-set ns p v)) refl ∙ count-kept k ns p v lp refl in
+    let was : names k (at os s) ≡ 1 = cond-true (nat_eq (buckets os s) k) 1 0 (eq-eqb _ _ (ap (λ (i : Entry). i.bucket) (d.value s) ∙ e)) in
     let now : names k x ≡ 0 = cond-false (nat_eq 2049 k) 1 0 (ne_eqb 2049 k (λ z. omega arith)) in
-    omega (arith, sum_by-set (names k) os s x blank lo, was, now, same)
+    omega (arith, sum_by-set (names k) os s x blank (omega (arith, d.size)), was, now, same)
 
 pub count-attached : (k : ℕ) (ns : List Node) (s h : ℕ) → s < length ns → h < length ns → befores ns h < length ns → buckets ns s ≢ k → h ≢ k → count k (attached ns s h) ≡ count k ns
 count-attached k ns s h ls lh ll ne nh =
@@ -161,16 +159,14 @@ count-attached k ns s h ls lh ll ne nh =
     let v2 : Node = record (at ms1 s) { behind = h } in
     let ms2 = set ms1 s v2 in
     let e2 : length ms2 ≡ length ns = length-set ms1 s v2 ∙ e1 in
-    let v3 : Node = record (at ms2 s) { bucket = h } in
-    let ms3 = set ms2 s v3 in
-    let e3 : length ms3 ≡ length ns = length-set ms2 s v3 ∙ e2 in
-    let v4 : Node = record (at ms3 last) { behind = s } in
-    let ms4 = set ms3 last v4 in
-    let e4 : length ms4 ≡ length ns = length-set ms3 last v4 ∙ e3 in
-    let v5 : Node = record (at ms4 h) { before = s } in
-    let l2 : s < length ms2 = omega arith in
-    let bs : buckets ms2 s ≡ buckets ns s = set-keeps (λ n. n.bucket) ms1 s v2 s (omega arith) refl ∙ set-keeps (λ n. n.bucket) ns s v1 s ls refl in
-    let was : names k (at ms2 s) ≡ 0 = cond-false (nat_eq (buckets ms2 s) k) 1 0 (ne_eqb _ _ (λ z. ne (sym bs ∙ z))) in
-    let now : names k v3 ≡ 0 = cond-false (nat_eq h k) 1 0 (ne_eqb h k nh) in
-    let changed : count k ms3 ≡ count k ms2 = omega (arith, sum_by-set (names k) ms2 s v3 blank l2, was, now) in
-    count-kept k ms4 h v5 (omega arith) refl ∙ count-kept k ms3 last v4 (omega arith) refl ∙ changed ∙ count-kept k ms1 s v2 (omega arith) refl ∙ count-kept k ns s v1 ls refl
+    let v3 : Node = record (at ms2 last) { behind = s } in
+    let ms3 = set ms2 last v3 in
+    let e3 : length ms3 ≡ length ns = length-set ms2 last v3 ∙ e2 in
+    let v4 : Node = record (at ms3 h) { before = s } in
+    let os = set ms3 h v4 in
+    let a = linked.Attached-attached nothing ns s h ls lh ll in
+    let x : Node = record (at os s) { value = record (at os s).value { bucket = h } } in
+    let same : count k os ≡ count k ns = count-kept k ms3 h v4 (omega arith) refl ∙ count-kept k ms2 last v3 (omega arith) refl ∙ count-kept k ms1 s v2 (omega arith) refl ∙ count-kept k ns s v1 ls refl in
+    let was : names k (at os s) ≡ 0 = cond-false (nat_eq (buckets os s) k) 1 0 (ne_eqb _ _ (λ z. ne (sym (ap (λ (i : Entry). i.bucket) (a.value s)) ∙ z))) in
+    let now : names k x ≡ 0 = cond-false (nat_eq h k) 1 0 (ne_eqb h k nh) in
+    omega (arith, sum_by-set (names k) os s x blank (omega (arith, a.size)), was, now, same)

@@ -4,10 +4,10 @@ use Rattle.std.proofs.lemmas.Bool.{cases_lt}
 use Rattle.std.proofs.lemmas.List.{get_or_past}
 use Rattle.std.specs.FinMap.{empty, get, len, get-empty, len-empty}
 use Rattle.std.specs.Ordering.{nat_cmp}
+use Rattle.moka_links.proofs.Chains.{no-frees}
 use Rattle.moka_wheel.specs.Wheel.{Timer}
 use Rattle.moka_wheel.specs.declared.buckets.Buckets.{Buckets}
-use Rattle.moka_wheel.specs.declared.nodes.Node.{Node}
-use Rattle.moka_wheel.specs.Nodes.{blank, at, befores, behinds, buckets, Step, timer_at, timers_of}
+use Rattle.moka_wheel.specs.Nodes.{Node, blank, at, befores, behinds, buckets, Step, timer_at, timers_of}
 use Rattle.moka_wheel.specs.Buckets.{AreBuckets, IsTimer, IsPlaced}
 use Rattle.moka_wheel.specs.Invariant.{IsWheel}
 use Rattle.moka_wheel.proofs.Frames.{head-none, held-none}
@@ -16,11 +16,11 @@ use Rattle.moka_wheel.proofs.Bits.{bit-of_zero}
 
 -- a head alone in its list
 abbrev pub head : ℕ → Node
-head i = record { number = 0; at = 0; before = i; behind = i; bucket = i }
+head i = record { value = record { number = 0; at = 0; bucket = i }; before = i; behind = i }
 
 pub heads-placed : (ns : List Node) (ws : List ℕ) (w : ℕ) → length ns ≡ 2049 → ((i : ℕ) → i < 2049 → at ns i ≡ head i) → ((k : ℕ) → get_or ws k 0 ≡ 0) → IsPlaced ns ws w 2048
 heads-placed ns ws w size heads off =
-    let k : (i : ℕ) → i < 2049 → buckets ns i ≡ i = λ i l. ap (λ (n : Node). n.bucket) (heads i l) in
+    let k : (i : ℕ) → i < 2049 → buckets ns i ≡ i = λ i l. ap (λ (n : Node). n.value.bucket) (heads i l) in
     let f : (i : ℕ) → i < 2049 → behinds ns i ≡ i = λ i l. ap (λ (n : Node). n.behind) (heads i l) in
     let g : (i : ℕ) → i < 2049 → befores ns i ≡ i = λ i l. ap (λ (n : Node). n.before) (heads i l) in
     let none : (i : ℕ) → IsTimer ns i → ⊥ = λ i t. omega (arith, t.past, t.within, size) in
@@ -49,7 +49,7 @@ zeros (suc n) (suc k) = zeros n k
 pub no-timers : (ns : List Node) → length ns ≡ 2049 → timers_of ns ≡ empty
 no-timers ns size = same-timers ns empty (λ q. elim (cases_lt q 2049) as (λ _. timer_at ns q ≡ get (empty {X = Timer} {R = nat_cmp}) q) [
   | inl l ↦ head-none ns q l ∙ sym (get-empty nat_cmp q)
-  | inr l ↦ held-none ns q (omega (arith, ap (λ (n : Node). n.bucket) (get_or_past ns q blank (omega (arith, size))))) ∙ sym (get-empty nat_cmp q)
+  | inr l ↦ held-none ns q (omega (arith, ap (λ (n : Node). n.value.bucket) (get_or_past ns q blank (omega (arith, size))))) ∙ sym (get-empty nat_cmp q)
 ])
 
 pub heads-wheel : (b : Buckets) → AreBuckets b 2048 → length b.nodes.items ≡ 2049 → IsWheel b 0 0
@@ -58,12 +58,7 @@ heads-wheel b placed size = record {
   small = omega (arith, size);
   counted = sym (len-empty nat_cmp Timer) ∙ ap len (sym (no-timers b.nodes.items size));
   frees = [];
-  chain = record {
-    first = λ l. absurd (omega arith);
-    along = λ i l. absurd (omega arith);
-    apart = λ i j p l. absurd (omega arith);
-    within = λ i l. absurd (omega arith);
-  };
+  chain = no-frees (behinds b.nodes.items) 0 (length b.nodes.items);
   past = λ j l. absurd (omega arith);
   unused = λ j l. absurd (omega arith);
   total = omega (arith, size);

@@ -8,9 +8,7 @@ pub mod Frames
 pub mod Walk
 pub mod Turns
 pub mod Writes
-pub mod Chains
 pub mod SlotMaps
 pub mod Maps
 pub mod Upkeep
 pub mod Heads
-pub mod Pairs

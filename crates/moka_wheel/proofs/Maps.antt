@@ -5,9 +5,8 @@ use Rattle.std.proofs.lemmas.Cmp.{nat_cmp_total}
 use Rattle.std.proofs.lemmas.List.{get_or_past}
 use Rattle.std.specs.Ordering.{nat_cmp}
 use Rattle.std.specs.FinMap.{FinMap, get, insert, remove, same_map, nat_cmp-IsAntisymmetric}
-use Rattle.moka_wheel.specs.declared.nodes.Node.{Node}
 use Rattle.moka_wheel.specs.Wheel.{Timer}
-use Rattle.moka_wheel.specs.Nodes.{blank, timer_at, timers_of}
+use Rattle.moka_wheel.specs.Nodes.{Node, blank, timer_at, timers_of}
 use Rattle.moka_wheel.specs.Buckets.{Keeps, Puts, Takes}
 use Rattle.moka_wheel.proofs.Frames.{held-none}
 use Rattle.moka_wheel.proofs.SlotMaps.{get-within, get-past, get-put, get-taken}
@@ -16,7 +15,7 @@ use Rattle.moka_wheel.proofs.SlotMaps.{get-within, get-past, get-put, get-taken}
 pub get-timers : (ns : List Node) (q : ℕ) → get (timers_of ns) q ≡ timer_at ns q
 get-timers ns q = elim (cases_lt q (length ns)) as (λ _. get (timers_of ns) q ≡ timer_at ns q) [
   | inl l ↦ get-within (timer_at ns) (length ns) q l
-  | inr l ↦ get-past (timer_at ns) (length ns) q l ∙ sym (held-none ns q (omega (arith, ap (λ (n : Node). n.bucket) (get_or_past ns q blank l))))
+  | inr l ↦ get-past (timer_at ns) (length ns) q l ∙ sym (held-none ns q (omega (arith, ap (λ (n : Node). n.value.bucket) (get_or_past ns q blank l))))
 ]
 
 pub same-timers : (ns : List Node) (m : FinMap nat_cmp Timer) → ((q : ℕ) → timer_at ns q ≡ get m q) → timers_of ns ≡ m

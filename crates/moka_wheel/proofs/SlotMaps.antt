@@ -1,10 +1,10 @@
 -- Timers in slots as a map.
 use Rattle.std.proofs.Common.{◌≡◌, ◌≢◌, ℕ, zero, suc, ◌+◌, ◌-◌, ◌<◌, ◌≤◌, true, cond, nat_eq, List, Option, Some, None, is_some, inl, inr, refl, sym, ap, ◌∙◌, arith}
-use Rattle.std.proofs.lemmas.Bool.{cases_eq, cases_Bool, cond-true, cond-false, eq-eqb, ne_eqb, false≢true}
+use Rattle.std.proofs.lemmas.Bool.{cases_eq, cond-true, cond-false, eq-eqb, ne_eqb, false≢true}
 use Rattle.std.proofs.lemmas.Cmp.{nat_cmp_total}
 use Rattle.std.specs.Cmp.{unsigned_tied}
 use Rattle.std.specs.Ordering.{nat_cmp, eq_by_cmp}
-use Rattle.std.specs.FinMap.{FinMap, find, get, insert, remove, len, contains_key, from_entries, len-empty, get-from_entries, get-insert, get-remove, len-insert, len-remove, empty_of_len, get-empty}
+use Rattle.std.specs.FinMap.{FinMap, find, get, insert, remove, len, contains_key, get-from_entries, get-insert, get-remove, len-insert, len-remove, empty_of_len, get-empty}
 use Rattle.moka_wheel.specs.Wheel.{Timer}
 use Rattle.moka_wheel.specs.Slots.{entry, entries_of, map_of}
 
@@ -68,32 +68,3 @@ get-put m s t q = get-insert nat_cmp_total m s t q ∙ ap (λ b. cond b (Some t)
 
 pub get-taken : (m : FinMap nat_cmp Timer) (s q : ℕ) → get (remove m s) q ≡ cond (nat_eq q s) None (get m q)
 get-taken m s q = get-remove nat_cmp_total m s q ∙ ap (λ b. cond b None (get m q)) (tie q s)
-
-insert-most : (m : FinMap nat_cmp Timer) (s : ℕ) (t : Timer) → len (insert m s t) ≤ len m + 1
-insert-most m s t = elim (cases_Bool (contains_key m s)) as (λ _. len (insert m s t) ≤ len m + 1) [
-  | inl e ↦ omega (arith, len-insert nat_cmp_total m s t, cond-true (contains_key m s) (len m) (len m + 1) e)
-  | inr e ↦ omega (arith, len-insert nat_cmp_total m s t, cond-false (contains_key m s) (len m) (len m + 1) e)
-]
-
-entry-most : (i : ℕ) (t : Option Timer) (es : List (ℕ × Timer)) → len (from_entries {R = nat_cmp} (entry i t es)) ≤ len (from_entries {R = nat_cmp} es) + 1
-entry-most i None es = omega arith
-entry-most i (Some t) es = insert-most (from_entries es) i t
-
--- so many slots have at most so many timers
-pub len-most : (t : ℕ → Option Timer) (i n : ℕ) → len (from_entries {R = nat_cmp} (entries_of t i n)) ≤ n
-len-most t i zero = omega (arith, len-empty nat_cmp Timer)
-len-most t i (suc n) = omega (arith, entry-most i (t i) (entries_of t (suc i) n), len-most t (suc i) n)
-
-full-entry : (i : ℕ) (t : Option Timer) (es : List (ℕ × Timer)) → is_some t ≡ true → find nat_cmp i es ≡ None → len (from_entries {R = nat_cmp} (entry i t es)) ≡ len (from_entries {R = nat_cmp} es) + 1
-full-entry i None es some none = absurd (false≢true some)
-full-entry i (Some t) es some none = len-put-new (from_entries es) i t (get-from_entries nat_cmp_total es i ∙ none)
-
--- and exactly so many, where each has one
-pub len-full : (t : ℕ → Option Timer) (n i : ℕ) → ((j : ℕ) → i ≤ j → j < i + n → is_some (t j) ≡ true) → len (from_entries {R = nat_cmp} (entries_of t i n)) ≡ n
-len-full t zero i some = len-empty nat_cmp Timer
-len-full t (suc n) i some =
-    omega (
-      arith,
-      full-entry i (t i) (entries_of t (suc i) n) (some i (omega arith) (omega arith)) (find-before t (suc i) n i (omega arith)),
-      len-full t n (suc i) (λ j low high. some j (omega arith) (omega arith)),
-    )

@@ -1,8 +1,7 @@
 -- What each step leaves of the wheel's lists.
 use Rattle.std.proofs.Common.{◌≡◌, ◌≢◌, ℕ, ◌+◌, ◌*◌, ◌/◌, ◌%◌, ◌^◌, ◌<◌, ◌≤◌, cond, nat_eq, List, length, inl, inr, refl, sym, ap, ◌∙◌, subst, arith}
 use Rattle.std.proofs.lemmas.Bool.{cases_eq, cases_order, cond-true, cond-false, eq-eqb, ne_eqb}
-use Rattle.moka_wheel.specs.declared.nodes.Node.{Node}
-use Rattle.moka_wheel.specs.Nodes.{befores, behinds, buckets, moments, detached, attached, Links}
+use Rattle.moka_wheel.specs.Nodes.{Node, befores, behinds, buckets, moments, detached, attached, Links}
 use Rattle.moka_wheel.specs.Levels.{part, IsNear, IsAhead, IsHome, bit_of}
 use Rattle.moka_wheel.specs.Buckets.{IsTimer, IsPlaced}
 use Rattle.moka_wheel.proofs.Rings.{Links-detach, Links-attach, no-timer, first-timer}

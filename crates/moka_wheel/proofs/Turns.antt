@@ -1,12 +1,11 @@
 -- One turn of the loop that empties the bucket that was reached.
 use Rattle.std.proofs.Common.{◌≡◌, ◌≢◌, ℕ, ◌<◌, ◌≤◌, List, length, get_or, sym, ap, ◌∙◌, subst, arith}
 use Rattle.std.proofs.lemmas.List.{get_or_read}
-use Rattle.moka_wheel.specs.declared.nodes.Node.{Node}
-use Rattle.moka_wheel.specs.Nodes.{blank, befores, behinds, buckets, moments, detached, attached}
+use Rattle.moka_wheel.specs.Nodes.{Node, blank, befores, behinds, buckets, moments, detached, attached}
 use Rattle.moka_wheel.specs.Levels.{IsNear, IsHome, bit_of}
 use Rattle.moka_wheel.specs.Buckets.{IsTimer, IsPlaced, Keeps}
 use Rattle.moka_wheel.proofs.Moves.{home-lower}
-use Rattle.moka_wheel.proofs.Sound.{detached-fields, detach-placed, attach-placed, first-is}
+use Rattle.moka_wheel.proofs.Sound.{detach-placed, attach-placed, first-is}
 use Rattle.moka_wheel.proofs.Frames.{Removes, detach-removes, attach-adds, move-keeps, count, count-detached, count-attached}
 
 -- the head of each list has a last node
@@ -86,7 +85,6 @@ fewer ns ws w r s h placed low first home =
     let near = subst (λ k. IsNear w (moments ns s) k) first.bucket (placed.near s l.timer (omega (arith, first.bucket))) in
     let home_was : IsHome w (moments ns s) h = subst (λ a. IsHome w a h) l.removes.moment home in
     let other : h ≢ r = λ e. home-lower w (moments ns s) r h (placed.here low) near home_was (omega arith) e in
-    let d = detached-fields ns ws w r s placed l.timer in
-    let one = count-detached r ns s (omega arith) l.timer.within l.before_in l.behind_in first.bucket d in
+    let one = count-detached r ns s (omega arith) l.timer.within l.before_in l.behind_in first.bucket in
     let same = count-attached r ms s h l.slot_in (omega (arith, home.within, l.heads)) (l.last_in h home.within) (λ e. omega (arith, l.free, e)) other in
     omega (arith, one, same)

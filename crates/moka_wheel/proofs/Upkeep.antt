@@ -1,15 +1,15 @@
 -- What each call leaves of the whole wheel.
-use Rattle.std.proofs.Common.{◌≡◌, ◌≢◌, ℕ, zero, suc, ◌+◌, ◌-◌, ◌<◌, ◌≤◌, List, [], ◌∷◌, Some, None, IsSome, unwrap_or, length, inl, inr, refl, sym, ap, ◌∙◌, subst, arith, add-one}
+use Rattle.std.proofs.Common.{◌≡◌, ◌≢◌, ℕ, zero, suc, ◌+◌, ◌-◌, ◌<◌, ◌≤◌, List, ◌∷◌, Some, None, IsSome, unwrap_or, length, inl, inr, refl, sym, ap, ◌∙◌, subst, arith, drop}
 use Rattle.std.proofs.lemmas.Bool.{cases_lt, false≢true}
 use Rattle.std.proofs.lemmas.List.{get_or_past}
 use Rattle.std.specs.FinMap.{get, len}
-use Rattle.moka_wheel.specs.declared.nodes.Node.{Node}
+use Rattle.moka_links.specs.Chains.{Frees, free_of}
 use Rattle.moka_wheel.specs.declared.buckets.Buckets.{Buckets}
 use Rattle.moka_wheel.specs.Wheel.{Timer}
-use Rattle.moka_wheel.specs.Nodes.{blank, at, behinds, buckets, moments, numbers, timer_at, timers_of}
+use Rattle.moka_wheel.specs.Nodes.{Node, blank, at, behinds, buckets, moments, numbers, timer_at, timers_of}
 use Rattle.moka_wheel.specs.Buckets.{AreBuckets, IsTimer, Keeps, Puts, Takes}
-use Rattle.moka_wheel.specs.Invariant.{Frees, free_of, IsWheel}
-use Rattle.moka_wheel.proofs.Chains.{Frees-same, Frees-push, Frees-pop}
+use Rattle.moka_wheel.specs.Invariant.{IsWheel}
+use Rattle.moka_links.proofs.Chains.{Frees-same, more-frees, fewer-frees, free_of-rest, length-rest}
 use Rattle.moka_wheel.proofs.Frames.{head-none, held-none, held-some}
 use Rattle.moka_wheel.proofs.Maps.{get-timers, keeps-timers, puts-timers, takes-timers}
 use Rattle.moka_wheel.proofs.SlotMaps.{len-put-new, len-put-old, len-taken}
@@ -30,7 +30,7 @@ is-timer ns s some =
       ];
       within = elim (cases_lt s (length ns)) as (λ _. s < length ns) [
         | inl l ↦ l
-        | inr l ↦ absurd (omega (arith, held, ap (λ (n : Node). n.bucket) (get_or_past ns s blank l)))
+        | inr l ↦ absurd (omega (arith, held, ap (λ (n : Node). n.value.bucket) (get_or_past ns s blank l)))
       ];
       held = held;
     }
@@ -48,20 +48,6 @@ no-timer-in ns s free = get-timers ns s ∙ held-none ns s free
 pub free-other : (b : Buckets) (count free s j : ℕ) (o : IsWheel b count free) → IsTimer b.nodes.items s → j < length o.frees → free_of o.frees j ≢ s
 free-other b count free s j o t l e = omega (arith, ap (buckets b.nodes.items) e, o.unused j l, t.held)
 
-tail : List ℕ → List ℕ
-tail [] = []
-tail (x ∷ xs) = xs
-
-length-tail : (xs : List ℕ) → 0 < length xs → length (tail xs) + 1 ≡ length xs
-unfolding tail
-length-tail [] l = absurd (omega arith)
-length-tail (x ∷ xs) l = omega arith
-
-free_of-tail : (xs : List ℕ) (i : ℕ) → 0 < length xs → free_of (tail xs) i ≡ free_of xs (i + 1)
-unfolding tail
-free_of-tail [] i l = absurd (omega arith)
-free_of-tail (x ∷ xs) i l = rw add-one refl
-
 -- a timer comes into the first free node
 pub record Reused (b b' : Buckets) (count free next : ℕ) : Type 0 where
   pub wheel : IsWheel b' (count + 1) next
@@ -74,8 +60,7 @@ reuse-wheel b b' count free next t o more placed puts size leads =
     let ns = b.nodes.items in
     let ms = b'.nodes.items in
     let some : 0 < length o.frees = omega (arith, o.total) in
-    let len_is = length-tail o.frees some in
-    let chain : Frees (behinds ns) (free_of o.frees) (length (tail o.frees) + 1) free (length ns) = subst (λ m. Frees (behinds ns) (free_of o.frees) m free (length ns)) (sym len_is) o.chain in
+    let len_is = length-rest o.frees some in
     let first : free ≡ free_of o.frees 0 = o.chain.first some in
     let unused : 2049 ≤ buckets ns free = subst (λ s. 2049 ≤ buckets ns s) (sym first) (o.unused 0 some) in
     let none : get (timers_of ns) free ≡ None = no-timer-in ns free unused in
@@ -86,13 +71,12 @@ reuse-wheel b b' count free next t o more placed puts size leads =
         placed = placed;
         small = omega (arith, size, o.small);
         counted = omega (arith, o.counted, ap len (puts-timers ns ms free t puts), len-put-new (timers_of ns) free t none);
-        frees = tail o.frees;
-        chain = subst (λ n. Frees (behinds ms) (free_of (tail o.frees)) (length (tail o.frees)) next n) (sym size)
-            (Frees-pop (behinds ns) (behinds ms) (free_of o.frees) (free_of (tail o.frees)) (length (tail o.frees)) free next (length ns) chain
-            (λ i p l. ap (λ (n : Node). n.behind) (same i p (omega arith))) leads (λ i. free_of-tail o.frees i some));
-        past = λ j l. subst (λ s. 2049 ≤ s) (sym (free_of-tail o.frees j some)) (o.past (j + 1) (omega arith));
-        unused = λ j l. subst (λ s. 2049 ≤ buckets ms s) (sym (free_of-tail o.frees j some))
-            (subst (λ (n : Node). 2049 ≤ n.bucket) (sym (same (j + 1) (omega arith) (omega arith))) (o.unused (j + 1) (omega arith)));
+        frees = drop 1 o.frees;
+        chain = subst (λ n. Frees (behinds ms) (free_of (drop 1 o.frees)) (length (drop 1 o.frees)) next n) (sym size)
+            (fewer-frees (behinds ns) (behinds ms) o.frees free next (length ns) o.chain some (λ i p l. ap (λ (n : Node). n.behind) (same i p l)) leads);
+        past = λ j l. subst (λ s. 2049 ≤ s) (sym (free_of-rest o.frees j)) (o.past (j + 1) (omega arith));
+        unused = λ j l. subst (λ s. 2049 ≤ buckets ms s) (sym (free_of-rest o.frees j))
+            (subst (λ (n : Node). 2049 ≤ n.value.bucket) (sym (same (j + 1) (omega arith) (omega arith))) (o.unused (j + 1) (omega arith)));
         total = omega (arith, o.total, size, len_is);
       };
       fresh = none;
@@ -111,7 +95,7 @@ append-wheel b b' count free slot t o full fits placed puts size is =
     let ms = b'.nodes.items in
     let empty : length o.frees ≡ 0 = omega (arith, o.total) in
     let past : at ns slot ≡ blank = get_or_past ns slot blank (omega arith) in
-    let none : get (timers_of ns) slot ≡ None = no-timer-in ns slot (omega (arith, ap (λ (n : Node). n.bucket) past)) in
+    let none : get (timers_of ns) slot ≡ None = no-timer-in ns slot (omega (arith, ap (λ (n : Node). n.value.bucket) past)) in
     record {
       wheel = record {
         placed = placed;
@@ -141,7 +125,7 @@ reset-wheel b b' count free slot t o timer placed puts size =
       frees = o.frees;
       chain = Frees-same (behinds ns) (behinds ms) (free_of o.frees) (length o.frees) free (length ns) (length ms) o.chain (omega (arith, size)) (λ i l. ap (λ (n : Node). n.behind) (same i l));
       past = o.past;
-      unused = λ j l. subst (λ (n : Node). 2049 ≤ n.bucket) (sym (same j l)) (o.unused j l);
+      unused = λ j l. subst (λ (n : Node). 2049 ≤ n.value.bucket) (sym (same j l)) (o.unused j l);
       total = omega (arith, o.total, size);
     }
 
@@ -159,23 +143,21 @@ release-wheel b b' count free slot o timer placed takes size =
     let other : (i : ℕ) → i < length o.frees → free_of o.frees i ≢ slot = λ i l. free-other b count free slot i o timer l in
     let same : (i : ℕ) → i < length o.frees → at ms (free_of o.frees i) ≡ at ns (free_of o.frees i) = λ i l. takes.free (free_of o.frees i) (o.unused i l) (other i l) in
     let one : len (timers_of ms) + 1 ≡ count = omega (arith, o.counted, ap len (takes-timers ns ms slot free takes), len-taken (timers_of ns) slot _ (timer-is ns slot timer)) in
-    let chain : Frees (behinds ms) (free_of (slot ∷ o.frees)) (length o.frees + 1) slot (length ns) =
-    Frees-push (behinds ns) (behinds ms) (free_of o.frees) (free_of (slot ∷ o.frees)) (length o.frees) free (length ns) slot o.chain timer.within other
-    (λ i l. ap (λ (n : Node). n.behind) (same i l)) takes.leads refl (λ i. rw add-one refl) in
     record {
       wheel = record {
         placed = placed;
         small = omega (arith, size, o.small);
         counted = omega (arith, one);
         frees = slot ∷ o.frees;
-        chain = subst (λ n. Frees (behinds ms) (free_of (slot ∷ o.frees)) (length (slot ∷ o.frees)) slot n) (sym size) (rw add-one at chain);
+        chain = subst (λ n. Frees (behinds ms) (free_of (slot ∷ o.frees)) (length (slot ∷ o.frees)) slot n) (sym size)
+            (more-frees (behinds ns) (behinds ms) o.frees free (length ns) slot o.chain timer.within other (λ i l. ap (λ (n : Node). n.behind) (same i l)) takes.leads);
         past = λ j l. elim j as (λ j. j < length (slot ∷ o.frees) → 2049 ≤ free_of (slot ∷ o.frees) j) [
           | zero ↦ λ _. timer.past
           | suc i ↦ λ k. o.past i (omega arith)
         ] l;
         unused = λ j l. elim j as (λ j. j < length (slot ∷ o.frees) → 2049 ≤ buckets ms (free_of (slot ∷ o.frees) j)) [
           | zero ↦ λ _. takes.unused
-          | suc i ↦ λ k. subst (λ (n : Node). 2049 ≤ n.bucket) (sym (same i (omega arith))) (o.unused i (omega arith))
+          | suc i ↦ λ k. subst (λ (n : Node). 2049 ≤ n.value.bucket) (sym (same i (omega arith))) (o.unused i (omega arith))
         ] l;
         total = omega (arith, o.total, size, one);
       };
@@ -195,7 +177,7 @@ keeps-wheel b b' count free o placed keeps =
       frees = o.frees;
       chain = Frees-same (behinds ns) (behinds ms) (free_of o.frees) (length o.frees) free (length ns) (length ms) o.chain (omega (arith, keeps.size)) (λ i l. ap (λ (n : Node). n.behind) (same i l));
       past = o.past;
-      unused = λ j l. subst (λ (n : Node). 2049 ≤ n.bucket) (sym (same j l)) (o.unused j l);
+      unused = λ j l. subst (λ (n : Node). 2049 ≤ n.value.bucket) (sym (same j l)) (o.unused j l);
       total = omega (arith, o.total, keeps.size);
     }
 

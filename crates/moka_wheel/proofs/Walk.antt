@@ -1,8 +1,7 @@
 -- The walk along the due list.
 use Rattle.std.proofs.Common.{◌≡◌, ◌≢◌, ℕ, zero, suc, ◌+◌, ◌<◌, ◌≤◌, ◌⊎◌, Bool, true, false, cond, nat_eq, List, length, inl, inr, refl, sym, ap, ◌∙◌, subst, arith}
 use Rattle.std.proofs.lemmas.Bool.{cases_eq, cases_lt, cases_Bool, cond-true, cond-false, eq-eqb, ne_eqb, false≢true}
-use Rattle.moka_wheel.specs.declared.nodes.Node.{Node}
-use Rattle.moka_wheel.specs.Nodes.{befores, behinds, buckets, moments}
+use Rattle.moka_wheel.specs.Nodes.{Node, befores, behinds, buckets, moments}
 use Rattle.moka_wheel.specs.Buckets.{IsTimer, IsPlaced}
 use Rattle.moka_wheel.proofs.Rings.{behind-other}
 

@@ -1,9 +1,8 @@
 -- What is true of the lists of a wheel. No public clause cites this module.
 use Rattle.std.specs.Prelude.{◌≡◌, ◌≢◌, ℕ, ◌/◌, ◌%◌, ◌<◌, ◌≤◌, List, length, Some, None}
-use Rattle.moka_wheel.specs.declared.nodes.Node.{Node}
 use Rattle.moka_wheel.specs.Wheel.{Timer}
 use Rattle.moka_wheel.specs.declared.buckets.Buckets.{Buckets}
-use Rattle.moka_wheel.specs.Nodes.{at, befores, behinds, buckets, moments, Links, timer_at}
+use Rattle.moka_wheel.specs.Nodes.{Node, at, befores, behinds, buckets, moments, Links, timer_at}
 use Rattle.moka_wheel.specs.Levels.{part, IsNear, IsAhead, bit_of}
 
 -- a timer stands in the slot

@@ -1,20 +1,10 @@
 -- What is true of every wheel. No public clause cites this module.
-use Rattle.std.specs.Prelude.{◌≡◌, ◌≢◌, ℕ, ◌+◌, ◌-◌, ◌<◌, ◌≤◌, List, length, min, slice_index_or, vec_capacity}
+use Rattle.std.specs.Prelude.{◌≡◌, ℕ, ◌+◌, ◌-◌, ◌<◌, ◌≤◌, List, length, min, vec_capacity}
 use Rattle.std.specs.FinMap.{len}
+use Rattle.moka_links.specs.Chains.{Frees, free_of}
 use Rattle.moka_wheel.specs.declared.buckets.Buckets.{Buckets}
 use Rattle.moka_wheel.specs.Nodes.{behinds, buckets, timers_of}
 use Rattle.moka_wheel.specs.Buckets.{AreBuckets}
-
--- q names the m free slots, of which each leads to the next
-pub record Frees (next q : ℕ → ℕ) (m free size : ℕ) : Type 0 where
-  pub first : 0 < m → free ≡ q 0
-  pub along : (i : ℕ) → i + 1 < m → next (q i) ≡ q (i + 1)
-  pub apart : (i j : ℕ) → i < j → j < m → q i ≢ q j
-  pub within : (i : ℕ) → i < m → q i < size
-
--- the free slot at each place of the chain
-abbrev pub free_of : List ℕ → ℕ → ℕ
-free_of fs i = slice_index_or fs i 0
 
 -- the timers stand where they belong and are counted, and each other node past the heads is free
 pub record IsWheel (b : Buckets) (count free : ℕ) : Type 0 where

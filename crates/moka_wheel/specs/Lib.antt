@@ -4,4 +4,3 @@ pub mod Nodes
 pub mod Levels
 pub mod Buckets
 pub mod Invariant
-pub mod Plain

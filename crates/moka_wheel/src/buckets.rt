@@ -1,18 +1,20 @@
 //! The buckets of the wheel, and how its moment moves.
 ghost use Rattle.std.specs.Prelude.{◌≡◌, ◌≢◌, ℕ, ◌+◌, ◌*◌, ◌/◌, ◌%◌, ◌^◌, ◌<◌, ◌≤◌, IsTrue, IfOk, IfSome, IfNone, length, vec_len, vec_capacity, false};
+ghost use Rattle.moka_links.specs.Links.{KeepsCapacity};
 ghost use Rattle.moka_wheel.specs.Nodes.{at, attached, befores, behinds, buckets, moments, numbers};
 ghost use Rattle.moka_wheel.specs.Levels.{IsHome, bit_of, part};
 ghost use Rattle.moka_wheel.specs.Buckets.{AreBuckets, IsTimer, Keeps, Puts, Takes};
 
 use crate::levels::{first_marked, home, mark, unmark};
-use crate::nodes::{DUE, HEADS, Node, attach, detach};
+use crate::nodes::{DUE, Entry, HEADS, attach, detach};
+use moka_links::Node;
 use std::alloc::{AllocError, Global};
 
 /// The lists of timers, by the bytes of their moments.
 #[derive(Drop)]
 pub(crate) struct Buckets {
     /// The heads of the buckets, the head of the due list, then timers and free nodes.
-    pub(crate) nodes: Vec<Node>,
+    pub(crate) nodes: Vec<Node<Entry>>,
     /// A bit for each bucket that may hold timers.
     pub(crate) occupied: [u64; 32],
     /// How far the wheel has come.
@@ -38,11 +40,13 @@ impl Buckets {
         let mut nodes = Vec::with_capacity(alloc, HEADS as usize)?;
         for head in 0..HEADS {
             nodes.push_reserved(Node {
-                number: 0,
-                at: 0,
+                value: Entry {
+                    number: 0,
+                    at: 0,
+                    bucket: head,
+                },
                 before: head,
                 behind: head,
-                bucket: head,
             });
         }
         Ok(Buckets {
@@ -62,9 +66,9 @@ impl Buckets {
         ensures marked { result < 2048 → bit_of self.new.occupied result ≡ 1 }
         ensures others { (k : ℕ) → k ≢ result → bit_of self.new.occupied k ≡ bit_of self.old.occupied k }
         ensures moment { self.new.moment ≡ self.old.moment }
-        ensures capacity { vec_capacity self.new.nodes ≡ vec_capacity self.old.nodes }
+        ensures capacity { KeepsCapacity self.old.nodes self.new.nodes }
     {
-        let bucket = home(self.moment, self.nodes[slot as usize].at);
+        let bucket = home(self.moment, self.nodes[slot as usize].value.at);
         attach(&mut self.nodes, slot, bucket);
         if bucket != DUE {
             mark(&mut self.occupied, bucket);
@@ -79,7 +83,7 @@ impl Buckets {
         ensures placed { AreBuckets self.new 2048 }
         ensures keeps { Keeps self.old.nodes.items self.new.nodes.items }
         ensures moment { self.new.moment ≡ self.old.moment }
-        ensures capacity { vec_capacity self.new.nodes ≡ vec_capacity self.old.nodes }
+        ensures capacity { KeepsCapacity self.old.nodes self.new.nodes }
     {
         while self.nodes[bucket as usize].behind != bucket {
             let slot = self.nodes[bucket as usize].behind;
@@ -96,7 +100,7 @@ impl Buckets {
         requires late { self.old.moment ≤ now }
         ensures placed { AreBuckets self.new 2048 }
         ensures keeps { Keeps self.old.nodes.items self.new.nodes.items }
-        ensures capacity { vec_capacity self.new.nodes ≡ vec_capacity self.old.nodes }
+        ensures capacity { KeepsCapacity self.old.nodes self.new.nodes }
         ensures at_most { self.new.moment ≤ now }
         ensures moved { IsTrue result → self.old.moment < self.new.moment }
         ensures end { result ≡ false → self.new.moment ≡ now }
@@ -129,7 +133,7 @@ impl Buckets {
             if slot == DUE {
                 return None;
             }
-            if self.nodes[slot as usize].at <= now {
+            if self.nodes[slot as usize].value.at <= now {
                 return Some(slot);
             }
             slot = self.nodes[slot as usize].behind;
@@ -143,7 +147,7 @@ impl Buckets {
         requires { AreBuckets self.old 2048 }
         ensures placed { AreBuckets self.new 2048 }
         ensures keeps { Keeps self.old.nodes.items self.new.nodes.items }
-        ensures capacity { vec_capacity self.new.nodes ≡ vec_capacity self.old.nodes }
+        ensures capacity { KeepsCapacity self.old.nodes self.new.nodes }
         ensures forward { self.old.moment ≤ self.new.moment }
         ensures some { IfSome result (λ s. IsTimer self.new.nodes.items s) }
         ensures due { IfSome result (λ s. moments self.new.nodes.items s ≤ now) }
@@ -171,15 +175,17 @@ impl Buckets {
         ensures placed { AreBuckets self.new 2048 }
         ensures puts { Puts self.old.nodes.items self.new.nodes.items slot (record { number = number; at = at }) }
         ensures len { vec_len self.new.nodes ≡ vec_len self.old.nodes }
-        ensures capacity { vec_capacity self.new.nodes ≡ vec_capacity self.old.nodes }
+        ensures capacity { KeepsCapacity self.old.nodes self.new.nodes }
     {
         let next = self.nodes[slot as usize].behind;
         self.nodes[slot as usize] = Node {
-            number,
-            at,
+            value: Entry {
+                number,
+                at,
+                bucket: HEADS,
+            },
             before: 0,
             behind: 0,
-            bucket: HEADS,
         };
         self.place(slot);
         next
@@ -194,15 +200,17 @@ impl Buckets {
         ensures placed { AreBuckets self.new 2048 }
         ensures puts { Puts self.old.nodes.items self.new.nodes.items result (record { number = number; at = at }) }
         ensures len { vec_len self.new.nodes ≡ vec_len self.old.nodes + 1 }
-        ensures capacity { vec_capacity self.new.nodes ≡ vec_capacity self.old.nodes }
+        ensures capacity { KeepsCapacity self.old.nodes self.new.nodes }
     {
         let slot = self.nodes.len() as u32;
         self.nodes.push_reserved(Node {
-            number,
-            at,
+            value: Entry {
+                number,
+                at,
+                bucket: HEADS,
+            },
             before: 0,
             behind: 0,
-            bucket: HEADS,
         });
         self.place(slot);
         slot
@@ -215,10 +223,10 @@ impl Buckets {
         ensures placed { AreBuckets self.new 2048 }
         ensures puts { Puts self.old.nodes.items self.new.nodes.items slot (record { number = numbers self.old.nodes.items slot; at = at }) }
         ensures len { vec_len self.new.nodes ≡ vec_len self.old.nodes }
-        ensures capacity { vec_capacity self.new.nodes ≡ vec_capacity self.old.nodes }
+        ensures capacity { KeepsCapacity self.old.nodes self.new.nodes }
     {
         detach(&mut self.nodes, slot);
-        self.nodes[slot as usize].at = at;
+        self.nodes[slot as usize].value.at = at;
         self.place(slot);
     }
 
@@ -230,10 +238,10 @@ impl Buckets {
         ensures placed { AreBuckets self.new 2048 }
         ensures takes { Takes self.old.nodes.items self.new.nodes.items slot free }
         ensures len { vec_len self.new.nodes ≡ vec_len self.old.nodes }
-        ensures capacity { vec_capacity self.new.nodes ≡ vec_capacity self.old.nodes }
+        ensures capacity { KeepsCapacity self.old.nodes self.new.nodes }
     {
         detach(&mut self.nodes, slot);
         self.nodes[slot as usize].behind = free;
-        self.nodes[slot as usize].number
+        self.nodes[slot as usize].value.number
     }
 }

@@ -8,8 +8,6 @@
 mod buckets;
 mod levels;
 mod nodes;
-#[cfg(test)]
-mod plain;
 pub mod timer_wheel;
 
 pub use timer_wheel::{Due, TimerWheel};

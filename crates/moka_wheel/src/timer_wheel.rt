@@ -150,11 +150,8 @@ impl TimerWheel {
         ensures unchanged { IfNone result (self.new ≡ self.old) }
     {
         let slot = self.buckets.due(now)?;
-        let at = self.buckets.nodes[slot as usize].at;
+        let at = self.buckets.nodes[slot as usize].value.at;
         let number = self.deschedule(slot);
         Some(Due { slot, number, at })
     }
 }
-
-#[cfg(test)]
-mod tests;

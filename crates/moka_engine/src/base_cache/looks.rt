@@ -113,7 +113,8 @@ impl<
         let (hash, hit) = (found.hash, gets::hit_of(found, policy, now));
         let Handle { number, place } = handle;
         let renewed = hit.is_renewed;
-        self.inner.touch(handle, hit.read, hit.expires);
+        self.inner
+            .touch(handle, hit.read, hit.expires, hit.is_renewed);
         let queued = self.inner.read_count();
         if self.housekeeper.should_apply_reads(queued, hit.read) {
             self.record_hit_when_due(key, number, hash, renewed, hit.read, clock);
@@ -193,7 +194,8 @@ impl<
             return Err(OutOfMemory);
         };
         let hit = gets::hit_of(found, policy, now);
-        self.inner.touch(handle, hit.read, hit.expires);
+        self.inner
+            .touch(handle, hit.read, hit.expires, hit.is_renewed);
         Ok(Some(value))
     }
 

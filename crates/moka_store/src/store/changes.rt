@@ -1,5 +1,5 @@
 //! Changes and reads at one place of the table.
-ghost use Rattle.std.specs.Prelude.{◌≡◌, ◌+◌, ◌^◌, ◌<◌, ◌≤◌, IsOk, IsSome, OnOk, Some, option_map};
+ghost use Rattle.std.specs.Prelude.{◌≡◌, ◌+◌, ◌^◌, ◌<◌, ◌≤◌, IsOk, IsSome, OnOk, Some, false, option_map};
 ghost use Rattle.moka_store.specs.StoreRows.{has_key_at, member_in, row_room, timer_at, written_at};
 ghost use Rattle.moka_store.specs.Updates.{updated};
 ghost use Rattle.moka_parts.specs.declared.records.Record.{Record};
@@ -104,15 +104,19 @@ pub(crate) fn touch<K, V>(
     place: usize,
     read: Instant,
     expires: Option<Instant>,
+    is_renewed: bool,
 )
-    requires { IsSome (stored_at table.old.rows place) }
+    requires stored { IsSome (stored_at table.old.rows place) }
+    requires kept { is_renewed ≡ false → (r : Record K V) → stored_at table.old.rows place ≡ Some r → expires ≡ r.expires }
     ensures { (r : Record K V) → stored_at table.old.rows place ≡ Some r → table.new ≡ record table.old { rows = with_stored table.old.rows place (record r { read = read; expires = expires }) } }
 {
     let Some(stored) = table.record_mut(place) else {
         unreachable!()
     };
     stored.read = read;
-    stored.expires = expires;
+    if is_renewed {
+        stored.expires = expires;
+    }
 }
 
 // The generation that was applied to the record at this place.

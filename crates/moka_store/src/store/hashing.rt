@@ -15,6 +15,10 @@ fn index_hash(hash: u64) -> u32
     (hash.wrapping_mul(SPREAD) >> 32) as u32
 }
 
+/// The hash under which a store has a key, or would have it.
+#[derive(Clone, Copy, Debug)]
+pub struct KeyHash(pub(crate) u32);
+
 /// The 32 bits of a key's hash under which the index has the key.
 #[inline(always)]
 pub(crate) fn key_hash<K: Hash, S: BuildHasher>(hasher: &S, key: &K) -> u32

@@ -19,7 +19,7 @@ loop-read-preserved g c =
     let split = c.in-Some.ensures.cases.0 in
     record {
       left = rw c.apply_read.ensures.applied (sym (ap (λ (qs : List QueuedRead). after_reads (contents_with c.loop-read.sketch c.loop-read.store) (reads_of qs)) split) ∙ inv.left);
-      rest = c.apply_read.ensures.rest ∙ ap (λ (k : Kept g.row.K.Denot g.row.V.Denot). record k { access = c.apply_read.new.store.access; timers = c.apply_read.new.store.timers }) inv.rest;
+      rest = c.apply_read.ensures.rest ∙ ap (λ (k : Kept g.row.K.Denot g.row.V.Denot g.row.S.Denot). record k { access = c.apply_read.new.store.access; timers = c.apply_read.new.store.timers }) inv.rest;
       renewed = λ q n hash there is. elim (inv.renewed q n hash there is) [
         | inl ahead ↦ elim (first_or_rest c.in-Some.read.now q c.in-Some.behind.now (subst (λ (qs : List QueuedRead). Contains qs q) split ahead)) [
           | inl same ↦ inr (c.apply_read.ensures.renewed n hash (ap (λ (x : QueuedRead). x.read) same ∙ is))
@@ -30,7 +30,7 @@ loop-read-preserved g c =
       kept = λ n stands. c.apply_read.ensures.kept n (inv.kept n stands);
       timers = keeps-on c.args.store.now c.loop-read.store c.apply_read.new.store inv.timers c.apply_read.ensures.timers;
       located = λ q there.
-          subst (λ (k : Kept g.row.K.Denot g.row.V.Denot). IsReadAt k.places q.place q.read) (sym c.apply_read.ensures.rest)
+          subst (λ (k : Kept g.row.K.Denot g.row.V.Denot g.row.S.Denot). IsReadAt k.places q.place q.read) (sym c.apply_read.ensures.rest)
           (inv.located q (behind_in c.loop-read.rest.now c.in-Some.read.now q c.in-Some.behind.now split there));
     }
 

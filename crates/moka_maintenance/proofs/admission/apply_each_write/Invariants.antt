@@ -14,7 +14,7 @@ invariant-loop-sent g l = record {
   applied : (c : Contents g.row.K.Denot g.row.V.Denot) (ks : List ℕ) (m : Option g.row.L.Denot) → AreApplied g.L.Listener.tells l.capacity l.policy l.initial.store.ordered (contents_with l.sketch l.store) c l.store.written ks (writes_of l.rest) l.notifier m
       → AreApplied g.L.Listener.tells l.capacity l.policy l.initial.store.ordered (contents_with l.sketch l.initial.store) c l.initial.store.written ks (writes_of l.writes) l.initial.notifier m;
   timers : KeepsTimers l.initial.store l.store;
-  rows : (k : Kept g.row.K.Denot g.row.V.Denot) → AddsNoPlace l.store k → LeavesNoRowBy (writes_of l.rest) l.store k → LeavesNoRowBy (writes_of l.writes) l.initial.store k;
+  rows : (k : Kept g.row.K.Denot g.row.V.Denot g.row.S.Denot) → AddsNoPlace l.store k → LeavesNoRowBy (writes_of l.rest) l.store k → LeavesNoRowBy (writes_of l.writes) l.initial.store k;
   places : AddsNoPlace l.initial.store l.store;
   room : l.initial.store.room ≤ l.store.room;
   located : (q : QueuedWrite) → Contains l.rest q → IsAt l.store.places (number_of q.write.operation) q.write.place;

@@ -16,7 +16,7 @@ apply_each_read-requires g c q there =
 
 pub apply_each_read-requires-2 : goal.apply_each_read-requires-2
 apply_each_read-requires-2 g c q there =
-    subst (λ (k : Kept g.row.K.Denot g.row.V.Denot). IsReadAt k.places q.place q.read) (sym c.apply_each_read.ensures.rest)
+    subst (λ (k : Kept g.row.K.Denot g.row.V.Denot g.row.S.Denot). IsReadAt k.places q.place q.read) (sym c.apply_each_read.ensures.rest)
     (c.requires q (subst (λ (qs : List QueuedRead). Contains qs q) c.as_slices.ensures (Contains-append_right c.as_slices.result.0.now c.as_slices.result.1.now q there)))
 
 pub returns-clause-applied : goal.returns-clause-applied

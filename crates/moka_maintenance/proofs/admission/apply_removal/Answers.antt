@@ -25,15 +25,15 @@ forget-requires-clause-apart g c = rw c.leave.ensures (counted_taken_out c.args.
 
 pub returns-then-is_none-clause-places : goal.returns-then-is_none-clause-places
 returns-then-is_none-clause-places g c =
-    let step = ap (λ (k : Kept g.row.K.Denot g.row.V.Denot). k.places) c.forget.ensures.step in
-    let left : finite.remove c.leave.new.store.places c.args.handle.number ≡ finite.remove c.args.store.now.places c.args.handle.number = ap (λ (k : Kept g.row.K.Denot g.row.V.Denot). finite.remove k.places c.args.handle.number) c.leave.ensures in
+    let step = ap (λ (k : Kept g.row.K.Denot g.row.V.Denot g.row.S.Denot). k.places) c.forget.ensures.step in
+    let left : finite.remove c.leave.new.store.places c.args.handle.number ≡ finite.remove c.args.store.now.places c.args.handle.number = ap (λ (k : Kept g.row.K.Denot g.row.V.Denot g.row.S.Denot). finite.remove k.places c.args.handle.number) c.leave.ensures in
     places-gone c.args.store.now c.forget.new.self c.args.handle.number (step ∙ left)
 
 pub returns-then-is_none-clause-rows : goal.returns-then-is_none-clause-rows
 returns-then-is_none-clause-rows g c = λ generation.
-    let step = ap (λ (k : Kept g.row.K.Denot g.row.V.Denot). k.places) c.forget.ensures.step in
-    let left : finite.remove c.leave.new.store.places c.args.handle.number ≡ finite.remove c.args.store.now.places c.args.handle.number = ap (λ (k : Kept g.row.K.Denot g.row.V.Denot). finite.remove k.places c.args.handle.number) c.leave.ensures in
-    let records = c.forget.ensures.records ∙ ap (λ (k : Kept g.row.K.Denot g.row.V.Denot). k.records) c.leave.ensures in
+    let step = ap (λ (k : Kept g.row.K.Denot g.row.V.Denot g.row.S.Denot). k.places) c.forget.ensures.step in
+    let left : finite.remove c.leave.new.store.places c.args.handle.number ≡ finite.remove c.args.store.now.places c.args.handle.number = ap (λ (k : Kept g.row.K.Denot g.row.V.Denot g.row.S.Denot). finite.remove k.places c.args.handle.number) c.leave.ensures in
+    let records = c.forget.ensures.records ∙ ap (λ (k : Kept g.row.K.Denot g.row.V.Denot g.row.S.Denot). k.records) c.leave.ensures in
     rows-forgotten c.args.store.now c.forget.new.self c.args.handle.number generation records (step ∙ left)
 
 pub returns-then-not-has_row-clause-written : goal.returns-then-not-has_row-clause-written
@@ -47,7 +47,7 @@ pub returns-then-not-has_row-clause-timers : goal.returns-then-not-has_row-claus
 returns-then-not-has_row-clause-timers g c = keeps-none c.args.store.now
 
 pub returns-then-is_none-clause-written : goal.returns-then-is_none-clause-written
-returns-then-is_none-clause-written g c = λ _. ap (λ (k : Kept g.row.K.Denot g.row.V.Denot). k.written) c.forget.ensures.step ∙ ap (λ (k : Kept g.row.K.Denot g.row.V.Denot). k.written) c.leave.ensures
+returns-then-is_none-clause-written g c = λ _. ap (λ (k : Kept g.row.K.Denot g.row.V.Denot g.row.S.Denot). k.written) c.forget.ensures.step ∙ ap (λ (k : Kept g.row.K.Denot g.row.V.Denot g.row.S.Denot). k.written) c.leave.ensures
 
 pub returns-then-is_none-clause-timers : goal.returns-then-is_none-clause-timers
 returns-then-is_none-clause-timers g c = keeps-left c.args.store.now c.leave.new.store c.forget.new.self c.args.handle.number (finite.remove c.leave.new.store.places c.args.handle.number) c.leave.ensures c.forget.ensures.step

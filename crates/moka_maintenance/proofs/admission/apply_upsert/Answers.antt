@@ -19,24 +19,24 @@ returns-then-not-has_row-clause-applied g c =
 pub returns-then-found-upsert-clause-applied : goal.returns-then-found-upsert-clause-applied
 returns-then-found-upsert-clause-applied g c =
     applied-overtaken g.L.Listener.tells c.args.capacity c.args.policy c.args.store.now.ordered (contents_with c.args.sketch.now c.args.store.now) c.args.upsert.handle.number c.args.upsert.generation c.args.upsert.weight c.args.upsert.hash (contents_with c.args.sketch.now c.pass.new.store) c.args.store.now.written c.pass.new.store.written c.in-Some.found.now (sym (c.in-Some.ensures.found (c.has_row.ensures.placed.0 c.if-not-has_row.false))) c.args.notifier.now c.args.notifier.now
-    c.if-found-upsert.true (ap (λ (k : Kept g.row.K.Denot g.row.V.Denot). contents_with c.args.sketch.now k) c.pass.ensures.step) (λ _. ap (λ (k : Kept g.row.K.Denot g.row.V.Denot). k.written) c.pass.ensures.step) c.invariant_holds.ensures.listed refl
+    c.if-found-upsert.true (ap (λ (k : Kept g.row.K.Denot g.row.V.Denot g.row.S.Denot). contents_with c.args.sketch.now k) c.pass.ensures.step) (λ _. ap (λ (k : Kept g.row.K.Denot g.row.V.Denot g.row.S.Denot). k.written) c.pass.ensures.step) c.invariant_holds.ensures.listed refl
 
 pub returns-then-is_member-clause-applied : goal.returns-then-is_member-clause-applied
 returns-then-is_member-clause-applied g c =
     applied-counted g.L.Listener.tells c.args.capacity c.args.policy c.args.store.now.ordered (contents_with c.args.sketch.now c.args.store.now) c.args.upsert.handle.number c.args.upsert.generation c.args.upsert.weight c.args.upsert.hash (contents_with c.args.sketch.now c.set_timer.new.self) c.args.store.now.written c.set_timer.new.self.written c.in-Some.found.now (sym (c.in-Some.ensures.found (c.has_row.ensures.placed.0 c.if-not-has_row.false))) c.args.notifier.now c.args.notifier.now
     c.if-found-upsert.false (sym c.is_member.ensures.member ∙ c.if-is_member.true)
-    (entered-recounted c.args.store.now c.set_applied.new.self c.set_timer.new.self c.args.upsert.handle.number c.args.upsert.generation c.args.upsert.weight c.in-Some.found.now (c.set_applied.ensures.step c.in-Some.found.now (sym (c.in-Some.ensures.found (c.has_row.ensures.placed.0 c.if-not-has_row.false)))) c.args.sketch.now (ap (λ (k : Kept g.row.K.Denot g.row.V.Denot). contents_with c.args.sketch.now k) c.set_timer.ensures.rest ∙ ap (λ (k : Kept g.row.K.Denot g.row.V.Denot). contents_with c.args.sketch.now k) c.recount.ensures.step))
-    (λ _. ap (λ (k : Kept g.row.K.Denot g.row.V.Denot). k.written) c.set_timer.ensures.rest ∙ ap (λ (k : Kept g.row.K.Denot g.row.V.Denot). k.written) c.recount.ensures.step ∙ ap (λ (k : Kept g.row.K.Denot g.row.V.Denot). number_to_back c.args.upsert.handle.number k.written) (c.set_applied.ensures.step c.in-Some.found.now (sym (c.in-Some.ensures.found (c.has_row.ensures.placed.0 c.if-not-has_row.false)))))
+    (entered-recounted c.args.store.now c.set_applied.new.self c.set_timer.new.self c.args.upsert.handle.number c.args.upsert.generation c.args.upsert.weight c.in-Some.found.now (c.set_applied.ensures.step c.in-Some.found.now (sym (c.in-Some.ensures.found (c.has_row.ensures.placed.0 c.if-not-has_row.false)))) c.args.sketch.now (ap (λ (k : Kept g.row.K.Denot g.row.V.Denot g.row.S.Denot). contents_with c.args.sketch.now k) c.set_timer.ensures.rest ∙ ap (λ (k : Kept g.row.K.Denot g.row.V.Denot g.row.S.Denot). contents_with c.args.sketch.now k) c.recount.ensures.step))
+    (λ _. ap (λ (k : Kept g.row.K.Denot g.row.V.Denot g.row.S.Denot). k.written) c.set_timer.ensures.rest ∙ ap (λ (k : Kept g.row.K.Denot g.row.V.Denot g.row.S.Denot). k.written) c.recount.ensures.step ∙ ap (λ (k : Kept g.row.K.Denot g.row.V.Denot g.row.S.Denot). number_to_back c.args.upsert.handle.number k.written) (c.set_applied.ensures.step c.in-Some.found.now (sym (c.in-Some.ensures.found (c.has_row.ensures.placed.0 c.if-not-has_row.false)))))
     refl
 
 pub returns-then-is_member-clause-rows : goal.returns-then-is_member-clause-rows
 returns-then-is_member-clause-rows g c =
-    entered-rows c.args.store.now c.set_applied.new.self c.set_timer.new.self c.args.upsert.handle.number c.args.upsert.generation c.args.upsert.weight c.in-Some.found.now (c.set_applied.ensures.step c.in-Some.found.now (sym (c.in-Some.ensures.found (c.has_row.ensures.placed.0 c.if-not-has_row.false)))) (ap (λ (k : Kept g.row.K.Denot g.row.V.Denot). k.records) c.set_timer.ensures.rest ∙ c.recount.ensures.records)
+    entered-rows c.args.store.now c.set_applied.new.self c.set_timer.new.self c.args.upsert.handle.number c.args.upsert.generation c.args.upsert.weight c.in-Some.found.now (c.set_applied.ensures.step c.in-Some.found.now (sym (c.in-Some.ensures.found (c.has_row.ensures.placed.0 c.if-not-has_row.false)))) (ap (λ (k : Kept g.row.K.Denot g.row.V.Denot g.row.S.Denot). k.records) c.set_timer.ensures.rest ∙ c.recount.ensures.records)
 
 pub returns-then-is_member-clause-room : goal.returns-then-is_member-clause-room
 returns-then-is_member-clause-room g c =
     entered-room c.args.store.now c.set_applied.new.self c.set_timer.new.self c.args.upsert.handle.number c.args.upsert.generation c.args.upsert.weight c.in-Some.found.now (c.set_applied.ensures.step c.in-Some.found.now (sym (c.in-Some.ensures.found (c.has_row.ensures.placed.0 c.if-not-has_row.false))))
-    (ap (λ (k : Kept g.row.K.Denot g.row.V.Denot). k.room) c.set_timer.ensures.rest ∙ ap (λ (k : Kept g.row.K.Denot g.row.V.Denot). k.room) c.recount.ensures.step)
+    (ap (λ (k : Kept g.row.K.Denot g.row.V.Denot g.row.S.Denot). k.room) c.set_timer.ensures.rest ∙ ap (λ (k : Kept g.row.K.Denot g.row.V.Denot g.row.S.Denot). k.room) c.recount.ensures.step)
 
 pub returns-then-not-has_row-clause-timers : goal.returns-then-not-has_row-clause-timers
 returns-then-not-has_row-clause-timers g c = keeps-none c.args.store.now
@@ -45,7 +45,7 @@ pub returns-then-is_member-clause-timers : goal.returns-then-is_member-clause-ti
 returns-then-is_member-clause-timers g c =
     let step = c.recount.ensures.step in
     entered-timers c.args.store.now c.set_applied.new.self c.recount.new.self c.args.upsert.handle.number c.args.upsert.generation c.args.upsert.weight c.in-Some.found.now (c.set_applied.ensures.step c.in-Some.found.now (sym (c.in-Some.ensures.found (c.has_row.ensures.placed.0 c.if-not-has_row.false)))) c.set_timer.new.self
-    c.recount.ensures.records (ap (λ (k : Kept g.row.K.Denot g.row.V.Denot). k.ordered) step) (ap (λ (k : Kept g.row.K.Denot g.row.V.Denot). k.timed) step) (ap (λ (k : Kept g.row.K.Denot g.row.V.Denot). k.timers) step) c.recount.ensures.counted c.set_timer.ensures.step
+    c.recount.ensures.records (ap (λ (k : Kept g.row.K.Denot g.row.V.Denot g.row.S.Denot). k.ordered) step) (ap (λ (k : Kept g.row.K.Denot g.row.V.Denot g.row.S.Denot). k.timed) step) (ap (λ (k : Kept g.row.K.Denot g.row.V.Denot g.row.S.Denot). k.timers) step) c.recount.ensures.counted c.set_timer.ensures.step
 
 pub returns-in_default-clause-applied : goal.returns-in_default-clause-applied
 returns-in_default-clause-applied g c =

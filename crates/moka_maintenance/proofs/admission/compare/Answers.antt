@@ -11,8 +11,8 @@ enter-requires-clause-handle g c =
     let rest = c.choose-chosen.ensures.rest in
     let others = c.expel_front.ensures.others n (still_apart c.args.sketch.now c.args.store.now c.choose-chosen.new.store n c.args.candidate.generation c.args.candidate.weight c.args.candidate.hash c.choose-chosen.result.victims c.choose-chosen.ensures.chosen rest c.requires.apart) in
     record {
-      placed = others.2 ∙ ap (λ (k : Kept g.row.K.Denot g.row.V.Denot). finite.get k.places n) rest ∙ c.requires.handle.placed;
-      stored = subst IsSome (sym (others.1 ∙ ap (λ (k : Kept g.row.K.Denot g.row.V.Denot). finite.get k.records n) rest)) c.requires.handle.stored;
+      placed = others.2 ∙ ap (λ (k : Kept g.row.K.Denot g.row.V.Denot g.row.S.Denot). finite.get k.places n) rest ∙ c.requires.handle.placed;
+      stored = subst IsSome (sym (others.1 ∙ ap (λ (k : Kept g.row.K.Denot g.row.V.Denot g.row.S.Denot). finite.get k.records n) rest)) c.requires.handle.stored;
     }
 
 pub enter-requires-clause-apart : goal.enter-requires-clause-apart
@@ -30,14 +30,14 @@ returns-then-chosen-clause-compared g c = λ r found.
     let others = c.expel_front.ensures.others n (still_apart c.args.sketch.now c.args.store.now c.choose-chosen.new.store n c.args.candidate.generation c.args.candidate.weight c.args.candidate.hash c.choose-chosen.result.victims c.choose-chosen.ensures.chosen rest c.requires.apart) in
     compared-preferred c.args.sketch.now c.args.store.now c.choose-chosen.new.store n c.args.candidate.generation c.args.candidate.weight c.args.candidate.hash c.choose-chosen.result.victims c.choose-chosen.ensures.chosen rest
     g.L.Listener.tells r c.enter.new.store c.args.notifier.now c.expel_front.new.notifier c.expel_front.new.store c.if-chosen.true c.expel_front.ensures.step
-    (c.enter.ensures.step r (others.1 ∙ ap (λ (k : Kept g.row.K.Denot g.row.V.Denot). finite.get k.records n) rest ∙ found))
+    (c.enter.ensures.step r (others.1 ∙ ap (λ (k : Kept g.row.K.Denot g.row.V.Denot g.row.S.Denot). finite.get k.records n) rest ∙ found))
     c.expel_front.ensures.timers.keeps.ordered c.expel_front.ensures.written c.enter.ensures.written c.expel_front.ensures.told
 
 pub returns-else-chosen-clause-compared : goal.returns-else-chosen-clause-compared
 returns-else-chosen-clause-compared g c = λ r found.
     let n = c.args.candidate.handle.number in
     let rest = c.choose-chosen.ensures.rest in
-    let there = ap (λ (k : Kept g.row.K.Denot g.row.V.Denot). finite.get k.records n) rest ∙ found in
+    let there = ap (λ (k : Kept g.row.K.Denot g.row.V.Denot g.row.S.Denot). finite.get k.records n) rest ∙ found in
     compared-refused c.args.sketch.now c.args.store.now c.choose-chosen.new.store n c.args.candidate.generation c.args.candidate.weight c.args.candidate.hash c.choose-chosen.result.victims c.choose-chosen.ensures.chosen rest
     g.L.Listener.tells r c.reject.new.store c.args.notifier.now c.reject.new.notifier c.if-chosen.false (c.reject.ensures.step r there) c.reject.ensures.written (c.reject.ensures.told r there)
 

@@ -24,12 +24,12 @@ returns-then-present-generation-clause-rows g c = rows-gone c.args.store.now c.e
 pub returns-else-present-generation-clause-rows : goal.returns-else-present-generation-clause-rows
 returns-else-present-generation-clause-rows g c =
     let step = c.set_applied.ensures.step c.in-Some.present.now (sym (c.in-Some.ensures.found c.requires.handle.placed)) in
-    rows-changed c.args.store.now c.set_applied.new.self c.args.handle.number (record c.in-Some.present.now { applied = c.args.generation }) (ap (λ (k : Kept g.row.K.Denot g.row.V.Denot). k.records) step)
+    rows-changed c.args.store.now c.set_applied.new.self c.args.handle.number (record c.in-Some.present.now { applied = c.args.generation }) (ap (λ (k : Kept g.row.K.Denot g.row.V.Denot g.row.S.Denot). k.records) step)
 
 pub returns-else-present-generation-clause-room : goal.returns-else-present-generation-clause-room
 returns-else-present-generation-clause-room g c =
     let step = c.set_applied.ensures.step c.in-Some.present.now (sym (c.in-Some.ensures.found c.requires.handle.placed)) in
-    let room = ap (λ (k : Kept g.row.K.Denot g.row.V.Denot). k.room) step in
+    let room = ap (λ (k : Kept g.row.K.Denot g.row.V.Denot g.row.S.Denot). k.room) step in
     omega arith
 
 pub returns-then-present-generation-clause-written : goal.returns-then-present-generation-clause-written
@@ -37,7 +37,7 @@ returns-then-present-generation-clause-written g c = λ kept.
     ap (λ (s : Stock g.row.K.Denot g.row.V.Denot). s.written) c.expel.ensures.step ∙ unlisted_taken_out c.args.handle.number c.args.store.now.written ((c.invariant_holds.ensures.listed kept).1 c.args.handle.number ∙ ap is_some c.requires.apart)
 
 pub returns-else-present-generation-clause-written : goal.returns-else-present-generation-clause-written
-returns-else-present-generation-clause-written g c = λ _. ap (λ (k : Kept g.row.K.Denot g.row.V.Denot). k.written) (c.set_applied.ensures.step c.in-Some.present.now (sym (c.in-Some.ensures.found c.requires.handle.placed)))
+returns-else-present-generation-clause-written g c = λ _. ap (λ (k : Kept g.row.K.Denot g.row.V.Denot g.row.S.Denot). k.written) (c.set_applied.ensures.step c.in-Some.present.now (sym (c.in-Some.ensures.found c.requires.handle.placed)))
 
 pub returns-then-present-generation-clause-timers : goal.returns-then-present-generation-clause-timers
 returns-then-present-generation-clause-timers g c = c.expel.ensures.timers.keeps
@@ -46,8 +46,8 @@ pub returns-else-present-generation-clause-timers : goal.returns-else-present-ge
 returns-else-present-generation-clause-timers g c =
     let n = c.args.handle.number in
     let step = c.set_applied.ensures.step c.in-Some.present.now (sym (c.in-Some.ensures.found c.requires.handle.placed)) in
-    keeps-outside c.args.store.now c.set_applied.new.self (ap (λ (k : Kept g.row.K.Denot g.row.V.Denot). k.ordered) step) (ap (λ (k : Kept g.row.K.Denot g.row.V.Denot). k.timed) step) n
-    (ap (λ (k : Kept g.row.K.Denot g.row.V.Denot). counted_of n k.access) step ∙ c.requires.apart)
-    (λ k other. ap (λ (s : Kept g.row.K.Denot g.row.V.Denot). finite.get s.records k) step ∙ get-past_insert c.args.store.now.records n (record c.in-Some.present.now { applied = c.args.generation }) k other)
-    (λ k is_in. sym (ap (λ (s : Kept g.row.K.Denot g.row.V.Denot). is_member k s.access) step) ∙ is_in)
-    (λ k _. ap (λ (s : Kept g.row.K.Denot g.row.V.Denot). finite.get s.timers k) step)
+    keeps-outside c.args.store.now c.set_applied.new.self (ap (λ (k : Kept g.row.K.Denot g.row.V.Denot g.row.S.Denot). k.ordered) step) (ap (λ (k : Kept g.row.K.Denot g.row.V.Denot g.row.S.Denot). k.timed) step) n
+    (ap (λ (k : Kept g.row.K.Denot g.row.V.Denot g.row.S.Denot). counted_of n k.access) step ∙ c.requires.apart)
+    (λ k other. ap (λ (s : Kept g.row.K.Denot g.row.V.Denot g.row.S.Denot). finite.get s.records k) step ∙ get-past_insert c.args.store.now.records n (record c.in-Some.present.now { applied = c.args.generation }) k other)
+    (λ k is_in. sym (ap (λ (s : Kept g.row.K.Denot g.row.V.Denot g.row.S.Denot). is_member k s.access) step) ∙ is_in)
+    (λ k _. ap (λ (s : Kept g.row.K.Denot g.row.V.Denot g.row.S.Denot). finite.get s.timers k) step)

@@ -19,7 +19,7 @@ loop-handle-init g c = record {
 }
 
 pub expire-requires-clause-untimed : goal.expire-requires-clause-untimed
-expire-requires-clause-untimed g c = ap (λ (k : Kept g.row.K.Denot g.row.V.Denot). finite.get k.timers c.in-Some.handle.number) c.in-Some.ensures.step ∙ get-removed c.loop-handle.store.timers c.in-Some.handle.number
+expire-requires-clause-untimed g c = ap (λ (k : Kept g.row.K.Denot g.row.V.Denot g.row.S.Denot). finite.get k.timers c.in-Some.handle.number) c.in-Some.ensures.step ∙ get-removed c.loop-handle.store.timers c.in-Some.handle.number
 
 pub overflow_add-removed : goal.overflow_add-removed
 overflow_add-removed g c =
@@ -36,14 +36,14 @@ loop-handle-smaller-then-expire g c =
     let n = c.in-Some.handle.number in
     let due = c.in-Some.ensures.due in
     fewer-due g.L.Listener.tells c.args.tests c.loop-handle.store c.due.new.self c.expire.new.store c.loop-handle.notifier c.expire.new.notifier n 1 c.in-Some.ensures.step c.if-expire.ensures.timers c.if-expire.ensures.expired
-    due.0 due.1 due.2 (ap (λ (k : Kept g.row.K.Denot g.row.V.Denot). finite.get k.timers n) c.in-Some.ensures.step ∙ get-removed c.loop-handle.store.timers n)
+    due.0 due.1 due.2 (ap (λ (k : Kept g.row.K.Denot g.row.V.Denot g.row.S.Denot). finite.get k.timers n) c.in-Some.ensures.step ∙ get-removed c.loop-handle.store.timers n)
 
 pub loop-handle-smaller : goal.loop-handle-smaller
 loop-handle-smaller g c =
     let n = c.in-Some.handle.number in
     let due = c.in-Some.ensures.due in
     fewer-due g.L.Listener.tells c.args.tests c.loop-handle.store c.due.new.self c.expire.new.store c.loop-handle.notifier c.expire.new.notifier n 0 c.in-Some.ensures.step c.if-expire.ensures.timers c.if-expire.ensures.expired
-    due.0 due.1 due.2 (ap (λ (k : Kept g.row.K.Denot g.row.V.Denot). finite.get k.timers n) c.in-Some.ensures.step ∙ get-removed c.loop-handle.store.timers n)
+    due.0 due.1 due.2 (ap (λ (k : Kept g.row.K.Denot g.row.V.Denot g.row.S.Denot). finite.get k.timers n) c.in-Some.ensures.step ∙ get-removed c.loop-handle.store.timers n)
 
 pub loop-handle-preserved-then-expire : goal.loop-handle-preserved-then-expire
 loop-handle-preserved-then-expire g c =
@@ -53,13 +53,13 @@ loop-handle-preserved-then-expire g c =
     let mid = c.due.new.self in
     let new = c.expire.new.store in
     let made = c.if-expire.ensures in
-    let placed = ap (λ (k : Kept g.row.K.Denot g.row.V.Denot). k.places) step in
+    let placed = ap (λ (k : Kept g.row.K.Denot g.row.V.Denot g.row.S.Denot). k.places) step in
     record {
       expired = expires-on g.L.Listener.tells c.args.tests (stock_in c.args.store.now) (stock_in old) (stock_in new) c.args.notifier.now c.loop-handle.notifier c.expire.new.notifier c.loop-handle.removed 1 inv.expired (rw (← ap stock_in step) made.expired);
       timers = keeps-on c.args.store.now old new inv.timers (keeps-due g.L.Listener.tells c.args.tests old mid new c.loop-handle.notifier c.expire.new.notifier c.in-Some.handle.number 1 step made.timers made.expired);
       places = places-on c.args.store.now mid new (rw step inv.places) made.places;
       rows = rows-on c.args.store.now mid new made.places (rw step inv.rows) made.rows;
-      room = (let before = inv.room in let same = ap (λ (k : Kept g.row.K.Denot g.row.V.Denot). k.room) step in let after = made.room in omega arith);
+      room = (let before = inv.room in let same = ap (λ (k : Kept g.row.K.Denot g.row.V.Denot g.row.S.Denot). k.room) step in let after = made.room in omega arith);
     }
 
 pub loop-handle-preserved : goal.loop-handle-preserved
@@ -70,11 +70,11 @@ loop-handle-preserved g c =
     let mid = c.due.new.self in
     let new = c.expire.new.store in
     let made = c.if-expire.ensures in
-    let placed = ap (λ (k : Kept g.row.K.Denot g.row.V.Denot). k.places) step in
+    let placed = ap (λ (k : Kept g.row.K.Denot g.row.V.Denot g.row.S.Denot). k.places) step in
     record {
       expired = (let same : c.loop-handle.removed + 0 ≡ c.loop-handle.removed = omega arith in subst (λ (k : ℕ). ExpiresDue g.L.Listener.tells c.args.tests (stock_in c.args.store.now) (stock_in new) c.args.notifier.now c.expire.new.notifier k) same (expires-on g.L.Listener.tells c.args.tests (stock_in c.args.store.now) (stock_in old) (stock_in new) c.args.notifier.now c.loop-handle.notifier c.expire.new.notifier c.loop-handle.removed 0 inv.expired (rw (← ap stock_in step) made.expired)));
       timers = keeps-on c.args.store.now old new inv.timers (keeps-due g.L.Listener.tells c.args.tests old mid new c.loop-handle.notifier c.expire.new.notifier c.in-Some.handle.number 0 step made.timers made.expired);
       places = places-on c.args.store.now mid new (rw step inv.places) made.places;
       rows = rows-on c.args.store.now mid new made.places (rw step inv.rows) made.rows;
-      room = (let before = inv.room in let same = ap (λ (k : Kept g.row.K.Denot g.row.V.Denot). k.room) step in let after = made.room in omega arith);
+      room = (let before = inv.room in let same = ap (λ (k : Kept g.row.K.Denot g.row.V.Denot g.row.S.Denot). k.room) step in let after = made.room in omega arith);
     }

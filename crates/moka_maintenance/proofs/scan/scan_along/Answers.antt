@@ -4,16 +4,14 @@ use Rattle.moka_store.specs.Store.{Kept}
 use Rattle.moka_maintenance.specs.Scanning.{IsWalked}
 use Rattle.moka_maintenance.proofs.Placed.{places-on, rows-on}
 use Rattle.moka_maintenance.proofs.Timing.{drops-none, drops-on}
-use Rattle.moka_maintenance.proofs.Turning.{if_some, next_other, turn_keeps}
+use Rattle.moka_maintenance.proofs.Turning.{if_some, still-ordered, next_other, turn_keeps}
 use Rattle.moka_maintenance.proofs.Walked.{walked-none, walked-settled, walked-unsettled, walked-cursor}
 use Rattle.moka_maintenance.proofs.scan.scan_along.Goals as goal
 
 pub loop-passed-init : goal.loop-passed-init
 loop-passed-init g c = record {
   walked = λ before rest list at. walked-none g.L.Listener.tells g.P.PredicateFn.says c.args.invalidator.now c.args.store.now c.args.notifier.now before rest (option_map (λ (h : Handle). h.number) c.args.start) list at;
-  placed = c.requires.placed;
-  member = c.requires.member;
-  listed = c.requires.listed;
+  ordered = c.requires.ordered;
   once = c.requires.once;
   most = omega arith;
   few = omega arith;
@@ -44,9 +42,7 @@ loop-passed-preserved-then-look_at g c =
           subst (λ to. IsWalked tells says ps old new c.args.notifier.now c.look_at.new.notifier before rest to (c.loop-passed.looked + 1) (c.loop-passed.passed + 1)) (sym next.ensures.next)
           (walked-settled tells says ps old c.args.notifier.now before rest mid c.loop-passed.notifier n c.loop-passed.looked c.loop-passed.passed
           (subst (λ to. IsWalked tells says ps old mid c.args.notifier.now c.loop-passed.notifier before rest to c.loop-passed.looked c.loop-passed.passed) numbers (inv.walked before rest list at)) inv.once new c.look_at.new.notifier turn);
-      placed = if_some next.result (λ h is at. keeps.placed h (other h is) at) next.ensures.placed;
-      member = if_some next.result (λ h is at. keeps.members h.number (other h is) at) next.ensures.member;
-      listed = if_some next.result (λ h is at. keeps.listed h.number (other h is) at) next.ensures.listed;
+      ordered = if_some next.result (λ h is at. still-ordered mid new n keeps h (other h is) at) next.ensures.ordered;
       once = keeps.once inv.once;
       most = (let some = c.loop-passed-test.true in omega arith);
       few = (let f = inv.few in omega arith);
@@ -77,9 +73,7 @@ loop-passed-preserved g c =
           subst (λ to. IsWalked tells says ps old new c.args.notifier.now c.look_at.new.notifier before rest to c.loop-passed.looked (c.loop-passed.passed + 1)) (sym next.ensures.next)
           (walked-unsettled tells says ps old c.args.notifier.now before rest mid c.loop-passed.notifier n c.loop-passed.looked c.loop-passed.passed
           (subst (λ to. IsWalked tells says ps old mid c.args.notifier.now c.loop-passed.notifier before rest to c.loop-passed.looked c.loop-passed.passed) numbers (inv.walked before rest list at)) inv.once new c.look_at.new.notifier turn);
-      placed = if_some next.result (λ h is at. keeps.placed h (other h is) at) next.ensures.placed;
-      member = if_some next.result (λ h is at. keeps.members h.number (other h is) at) next.ensures.member;
-      listed = if_some next.result (λ h is at. keeps.listed h.number (other h is) at) next.ensures.listed;
+      ordered = if_some next.result (λ h is at. still-ordered mid new n keeps h (other h is) at) next.ensures.ordered;
       once = keeps.once inv.once;
       most = (let some = c.loop-passed-test.true in omega arith);
       few = (let f = inv.few in omega arith);
@@ -94,4 +88,4 @@ pub returns-clause-walked : goal.returns-clause-walked
 returns-clause-walked g c before rest list at =
     let next = option_map (λ (h : Handle). h.number) c.loop-passed.next in
     let done = walked-cursor g.L.Listener.tells g.P.PredicateFn.says c.args.invalidator.now c.args.store.now c.args.notifier.now before rest c.loop-passed.store c.loop-passed.notifier next next c.loop-passed.looked c.loop-passed.passed (c.loop-passed.invariant.walked before rest list at) in
-    subst (λ (s : Kept g.row.K.Denot g.row.V.Denot). IsWalked g.L.Listener.tells g.P.PredicateFn.says c.args.invalidator.now c.args.store.now s c.args.notifier.now c.loop-passed.notifier before rest s.cursor c.loop-passed.looked c.loop-passed.passed) (sym c.set_cursor.ensures) done
+    subst (λ (s : Kept g.row.K.Denot g.row.V.Denot g.row.S.Denot). IsWalked g.L.Listener.tells g.P.PredicateFn.says c.args.invalidator.now c.args.store.now s c.args.notifier.now c.loop-passed.notifier before rest s.cursor c.loop-passed.looked c.loop-passed.passed) (sym c.set_cursor.ensures) done

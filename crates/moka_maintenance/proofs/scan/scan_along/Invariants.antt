@@ -1,7 +1,6 @@
-use Rattle.std.proofs.Common.{◌≡◌, ◌≤◌, ◌-◌, ◌==◌, ℕ, ◌++◌, List, true, IfSome, IsSome, option_map, slice_get}
+use Rattle.std.proofs.Common.{◌≡◌, ◌≤◌, ◌-◌, ◌==◌, ℕ, ◌++◌, List, IfSome, option_map, slice_get}
 use Rattle.std.specs.List.{IsDistinct}
-use Rattle.moka_parts.specs.Records.{counted_of, is_listed}
-use Rattle.moka_store.specs.Store.{IsPlaced}
+use Rattle.moka_store.specs.Store.{IsOrdered}
 use Rattle.moka_maintenance.specs.Scanning.{IsWalked}
 use Rattle.moka_maintenance.specs.Steps.{AddsNoPlace, LeavesNoRow}
 use Rattle.moka_maintenance.specs.Timers.{DropsTimers}
@@ -11,9 +10,7 @@ abbrev pub invariant-loop-passed : goal.invariant-loop-passed
 invariant-loop-passed g l = record {
   walked : (before rest : List ℕ) → l.initial.store.written ≡ before ++ rest → option_map (λ h. h.number) l.initial.next ≡ slice_get rest 0
       → IsWalked g.L.Listener.tells g.P.PredicateFn.says l.invalidator l.initial.store l.store l.initial.notifier l.notifier before rest (option_map (λ h. h.number) l.next) l.looked l.passed;
-  placed : IfSome l.next (λ h. IsPlaced l.store h);
-  member : IfSome l.next (λ h. IsSome (counted_of h.number l.store.access));
-  listed : IfSome l.next (λ h. is_listed h.number l.store.written ≡ true);
+  ordered : IfSome l.next (IsOrdered l.store);
   once : IsDistinct (◌==◌) l.store.written;
   most : l.passed ≤ l.most;
   few : l.looked ≤ l.passed;

@@ -1,8 +1,8 @@
 use Rattle.std.proofs.Common.{◌≡◌, ◌∙◌, ap, map, subst}
 use Rattle.moka_parts.specs.Surroundings.{Heard, Leads}
 use Rattle.moka_parts.specs.Runs.{AreSteps, PromisedRun, notices_of, readings_of, ids_of, last_state}
-use Rattle.moka_replay.specs.Calls.{told_call}
-use Rattle.moka_replay.specs.Notices.{Keeps, listener_for}
+use Rattle.moka_script.specs.Calls.{told_call}
+use Rattle.moka_script.specs.Notices.{Keeps, listener_for}
 use Rattle.moka_replay.specs.Played.{script_meaning, total_of}
 use Rattle.moka_replay.proofs.KeptNotices.{told_by_script}
 use Rattle.moka_replay.proofs.play.play.Goals as goal

@@ -1,4 +1,4 @@
-use Rattle.moka_replay.specs.Script.{text_of}
+use Rattle.moka_script.specs.Script.{text_of}
 use Rattle.moka_replay.proofs.replay.play_script.Goals as goal
 
 pub returns : goal.returns

@@ -1,7 +1,7 @@
 use Rattle.std.proofs.Common.{cond, rules, tests, sym, ap, ◌∙◌}
 use Rattle.std.proofs.lemmas.Iterator.{YieldsList-from_slice}
 use Rattle.std.proofs.lemmas.Iterator.Search.{any_from_yields_List}
-use Rattle.moka_replay.specs.Text.{is_refused_memory}
+use Rattle.moka_script.specs.Text.{is_refused_memory}
 use Rattle.moka_replay.proofs.replay.status_of.Goals as goal
 
 pub returns-then-any : goal.returns-then-any

@@ -21,4 +21,4 @@ returns-clause-step g c =
     c.remove-record.ensures.taken (sym at.found ∙ (sym at.numbered ∙ c.remove-record.ensures.taken)) c.remove-record.ensures.step c.remove-record.result.1 c.remove-record.ensures.ticket
 
 pub returns-clause-events : goal.returns-clause-events
-returns-clause-events g c = rw (← c.self.view_is) (befalls-listed g.L.Listener.tells _ _ c.remove-record.new.self.kept.written (ap (λ (x : Interior g.row.K.Denot g.row.V.Denot). x.kept.written) c.remove-record.ensures.step))
+returns-clause-events g c = rw (← c.self.view_is) (befalls-listed g.L.Listener.tells _ _ c.remove-record.new.self.kept.written (ap (λ (x : Interior g.row.K.Denot g.row.V.Denot g.row.S.Denot). x.kept.written) c.remove-record.ensures.step))

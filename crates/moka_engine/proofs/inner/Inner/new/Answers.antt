@@ -9,7 +9,7 @@ invariant_of-result g c =
     let made = c.in_ok-store.ensures in
     let rest = c.in_ok-reserve.ensures.rest in
     inner-new c.reserve.new.self c.in_ok-outstanding.outstanding c.in_ok-writes.writes c.in_ok-reads.reads (c.args.first_ticket - 1 + 1)
-    (ap (λ (k : Kept g.row.K.Denot g.row.V.Denot). k.records) rest ∙ made.records) (ap (λ (k : Kept g.row.K.Denot g.row.V.Denot). k.places) rest ∙ made.places) c.in_ok-outstanding.ensures.items c.in_ok-writes.ensures c.in_ok-reads.ensures
+    (ap (λ (k : Kept g.row.K.Denot g.row.V.Denot g.row.S.Denot). k.records) rest ∙ made.records) (ap (λ (k : Kept g.row.K.Denot g.row.V.Denot g.row.S.Denot). k.places) rest ∙ made.places) c.in_ok-outstanding.ensures.items c.in_ok-writes.ensures c.in_ok-reads.ensures
     (omega (arith, c.requires)) (omega (arith, c.ranges.first_ticket.fits))
 
 pub returns-clause-empty : goal.returns-clause-empty

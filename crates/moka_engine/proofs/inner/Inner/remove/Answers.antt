@@ -10,7 +10,7 @@ use Rattle.moka_engine.proofs.inner.Inner.remove.Goals as goal
 
 pub overflow_add-ticket : goal.overflow_add-ticket
 overflow_add-ticket g c =
-    let same = ap (λ (i : Interior g.row.K.Denot g.row.V.Denot). finite.get i.kept.records c.args.handle.number) c.self.view_is in
+    let same = ap (λ (i : Interior g.row.K.Denot g.row.V.Denot g.row.S.Denot). finite.get i.kept.records c.args.handle.number) c.self.view_is in
     let found = some_is (finite.get c.args.self.now.kept.records c.args.handle.number) c.requires.handle.stored in
     let one = len-some c.self.inside.store.records c.args.handle.number found.0 (same ∙ found.1) in
     let tickets = c.self.invariant.tickets in
@@ -32,13 +32,13 @@ hand_out-requires-clause-room g c =
 
 pub invariant_of-self : goal.invariant_of-self
 invariant_of-self g c =
-    let here = ap (λ (i : Interior g.row.K.Denot g.row.V.Denot). finite.get i.kept.places c.args.handle.number) c.self.view_is ∙ c.requires.handle.placed in
+    let here = ap (λ (i : Interior g.row.K.Denot g.row.V.Denot g.row.S.Denot). finite.get i.kept.places c.args.handle.number) c.self.view_is ∙ c.requires.handle.placed in
     let taken = c.take_record-record.result in
     inner-removed c.self.inside.store c.take_record-record.new.self c.self.inside.outstanding c.hand_out.new.self c.self.inside.writes c.self.inside.reads (c.self.inside.last_ticket + 1) c.self.inside.next_number c.self.invariant
     c.args.handle.number taken
     (record { place = c.args.handle.place; operation = Removal c.args.handle.number (taken.generation + 1) })
     (taken.generation + 1) c.take_record-record.ensures.taken
-    (ap (λ (k : Kept g.row.K.Denot g.row.V.Denot). k.records) c.take_record-record.ensures.step)
+    (ap (λ (k : Kept g.row.K.Denot g.row.V.Denot g.row.S.Denot). k.records) c.take_record-record.ensures.step)
     c.take_record-record.ensures.places c.hand_out.ensures.items
     refl here c.hand_out.ensures.room
 

@@ -14,4 +14,4 @@ returns-clause-off g c none =
     let w = placed _ _ _ _ c.self.invariant.tied _ _ there in
     let apart = sym (counted-placed _ _ _ _ c.self.invariant.tied _ _ there) ∙ sym c.counted.ensures ∙ none-of c.counted.result none in
     let alone = unlisted _ _ _ _ c.self.invariant.tied _ _ there w apart in
-    rw (← c.self.view_is) (off-row _ _ _ _ c.self.invariant.tied c.self.inside.written c.self.invariant.written c.self.inside.timers c.self.invariant.timed _ w.row w.at_is alone _ w.number_is _ _ _)
+    rw (← c.self.view_is) (off-row _ _ _ _ c.self.invariant.tied c.self.inside.written c.self.invariant.written _ c.self.inside.timers c.self.invariant.timed _ w.row w.at_is alone _ w.number_is _ _ _)

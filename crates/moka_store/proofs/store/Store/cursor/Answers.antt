@@ -13,20 +13,15 @@ handle_at-requires g c =
     let n = written-place _ _ _ _ c.self.invariant.tied c.self.inside.written c.self.invariant.written _ _ c.in_ok-place.ensures.found in
     rw n.at_is refl
 
-pub returns-clause-placed : goal.returns-clause-placed
-returns-clause-placed g c =
+pub returns-clause-ordered : goal.returns-clause-ordered
+returns-clause-ordered g c =
     let n = written-place _ _ _ _ c.self.invariant.tied c.self.inside.written c.self.invariant.written _ _ c.in_ok-place.ensures.found in
-    rw (c.handle_at.ensures.number _ n.at_is, c.handle_at.ensures.place, ← c.self.view_is) n.place_is
-
-pub returns-clause-member : goal.returns-clause-member
-returns-clause-member g c =
-    let n = written-place _ _ _ _ c.self.invariant.tied c.self.inside.written c.self.invariant.written _ _ c.in_ok-place.ensures.found in
-    rw (c.handle_at.ensures.number _ n.at_is, ← c.self.view_is) n.counted_is
-
-pub returns-clause-listed : goal.returns-clause-listed
-returns-clause-listed g c =
-    let n = written-place _ _ _ _ c.self.invariant.tied c.self.inside.written c.self.invariant.written _ _ c.in_ok-place.ensures.found in
-    rw (c.handle_at.ensures.number _ n.at_is, ← c.self.view_is) (written-listed _ _ _ _ c.self.invariant.tied c.self.inside.written c.self.invariant.written _ _ c.in_ok-place.ensures.found n.row n.at_is)
+    let number = c.handle_at.ensures.number _ n.at_is in
+    record {
+      placed = rw (number, c.handle_at.ensures.place, ← c.self.view_is) n.place_is;
+      member = rw (number, ← c.self.view_is) n.counted_is;
+      listed = rw (number, ← c.self.view_is) (written-listed _ _ _ _ c.self.invariant.tied c.self.inside.written c.self.invariant.written _ _ c.in_ok-place.ensures.found n.row n.at_is);
+    }
 
 pub returns-clause-cursor : goal.returns-clause-cursor
 returns-clause-cursor g c =

@@ -17,13 +17,14 @@ pub invariant_of-self : goal.invariant_of-self
 invariant_of-self g c =
     let fresh = rw (← c.self.view_is) at c.requires.fresh in
     let unknown = rw (← c.self.view_is) at c.requires.unknown in
+    let hashed = rw (← c.self.view_is) at c.requires.hashed in
     let s = inserted _ g.met.K.Eq.laws _ _ _ _ _ c.self.invariant.tied c.args.stored c.insert-place.ensures.vacant fresh (key-fresh _ _ _ _ c.self.invariant.tied _ unknown) c.insert-place.ensures.changes in
     let stay = stays-bare c.self.inside.table.rows c.insert-place.new.self.rows c.self.inside.written c.self.inside.timers.timers c.self.invariant.written c.self.invariant.timed c.self.invariant.tied.numbered s.tied.numbered _ _ c.insert-place.ensures.changes (ap (option_and_then (λ (row : Row (Record _ _)). row.membership)) c.insert-place.ensures.vacant) (ap (option_and_then (λ (row : Row (Record _ _)). row.timer)) c.insert-place.ensures.vacant) refl refl in
     let room = rw (← c.self.view_is) at c.requires.room in
     let len = c.insert-place.ensures.len in
     let longer = ap finite.len c.insert-place.ensures.records ∙ len-fresh _ _ c.args.stored (unrecorded _ g.met.K.Eq.laws _ _ _ c.self.invariant.tied _ fresh) in
     let more = ap finite.len c.insert.ensures.entries ∙ len-fresh _ _ _ (index-vacant _ g.met.K.Eq.laws _ _ _ c.self.invariant.tied _ c.insert-place.ensures.vacant) in
-    record { tied = rw (c.insert.ensures.entries, c.key_hash-hash.ensures) s.tied; written = stay.written; timed = stay.timed; keyed = more ∙ ap (λ n. n + 1) c.self.invariant.keyed ∙ sym longer; fits = omega arith; few = c.self.invariant.few; weighed = subst (λ members. IsWeighed members c.self.inside.weight) (sym s.access) c.self.invariant.weighed }
+    record { tied = rw (c.insert.ensures.entries, hashed) s.tied; written = stay.written; timed = stay.timed; keyed = more ∙ ap (λ n. n + 1) c.self.invariant.keyed ∙ sym longer; fits = omega arith; few = c.self.invariant.few; weighed = subst (λ members. IsWeighed members c.self.inside.weight) (sym s.access) c.self.invariant.weighed }
 
 pub returns-clause-step : goal.returns-clause-step
 returns-clause-step g c =

@@ -18,34 +18,34 @@ use Rattle.moka_store.proofs.store.Store.leave.Goals as goal
 pub clear_membership-requires : goal.clear_membership-requires
 clear_membership-requires g c =
     let same = c.self.view_is ∙ c.clear_timer.ensures in
-    let w = placed _ _ _ _ c.self.invariant.tied _ _ (ap (λ (k : Kept _ _). finite.get k.places c.args.handle.number) same ∙ c.requires.placed) in
+    let w = placed _ _ _ _ c.self.invariant.tied _ _ (ap (λ (k : Kept _ _ _). finite.get k.places c.args.handle.number) same ∙ c.requires.placed) in
     rw w.at_is refl
 
 pub unreachable-requires : goal.unreachable-requires
 unreachable-requires g c =
     let same = c.self.view_is ∙ c.clear_timer.ensures in
-    let there = ap (λ (k : Kept _ _). finite.get k.places c.args.handle.number) same ∙ c.requires.placed in
-    let member = subst (λ (k : Kept _ _). IsSome (counted_of c.args.handle.number k.access)) (sym same) c.requires.member in
+    let there = ap (λ (k : Kept _ _ _). finite.get k.places c.args.handle.number) same ∙ c.requires.placed in
+    let member = subst (λ (k : Kept _ _ _). IsSome (counted_of c.args.handle.number k.access)) (sym same) c.requires.member in
     member-there _ _ _ _ c.self.invariant.tied _ _ there member (sym c.clear_membership.ensures.old ∙ c.in_default.is)
 
 pub unlink-place-requires : goal.unlink-place-requires
 unlink-place-requires g c =
     let same = c.self.view_is ∙ c.clear_timer.ensures in
-    let w = member-row _ _ _ _ c.self.invariant.tied _ _ (ap (λ (k : Kept _ _). finite.get k.places c.args.handle.number) same ∙ c.requires.placed) _ (sym c.clear_membership.ensures.old ∙ c.in-Some.is) in
+    let w = member-row _ _ _ _ c.self.invariant.tied _ _ (ap (λ (k : Kept _ _ _). finite.get k.places c.args.handle.number) same ∙ c.requires.placed) _ (sym c.clear_membership.ensures.old ∙ c.in-Some.is) in
     rw w.node_is refl
 
 pub unlink-requires : goal.unlink-requires
 unlink-requires g c =
     let same = c.self.view_is ∙ c.clear_timer.ensures in
-    let w = member-row _ _ _ _ c.self.invariant.tied _ _ (ap (λ (k : Kept _ _). finite.get k.places c.args.handle.number) same ∙ c.requires.placed) _ (sym c.clear_membership.ensures.old ∙ c.in-Some.is) in
+    let w = member-row _ _ _ _ c.self.invariant.tied _ _ (ap (λ (k : Kept _ _ _). finite.get k.places c.args.handle.number) same ∙ c.requires.placed) _ (sym c.clear_membership.ensures.old ∙ c.in-Some.is) in
     slot-there c.self.inside.table.rows c.self.inside.written c.self.invariant.written _ w.row w.at_is _ (ap (option_and_then (λ (m : Membership). m.written)) w.membership_is)
 
 pub invariant_of-self : goal.invariant_of-self
 invariant_of-self g c =
     let same = c.self.view_is ∙ c.clear_timer.ensures in
-    let w = member-row _ _ _ _ c.self.invariant.tied _ _ (ap (λ (k : Kept _ _). finite.get k.places c.args.handle.number) same ∙ c.requires.placed) _ (sym c.clear_membership.ensures.old ∙ c.in-Some.is) in
+    let w = member-row _ _ _ _ c.self.invariant.tied _ _ (ap (λ (k : Kept _ _ _). finite.get k.places c.args.handle.number) same ∙ c.requires.placed) _ (sym c.clear_membership.ensures.old ∙ c.in-Some.is) in
     let s = left _ g.met.K.Eq.laws _ _ _ _ _ c.self.invariant.tied w.row w.at_is c.in-Some.membership _ w.membership_is c.unlink-place.ensures.members c.unlink-place.ensures.lookups (c.clear_membership.ensures.changes _ w.at_is) in
-    let free = timer-free c.self.inside.table.rows c.self.inside.timers.timers c.self.invariant.timed _ w.row w.at_is c.self.invariant.tied.numbered (ap (λ (k : Kept _ _). finite.get k.timers w.row.number) same ∙ ap (λ n. finite.get (finite.remove c.args.self.now.timers c.args.handle.number) n) w.number_is ∙ get-removed c.args.self.now.timers c.args.handle.number) in
+    let free = timer-free c.self.inside.table.rows c.self.inside.timers.timers c.self.invariant.timed _ w.row w.at_is c.self.invariant.tied.numbered (ap (λ (k : Kept _ _ _). finite.get k.timers w.row.number) same ∙ ap (λ n. finite.get (finite.remove c.args.self.now.timers c.args.handle.number) n) w.number_is ∙ get-removed c.args.self.now.timers c.args.handle.number) in
     let p = c.unlink.ensures in
     let order = leaves c.self.inside.table.rows c.clear_membership.new.self.rows c.self.inside.written c.unlink.new.self c.self.inside.timers.timers c.self.invariant.written c.self.invariant.timed c.self.invariant.tied.numbered s.tied.numbered _ w.row w.at_is c.in-Some.membership w.membership_is free (c.clear_membership.ensures.changes _ w.at_is) p.nodes p.lookups p.rest p.absent p.cursor in
     let len = c.unlink-place.ensures.len in
@@ -58,9 +58,9 @@ invariant_of-self g c =
 pub returns-clause-step : goal.returns-clause-step
 returns-clause-step g c =
     let same = c.self.view_is ∙ c.clear_timer.ensures in
-    let w = member-row _ _ _ _ c.self.invariant.tied _ _ (ap (λ (k : Kept _ _). finite.get k.places c.args.handle.number) same ∙ c.requires.placed) _ (sym c.clear_membership.ensures.old ∙ c.in-Some.is) in
+    let w = member-row _ _ _ _ c.self.invariant.tied _ _ (ap (λ (k : Kept _ _ _). finite.get k.places c.args.handle.number) same ∙ c.requires.placed) _ (sym c.clear_membership.ensures.old ∙ c.in-Some.is) in
     let s = left _ g.met.K.Eq.laws _ _ _ _ _ c.self.invariant.tied w.row w.at_is c.in-Some.membership _ w.membership_is c.unlink-place.ensures.members c.unlink-place.ensures.lookups (c.clear_membership.ensures.changes _ w.at_is) in
-    let free = timer-free c.self.inside.table.rows c.self.inside.timers.timers c.self.invariant.timed _ w.row w.at_is c.self.invariant.tied.numbered (ap (λ (k : Kept _ _). finite.get k.timers w.row.number) same ∙ ap (λ n. finite.get (finite.remove c.args.self.now.timers c.args.handle.number) n) w.number_is ∙ get-removed c.args.self.now.timers c.args.handle.number) in
+    let free = timer-free c.self.inside.table.rows c.self.inside.timers.timers c.self.invariant.timed _ w.row w.at_is c.self.invariant.tied.numbered (ap (λ (k : Kept _ _ _). finite.get k.timers w.row.number) same ∙ ap (λ n. finite.get (finite.remove c.args.self.now.timers c.args.handle.number) n) w.number_is ∙ get-removed c.args.self.now.timers c.args.handle.number) in
     let p = c.unlink.ensures in
     let order = leaves c.self.inside.table.rows c.clear_membership.new.self.rows c.self.inside.written c.unlink.new.self c.self.inside.timers.timers c.self.invariant.written c.self.invariant.timed c.self.invariant.tied.numbered s.tied.numbered _ w.row w.at_is c.in-Some.membership w.membership_is free (c.clear_membership.ensures.changes _ w.at_is) p.nodes p.lookups p.rest p.absent p.cursor in
     let len = c.unlink-place.ensures.len in
@@ -69,18 +69,18 @@ returns-clause-step g c =
     let ordered = ap (λ (l : Listing). l.ordered) p.rest in
     let sum : length c.unlink-place.new.self.members + c.unlink-place.new.self.room ≡ length c.self.inside.access.members + c.self.inside.access.room = omega arith in
     rw (s.access, order.written_is, order.cursor_is, order.timers_is, most, ordered, c.clear_membership.ensures.records, c.clear_membership.ensures.places, c.clear_membership.ensures.len, c.clear_membership.ensures.room, sum, w.number_is)
-    (ap (λ (k : Kept _ _). record k { access = without_member c.args.handle.number k.access; written = without_number c.args.handle.number k.written; cursor = cursor_past c.args.handle.number k.written k.cursor }) same)
+    (ap (λ (k : Kept _ _ _). record k { access = without_member c.args.handle.number k.access; written = without_number c.args.handle.number k.written; cursor = cursor_past c.args.handle.number k.written k.cursor }) same)
 
 pub returns-clause-counted : goal.returns-clause-counted
 returns-clause-counted g c n =
     let same = c.self.view_is ∙ c.clear_timer.ensures in
-    let w = member-row _ _ _ _ c.self.invariant.tied _ _ (ap (λ (k : Kept _ _). finite.get k.places c.args.handle.number) same ∙ c.requires.placed) _ (sym c.clear_membership.ensures.old ∙ c.in-Some.is) in
+    let w = member-row _ _ _ _ c.self.invariant.tied _ _ (ap (λ (k : Kept _ _ _). finite.get k.places c.args.handle.number) same ∙ c.requires.placed) _ (sym c.clear_membership.ensures.old ∙ c.in-Some.is) in
     let s = left _ g.met.K.Eq.laws _ _ _ _ _ c.self.invariant.tied w.row w.at_is c.in-Some.membership _ w.membership_is c.unlink-place.ensures.members c.unlink-place.ensures.lookups (c.clear_membership.ensures.changes _ w.at_is) in
     rw (s.access, w.number_is) (counted-without c.args.handle.number n (map (member_at c.self.inside.table.rows) c.self.inside.access.members)
-    ∙ ap (λ (k : Kept _ _). cond (n == c.args.handle.number) None (counted_of n k.access)) same)
+    ∙ ap (λ (k : Kept _ _ _). cond (n == c.args.handle.number) None (counted_of n k.access)) same)
 
 pub overflow_sub-self : goal.overflow_sub-self
 overflow_sub-self g c =
     let same = c.self.view_is ∙ c.clear_timer.ensures in
-    let w = member-row _ _ _ _ c.self.invariant.tied _ _ (ap (λ (k : Kept _ _). finite.get k.places c.args.handle.number) same ∙ c.requires.placed) _ (sym c.clear_membership.ensures.old ∙ c.in-Some.is) in
+    let w = member-row _ _ _ _ c.self.invariant.tied _ _ (ap (λ (k : Kept _ _ _). finite.get k.places c.args.handle.number) same ∙ c.requires.placed) _ (sym c.clear_membership.ensures.old ∙ c.in-Some.is) in
     weighed-least _ _ _ _ c.self.invariant.weighed w.counted_is

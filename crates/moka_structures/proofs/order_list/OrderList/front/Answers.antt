@@ -1,7 +1,6 @@
 use Rattle.std.proofs.Common.{Some, arith, sym, ap, ◌∙◌}
 use Rattle.std.proofs.lemmas.List.{get_or_read}
-use Rattle.moka_structures.specs.declared.order_list.Node.{Node}
-use Rattle.moka_structures.specs.Links.{blank}
+use Rattle.moka_structures.specs.Links.{Node, blank}
 use Rattle.moka_structures.proofs.Orders.{stands, front-link, fits, distinct-members, found-at}
 use Rattle.moka_structures.proofs.order_list.OrderList.front.Goals as goal
 
@@ -17,7 +16,7 @@ returns-clause-front c =
     let t = c.index.result.now.behind in
     let read = ap (λ (n : Node). n.behind) (get_or_read ns 0 c.index.result.now (omega (arith, fits _ _ _ c.self.invariant)) c.index.ensures blank) in
     let there = stands _ _ _ 0 _ c.self.invariant (omega arith) (read ∙ front-link _ _ _ c.self.invariant) in
-    let read2 = ap (λ (n : Node). n.number) (get_or_read ns t c.index-2.result.now there.0 c.index-2.ensures blank) in
+    let read2 = ap (λ (n : Node). n.value) (get_or_read ns t c.index-2.result.now there.0 c.index-2.ensures blank) in
     rw (← c.self.view_is) (ap (λ n. Some (t, n)) read2 ∙ sym (there.2 c.if-slot-eq0.false))
 
 pub returns-clause-found : goal.returns-clause-found
@@ -26,7 +25,7 @@ returns-clause-found c =
     let t = c.index.result.now.behind in
     let read = ap (λ (n : Node). n.behind) (get_or_read ns 0 c.index.result.now (omega (arith, fits _ _ _ c.self.invariant)) c.index.ensures blank) in
     let there = stands _ _ _ 0 _ c.self.invariant (omega arith) (read ∙ front-link _ _ _ c.self.invariant) in
-    let read2 = ap (λ (n : Node). n.number) (get_or_read ns t c.index-2.result.now there.0 c.index-2.ensures blank) in
+    let read2 = ap (λ (n : Node). n.value) (get_or_read ns t c.index-2.result.now there.0 c.index-2.ensures blank) in
     rw (← c.self.view_is) (found-at _ _ _ 0 t c.self.invariant (there.2 c.if-slot-eq0.false) ∙ ap Some (sym read2))
 
 pub returns-then-slot-eq0-clause-distinct : goal.returns-then-slot-eq0-clause-distinct

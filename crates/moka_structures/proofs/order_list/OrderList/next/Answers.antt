@@ -1,7 +1,6 @@
 use Rattle.std.proofs.Common.{Some, arith, sym, ap, ◌∙◌}
 use Rattle.std.proofs.lemmas.List.{get_or_read}
-use Rattle.moka_structures.specs.declared.order_list.Node.{Node}
-use Rattle.moka_structures.specs.Links.{blank}
+use Rattle.moka_structures.specs.Links.{Node, blank}
 use Rattle.moka_structures.proofs.Orders.{near, placed, stands, next-link, next-is, next-other, distinct-members, found-at}
 use Rattle.moka_structures.proofs.order_list.OrderList.next.Goals as goal
 
@@ -32,7 +31,7 @@ returns-clause-next c =
     let t = c.index.result.now.behind in
     let read = ap (λ (n : Node). n.behind) (get_or_read ns c.args.slot c.index.result.now (near _ _ _ _ c.self.invariant req).within c.index.ensures blank) in
     let there = stands _ _ _ _ _ c.self.invariant (omega (arith, (placed _ _ _ _ c.self.invariant req).within)) (read ∙ next-link _ _ _ _ c.self.invariant req) in
-    let read2 = ap (λ (n : Node). n.number) (get_or_read ns t c.index-2.result.now there.0 c.index-2.ensures blank) in
+    let read2 = ap (λ (n : Node). n.value) (get_or_read ns t c.index-2.result.now there.0 c.index-2.ensures blank) in
     rw (← c.self.view_is) (ap (λ n. Some (t, n)) read2 ∙ sym (there.2 c.if-next-eq0.false) ∙ sym (next-is _ _ _ _ c.self.invariant req))
 
 pub returns-clause-found : goal.returns-clause-found
@@ -42,7 +41,7 @@ returns-clause-found c =
     let t = c.index.result.now.behind in
     let read = ap (λ (n : Node). n.behind) (get_or_read ns c.args.slot c.index.result.now (near _ _ _ _ c.self.invariant req).within c.index.ensures blank) in
     let there = stands _ _ _ _ _ c.self.invariant (omega (arith, (placed _ _ _ _ c.self.invariant req).within)) (read ∙ next-link _ _ _ _ c.self.invariant req) in
-    let read2 = ap (λ (n : Node). n.number) (get_or_read ns t c.index-2.result.now there.0 c.index-2.ensures blank) in
+    let read2 = ap (λ (n : Node). n.value) (get_or_read ns t c.index-2.result.now there.0 c.index-2.ensures blank) in
     rw (← c.self.view_is) (found-at _ _ _ _ t c.self.invariant (there.2 c.if-next-eq0.false) ∙ ap Some (sym read2))
 
 pub returns-then-next-eq0-clause-distinct : goal.returns-then-next-eq0-clause-distinct

@@ -1,7 +1,6 @@
 use Rattle.std.proofs.Common.{◌≡◌, arith, sym, ap, ◌∙◌, refl, subst, Option, Some, None, IfNone}
 use Rattle.std.proofs.lemmas.List.{get_or_read}
-use Rattle.moka_wheel.specs.declared.nodes.Node.{Node}
-use Rattle.moka_wheel.specs.Nodes.{blank, behinds}
+use Rattle.moka_wheel.specs.Nodes.{Node, blank, behinds}
 use Rattle.moka_wheel.proofs.Sound.{all-later, any-later, first-is}
 use Rattle.moka_wheel.proofs.buckets.Buckets.due.Goals as goal
 

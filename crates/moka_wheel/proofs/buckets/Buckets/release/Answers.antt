@@ -1,7 +1,6 @@
 use Rattle.std.proofs.Common.{◌≡◌, ap}
 use Rattle.std.proofs.lemmas.List.{get_or_read}
-use Rattle.moka_wheel.specs.declared.nodes.Node.{Node}
-use Rattle.moka_wheel.specs.Nodes.{blank, at, detached}
+use Rattle.moka_wheel.specs.Nodes.{Node, blank, at, detached}
 use Rattle.moka_wheel.proofs.Turns.{leaves}
 use Rattle.moka_wheel.proofs.Writes.{taken}
 use Rattle.moka_wheel.proofs.buckets.Buckets.release.Goals as goal

@@ -1,7 +1,6 @@
 use Rattle.std.proofs.Common.{◌≡◌, ap}
 use Rattle.std.proofs.lemmas.List.{get_or_read}
-use Rattle.moka_wheel.specs.declared.nodes.Node.{Node}
-use Rattle.moka_wheel.specs.Nodes.{blank, at, detached}
+use Rattle.moka_wheel.specs.Nodes.{Node, blank, at, detached}
 use Rattle.moka_wheel.proofs.Turns.{leaves}
 use Rattle.moka_wheel.proofs.Writes.{timed}
 use Rattle.moka_wheel.proofs.buckets.Buckets.reset.Goals as goal
@@ -11,7 +10,7 @@ returns-clause-placed c =
     let l = leaves _ _ _ _ c.args.slot c.requires.placed c.requires.timer in
     let value = rw c.detach.ensures.nodes at c.index_mut.ensures.value in
     let read : c.index_mut.result.now ≡ at (detached c.args.self.now.nodes.items c.args.slot) c.args.slot = get_or_read _ c.args.slot c.index_mut.result.now l.slot_in value blank in
-    let v = ap (λ (n : Node). let m : Node = record n { at = c.args.at } in m) read in
+    let v = ap (λ (n : Node). let m : Node = record n { value = record n.value { at = c.args.at } } in m) read in
     rw (c.place.ensures.nodes, c.detach.ensures.nodes, c.place.ensures.moment) (timed _ _ _ _ c.args.slot c.place.result c.args.at _ c.requires.placed c.requires.timer v (rw c.detach.ensures.nodes at c.place.ensures.home) c.place.ensures.marked c.place.ensures.others).placed
 
 pub returns-clause-puts : goal.returns-clause-puts
@@ -19,5 +18,5 @@ returns-clause-puts c =
     let l = leaves _ _ _ _ c.args.slot c.requires.placed c.requires.timer in
     let value = rw c.detach.ensures.nodes at c.index_mut.ensures.value in
     let read : c.index_mut.result.now ≡ at (detached c.args.self.now.nodes.items c.args.slot) c.args.slot = get_or_read _ c.args.slot c.index_mut.result.now l.slot_in value blank in
-    let v = ap (λ (n : Node). let m : Node = record n { at = c.args.at } in m) read in
+    let v = ap (λ (n : Node). let m : Node = record n { value = record n.value { at = c.args.at } } in m) read in
     rw (c.place.ensures.nodes, c.detach.ensures.nodes) (timed _ _ _ _ c.args.slot c.place.result c.args.at _ c.requires.placed c.requires.timer v (rw c.detach.ensures.nodes at c.place.ensures.home) c.place.ensures.marked c.place.ensures.others).puts

@@ -1,7 +1,6 @@
 use Rattle.std.proofs.Common.{length, arith, sym, ap, ◌∙◌}
 use Rattle.std.proofs.lemmas.List.{get_or_read}
-use Rattle.moka_wheel.specs.declared.nodes.Node.{Node}
-use Rattle.moka_wheel.specs.Nodes.{blank}
+use Rattle.moka_wheel.specs.Nodes.{Node, blank}
 use Rattle.moka_wheel.proofs.Frames.{keeps-trans}
 use Rattle.moka_wheel.proofs.Sound.{empty-placed}
 use Rattle.moka_wheel.proofs.Turns.{first-read, moved, fewer}

@@ -1,4 +1,5 @@
-use Rattle.std.proofs.Common.{◌≡◌, vec_capacity}
+use Rattle.std.proofs.Common.{◌≡◌}
+use Rattle.moka_links.specs.Links.{KeepsCapacity}
 use Rattle.moka_wheel.specs.Buckets.{AreBuckets, Keeps}
 use Rattle.moka_wheel.proofs.Frames.{count}
 use Rattle.moka_wheel.proofs.buckets.Buckets.spread.Given as goal
@@ -8,7 +9,7 @@ invariant-loop-self l = record {
   placed : AreBuckets l.self l.bucket;
   keeps : Keeps l.initial.self.nodes.items l.self.nodes.items;
   moment : l.self.moment ≡ l.initial.self.moment;
-  capacity : vec_capacity l.self.nodes ≡ vec_capacity l.initial.self.nodes;
+  capacity : KeepsCapacity l.initial.self.nodes l.self.nodes;
 }
 
 abbrev pub decreases-loop-self : goal.decreases-loop-self

@@ -1,9 +1,8 @@
 use Rattle.std.proofs.Common.{◌≡◌, ◌-◌, None, cond, nat_eq, min, vec_capacity, option_map, unwrap_or, sym, ap, ◌∙◌}
 use Rattle.std.proofs.lemmas.List.{get_or_read}
 use Rattle.std.specs.FinMap.{get, remove}
-use Rattle.moka_wheel.specs.declared.nodes.Node.{Node}
 use Rattle.moka_wheel.specs.Wheel.{Timer, Timers}
-use Rattle.moka_wheel.specs.Nodes.{blank, numbers, timers_of}
+use Rattle.moka_wheel.specs.Nodes.{Node, blank, numbers, timers_of}
 use Rattle.moka_wheel.proofs.Maps.{keeps-timers}
 use Rattle.moka_wheel.proofs.Upkeep.{timer-is, timer-some, later-timer, due-timer, keeps-wheel}
 use Rattle.moka_wheel.proofs.timer_wheel.TimerWheel.advance.Goals as goal
@@ -31,10 +30,10 @@ pub returns-clause-due : goal.returns-clause-due
 returns-clause-due c =
     let ms = c.due.new.self.nodes.items in
     let t = c.in_ok-slot.ensures.some in
-    let read = ap (λ (n : Node). n.at) (get_or_read _ _ c.index.result.now t.within c.index.ensures blank) in
+    let read = ap (λ (n : Node). n.value.at) (get_or_read _ _ c.index.result.now t.within c.index.ensures blank) in
     let number : numbers ms c.in_ok-slot.slot ≡ c.deschedule-number.result =
     ap (λ o. unwrap_or o 0) (ap (λ o. option_map (λ (timer : Timer). timer.number) o) (sym (timer-is ms c.in_ok-slot.slot t)) ∙ c.deschedule-number.ensures.number) in
-    rw (← c.self.view_is) (due-timer _ _ c.in_ok-slot.slot c.deschedule-number.result c.index.result.now.at c.due.ensures.keeps t (sym number) read)
+    rw (← c.self.view_is) (due-timer _ _ c.in_ok-slot.slot c.deschedule-number.result c.index.result.now.value.at c.due.ensures.keeps t (sym number) read)
 
 pub returns-clause-timers : goal.returns-clause-timers
 returns-clause-timers c =

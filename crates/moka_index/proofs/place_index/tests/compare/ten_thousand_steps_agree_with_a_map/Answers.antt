@@ -1,7 +1,0 @@
-use Rattle.std.proofs.Common.{ℕ, ap, ◌∙◌}
-use Rattle.std.specs.FinMap.{get, get-empty}
-use Rattle.std.specs.Ordering.{nat_cmp}
-use Rattle.moka_index.proofs.place_index.tests.compare.ten_thousand_steps_agree_with_a_map.Goals as goal
-
-pub loop-place-init : goal.loop-place-init
-loop-place-init g c p _ = ap (λ m. get m p) c.new-index.ensures.entries ∙ get-empty {X = ℕ} nat_cmp p

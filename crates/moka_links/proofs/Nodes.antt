@@ -1,0 +1,109 @@
+-- What each write leaves of the nodes.
+use Rattle.std.proofs.Common.{◌≡◌, ◌≢◌, ℕ, ◌<◌, List, inl, inr, refl, sym, ap, ◌∙◌, arith, length, set, get_or-set_same, get_or-set_other, length-set}
+use Rattle.std.proofs.lemmas.Bool.{cases_eq}
+use Rattle.std.proofs.lemmas.List.{get_or_default}
+use Rattle.moka_links.specs.declared.Node.{Node}
+use Rattle.moka_links.specs.Links.{blank, at, befores, behinds, values, detached, attached}
+
+module _ {T : Type 0} where
+  -- within the table it does not matter what is read past it
+  pub same-node : (past other : T) (ns : List (Node T)) (i : ℕ) → i < length ns → at past ns i ≡ at other ns i
+  same-node past other ns i l = get_or_default ns i (blank past) (blank other) l
+
+  pub any-before : (past other : T) (ns : List (Node T)) (i size : ℕ) → i < length ns → befores past ns i < size → befores other ns i < size
+  any-before past other ns i size l h = omega (arith, h, ap (λ (n : Node T). n.before) (same-node past other ns i l))
+
+  pub any-behind : (past other : T) (ns : List (Node T)) (i size : ℕ) → i < length ns → behinds past ns i < size → behinds other ns i < size
+  any-behind past other ns i size l h = omega (arith, h, ap (λ (n : Node T). n.behind) (same-node past other ns i l))
+
+  module _ (past : T) where
+    -- what a write at p keeps of a node
+    pub set-keeps : {B : Type 0} (h : Node T → B) (ns : List (Node T)) (p : ℕ) (v : Node T) (i : ℕ) → p < length ns → h v ≡ h (at past ns p) → h (at past (set ns p v) i) ≡ h (at past ns i)
+    set-keeps h ns p v i l e = elim (cases_eq i p) as (λ _. h (at past (set ns p v) i) ≡ h (at past ns i)) [
+      | inl same ↦ ap (λ k. h (at past (set ns p v) k)) same ∙ ap h (get_or-set_same ns p v (blank past) l) ∙ e ∙ ap (λ k. h (at past ns k)) (sym same)
+      | inr other ↦ ap h (get_or-set_other ns p i v (blank past) other)
+    ]
+
+    -- a write at p leaves the other nodes
+    pub set-other : (ns : List (Node T)) (p : ℕ) (v : Node T) (i : ℕ) → i ≢ p → at past (set ns p v) i ≡ at past ns i
+    set-other ns p v i ne = get_or-set_other ns p i v (blank past) ne
+
+    -- a write at p is there
+    pub set-same : (ns : List (Node T)) (p : ℕ) (v : Node T) → p < length ns → at past (set ns p v) p ≡ v
+    set-same ns p v l = get_or-set_same ns p v (blank past) l
+
+    -- the nodes after `detach`, where p stood before the slot and b behind it
+    pub record Detached (ns ms : List (Node T)) (p b : ℕ) : Type 0 where
+      pub size : length ms ≡ length ns
+      pub behind : (i : ℕ) → i ≢ p → behinds past ms i ≡ behinds past ns i
+      pub behind_at : behinds past ms p ≡ b
+      pub before : (i : ℕ) → i ≢ b → befores past ms i ≡ befores past ns i
+      pub before_at : befores past ms b ≡ p
+      pub value : (i : ℕ) → values past ms i ≡ values past ns i
+      pub whole : (i : ℕ) → i ≢ p → i ≢ b → at past ms i ≡ at past ns i
+
+    pub Detached-detached : (ns : List (Node T)) (s : ℕ) → befores past ns s < length ns → behinds past ns s < length ns
+        → Detached ns (detached past ns s) (befores past ns s) (behinds past ns s)
+    Detached-detached ns s lp lb =
+        let f : Node T → ℕ = λ n. n.behind in
+        let g : Node T → ℕ = λ n. n.before in
+        let h : Node T → T = λ n. n.value in
+        let p = befores past ns s in
+        let b = behinds past ns s in
+        let v : Node T = record (at past ns p) { behind = b } in
+        let ms = set ns p v in
+        let w : Node T = record (at past ms b) { before = p } in
+        let lm : b < length ms = omega (arith, length-set ns p v) in
+        record {
+          size = length-set ms b w ∙ length-set ns p v;
+          behind = λ i ne. set-keeps f ms b w i lm refl ∙ ap f (set-other ns p v i ne);
+          behind_at = set-keeps f ms b w p lm refl ∙ ap f (set-same ns p v lp);
+          before = λ i ne. ap g (set-other ms b w i ne) ∙ set-keeps g ns p v i lp refl;
+          before_at = ap g (set-same ms b w lm);
+          value = λ i. set-keeps h ms b w i lm refl ∙ set-keeps h ns p v i lp refl;
+          whole = λ i np nb. set-other ms b w i nb ∙ set-other ns p v i np;
+        }
+
+    -- the nodes after `attach` of the slot s to the head, before which `last` stood
+    pub record Attached (ns ms : List (Node T)) (s head last : ℕ) : Type 0 where
+      pub size : length ms ≡ length ns
+      pub behind : (i : ℕ) → i ≢ last → i ≢ s → behinds past ms i ≡ behinds past ns i
+      pub behind_last : behinds past ms last ≡ s
+      pub behind_at : s ≢ last → behinds past ms s ≡ head
+      pub before : (i : ℕ) → i ≢ head → i ≢ s → befores past ms i ≡ befores past ns i
+      pub before_head : befores past ms head ≡ s
+      pub before_at : s ≢ head → befores past ms s ≡ last
+      pub value : (i : ℕ) → values past ms i ≡ values past ns i
+      pub whole : (i : ℕ) → i ≢ s → i ≢ last → i ≢ head → at past ms i ≡ at past ns i
+
+    pub Attached-attached : (ns : List (Node T)) (s head : ℕ) → s < length ns → head < length ns → befores past ns head < length ns
+        → Attached ns (attached past ns s head) s head (befores past ns head)
+    Attached-attached ns s head ls lh ll =
+        let f : Node T → ℕ = λ n. n.behind in
+        let g : Node T → ℕ = λ n. n.before in
+        let h : Node T → T = λ n. n.value in
+        let last = befores past ns head in
+        let v1 : Node T = record (at past ns s) { before = last } in
+        let ms1 = set ns s v1 in
+        let e1 : length ms1 ≡ length ns = length-set ns s v1 in
+        let v2 : Node T = record (at past ms1 s) { behind = head } in
+        let ms2 = set ms1 s v2 in
+        let e2 : length ms2 ≡ length ns = length-set ms1 s v2 ∙ e1 in
+        let v3 : Node T = record (at past ms2 last) { behind = s } in
+        let ms3 = set ms2 last v3 in
+        let e3 : length ms3 ≡ length ns = length-set ms2 last v3 ∙ e2 in
+        let v4 : Node T = record (at past ms3 head) { before = s } in
+        let l1 : s < length ms1 = omega arith in
+        let l2 : last < length ms2 = omega arith in
+        let l3 : head < length ms3 = omega arith in
+        record {
+          size = length-set ms3 head v4 ∙ e3;
+          behind = λ i nl ne. set-keeps f ms3 head v4 i l3 refl ∙ ap f (set-other ms2 last v3 i nl) ∙ ap f (set-other ms1 s v2 i ne) ∙ set-keeps f ns s v1 i ls refl;
+          behind_last = set-keeps f ms3 head v4 last l3 refl ∙ ap f (set-same ms2 last v3 l2);
+          behind_at = λ ne. set-keeps f ms3 head v4 s l3 refl ∙ ap f (set-other ms2 last v3 s ne) ∙ ap f (set-same ms1 s v2 l1);
+          before = λ i nh ne. ap g (set-other ms3 head v4 i nh) ∙ set-keeps g ms2 last v3 i l2 refl ∙ set-keeps g ms1 s v2 i l1 refl ∙ ap g (set-other ns s v1 i ne);
+          before_head = ap g (set-same ms3 head v4 l3);
+          before_at = λ ne. ap g (set-other ms3 head v4 s ne) ∙ set-keeps g ms2 last v3 s l2 refl ∙ set-keeps g ms1 s v2 s l1 refl ∙ ap g (set-same ns s v1 ls);
+          value = λ i. set-keeps h ms3 head v4 i l3 refl ∙ set-keeps h ms2 last v3 i l2 refl ∙ set-keeps h ms1 s v2 i l1 refl ∙ set-keeps h ns s v1 i ls refl;
+          whole = λ i ne nl nh. set-other ms3 head v4 i nh ∙ set-other ms2 last v3 i nl ∙ set-other ms1 s v2 i ne ∙ set-other ns s v1 i ne;
+        }

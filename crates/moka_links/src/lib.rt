@@ -1,0 +1,49 @@
+//! Nodes in one table that are linked by their slots: rings, each closed at its head, and chains of free slots.
+//!
+//! In the contracts `past` is the value that is read past the last node; they hold whichever it is.
+#![tactic(auto)]
+
+ghost use Rattle.std.specs.Prelude.{◌≡◌, ◌<◌, vec_len};
+ghost use Rattle.moka_links.specs.Links.{attached, befores, behinds, detached, KeepsCapacity};
+
+/// A value with the slots of its neighbours.
+#[derive(Clone, Copy)]
+pub struct Node<T> {
+    /// What the node holds.
+    pub value: T,
+    /// The slot before this one in its ring.
+    pub before: u32,
+    /// The slot behind this one in its ring, or the next free one.
+    pub behind: u32,
+}
+
+/// Takes the node at `slot` out of its ring. Its own links stay as they are.
+#[inline(always)]
+pub fn detach<T>(nodes: &mut Vec<Node<T>>, slot: u32)
+    requires slot { slot < vec_len nodes.old }
+    requires before { (past : T) → befores past nodes.old.items slot < vec_len nodes.old }
+    requires behind { (past : T) → behinds past nodes.old.items slot < vec_len nodes.old }
+    ensures nodes { (past : T) → nodes.new.items ≡ detached past nodes.old.items slot }
+    ensures capacity { KeepsCapacity nodes.old nodes.new }
+{
+    let before = nodes[slot as usize].before;
+    let behind = nodes[slot as usize].behind;
+    nodes[before as usize].behind = behind;
+    nodes[behind as usize].before = before;
+}
+
+/// Puts the node at `slot` before `head`, which is behind all others of that ring.
+#[inline(always)]
+pub fn attach<T>(nodes: &mut Vec<Node<T>>, slot: u32, head: u32)
+    requires slot { slot < vec_len nodes.old }
+    requires head { head < vec_len nodes.old }
+    requires last { (past : T) → befores past nodes.old.items head < vec_len nodes.old }
+    ensures nodes { (past : T) → nodes.new.items ≡ attached past nodes.old.items slot head }
+    ensures capacity { KeepsCapacity nodes.old nodes.new }
+{
+    let last = nodes[head as usize].before;
+    nodes[slot as usize].before = last;
+    nodes[slot as usize].behind = head;
+    nodes[last as usize].behind = slot;
+    nodes[head as usize].before = slot;
+}

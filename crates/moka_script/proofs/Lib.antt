@@ -1,0 +1,3 @@
+pub mod Numerals
+pub mod Printable
+pub mod Lines

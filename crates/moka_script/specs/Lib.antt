@@ -1,0 +1,10 @@
+pub mod Lex
+pub mod Rules
+pub mod Settings
+pub mod Calls
+pub mod Clock
+pub mod Ids
+pub mod Script
+pub mod Notices
+pub mod Text
+pub mod Failure

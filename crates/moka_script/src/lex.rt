@@ -1,0 +1,90 @@
+//! The words and the numbers of a line.
+ghost use Rattle.std.specs.Prelude.{◌≡◌, ◌≤◌, take};
+ghost use Rattle.std.specs.List.{list_all};
+ghost use Rattle.std.specs.Char.{is_ascii_digit};
+ghost use Rattle.moka_script.specs.Lex.{texts, alone, lone_number, words_of, number_of, is_numeral, is_printable};
+
+/// A number has at most twenty digits.
+const MOST_DIGITS: usize = 20;
+
+/// One word more than the longest line with a meaning has.
+pub const MOST_WORDS: usize = 6;
+
+/// Tells whether each byte may stand in a line.
+pub fn is_printable(line: &[u8]) -> bool
+    ensures { result ≡ list_all is_printable line.now }
+{
+    line.iter().all(|byte| matches!(byte, b' '..=b'~'))
+}
+
+/// Tells whether each byte is a digit.
+fn has_only_digits(word: &str) -> bool
+    ensures { result ≡ list_all is_ascii_digit word.now }
+{
+    word.bytes().all(|byte| byte.is_ascii_digit())
+}
+
+/// Tells whether a word is one to twenty digits.
+fn is_numeral(word: &str) -> bool
+    ensures { result ≡ is_numeral word.now }
+{
+    !word.is_empty() && word.len() <= MOST_DIGITS && has_only_digits(word)
+}
+
+/// The number that a word says, if it fits in 64 bits.
+pub fn number(word: &str) -> Option<u64>
+    ensures { result ≡ number_of 64 word.now }
+{
+    if is_numeral(word) {
+        word.parse().ok()
+    } else {
+        None
+    }
+}
+
+/// The number that a word says, if it fits in 32 bits.
+pub fn small_number(word: &str) -> Option<u32>
+    ensures { result ≡ number_of 32 word.now }
+{
+    if is_numeral(word) {
+        word.parse().ok()
+    } else {
+        None
+    }
+}
+
+/// What stands between the spaces of a text: its first words, and how many of these there are.
+pub fn first_words(text: &str) -> ([&str; MOST_WORDS], usize)
+    ensures words { texts (take result.1 result.0) ≡ take MOST_WORDS (words_of text.now) }
+    ensures fits { result.1 ≤ MOST_WORDS }
+{
+    let mut words = [""; MOST_WORDS];
+    let mut count = 0;
+    let all = text.split(' ').filter(|word| !word.is_empty());
+    for word in all.take(MOST_WORDS) {
+        words[count] = word;
+        count += 1;
+    }
+    (words, count)
+}
+
+/// What a line asks for whose first word stands alone.
+pub fn alone<T: Drop>(asked: T, arguments: &[&str]) -> Option<T>
+    ensures { result ≡ alone asked (texts arguments.now) }
+{
+    if arguments.is_empty() {
+        Some(asked)
+    } else {
+        None
+    }
+}
+
+/// The number of a line that asks for one alone.
+pub fn lone_number(arguments: &[&str]) -> Option<u64>
+    ensures { result ≡ lone_number (texts arguments.now) }
+{
+    match arguments {
+        [word] => number(word),
+        _ => None,
+    }
+}

@@ -1,0 +1,259 @@
+//! The settings of a script.
+ghost use Rattle.std.specs.Prelude.{◌≡◌};
+ghost use Rattle.moka_script.specs.Lex.{texts};
+ghost use Rattle.moka_script.specs.Settings.{answer_of, filled, raised, ids_given, ids_of, keeper_of, policy_of, policy_named, question_named, rule_line, rule_of, setting_of};
+
+use crate::first_ticket::FirstTicket;
+use crate::lex::{alone, lone_number, number, small_number};
+use crate::rules::{Question, Rule};
+use crate::weigher::NumberWeigher;
+use moka_parts::policy::EvictionPolicy;
+
+/// What a script sets before its first call; `None` where it has no such line.
+#[derive(Clone, Copy)]
+pub struct Settings {
+    /// The first ticket.
+    pub first: Option<FirstTicket>,
+    /// The greatest weight that the cache keeps.
+    pub capacity: Option<u64>,
+    /// How the cache chooses what stays.
+    pub policy: Option<EvictionPolicy>,
+    /// How long an entry lasts after it was last inserted, in nanoseconds.
+    pub time_to_live: Option<u64>,
+    /// How long an entry lasts after it was last inserted or read, in nanoseconds.
+    pub time_to_idle: Option<u64>,
+    /// What weighs the values.
+    pub weigher: Option<NumberWeigher>,
+    /// Whether a listener keeps the notices.
+    pub listener: bool,
+    /// Whether predicates are supported.
+    pub invalidator: bool,
+    /// Whether each identifier that is asked for is the same.
+    pub repeats_ids: bool,
+    /// The moment at which the cache is made.
+    pub start: Option<u64>,
+    /// What the housekeeper gives to its runs.
+    pub keeper: Option<KeeperTerms>,
+    /// Whether runs start by themselves.
+    pub automatic: bool,
+}
+
+/// What the housekeeper gives to each run: its time limit in nanoseconds, its repeats and its batch.
+#[derive(Clone, Copy)]
+pub struct KeeperTerms {
+    pub limit: u64,
+    pub repeats: u32,
+    pub batch: u32,
+}
+
+impl Settings {
+    ghost use Rattle.std.specs.Prelude.{◌≡◌};
+    ghost use Rattle.moka_script.specs.Settings.{no_settings, put_in};
+
+    /// Nothing is set.
+    pub fn new() -> Self
+        ensures { result ≡ no_settings }
+    {
+        Settings {
+            first: None,
+            capacity: None,
+            policy: None,
+            time_to_live: None,
+            time_to_idle: None,
+            weigher: None,
+            listener: false,
+            invalidator: false,
+            repeats_ids: false,
+            start: None,
+            keeper: None,
+            automatic: false,
+        }
+    }
+
+    /// The settings with one more, unless it is there already.
+    pub fn with(mut self, setting: Setting) -> Option<Settings>
+        ensures { result ≡ put_in self setting }
+    {
+        match setting {
+            Setting::First(first) => self.first = filled(self.first, first)?,
+            Setting::Capacity(capacity) => self.capacity = filled(self.capacity, capacity)?,
+            Setting::Policy(policy) => self.policy = filled(self.policy, policy)?,
+            Setting::TimeToLive(nanos) => self.time_to_live = filled(self.time_to_live, nanos)?,
+            Setting::TimeToIdle(nanos) => self.time_to_idle = filled(self.time_to_idle, nanos)?,
+            Setting::Weigh(weigher) => self.weigher = filled(self.weigher, weigher)?,
+            Setting::Listener => self.listener = raised(self.listener)?,
+            Setting::Invalidator => self.invalidator = raised(self.invalidator)?,
+            Setting::RepeatedIds => self.repeats_ids = raised(self.repeats_ids)?,
+            Setting::Start(now) => self.start = filled(self.start, now)?,
+            Setting::Keeper(keeper) => self.keeper = filled(self.keeper, keeper)?,
+            Setting::Auto => self.automatic = raised(self.automatic)?,
+        }
+        Some(self)
+    }
+}
+
+/// A place with a value, unless it has one already.
+fn filled<T: Copy>(place: Option<T>, value: T) -> Option<Option<T>>
+    ensures { result ≡ filled place value }
+{
+    match place {
+        None => Some(Some(value)),
+        Some(_) => None,
+    }
+}
+
+/// A flag that is raised, unless it is already.
+fn raised(flag: bool) -> Option<bool>
+    ensures { result ≡ raised flag }
+{
+    if flag { None } else { Some(true) }
+}
+
+/// A line that sets something.
+#[derive(Clone, Copy)]
+pub enum Setting {
+    First(FirstTicket),
+    Capacity(u64),
+    Policy(EvictionPolicy),
+    TimeToLive(u64),
+    TimeToIdle(u64),
+    Weigh(NumberWeigher),
+    Listener,
+    Invalidator,
+    RepeatedIds,
+    Start(u64),
+    Keeper(KeeperTerms),
+    Auto,
+}
+
+/// `keeper LIMIT REPEATS BATCH`
+fn keeper(arguments: &[&str]) -> Option<Setting>
+    ensures { result ≡ keeper_of (texts arguments.now) }
+{
+    let [limit, repeats, batch] = arguments else {
+        return None;
+    };
+    let limit = number(limit)?;
+    let repeats = small_number(repeats)?;
+    let batch = small_number(batch)?;
+    Some(Setting::Keeper(KeeperTerms {
+        limit,
+        repeats,
+        batch,
+    }))
+}
+
+/// `policy NAME`
+fn policy(arguments: &[&str]) -> Option<Setting>
+    ensures { result ≡ policy_of (texts arguments.now) }
+{
+    let [name] = arguments else {
+        return None;
+    };
+    Some(Setting::Policy(policy_named(name)?))
+}
+
+/// The policy of that name, if there is one.
+fn policy_named(name: &str) -> Option<EvictionPolicy>
+    ensures { result ≡ policy_named name.now }
+{
+    match name {
+        "lru" => Some(EvictionPolicy::lru()),
+        "tinylfu" => Some(EvictionPolicy::tiny_lfu()),
+        _ => None,
+    }
+}
+
+/// `ids HOW`
+fn ids(arguments: &[&str]) -> Option<Setting>
+    ensures { result ≡ ids_of (texts arguments.now) }
+{
+    let [how] = arguments else {
+        return None;
+    };
+    ids_given(how)
+}
+
+/// How identifiers are given, if there is such a way.
+fn ids_given(how: &str) -> Option<Setting>
+    ensures { result ≡ ids_given how.now }
+{
+    match how {
+        "repeat" => Some(Setting::RepeatedIds),
+        _ => None,
+    }
+}
+
+/// The setting of that name, if there is one.
+pub fn parse_setting(name: &str, arguments: &[&str]) -> Option<Setting>
+    ensures { result ≡ setting_of name.now (texts arguments.now) }
+{
+    match name {
+        "first" => lone_number(arguments)
+            .and_then(FirstTicket::new)
+            .map(Setting::First),
+        "capacity" => lone_number(arguments).map(Setting::Capacity),
+        "policy" => policy(arguments),
+        "ttl" => lone_number(arguments).map(Setting::TimeToLive),
+        "tti" => lone_number(arguments).map(Setting::TimeToIdle),
+        "weigh" => alone(Setting::Weigh(NumberWeigher), arguments),
+        "listener" => alone(Setting::Listener, arguments),
+        "invalidator" => alone(Setting::Invalidator, arguments),
+        "ids" => ids(arguments),
+        "start" => lone_number(arguments).map(Setting::Start),
+        "keeper" => keeper(arguments),
+        "auto" => alone(Setting::Auto, arguments),
+        _ => None,
+    }
+}
+
+/// `expire QUESTION KEY MOMENT ANSWER`
+fn rule(arguments: &[&str]) -> Option<Rule>
+    ensures { result ≡ rule_of (texts arguments.now) }
+{
+    let [question, key, moment, answer] = arguments else {
+        return None;
+    };
+    let question = question_named(question)?;
+    let key = small_number(key)?;
+    let moment = number(moment)?;
+    let answer = answer_of(answer)?;
+    Some(Rule {
+        question,
+        key,
+        moment,
+        answer,
+    })
+}
+
+/// The question of that name, if there is one.
+fn question_named(name: &str) -> Option<Question>
+    ensures { result ≡ question_named name.now }
+{
+    match name {
+        "create" => Some(Question::Create),
+        "read" => Some(Question::Read),
+        "update" => Some(Question::Update),
+        _ => None,
+    }
+}
+
+/// The answer that a word says: a number, or `none`.
+fn answer_of(word: &str) -> Option<Option<u64>>
+    ensures { result ≡ answer_of word.now }
+{
+    match word {
+        "none" => Some(None),
+        _ => number(word).map(Some),
+    }
+}
+
+/// The rule of a line of that name, if it is one.
+pub fn parse_rule(name: &str, arguments: &[&str]) -> Option<Rule>
+    ensures { result ≡ rule_line name.now (texts arguments.now) }
+{
+    match name {
+        "expire" => rule(arguments),
+        _ => None,
+    }
+}

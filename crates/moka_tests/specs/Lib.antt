@@ -1,0 +1,2 @@
+pub mod PlainSketch
+pub mod WheelTable

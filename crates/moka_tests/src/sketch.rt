@@ -1,0 +1,115 @@
+//! Tests of `moka_sketch`: vectors, memory that is refused, and the packed counters beside plain ones.
+use moka_sketch::frequency_sketch::{FrequencySketch, sketch_capacity, table_len_for};
+use plain_sketch::PlainSketch;
+use std::test::Fail;
+
+mod plain_sketch;
+
+#[test]
+fn lengths_and_capacities(rt: HostRuntime) {
+    for (size, length) in [
+        (0, 128),
+        (128, 128),
+        (129, 256),
+        (65536, 65536),
+        (65537, 131072),
+        (1073741823, 1073741824),
+        (18446744073709551615, 1073741824),
+    ] {
+        assert_eq!(rt; table_len_for(size), length, "at {size}");
+    }
+    for (capacity, size) in [
+        (0, 128),
+        (128, 128),
+        (129, 129),
+        (4294967295, 4294967295),
+        (4294967296, 4294967295),
+    ] {
+        assert_eq!(rt; sketch_capacity(capacity), size, "at {capacity}");
+    }
+}
+
+#[test]
+fn counts_up_to_15(rt: HostRuntime) -> Result<(), Fail> {
+    let mut sketch = FrequencySketch::new(rt.alloc())?;
+    sketch.increment(5);
+    assert_eq!(rt;
+        (sketch.table_len(), sketch.frequency(5)),
+        (0, 0),
+        "while it is off"
+    );
+
+    sketch.ensure_capacity(128)?;
+    assert_eq!(rt;
+        (sketch.table_len(), sketch.frequency(5)),
+        (128, 0),
+        "when it is fresh"
+    );
+    for _ in 0..3 {
+        sketch.increment(5);
+    }
+    assert_eq!(rt; (sketch.frequency(5), sketch.frequency(6)), (3, 0));
+    for _ in 3..16 {
+        sketch.increment(5);
+    }
+    assert_eq!(rt; sketch.frequency(5), 15);
+
+    // The sixteenth increment raised nothing, so 1,265 others are wanted before the counts are halved.
+    for k in 0..1264 {
+        sketch.increment(4 * k);
+    }
+    assert_eq!(rt; sketch.frequency(5), 15);
+    sketch.increment(4 * 1264);
+    assert_eq!(rt; sketch.frequency(5), 7);
+    Ok(())
+}
+
+// Where memory is refused, the sketch says so and has the shortest table.
+#[test]
+fn longer_table(rt: HostRuntime) -> Result<(), Fail> {
+    let mut sketch = FrequencySketch::new(rt.alloc())?;
+    let made = sketch.ensure_capacity(65537).is_ok();
+    assert_eq!(rt; sketch.table_len(), if made { 131072 } else { 128 });
+    sketch.increment(7);
+    assert_eq!(rt; sketch.frequency(7), 1);
+
+    // The shortest table takes the room that is there, and starts afresh.
+    assert!(rt; sketch.ensure_capacity(0).is_ok());
+    assert_eq!(rt; (sketch.table_len(), sketch.frequency(7)), (128, 0));
+    Ok(())
+}
+
+// A hash for a number, as a hasher might give it.
+fn hash_of(number: u64) -> u64 {
+    number.wrapping_mul(0x2545F4914F6CDD1D)
+}
+
+// 100,000 increments by numbers below 1,024, some of which come often, over packed and over plain counters. The sum of all
+// frequencies at the end was computed by another program.
+#[test]
+fn agrees_with_plain_counters(rt: HostRuntime) -> Result<(), Fail> {
+    for (length, sum) in [(128, 1161), (256, 1744)] {
+        let mut packed = FrequencySketch::new(rt.alloc())?;
+        let mut plain = PlainSketch::new(rt.alloc());
+        packed.ensure_capacity(length)?;
+        plain.ensure_capacity(length)?;
+        let mut state: u64 = 1;
+        for _ in 0..100_000 {
+            state = state
+                .wrapping_mul(6364136223846793005)
+                .wrapping_add(1442695040888963407);
+            let hash = hash_of((state >> 54) & (state >> 34));
+            packed.increment(hash);
+            plain.increment(hash);
+            assert_eq!(rt; packed.frequency(hash), plain.frequency(hash));
+        }
+        let mut total: u64 = 0;
+        for number in 0..1024 {
+            let hash = hash_of(number);
+            assert_eq!(rt; packed.frequency(hash), plain.frequency(hash));
+            total = total.wrapping_add(u64::from(packed.frequency(hash)));
+        }
+        assert_eq!(rt; total, sum, "at length {length}");
+    }
+    Ok(())
+}

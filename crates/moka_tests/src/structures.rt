@@ -1,0 +1,5 @@
+//! Tests of `moka_structures`.
+mod order_list;
+mod outstanding;
+mod plain_order;
+mod record_table;
