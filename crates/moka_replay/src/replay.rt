@@ -101,6 +101,3 @@ fn read_script<R: Source>(alloc: Global, input: &mut R) -> Result<Script, Failur
     let text = input.read_all(alloc)?;
     Ok(parse(alloc, &text)?)
 }
-
-#[cfg(test)]
-mod tests;
