@@ -24,27 +24,6 @@ fn hands_out_what_is_due(rt: HostRuntime) -> Result<(), Fail> {
 }
 
 #[test]
-fn moves_and_takes_out(rt: HostRuntime) -> Result<(), Fail> {
-    let mut wheel = TimerWheel::new(rt.alloc())?;
-    wheel.reserve(2)?;
-    let first = wheel.schedule(1, 10);
-    let second = wheel.schedule(2, 20);
-    wheel.reschedule(first, 1 << 40);
-    assert_eq!(rt; wheel.deschedule(second), 2);
-    assert_eq!(rt; wheel.advance((1 << 40) - 1), None);
-    let third = wheel.schedule(3, 0);
-    assert_eq!(rt; third, second);
-    let due = Due {
-        slot: third,
-        number: 3,
-        at: 0,
-    };
-    assert_eq!(rt; wheel.advance(0), Some(due));
-    assert_eq!(rt; wheel.advance(1 << 40).map(|due| due.number), Some(1));
-    Ok(())
-}
-
-#[test]
 fn an_earlier_moment_hands_out_what_is_due_by_it(rt: HostRuntime) -> Result<(), Fail> {
     let mut wheel = TimerWheel::new(rt.alloc())?;
     wheel.reserve(3)?;

@@ -133,29 +133,3 @@ fn asks_for_1000_identifiers(rt: HostRuntime) -> Result<(), Fail> {
     assert_eq!(rt; registry.len(), 3);
     Ok(())
 }
-
-#[test]
-fn a_refused_growth_changes_nothing(rt: HostRuntime) {
-    let mut registry = Invalidator::new(rt.alloc());
-    let mut ids = Repeating {
-        repeats: 0,
-        given: 0,
-    };
-    for value in 0..20 {
-        let (asked, len) = (ids.given, registry.len());
-        match registry.register_predicate(IsValue::new(value), Instant(1), &mut ids) {
-            Ok(_) => assert_eq!(rt;
-                (ids.given, registry.len()),
-                (asked.wrapping_add(1), len + 1)
-            ),
-            Err(refused) => {
-                assert_eq!(rt; refused.error, PredicateError::OutOfMemory);
-                let after = (refused.predicate.value, ids.given, registry.len());
-                assert_eq!(rt; after, (value, asked, len));
-                let again = registry.register_predicate(refused.predicate, Instant(1), &mut ids);
-                assert!(rt; again.is_ok());
-            }
-        }
-    }
-    assert_eq!(rt; registry.len(), 20);
-}
