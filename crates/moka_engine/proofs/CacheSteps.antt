@@ -13,7 +13,7 @@ use Rattle.moka_store.proofs.Gets.{after_insert, after_remove}
 use Rattle.moka_parts.specs.State.{Settings}
 use Rattle.moka_engine.specs.BaseCache.{IsCache, IsStocked, NoneExpires}
 use Rattle.moka_engine.proofs.Stocked.{stocked-roomier}
-use Rattle.moka_engine.specs.Interior.{Interior}
+use Rattle.moka_inner.specs.Interior.{Interior}
 
 -- the state with this inner part
 abbrev pub with_inner : {K V X P W S : Type 0} → State K V X P W → Interior K V S → State K V X P W

@@ -27,7 +27,7 @@ use Rattle.moka_parts.proofs.StepsKeep.{hit_valid, valid_with}
 use Rattle.moka_store.specs.Store.{Kept}
 use Rattle.moka_engine.specs.BaseCache.{IsCache, IsStocked, NoneExpires, expirations_of, expiring_by}
 use Rattle.moka_engine.proofs.Stocked.{stocked-touched, stays-unrenewed}
-use Rattle.moka_engine.specs.Interior.{Interior, IsLocated}
+use Rattle.moka_inner.specs.Interior.{Interior, IsLocated}
 use Rattle.moka_engine.specs.Looks.{Touches, value_of}
 use Rattle.moka_engine.proofs.CacheSteps.{with_inner, befalls-quietly, befalls-listed, unexpiring-inserted, cache-inner, unexpiring-inside, number-inside, key-inside}
 

@@ -16,7 +16,7 @@ use Rattle.moka_parts.proofs.CallsKeep.{record_at_its_number}
 use Rattle.moka_parts.proofs.Lookup.{record_of_key_found, present_key}
 use Rattle.moka_parts.proofs.RunKeeps.{Keeps, keeps_itself, run_keeps}
 use Rattle.moka_store.proofs.Gets.{option-cases}
-use Rattle.moka_engine.specs.ReadNumber.{IsReadNumber}
+use Rattle.moka_inner.specs.ReadNumber.{IsReadNumber}
 
 same_some : {A : Type 0} (x y : A) → Some x ≡ Some y → x ≡ y
 same_some x y e = cc

@@ -24,7 +24,7 @@ use Rattle.moka_store.specs.Updates.{updated}
 use Rattle.moka_store.specs.declared.store.Update.{Update}
 use Rattle.moka_engine.specs.BaseCache.{IsCache, IsStocked, NoneExpires, expirations_of, expiring_by}
 use Rattle.moka_engine.proofs.Stocked.{stocked-inserted, update_waits}
-use Rattle.moka_engine.specs.Interior.{Interior, first_record, handing_out_inside}
+use Rattle.moka_inner.specs.Interior.{Interior, first_record, handing_out_inside}
 use Rattle.moka_engine.proofs.CacheSteps.{with_inner, without_room, inside-roomier, list-roomier, stocked-room, befalls-listed, unexpiring-inserted, cache-inner, unexpiring-inside, number-inside, key-inside}
 
 -- ---- refusals

@@ -20,7 +20,7 @@ use Rattle.moka_parts.specs.Surroundings.{Leads}
 use Rattle.moka_parts.proofs.StepsKeep.{valid_with}
 use Rattle.moka_engine.specs.BaseCache.{IsCache, settings_of, state_of}
 use Rattle.moka_engine.specs.CacheRuns.{CacheRuns}
-use Rattle.moka_engine.specs.Interior.{Interior}
+use Rattle.moka_inner.specs.Interior.{Interior}
 use Rattle.moka_engine.proofs.CacheSteps.{with_inner, befalls-quietly}
 use Rattle.moka_engine.proofs.GetSteps.{reads_queued}
 

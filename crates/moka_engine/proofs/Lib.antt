@@ -1,6 +1,3 @@
-pub mod ValuesLemmas
-pub mod InnerLemmas
-pub mod InnerRuns
 pub mod Stocked
 pub mod CacheSteps
 pub mod NewSteps

@@ -9,7 +9,7 @@ use Rattle.moka_parts.specs.State.{Settings, new_state}
 use Rattle.moka_parts.proofs.Maps.{nothing_at}
 use Rattle.moka_parts.proofs.NewCache.{new_is_valid}
 use Rattle.moka_engine.specs.BaseCache.{IsCache, settings_of, state_of}
-use Rattle.moka_engine.specs.Interior.{Interior, nothing_inside}
+use Rattle.moka_inner.specs.Interior.{Interior, nothing_inside}
 
 -- it keeps nothing and listens where a listener is set
 pub cache-new : {K V X L P W S : Type 0} (eq : K → K → Bool) (listener : Option L) (i : Interior K V S) (ordered timed : Bool) (first_ticket : ℕ) → i ≡ nothing_inside ordered timed first_ticket i → (predicates : List (Registered P)) → predicates ≡ []

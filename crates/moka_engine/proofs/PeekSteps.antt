@@ -12,7 +12,7 @@ use Rattle.moka_parts.specs.State.{State, is_disabled}
 use Rattle.moka_parts.specs.Visibility.{has_lapsed, NoneCovers}
 use Rattle.moka_store.specs.Store.{Kept}
 use Rattle.moka_engine.specs.BaseCache.{IsCache, expirations_of}
-use Rattle.moka_engine.specs.Interior.{Interior}
+use Rattle.moka_inner.specs.Interior.{Interior}
 use Rattle.moka_engine.specs.Looks.{Touches}
 use Rattle.moka_engine.proofs.CacheSteps.{with_inner, befalls-quietly, befalls-listed, number-inside, key-inside}
 use Rattle.moka_engine.proofs.GetSteps.{record_read}

@@ -10,7 +10,7 @@ use Rattle.moka_parts.specs.Runs.{Cache}
 use Rattle.moka_parts.specs.State.{State}
 use Rattle.moka_parts.proofs.CallsKeep.{remove_keeps}
 use Rattle.moka_engine.specs.BaseCache.{IsCache, NoneExpires}
-use Rattle.moka_engine.specs.Interior.{Interior, handing_out_inside}
+use Rattle.moka_inner.specs.Interior.{Interior, handing_out_inside}
 use Rattle.moka_engine.proofs.CacheSteps.{with_inner, unexpiring-removed, cache-inner, unexpiring-inside, number-inside, key-inside}
 
 module _ {K V X L P W S : Type 0} {eq : K → K → Bool} {l : Option L} {s : State K V X P W} (h : IsCache eq l s) (i j : Interior K V S) (inside : with_inner s i ≡ s)

@@ -30,7 +30,7 @@ use Rattle.moka_maintenance.specs.Queues.{ArePrepared}
 use Rattle.moka_maintenance.specs.Passes.{IsRan}
 use Rattle.moka_maintenance.proofs.Scanned.{nothing_kept}
 use Rattle.moka_maintenance.proofs.Promises.{IsSimple, run_promised, run_keeps_listening, run_leaves_lasting, run_settles_each, run_leaves_valid, run_leaves_exact}
-use Rattle.moka_engine.specs.Interior.{Interior}
+use Rattle.moka_inner.specs.Interior.{Interior}
 use Rattle.moka_engine.specs.BaseCache.{state_of, IsCache, IsStocked, IsWhole}
 use Rattle.moka_engine.proofs.Stocked.{stocked-on}
 

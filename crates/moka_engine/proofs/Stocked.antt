@@ -17,7 +17,7 @@ use Rattle.moka_store.proofs.Gets.{after_insert, after_remove}
 use Rattle.moka_maintenance.specs.Timers.{KeepsTimers}
 use Rattle.moka_maintenance.proofs.Timing.{still-timed}
 use Rattle.moka_engine.specs.BaseCache.{IsStocked, NeverRenews}
-use Rattle.moka_engine.specs.Interior.{Interior, nothing_inside}
+use Rattle.moka_inner.specs.Interior.{Interior, nothing_inside}
 
 module _ {K V X W S : Type 0} {read : X → K → V → ℕ → Option ℕ → ℕ → Option ℕ} {settings : Settings X W} {kept : Kept K V S} (h : IsStocked read settings kept) where
   -- where timers are kept up

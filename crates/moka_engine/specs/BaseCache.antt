@@ -13,7 +13,7 @@ use Rattle.moka_parts.specs.Settling.{IsValid}
 use Rattle.moka_parts.specs.State.{State, Settings, keeps_write_list}
 use Rattle.moka_store.specs.Store.{Kept}
 use Rattle.moka_maintenance.specs.Timers.{AreTimed}
-use Rattle.moka_engine.specs.Interior.{Interior}
+use Rattle.moka_inner.specs.Interior.{Interior}
 
 -- what never changes
 abbrev pub settings_of : {X W : Type 0} → EvictionPolicy → Expirations X → Option W → Bool → Keeper → Settings X W

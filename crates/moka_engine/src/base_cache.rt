@@ -13,7 +13,7 @@ ghost use Rattle.moka_parts.specs.State.{Events, is_disabled, keeps_write_list, 
 ghost use Rattle.moka_parts.specs.Surroundings.{Leads};
 ghost use Rattle.moka_store.specs.Store.{ClonesAreEqual};
 
-use crate::inner::Inner;
+use moka_inner::Inner;
 use moka_parts::calls::{Entry, KvEntry, Ticket};
 use moka_parts::closures::{NoTest, PredicateFn, Weigher};
 use moka_parts::error::{CapacityError, InsertRefused, OutOfMemory, SendError};

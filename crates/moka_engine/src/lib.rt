@@ -9,7 +9,6 @@
 
 pub mod base_cache;
 pub mod config;
-mod inner;
 
 pub use base_cache::BaseCache;
 pub use config::{Cache, CacheConfig, DefaultHasher};

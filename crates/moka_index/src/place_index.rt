@@ -16,11 +16,21 @@ use std::marker::Model;
 /// longer one the caller hands in any 32. A look-up reads one cache line for nearly every hash, and tests only places
 /// with the very hash. Growth moves the hashes that are stored, so nothing is hashed again. Only `reserve` asks for
 /// memory.
-#[derive(Drop)]
 pub struct PlaceIndex {
     alloc: Global,
     groups: Vec<Group>,
     len: usize,
+}
+
+// Written out so that an owner's drop is one call.
+impl Drop for PlaceIndex {
+    fn drop(self) {
+        let PlaceIndex {
+            alloc: _,
+            groups: _,
+            len: _,
+        } = self;
+    }
 }
 
 impl Model for PlaceIndex {

@@ -47,9 +47,15 @@ impl<P> Registered<P> {
 
 /// The registered predicates, in the order of their registration; seen as their list.
 /// moka: `sync::invalidator::Invalidator`.
-#[derive(Drop)]
 pub struct Invalidator<P> {
     predicates: Vec<Registered<P>>,
+}
+
+// Written out so that an owner's drop is one call.
+impl<P: Drop> Drop for Invalidator<P> {
+    fn drop(self) {
+        let Invalidator { predicates: _ } = self;
+    }
 }
 
 impl<P> Model for Invalidator<P> {

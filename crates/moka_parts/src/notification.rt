@@ -53,9 +53,15 @@ impl<K: Drop, V: Drop> Listener<K, V> for NoListener {
 }
 
 /// A listener, if one is set; seen as that option. moka: `notification::notifier::RemovalNotifier`.
-#[derive(Drop)]
 pub struct RemovalNotifier<L> {
     listener: Option<L>,
+}
+
+// Written out so that an owner's drop is one call.
+impl<L: Drop> Drop for RemovalNotifier<L> {
+    fn drop(self) {
+        let RemovalNotifier { listener: _ } = self;
+    }
 }
 
 impl<L> Model for RemovalNotifier<L> {

@@ -20,12 +20,18 @@ const LONGEST: u64 = 1 << 30;
 /// Counts grow stale: each time that the table has taken ten increments a word, all of them are halved.
 ///
 /// moka: `common::frequency_sketch::FrequencySketch`, with factors of its own.
-#[derive(Drop)]
 pub struct FrequencySketch {
     // Words of sixteen counters, and none while the sketch is off. There is always room for the shortest table.
     words: Vec<u64>,
     // How many increments raised a counter, halved when the counters are.
     size: u64,
+}
+
+// Written out so that an owner's drop is one call.
+impl Drop for FrequencySketch {
+    fn drop(self) {
+        let FrequencySketch { words: _, size: _ } = self;
+    }
 }
 
 impl Model for FrequencySketch {

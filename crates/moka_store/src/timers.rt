@@ -14,9 +14,15 @@ use std::marker::Model;
 /// Timers of places, where an expiry is set. Where none is, each call does nothing.
 ///
 /// moka: `common::timer_wheel::TimerWheel`, which is enabled where an expiry is set.
-#[derive(Drop)]
 pub(crate) struct Timers {
     wheel: Option<TimerWheel>,
+}
+
+// Written out so that an owner's drop is one call.
+impl Drop for Timers {
+    fn drop(self) {
+        let Timers { wheel: _ } = self;
+    }
 }
 
 impl Model for Timers {

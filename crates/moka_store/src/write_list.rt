@@ -14,11 +14,17 @@ use std::marker::Model;
 /// Where it is not kept, each call does nothing.
 ///
 /// moka: `common::concurrent::deques::Deques::write_order`, with the cursor that `common::deque::Deque` has.
-#[derive(Drop)]
 pub(crate) struct WriteList {
     list: Option<OrderList>,
     // The slot and the place where the cursor stands; none is the front.
     cursor: Option<(u32, u64)>,
+}
+
+// Written out so that an owner's drop is one call.
+impl Drop for WriteList {
+    fn drop(self) {
+        let WriteList { list: _, cursor: _ } = self;
+    }
 }
 
 impl Model for WriteList {

@@ -15,10 +15,19 @@ struct Waiting<T: Copy> {
 }
 
 /// Items under rising tickets, which are taken by their ticket, in any order. Only `new` and `reserve` ask for memory.
-#[derive(Drop)]
 pub struct Older<T: Copy> {
     order: OrderList,
     waiting: HashMap<u64, Waiting<T>>,
+}
+
+// Written out so that an owner's drop is one call.
+impl<T: Copy> Drop for Older<T> {
+    fn drop(self) {
+        let Older {
+            order: _,
+            waiting: _,
+        } = self;
+    }
 }
 
 impl<T: Copy> Model for Older<T> {

@@ -48,12 +48,22 @@ fn reuse(nodes: &mut Vec<Node<u64>>, slot: u32, number: u64) -> u32
 /// No call takes longer in a longer list, and only `new` and `reserve` ask for memory.
 ///
 /// moka: `common::deque::Deque`, whose nodes are reached by raw pointers; here a slot stands for the pointer.
-#[derive(Drop)]
 pub struct OrderList {
     // The ring, and the free nodes, each of which leads to the next.
     nodes: Vec<Node<u64>>,
     len: usize,
     free: u32,
+}
+
+// Written out so that an owner's drop is one call.
+impl Drop for OrderList {
+    fn drop(self) {
+        let OrderList {
+            nodes: _,
+            len: _,
+            free: _,
+        } = self;
+    }
 }
 
 impl Model for OrderList {

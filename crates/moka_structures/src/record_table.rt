@@ -18,9 +18,15 @@ use std::marker::Model;
 ///
 /// A number is never used twice, so a place and a number tell whether a record is still there, although the place of a
 /// row that was forgotten is given to a later one.
-#[derive(Drop)]
 pub struct RecordTable<R> {
     rows: Rows<R>,
+}
+
+// Written out so that an owner's drop is one call.
+impl<R: Drop> Drop for RecordTable<R> {
+    fn drop(self) {
+        let RecordTable { rows: _ } = self;
+    }
 }
 
 impl<R> Model for RecordTable<R> {

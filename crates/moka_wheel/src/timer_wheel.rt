@@ -29,13 +29,23 @@ pub struct Due {
 /// of due timers.
 ///
 /// moka: `common::timer_wheel::TimerWheel`
-#[derive(Drop)]
 pub struct TimerWheel {
     buckets: Buckets,
     // How many timers there are.
     len: usize,
     // The first free node, where there is one.
     free: u32,
+}
+
+// Written out so that an owner's drop is one call.
+impl Drop for TimerWheel {
+    fn drop(self) {
+        let TimerWheel {
+            buckets: _,
+            len: _,
+            free: _,
+        } = self;
+    }
 }
 
 impl Model for TimerWheel {

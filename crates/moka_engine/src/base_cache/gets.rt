@@ -8,7 +8,7 @@ ghost use Rattle.moka_parts.specs.Time.{moment_of};
 ghost use Rattle.moka_store.specs.Store.{ClonesAreEqual};
 ghost use Rattle.moka_engine.specs.Looks.{Finds, Touches, value_of};
 
-use crate::inner::Inner;
+use moka_inner::Inner;
 use moka_parts::calls::Entry;
 use moka_parts::closures::{NoTest, PredicateFn, ValueTest};
 use moka_parts::error::OutOfMemory;

@@ -6,11 +6,22 @@ use std::marker::Model;
 use std::time::Duration;
 
 /// When entries expire. moka: `policy::ExpirationPolicy`.
-#[derive(Clone, Drop)]
+#[derive(Clone)]
 pub struct ExpirationPolicy<X> {
     time_to_live: Option<Duration>,
     time_to_idle: Option<Duration>,
     expiry: Option<X>,
+}
+
+// Written out so that an owner's drop is one call.
+impl<X: Drop> Drop for ExpirationPolicy<X> {
+    fn drop(self) {
+        let ExpirationPolicy {
+            time_to_live: _,
+            time_to_idle: _,
+            expiry: _,
+        } = self;
+    }
 }
 
 impl<X> Model for ExpirationPolicy<X> {

@@ -1,5 +1,5 @@
 use Rattle.std.proofs.Common.{refl, ap, sym, ◌∙◌}
-use Rattle.moka_engine.specs.Interior.{Interior}
+use Rattle.moka_inner.specs.Interior.{Interior}
 use Rattle.moka_engine.proofs.CacheSteps.{befalls-listed}
 use Rattle.moka_engine.proofs.Stocked.{stocked-removed}
 use Rattle.moka_engine.proofs.RemoveSteps.{cache-removed, remove_returns}

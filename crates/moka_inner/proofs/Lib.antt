@@ -1,0 +1,3 @@
+pub mod ValuesLemmas
+pub mod InnerLemmas
+pub mod InnerRuns

@@ -1,0 +1,4 @@
+pub mod Values
+pub mod Interior
+pub mod Inner
+pub mod ReadNumber
