@@ -1,5 +1,7 @@
 -- Before the first call, and where nothing happens.
-use Rattle.std.proofs.Common.{◌≡◌, refl, ap, subst, ◌∙◌, ℕ, Bool, List, [], ◌∷◌, length, Option, Some, None, Result, Ok, Err, IfOk, IfErr, option_map}
+use Rattle.std.proofs.Common.{◌≡◌, refl, ap, sym, subst, ◌∙◌, ℕ, Bool, true, false, MatchBool, List, [], ◌∷◌, length, Option, Some, None, Result, Ok, Err, IfOk, IfErr, option_map}
+use Rattle.std.proofs.lemmas.List.Elements.{same_from_all_zip}
+use Rattle.std.specs.List.{AllZip}
 use Rattle.std.specs.declared.alloc.Global.{Global}
 use Rattle.std.specs.declared.vec.Vec.{Vec}
 use Rattle.moka_parts.specs.declared.calls.Call.TheVariants as call
@@ -8,14 +10,20 @@ use Rattle.moka_parts.specs.declared.calls.Reply.TheVariants as reply
 use Rattle.moka_parts.specs.declared.error.OutOfMemory.{OutOfMemory}
 use Rattle.moka_parts.specs.declared.notification.RemovalCause.{RemovalCause}
 use Rattle.moka_parts.specs.Records.{Notice, record_of_key}
+use Rattle.moka_parts.specs.declared.calls.Entry.{Entry}
 use Rattle.moka_parts.specs.declared.calls.KvEntry.{KvEntry}
 use Rattle.moka_parts.specs.declared.calls.Ticket.{Ticket}
+use Rattle.moka_parts.specs.declared.records.ReadOperation.{ReadOperation}
+use Rattle.moka_parts.specs.declared.records.ReadOperation.TheVariants.{Miss}
 use Rattle.moka_parts.specs.declared.records.Record.{Record}
-use Rattle.moka_parts.specs.State.{State, Meaning}
+use Rattle.moka_parts.specs.Housekeeping.{is_due}
+use Rattle.moka_parts.specs.State.{State, Events, Meaning, is_disabled}
 use Rattle.moka_parts.specs.Maintenance.{Terms, Course}
 use Rattle.moka_parts.specs.Surroundings.{Heard}
-use Rattle.moka_parts.specs.Calls.{no_events, only_notices, KeysStep, RemoveStep, RemovesAt}
+use Rattle.moka_parts.specs.Calls.{no_events, only_notices, GetsAt, GetStep, after_hit, hit_at, hit_operation, KeeperRun, KeysStep, RecordsRead, RemoveStep, RemovesAt, Unchanged}
+use Rattle.moka_parts.specs.Copies.{ClonesAreEqual, IsCopy}
 use Rattle.moka_parts.specs.Runs.{Cache, Befalls, CallStep, MakesCalls}
+use Rattle.moka_parts.proofs.Copies.{copy-same}
 use Rattle.moka_drive.specs.Replies.{TellsPending}
 
 -- a list of no length is empty
@@ -36,11 +44,39 @@ nothing_befalls tells c = record { kept = refl; heard = nothing_heard tells c.li
 pub no_calls : {K V S X L P W C I : Type 0} (m : Meaning K V X L P W C I) (Runs : State K V X P W → Terms → Course → List (Notice K V) → State K V X P W → Type 0) (c : Cache K V S X L P W) (clock : C) (ids : I) → MakesCalls m Runs [] [] [] c clock ids c clock ids
 no_calls m Runs c clock ids = record { calls_made = refl; replies_given = refl; are_steps = tt; ends = refl; heard = nothing_heard m.tells c.listener; read = refl; given = refl }
 
+-- where clones of keys are equal, a list of clones is one of the keys themselves
+own_keys : {K V X P W : Type 0} (is_clone : K → K → Type 0) → ClonesAreEqual is_clone → (s : State K V X P W) (segment : ℕ) (own keys : Option (List K)) → KeysStep s segment (Ok own) → IsCopy (AllZip is_clone) own keys → KeysStep s segment (Ok keys)
+own_keys is_clone equal s segment own keys listed copied =
+    subst (λ keys. KeysStep s segment (Ok keys)) (sym (copy-same (AllZip is_clone) (λ xs ys zipped. same_from_all_zip is_clone xs ys zipped equal) own keys copied)) listed
+
 -- a list of keys that changes nothing, as a call
-pub keys_step : {K V X L P W C I : Type 0} (m : Meaning K V X L P W C I) (Runs : State K V X P W → Terms → Course → List (Notice K V) → State K V X P W → Type 0) (s : State K V X P W) (segment : ℕ) (a : Result (Option (Vec K Global)) OutOfMemory) → IfOk a (λ keys. KeysStep s segment (Ok (option_map (λ v. v.items) keys))) → IfErr a (λ e. KeysStep s segment (Err e)) → CallStep m Runs s (call.Keys segment) (reply.Keys a) no_events s
-keys_step m Runs s segment (Ok (Some keys)) listed refused = (listed, (refl, refl))
-keys_step m Runs s segment (Ok None) listed refused = (listed, (refl, refl))
-keys_step m Runs s segment (Err e) listed refused = (refused, (refl, refl))
+pub keys_step : {K V X L P W C I : Type 0} (is_clone : K → K → Type 0) → ClonesAreEqual is_clone → (m : Meaning K V X L P W C I) (Runs : State K V X P W → Terms → Course → List (Notice K V) → State K V X P W → Type 0) (s : State K V X P W) (segment : ℕ) (a : Result (Option (Vec K Global)) OutOfMemory) → IfOk a (λ keys. (own : Option (List K)) × KeysStep s segment (Ok own) × IsCopy (AllZip is_clone) own (option_map (λ v. v.items) keys)) → IfErr a (λ e. KeysStep s segment (Err e)) → CallStep m Runs s (call.Keys segment) (reply.Keys a) no_events s
+keys_step is_clone equal m Runs s segment (Ok (Some keys)) listed refused = (own_keys is_clone equal s segment listed.0 (Some keys.items) listed.1 listed.2, (refl, refl))
+keys_step is_clone equal m Runs s segment (Ok None) listed refused = (own_keys is_clone equal s segment listed.0 None listed.1 listed.2, (refl, refl))
+keys_step is_clone equal m Runs s segment (Err e) listed refused = (refused, (refl, refl))
+
+module _ {K V X P W : Type 0} (Runs : State K V X P W → Terms → Course → List (Notice K V) → State K V X P W → Type 0) where
+  recording_asks_nothing : (s : State K V X P W) (now : ℕ) (r : ReadOperation) (e : Events K V) (t : State K V X P W) → RecordsRead Runs s now r e t → e.ids ≡ []
+  recording_asks_nothing s now r e t (mid, run, queued) = go (is_due s.housekeeping (length s.reads) now) run
+    where
+      go : (b : Bool) → MatchBool b (KeeperRun Runs s now e mid) (Unchanged s e mid) → e.ids ≡ []
+      go true (answer, before, (course, ran, same, told), changed) = ap (λ (x : Events K V). x.ids) told
+      go false (same, none) = ap (λ (x : Events K V). x.ids) none
+
+  -- a get asks for no identifiers
+  pub get_asks_nothing : (says : P → K → V → Bool → Type 0) (read : X → K → V → ℕ → Option ℕ → ℕ → Option ℕ) (eq : K → K → Bool) (s : State K V X P W) (key : K) (hash : ℕ) (need_key ignored : Bool) (now : ℕ) (a : Result (Option (Entry K V)) OutOfMemory) (e : Events K V) (t : State K V X P W)
+      → GetStep says read Runs eq s key hash need_key ignored now a e t → e.ids ≡ []
+  get_asks_nothing says read eq s key hash need_key ignored now a e t step = go (is_disabled s.capacity) step
+    where
+      at : (o : Option (Record K V)) (a : Result (Option (Entry K V)) OutOfMemory) → GetsAt says read Runs s o hash need_key ignored now a e t → e.ids ≡ []
+      at None a h = recording_asks_nothing s now (Miss hash) e t h.1
+      at (Some r) (Ok None) h = recording_asks_nothing s now (Miss hash) e t h.1
+      at (Some r) (Ok (Some entry)) h = recording_asks_nothing (after_hit read s r now) (hit_at read s r now) (hit_operation read s r now) e t h.3
+      at (Some r) (Err _) h = ap (λ (x : Events K V). x.ids) h.1.1
+
+      go : (b : Bool) → MatchBool b ((a ≡ Ok None) × Unchanged s e t) (GetsAt says read Runs s (record_of_key eq s.records key) hash need_key ignored now a e t) → e.ids ≡ []
+      go true h = ap (λ (x : Events K V). x.ids) h.1.1
+      go false h = at (record_of_key eq s.records key) a h
 
 -- what waits, as a call
 pub pending_step : {K V X L P W C I : Type 0} (m : Meaning K V X L P W C I) (Runs : State K V X P W → Terms → Course → List (Notice K V) → State K V X P W → Type 0) (s : State K V X P W) (r : Reply K V P) → TellsPending s r → CallStep m Runs s call.Pending r no_events s

@@ -3,6 +3,7 @@ ghost use Rattle.std.specs.Prelude.{◌≡◌, length, List, IfOk, IfErr, OnErr}
 ghost use Rattle.moka_parts.specs.State.{Events};
 ghost use Rattle.moka_parts.specs.Surroundings.{Leads};
 ghost use Rattle.moka_parts.specs.Calls.{only_notices, KeyStep};
+ghost use Rattle.moka_parts.specs.Copies.{ClonesAreEqual};
 ghost use Rattle.moka_parts.specs.Records.{Notice};
 ghost use Rattle.moka_parts.specs.Drives.{Drives};
 ghost use Rattle.moka_parts.specs.Listed.{ListedRun};
@@ -56,8 +57,8 @@ pub fn drive<
     ids: &mut I,
     clock: &mut C,
 ) -> Result<Vec<Reply<K, V, P>>, DriveRefused<K, V, P>>
-    requires keys { (x y : K) → K.is_clone x y → y ≡ x }
-    requires values { (x y : V) → V.is_clone x y → y ≡ x }
+    requires keys { ClonesAreEqual K.is_clone }
+    requires values { ClonesAreEqual V.is_clone }
     ensures run { IfOk result (λ replies. Drives
         (meaning_of K.eq L.tells P.says W.weighs C.reads I.gives X.created X.read X.updated)
         calls.items replies.items cache.old clock.old ids.old cache.new clock.new ids.new) }
@@ -93,8 +94,8 @@ fn make<
     ids: &mut I,
     clock: &mut C,
 ) -> Reply<K, V, P>
-    requires keys { (x y : K) → K.is_clone x y → y ≡ x }
-    requires values { (x y : V) → V.is_clone x y → y ≡ x }
+    requires keys { ClonesAreEqual K.is_clone }
+    requires values { ClonesAreEqual V.is_clone }
     ensures { (e : Events K V)
         × CallStep (meaning_of K.eq L.tells P.says W.weighs C.reads I.gives X.created X.read X.updated)
         (ListedRun P.says X.read cache.old.write_list cache.new.write_list) cache.old.state call result e cache.new.state
@@ -171,8 +172,8 @@ fn remove<
     hash: u64,
     now: Option<Instant>,
 ) -> Reply<K, V, P>
-    requires keys { (x y : K) → K.is_clone x y → y ≡ x }
-    requires values { (x y : V) → V.is_clone x y → y ≡ x }
+    requires keys { ClonesAreEqual K.is_clone }
+    requires values { ClonesAreEqual V.is_clone }
     ensures { (e : Events K V) × RemovesAndNotifies K.eq cache.old.state key.now now result e cache.new.state × Befalls L.tells e cache.old cache.new }
 {
     let Some((entry, ticket)) = cache.remove_entry(key, hash) else {
@@ -200,8 +201,8 @@ fn notify<
     entry: &KvEntry<K, V>,
     now: Option<Instant>,
 ) -> Option<Result<(), OutOfMemory>>
-    requires keys { (x y : K) → K.is_clone x y → y ≡ x }
-    requires values { (x y : V) → V.is_clone x y → y ≡ x }
+    requires keys { ClonesAreEqual K.is_clone }
+    requires values { ClonesAreEqual V.is_clone }
     ensures { (notices : List (Notice K V))
         × NotifiesEntry cache.old.state.settings entry.now now result notices
         × (cache.new.state ≡ cache.old.state)
@@ -262,7 +263,7 @@ fn key_of<
     P: PredicateFn<K, V>,
     W: Weigher<K, V>,
 >(cache: &BaseCache<K, V, S, X, L, P, W>, key: &K, hash: u64) -> Result<Option<K>, OutOfMemory>
-    requires keys { (x y : K) → K.is_clone x y → y ≡ x }
+    requires keys { ClonesAreEqual K.is_clone }
     ensures { KeyStep K.eq cache.now.state key.now result }
 {
     let Some(kept) = cache.get_key_with_hash(key, hash) else {

@@ -1,5 +1,5 @@
 -- A store keeps the order of writing and timers as the settings ask, and timers stand at their records' expiries.
-use Rattle.std.proofs.Common.{◌≡◌, refl, ℕ, ◌+◌, ◌≤◌, Bool, true, false, true≢false, ◌==◌, Option, Some, None, is_some, option_map, inl, inr, ap, sym, ◌∙◌, arith}
+use Rattle.std.proofs.Common.{◌≡◌, refl, ℕ, ◌+◌, ◌≤◌, Bool, true, false, true≢false, ◌==◌, Option, Some, None, is_some, inl, inr, ap, sym, ◌∙◌, arith}
 use Rattle.std.specs.FinMap.{FinMap, get, insert, remove}
 use Rattle.std.specs.Ordering.{nat_cmp}
 use Rattle.moka_parts.specs.declared.policy.Instant.{Instant}
@@ -96,7 +96,3 @@ stocked-new read settings i ordered timed first_ticket empty kept wheel = record
   timed = ap (λ (x : Interior _ _ _). x.kept.timed) empty ∙ wheel;
   timers = λ never on n r there is_in applied. absurd (nothing_at n r (sym (ap (λ (x : Interior _ _ _). get x.kept.records n) empty) ∙ there));
 }
-
-pub is_some_mapped : {A B : Type 0} (f : A → B) (o : Option A) → is_some (option_map f o) ≡ is_some o
-is_some_mapped f None = refl
-is_some_mapped f (Some x) = refl

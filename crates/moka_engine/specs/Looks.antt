@@ -1,6 +1,7 @@
 -- What a look-up finds, and what a hit makes of a record.
-use Rattle.std.specs.Prelude.{◌≡◌, ℕ, Bool, true, false, List, Option, Some, None, option_map, ◌⊎◌}
+use Rattle.std.specs.Prelude.{◌≡◌, ℕ, Bool, true, false, List, Option, Some, None, option_map, if◌then◌else◌, ◌⊎◌}
 use Rattle.std.specs.FinMap.{get}
+use Rattle.moka_parts.specs.declared.calls.Entry.{Entry}
 use Rattle.moka_parts.specs.declared.policy.Instant.{Instant}
 use Rattle.moka_parts.specs.declared.records.Record.{Record}
 use Rattle.moka_parts.specs.declared.records.Registered.{Registered}
@@ -30,6 +31,10 @@ module _ {K V X P S : Type 0} (eq : K → K → Bool) (kept : Kept K V S) (expir
   abbrev pub Finds : Bool → ℕ → Option (Handle × Record K V) → Type 0
   Finds ignored now None = (r : Record K V) → record_of_key eq kept.records key ≡ Some r → (ignored ≡ true) ⊎ ((has_lapsed (expiring_by expirations) bound r now ≡ true) ⊎ SomeCovers says predicates r)
   Finds ignored now (Some found) = IsFound ignored now found.0 found.1
+
+-- the entry that a get answers: the record's value, and its key where that is asked for
+abbrev pub entry_at : {K V : Type 0} → Bool → Record K V → Entry K V
+entry_at need_key r = record { key = if need_key then Some r.key else None; value = r.value }
 
 -- a hit reads the record at this moment and leaves it this expiry, which is a renewal or not
 pub record Touches {K V X : Type 0} (read : X → K → V → ℕ → Option ℕ → ℕ → Option ℕ) (x : Expirations X) (r : Record K V) (now at : ℕ) (expires : Option Instant) (is_renewed : Bool) : Type 0 where

@@ -1,9 +1,10 @@
 //! The cache. moka: `sync::base_cache`.
 ghost use Rattle.std.specs.Prelude.{◌≡◌, ◌≤◌, ◌||◌, true, false, [], length, map, is_some, List, Option, Some, None, Ok, Err, IfOk, IfErr, option_map, option_copied};
 ghost use Rattle.std.specs.Duration.{as_nanos};
-ghost use Rattle.std.specs.List.{fold};
+ghost use Rattle.std.specs.List.{AllZip, fold};
 ghost use Rattle.std.specs.String.{string_bytes};
-ghost use Rattle.moka_parts.specs.Calls.{no_events, only_notices, CapacityStep, InsertStep, SendStep, RemoveStep, NotifyStep, ContainsStep, KeysStep, GetStep};
+ghost use Rattle.moka_parts.specs.Calls.{no_events, only_notices, CapacityStep, InsertStep, SendStep, RemoveStep, ContainsStep, KeysStep, GetStep};
+ghost use Rattle.moka_parts.specs.Copies.{HandsOut, IsCopy, IsEntryCopy, NotifiesOfCopy};
 ghost use Rattle.moka_parts.specs.Listed.{ListedRun};
 ghost use Rattle.moka_parts.specs.Order.{IsWriteList};
 ghost use Rattle.moka_parts.specs.Records.{Notice, record_of_key};
@@ -11,7 +12,6 @@ ghost use Rattle.moka_parts.specs.Runs.{Befalls};
 ghost use Rattle.moka_parts.specs.Settling.{IsValid};
 ghost use Rattle.moka_parts.specs.State.{Events, is_disabled, keeps_write_list, limits_of, new_state};
 ghost use Rattle.moka_parts.specs.Surroundings.{Leads};
-ghost use Rattle.moka_store.specs.Store.{ClonesAreEqual};
 
 use moka_inner::Inner;
 use moka_parts::calls::{Entry, KvEntry, Ticket};
@@ -455,9 +455,7 @@ impl<
     where
         K: Clone + Drop,
         V: Clone + Drop,
-        requires keys { ClonesAreEqual K.is_clone }
-        requires values { ClonesAreEqual V.is_clone }
-        ensures { (notices : List (Notice K V)) × NotifyStep self.old.state.settings entry.now now result notices × (self.new.state ≡ self.old.state)
+        ensures { (notices : List (Notice K V)) × NotifiesOfCopy K.is_clone V.is_clone self.old.state.settings entry.now now result notices × (self.new.state ≡ self.old.state)
             × Befalls L.tells (only_notices notices) self.old self.new }
     {
         if !self.is_removal_notifier_enabled() {
@@ -517,8 +515,7 @@ impl<
     pub fn keys(&self, segment: usize) -> Result<Option<Vec<K>>, OutOfMemory>
     where
         K: Clone + Drop,
-        requires clones { ClonesAreEqual K.is_clone }
-        ensures ok { IfOk result (λ keys. KeysStep self.now.state segment (Ok (option_map (λ v. v.items) keys))) }
+        ensures ok { IfOk result (λ keys. (own : Option (List K)) × KeysStep self.now.state segment (Ok own) × IsCopy (AllZip K.is_clone) own (option_map (λ v. v.items) keys)) }
         ensures err { IfErr result (λ e. KeysStep self.now.state segment (Err e)) }
     {
         if segment >= SEGMENTS {
@@ -549,10 +546,9 @@ impl<
         K: Clone + Drop,
         V: Clone + Drop,
         P: Drop,
-        requires keys { ClonesAreEqual K.is_clone }
-        requires values { ClonesAreEqual V.is_clone }
         ensures { (e : Events K V)
-            × GetStep P.says X.read (ListedRun P.says X.read self.old.write_list self.new.write_list) K.eq self.old.state key.now hash need_key false now.0 result e self.new.state
+            × HandsOut (IsEntryCopy K.is_clone V.is_clone)
+            (λ a. GetStep P.says X.read (ListedRun P.says X.read self.old.write_list self.new.write_list) K.eq self.old.state key.now hash need_key false now.0 a e self.new.state) result
             × Befalls L.tells e self.old self.new
             × Leads C.reads clock.old e.readings clock.new }
     {

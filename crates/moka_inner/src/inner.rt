@@ -1,5 +1,5 @@
 //! The map, the operations that wait, and both queues.
-ghost use Rattle.std.specs.Prelude.{◌≡◌, ◌+◌, ◌^◌, ◌<◌, ◌≤◌, ◌↔◌, true, [], ◌∷◌, ◌++◌, None, Some, Ok, Err, OnOk, OnErr, IfErr, IfOk, IfSome, if◌then◌else◌, length, map, nat_lt, option_map, slice_get, IsPermutation};
+ghost use Rattle.std.specs.Prelude.{◌≡◌, ◌+◌, ◌^◌, ◌<◌, ◌≤◌, ◌↔◌, true, [], ◌∷◌, ◌++◌, None, Some, Ok, Err, OnOk, OnErr, IfErr, IfOk, IfSome, if◌then◌else◌, length, nat_lt, option_map, slice_get};
 ghost use Rattle.std.specs.Duration.{as_nanos};
 ghost use Rattle.std.specs.FinMap as finite;
 ghost use Rattle.moka_parts.specs.Calls.{queue_length};
@@ -12,7 +12,7 @@ ghost use Rattle.moka_parts.specs.declared.records.Operation.TheVariants.{Upsert
 ghost use Rattle.moka_parts.specs.declared.records.ReadOperation.TheVariants.{Hit};
 ghost use Rattle.moka_parts.specs.declared.records.Record.{Record};
 ghost use Rattle.moka_store.specs.Hashing.{IsKeyHash};
-ghost use Rattle.moka_store.specs.Store.{ChangesRecord, ClonesAreEqual, ExpiresAsBefore, IsHandle};
+ghost use Rattle.moka_store.specs.Store.{AreKeysOf, ChangesRecord, ExpiresAsBefore, IsHandle};
 ghost use Rattle.moka_store.specs.Updates.{updated};
 ghost use Rattle.moka_maintenance.specs.Passes.{IsRan};
 ghost use Rattle.moka_maintenance.specs.Queues.{ArePrepared};
@@ -426,8 +426,7 @@ impl<K: Eq + Hash, V, S: BuildHasher> Inner<K, V, S> {
     pub fn keys(&self, alloc: Global) -> Result<Vec<K>, AllocError>
     where
         K: Clone + Drop,
-        requires clones { ClonesAreEqual K.is_clone }
-        ensures { IfOk result (λ keys. IsPermutation (map (λ r. r.key) (finite.values self.now.kept.records)) keys.items) }
+        ensures { IfOk result (λ keys. AreKeysOf K.is_clone self.now.kept.records keys.items) }
     {
         self.store.keys(alloc)
     }

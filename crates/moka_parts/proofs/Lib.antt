@@ -35,6 +35,7 @@ pub mod ScriptExample
 pub mod RunKeeps
 pub mod Lookup
 pub mod Contained
+pub mod Copies
 pub mod Admission
 pub mod RunsGoOn
 pub mod Registry

@@ -20,6 +20,7 @@ pub mod Exact
 pub mod Settling
 pub mod Registry
 pub mod Calls
+pub mod Copies
 pub mod Order
 pub mod Bounds
 pub mod Runs

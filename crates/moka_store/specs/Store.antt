@@ -1,7 +1,8 @@
 -- What a contract sees of a `Store`.
-use Rattle.std.specs.Prelude.{◌≡◌, ◌≢◌, ℕ, Bool, true, false, Option, Some, None, IsSome, List, [], ◌∷◌, ◌==◌, if◌then◌else◌, slice_get, refl}
+use Rattle.std.specs.Prelude.{◌≡◌, ◌≢◌, ℕ, Bool, true, false, Option, Some, None, IsSome, List, [], ◌∷◌, ◌==◌, if◌then◌else◌, slice_get, map, IsPermutation, refl}
 use Rattle.std.specs.Coded.{Coded, code_by, coded×, coded_ℕ, coded_bool, coded_list, coded_option}
 use Rattle.std.specs.FinMap as finite
+use Rattle.std.specs.List.{AllZip}
 use Rattle.std.specs.FinMap.{FinMap}
 use Rattle.std.specs.Ordering.{nat_cmp}
 use Rattle.moka_store.specs.declared.store.Handle.{Handle}
@@ -113,6 +114,6 @@ module _ {K V : Type 0} where
   abbrev pub ChangesRecord : {S : Type 0} → ℕ → (Record K V → Record K V) → Kept K V S → Kept K V S → Type 0
   ChangesRecord number f before after = (r : Record K V) → finite.get before.records number ≡ Some r → after ≡ record before { records = finite.insert before.records number (f r) }
 
--- a clone is equal to what it is a clone of
-abbrev pub ClonesAreEqual : {K : Type 0} → (K → K → Type 0) → Type 0
-ClonesAreEqual {K} is_clone = (x y : K) → is_clone x y → y ≡ x
+  -- clones of the keys of these records, in some order
+  abbrev pub AreKeysOf : (K → K → Type 0) → Records K V → List K → Type 0
+  AreKeysOf is_clone records keys = (own : List K) × IsPermutation (map (λ r. r.key) (finite.values records)) own × AllZip is_clone own keys

@@ -1,10 +1,10 @@
 //! Records, their orders and timers and the index of their keys, in one.
 //!
 //! moka: `sync::base_cache::Inner`, whose maps and deques these are.
-ghost use Rattle.std.specs.Prelude.{◌==◌, if◌then◌else◌, ◌≡◌, ◌≢◌, ◌+◌, ◌^◌, ◌<◌, ◌≤◌, ℕ, [], ◌∷◌, ◌++◌, length, map, IsPermutation, OnOk, IfOk, IfSome, IfNone, true, false, IsOk, IsSome, IsNone, None, Some, slice_get, option_map, option_copied, IsTrue, IfErr, ◌↔◌};
+ghost use Rattle.std.specs.Prelude.{◌==◌, if◌then◌else◌, ◌≡◌, ◌≢◌, ◌+◌, ◌^◌, ◌<◌, ◌≤◌, ℕ, [], ◌∷◌, ◌++◌, length, OnOk, IfOk, IfSome, IfNone, true, false, IsOk, IsSome, IsNone, None, Some, slice_get, option_map, option_copied, IsTrue, IfErr, ◌↔◌};
 ghost use Rattle.std.specs.FinMap as finite;
 ghost use Rattle.std.specs.List.{IsDistinct};
-ghost use Rattle.moka_store.specs.Store.{member_after, number_after, cursor_past, with_timer, ChangesRecord, ClonesAreEqual, ExpiresAsBefore, IsOff, IsPlaced, IsHandle, IsOneEach, IsOrdered};
+ghost use Rattle.moka_store.specs.Store.{member_after, number_after, cursor_past, with_timer, AreKeysOf, ChangesRecord, ExpiresAsBefore, IsOff, IsPlaced, IsHandle, IsOneEach, IsOrdered};
 ghost use Rattle.moka_store.specs.declared.store.Handle.{Handle};
 ghost use Rattle.moka_parts.specs.declared.records.Record.{Record};
 ghost use Rattle.moka_store.specs.Hashing.{IsKeyHash};
@@ -528,8 +528,7 @@ impl<K: Eq + Hash, V, S: BuildHasher> Store<K, V, S> {
     pub fn keys(&self, alloc: Global) -> Result<Vec<K>, AllocError>
     where
         K: Clone + Drop,
-        requires clones { ClonesAreEqual K.is_clone }
-        ensures { IfOk result (λ keys. IsPermutation (map (λ r. r.key) (finite.values self.now.records)) keys.items) }
+        ensures { IfOk result (λ keys. AreKeysOf K.is_clone self.now.records keys.items) }
     {
         let mut keys = Vec::with_capacity(alloc, self.record_count())?;
         for place in 0..self.table.capacity() {

@@ -1,18 +1,25 @@
 -- What was put into an empty cache is found.
-use Rattle.std.proofs.Common.{◌≡◌, refl, ℕ, Bool, true, false, List, [], Option, Some, None, Ok, option_map, ap, sym, subst, ◌∙◌, inl, inr, true≢false}
+use Rattle.std.proofs.Common.{◌≡◌, refl, ℕ, Bool, true, false, List, [], Option, Some, None, Result, Ok, Err, option_map, ap, sym, subst, ◌∙◌, inl, inr, true≢false}
 use Rattle.std.specs.Cmp.{IsEquivalence}
 use Rattle.std.specs.FinMap.{get, insert, empty}
 use Rattle.moka_parts.specs.declared.calls.Entry.{Entry}
 use Rattle.moka_parts.specs.declared.calls.Ticket.{Ticket}
+use Rattle.moka_parts.specs.declared.error.OutOfMemory.{OutOfMemory}
 use Rattle.moka_parts.specs.declared.policy.Instant.{Instant}
 use Rattle.moka_parts.specs.declared.records.Operation.{Operation}
 use Rattle.moka_parts.specs.declared.records.Record.{Record}
 use Rattle.moka_parts.specs.Calls.{InsertsAt, InsertStep, new_record, SendsAt, SendStep, GetsAt, GetStep}
+use Rattle.moka_parts.specs.Copies.{HandsOut, IsCopiedAnswer, IsCopy, IsEntryCopy}
 use Rattle.moka_parts.specs.Maintenance.{Terms, Course}
 use Rattle.moka_parts.specs.Records.{Notice, Records, record_of_key}
 use Rattle.moka_parts.specs.State.{State, Settings, Events, new_state, is_disabled}
 use Rattle.moka_parts.proofs.Lookup.{record_of_key_empty, present_key}
 use Rattle.moka_parts.proofs.Maps.{get_inserted, get_past_insert, nothing_at, same_or_apart}
+
+-- where a clone is seen as what was cloned is, the value that is handed out is seen as the one that was put
+pub seen_alike : {K V B : Type 0} (seen : V → B) (value : V) (found : Option (Entry K V)) → IsCopy (λ x y. seen y ≡ seen x) (Some value) (option_map (λ x. x.value) found) → option_map (λ x. seen x.value) found ≡ Some (seen value)
+seen_alike seen value (Some x) copy = ap Some copy
+seen_alike seen value None copy = absurd copy
 
 -- a map with one record has it at its key
 pub one_record : {K V : Type 0} (eq : K → K → Bool) → IsEquivalence eq → (key : K) (n : ℕ) (r : Record K V) → eq key r.key ≡ true → record_of_key eq (insert empty n r) key ≡ Some r
@@ -23,6 +30,9 @@ one_record {K} {V} eq laws key n r same = present_key eq one key laws (λ a b p 
 
     only : (a : ℕ) (p : Record K V) → get one a ≡ Some p → a ≡ n
     only a p at = elim (same_or_apart a n) [ inl e ↦ e | inr apart ↦ absurd (nothing_at a p (sym (get_past_insert empty n r a apart) ∙ at)) ]
+
+same_some : {A : Type 0} (x y : A) → Some x ≡ Some y → x ≡ y
+same_some x y e = cc
 
 -- a send changes neither records, nor predicates, nor what hides them
 pub record HidesAlike {K V X P W : Type 0} (s t : State K V X P W) : Type 0 where
@@ -62,26 +72,37 @@ module _ {K V X P W : Type 0} (eq : K → K → Bool) (says : P → K → V → 
       at (Some entry) h = ap Some h.1
 
   module _ (created : X → K → V → ℕ → Option ℕ) (updated : X → K → V → ℕ → Option ℕ → Option ℕ) (weighs : W → K → V → ℕ → Type 0) where
-    -- what was put into a new cache without times, and sent, is found
-    pub finds_what_was_put : IsEquivalence eq → (settings : Settings X W) (capacity : Option ℕ) (first_ticket : ℕ) (old : State K V X P W) → old ≡ new_state settings capacity 0 first_ticket
+    -- what was put into a new cache without times, and sent, is found by an equal key, and a clone of it handed out
+    pub finds_what_was_put : (is_key_clone : K → K → Type 0) (is_value_clone : V → V → Type 0) → IsEquivalence eq → (settings : Settings X W) (capacity : Option ℕ) (first_ticket : ℕ) (old : State K V X P W) → old ≡ new_state settings capacity 0 first_ticket
         → settings.time_to_live ≡ None → settings.time_to_idle ≡ None → settings.expiry ≡ None → is_disabled capacity ≡ false
         → (key : K) (hash : ℕ) (value : V) (now : Instant) (a : Ticket × Instant) (e : Events K V) (s : State K V X P W) → InsertStep created updated weighs eq old key hash value now (Ok a) e s
         → (ticket : ℕ) (u : Unit {0}) (t : State K V X P W) → SendStep s ticket (Ok u) t
-        → (get_hash : ℕ) (need_key : Bool) (at : ℕ) (found : Option (Entry K V)) (f : Events K V) (v : State K V X P W) → GetStep says read Runs eq t key get_hash need_key false at (Ok found) f v
-        → option_map (λ x. x.value) found ≡ Some value
-    finds_what_was_put laws settings capacity first_ticket old is live idle expiry enabled key hash value now a e s put ticket u t sent get_hash need_key at found f v gets =
+        → (asked : K) → eq asked key ≡ true → (get_hash : ℕ) (need_key : Bool) (at : ℕ) (found : Option (Entry K V)) (f : Events K V) (v : State K V X P W)
+        → HandsOut (IsEntryCopy is_key_clone is_value_clone) (λ a. GetStep says read Runs eq t asked get_hash need_key false at a f v) (Ok found)
+        → IsCopy is_value_clone (Some value) (option_map (λ x. x.value) found)
+    finds_what_was_put is_key_clone is_value_clone laws settings capacity first_ticket old is live idle expiry enabled key hash value now a e s put ticket u t sent asked alike_key get_hash need_key at found f v got_out =
         let step : InsertsAt created updated weighs new None key hash value now (Ok a) e s = subst (λ o. InsertsAt created updated weighs new o key hash value now (Ok a) e s) (record_of_key_empty eq key) (subst (λ x. InsertStep created updated weighs eq x key hash value now (Ok a) e s) is put) in
         let alike = sent_hides_alike s ticket u t sent in
         let r = new_record created updated new key hash value now step.0 in
-        got t key r (record {
-          here = ap (λ m. record_of_key eq m key) (alike.records ∙ ap (λ x. x.records) step.5) ∙ one_record eq laws key 1 r (laws.refl key);
+        let shown : IsOpen t asked r = record {
+          here = ap (λ m. record_of_key eq m asked) (alike.records ∙ ap (λ x. x.records) step.5) ∙ one_record eq laws asked 1 r alike_key;
           unhidden = alike.predicates ∙ ap (λ x. x.predicates) step.5;
           valid = alike.bound ∙ ap (λ x. x.invalid_before) step.5;
           live = ap (λ x. x.time_to_live) (alike.settings ∙ ap (λ x. x.settings) step.5) ∙ live;
           idle = ap (λ x. x.time_to_idle) (alike.settings ∙ ap (λ x. x.settings) step.5) ∙ idle;
           unexpiring = rw expiry refl;
           enabled = ap is_disabled (alike.capacity ∙ ap (λ x. x.capacity) step.5) ∙ enabled;
-        }) get_hash need_key at found f v gets
+        } in
+        handed r shown got_out.0 got_out.1 got_out.2
       where
         new : State K V X P W
         new = new_state settings capacity 0 first_ticket
+
+        copied : (r : Record K V) (own given : Option (Entry K V)) → option_map (λ x. x.value) own ≡ Some r.value → IsCopy (IsEntryCopy is_key_clone is_value_clone) own given → IsCopy is_value_clone (Some r.value) (option_map (λ x. x.value) given)
+        copied r (Some x) (Some y) same copy = subst (λ v. is_value_clone v y.value) (same_some x.value r.value same) copy.value
+        copied r (Some x) None same copy = absurd copy
+        copied r None given same copy = (let impossible : None ≡ Some r.value = same in absurd (cc))
+
+        handed : (r : Record K V) → IsOpen t asked r → (own : Result (Option (Entry K V)) OutOfMemory) → GetStep says read Runs eq t asked get_hash need_key false at own f v → IsCopiedAnswer (IsEntryCopy is_key_clone is_value_clone) own (Ok found) → IsCopy is_value_clone (Some r.value) (option_map (λ x. x.value) found)
+        handed r shown (Ok own) gets copy = copied r own found (got t asked r shown get_hash need_key at own f v gets) copy
+        handed r shown (Err e) gets copy = (let impossible : Ok found ≡ Err e = copy in absurd (cc))

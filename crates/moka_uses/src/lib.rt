@@ -7,4 +7,5 @@ pub mod invalidated;
 pub mod late;
 pub mod notified;
 pub mod refused;
+pub mod texts;
 pub mod weighed;

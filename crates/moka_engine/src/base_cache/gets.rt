@@ -1,12 +1,12 @@
 //! What look-ups find, and what a hit changes. moka: `sync::base_cache::BaseCache::do_get_with_hash`.
-ghost use Rattle.std.specs.Prelude.{◌≡◌, Bool, false, None, Some, IfOk, option_map, if◌then◌else◌};
+ghost use Rattle.std.specs.Prelude.{◌≡◌, Bool, false, Some, IfOk, option_map};
 ghost use Rattle.std.specs.Duration.{as_nanos};
+ghost use Rattle.moka_parts.specs.Copies.{IsEntryCopy};
 ghost use Rattle.moka_parts.specs.Expiry.{time_left};
 ghost use Rattle.moka_parts.specs.Records.{record_of_key};
 ghost use Rattle.moka_parts.specs.Surroundings.{IsAskedOnce};
 ghost use Rattle.moka_parts.specs.Time.{moment_of};
-ghost use Rattle.moka_store.specs.Store.{ClonesAreEqual};
-ghost use Rattle.moka_engine.specs.Looks.{Finds, Touches, value_of};
+ghost use Rattle.moka_engine.specs.Looks.{Finds, Touches, entry_at, value_of};
 
 use moka_inner::Inner;
 use moka_parts::calls::Entry;
@@ -133,10 +133,7 @@ pub(super) fn entry_of<K: Clone, V: Clone>(
     found: &Record<K, V>,
     need_key: bool,
 ) -> Result<Entry<K, V>, OutOfMemory>
-    requires keys { ClonesAreEqual K.is_clone }
-    requires values { ClonesAreEqual V.is_clone }
-    ensures value { IfOk result (λ e. e.value ≡ found.now.value) }
-    ensures key { IfOk result (λ e. e.key ≡ (if need_key then Some found.now.key else None)) }
+    ensures { IfOk result (IsEntryCopy K.is_clone V.is_clone (entry_at need_key found.now)) }
 {
     let Ok(value) = found.value.clone() else {
         return Err(OutOfMemory);

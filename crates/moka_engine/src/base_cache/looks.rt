@@ -3,12 +3,12 @@
 ghost use Rattle.std.specs.Prelude.{Bool, Some};
 ghost use Rattle.moka_parts.specs.Calls.{GetStep, PeekStep, ScanStep, no_events};
 ghost use Rattle.moka_parts.specs.Closures.{CanAskIfGiven, test_given, test_left};
+ghost use Rattle.moka_parts.specs.Copies.{HandsOut, IsEntryCopy};
 ghost use Rattle.moka_parts.specs.Listed.{ListedRun};
 ghost use Rattle.moka_parts.specs.Records.{record_of_key};
 ghost use Rattle.moka_parts.specs.Runs.{Befalls};
 ghost use Rattle.moka_parts.specs.State.{Events};
 ghost use Rattle.moka_parts.specs.Surroundings.{IsAskedOnce, Leads};
-ghost use Rattle.moka_store.specs.Store.{ClonesAreEqual};
 ghost use Rattle.moka_engine.specs.Looks.{value_of};
 
 use super::{BaseCache, gets};
@@ -50,12 +50,11 @@ impl<
         K: Clone + Drop,
         V: Clone + Drop,
         P: Drop,
-        requires keys { ClonesAreEqual K.is_clone }
-        requires values { ClonesAreEqual V.is_clone }
         requires askable { CanAskIfGiven I.can_ask (test_given ignore_if) }
         ensures { (ignored : Bool) × (e : Events K V)
             × IsAskedOnce I.asks (test_given ignore_if.entry) (value_of (record_of_key K.eq self.old.state.records key.now)) ignored (test_left ignore_if.exit)
-            × GetStep P.says X.read (ListedRun P.says X.read self.old.write_list self.new.write_list) K.eq self.old.state key.now hash need_key ignored now.0 result e self.new.state
+            × HandsOut (IsEntryCopy K.is_clone V.is_clone)
+            (λ a. GetStep P.says X.read (ListedRun P.says X.read self.old.write_list self.new.write_list) K.eq self.old.state key.now hash need_key ignored now.0 a e self.new.state) result
             × Befalls L.tells e self.old self.new
             × Leads C.reads clock.old e.readings clock.new }
     {
@@ -80,12 +79,11 @@ impl<
         K: Clone + Drop,
         V: Clone + Drop,
         P: Drop,
-        requires keys { ClonesAreEqual K.is_clone }
-        requires values { ClonesAreEqual V.is_clone }
         requires askable { (v : V) → I.can_ask test.old v }
         ensures { (ignored : Bool) × (e : Events K V)
             × IsAskedOnce I.asks (Some test.old) (value_of (record_of_key K.eq self.old.state.records key.now)) ignored (Some test.new)
-            × GetStep P.says X.read (ListedRun P.says X.read self.old.write_list self.new.write_list) K.eq self.old.state key.now hash need_key ignored now.0 result e self.new.state
+            × HandsOut (IsEntryCopy K.is_clone V.is_clone)
+            (λ a. GetStep P.says X.read (ListedRun P.says X.read self.old.write_list self.new.write_list) K.eq self.old.state key.now hash need_key ignored now.0 a e self.new.state) result
             × Befalls L.tells e self.old self.new
             × Leads C.reads clock.old e.readings clock.new }
     {
@@ -144,11 +142,10 @@ impl<
     ) -> Result<Option<V>, OutOfMemory>
     where
         V: Clone,
-        requires values { ClonesAreEqual V.is_clone }
         requires askable { CanAskIfGiven I.can_ask (test_given ignore_if) }
         ensures { (ignored : Bool)
             × IsAskedOnce I.asks (test_given ignore_if.entry) (value_of (record_of_key K.eq self.old.state.records key.now)) ignored (test_left ignore_if.exit)
-            × PeekStep P.says X.read K.eq self.old.state key.now ignored now.0 result self.new.state
+            × HandsOut V.is_clone (λ a. PeekStep P.says X.read K.eq self.old.state key.now ignored now.0 a self.new.state) result
             × Befalls L.tells no_events self.old self.new }
     {
         match ignore_if {
@@ -166,11 +163,10 @@ impl<
     ) -> Result<Option<V>, OutOfMemory>
     where
         V: Clone,
-        requires values { ClonesAreEqual V.is_clone }
         requires askable { (v : V) → I.can_ask test.old v }
         ensures { (ignored : Bool)
             × IsAskedOnce I.asks (Some test.old) (value_of (record_of_key K.eq self.old.state.records key.now)) ignored (Some test.new)
-            × PeekStep P.says X.read K.eq self.old.state key.now ignored now.0 result self.new.state
+            × HandsOut V.is_clone (λ a. PeekStep P.says X.read K.eq self.old.state key.now ignored now.0 a self.new.state) result
             × Befalls L.tells no_events self.old self.new }
     {
         if self.is_map_disabled() {
@@ -207,8 +203,7 @@ impl<
     pub fn scanning_get(&self, key: &K, now: Instant) -> Result<Option<V>, OutOfMemory>
     where
         V: Clone,
-        requires values { ClonesAreEqual V.is_clone }
-        ensures { ScanStep P.says K.eq self.now.state key.now now.0 result }
+        ensures { HandsOut V.is_clone (ScanStep P.says K.eq self.now.state key.now now.0) result }
     {
         let (policy, valid_after) = (&self.expiration_policy, &self.valid_after);
         let invalidator = &self.invalidator;

@@ -1,0 +1,45 @@
+//! A cache of texts by texts. A look-up hands out a clone, which has the bytes of the text that was put.
+ghost use Rattle.std.specs.Prelude.{◌≡◌, Some, IfOk, option_map};
+ghost use Rattle.std.specs.String.{string_bytes};
+
+use anyhow::Result;
+use moka_engine::{Cache, CacheConfig, Entry, EvictionPolicy, FixedClock, Instant};
+use std::alloc::Global;
+
+/// Puts a text into a cache of at most 10,000 entries, and gets a clone of it.
+pub fn put_and_get(
+    alloc: Global,
+    key: String,
+    text: String,
+) -> Result<Option<Entry<String, String>>>
+    ensures { IfOk result (λ found. option_map (λ entry. string_bytes entry.value) found ≡ Some (string_bytes text)) }
+{
+    let now = Instant(0);
+    let policy = EvictionPolicy::lru();
+    let config = CacheConfig::default()
+        .max_capacity(10_000)
+        .eviction_policy(policy);
+    let mut cache: Cache<String, String> = config.build(alloc, now)?;
+    let hash = cache.hash(&key);
+    let asked = key.clone()?;
+    let (ticket, _) = cache.do_insert_with_hash(key, hash, text, now)?;
+    cache.send(ticket)?;
+    let found = cache.get_with_hash(&asked, hash, false, now, &mut FixedClock(now))?;
+    Ok(found)
+}
+
+#[cfg(test)]
+mod tests {
+    use super::*;
+
+    #[test]
+    fn finds_the_text(rt: HostRuntime) -> Result<()> {
+        let alloc = rt.alloc();
+        let text = format!(in alloc; "{:20}", 1)?;
+        let key = format!(in alloc; "key")?;
+        let found = put_and_get(alloc, key, text)?;
+        let text = format!(in alloc; "{:20}", 1)?;
+        assert_eq!(rt; found.map(|entry| entry.value), Some(text));
+        Ok(())
+    }
+}
