@@ -1,4 +1,3 @@
-pub mod Numbers
 pub mod Found
 pub mod Sent
 pub mod Told

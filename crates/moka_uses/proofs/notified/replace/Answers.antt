@@ -1,7 +1,7 @@
 use Rattle.std.proofs.Common.{◌≡◌, ◌==◌, ◌+◌, min, rules, ap, ◌∙◌, None}
 use Rattle.moka_parts.specs.State.{is_disabled}
 use Rattle.moka_parts.specs.Time.{greatest}
-use Rattle.moka_uses.proofs.Numbers.{numbers_equal}
+use Rattle.std.specs.Cmp.{nat_eq_equiv}
 use Rattle.moka_uses.proofs.Sent.{hands_out, sends}
 use Rattle.moka_uses.proofs.Told.{told_of_the_first, heard_of_the_second}
 use Rattle.moka_uses.specs.declared.notified.Counter.{Counter}
@@ -25,7 +25,7 @@ returns c =
     let o = c.do_insert_with_hash-2.new.self in
     let p = c.send-2.new.self in
     let told = told_of_the_first (λ a b. a == b) (λ _ _ _ _. None) (λ _ _ _ _ left. left) (λ _ _ _ weight. weight ≡ 1)
-    numbers_equal _ _ _ l.state (ap (λ x. x.state) c.in_ok-cache.ensures) (search rules)
+    nat_eq_equiv _ _ _ l.state (ap (λ x. x.state) c.in_ok-cache.ensures) (search rules)
     c.args.key c.hash-hash.result c.args.first (record { 0 = 0 }) (c.in_ok-put.put, c.in_ok-put.field-0-1) put.0 m.state put.1
     _ _ n.state c.in_ok-send.ensures.step
     c.hash-hash.result c.args.second (record { 0 = 0 }) (c.in_ok-replaced.replaced, c.in_ok-replaced.field-0-1) again.0 o.state again.1 in
