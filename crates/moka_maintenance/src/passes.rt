@@ -20,6 +20,9 @@ use moka_store::Store;
 use std::hash::{BuildHasher, Hash};
 use std::time::Duration;
 
+// How many rows are read ahead at most: as many as a run removes where one is made at each 64th operation.
+const MOST_AHEAD: u128 = 64;
+
 /// What a run came to.
 #[derive(Clone, Copy, Debug, PartialEq, Eq)]
 pub struct Ran {
@@ -146,7 +149,25 @@ fn take_step<K: Eq + Hash + Drop, V: Drop, S: BuildHasher, L: Listener<K, V>>(
             is_left: false,
         };
     }
+    read_ahead(store, tests, sweep, batch);
     sweep_along(store, notifier, tests, sweep, batch)
+}
+
+// Reads the rows of the members that are about to be evicted. Where entries weigh more than 1 these are fewer, and some
+// rows are read in vain.
+fn read_ahead<K: Eq + Hash, V, S: BuildHasher>(
+    store: &mut Store<K, V, S>,
+    tests: Tests,
+    sweep: Sweep,
+    batch: u32,
+)
+    ensures { store.new ≡ store.old }
+{
+    if let (Sweep::Surplus, Some(limit)) = (sweep, tests.capacity) {
+        let surplus = store.total_weight().saturating_sub(u128::from(limit));
+        let rows = surplus.min(MOST_AHEAD).min(u128::from(batch));
+        store.read_ahead(rows as usize);
+    }
 }
 
 // Whether a step is to be taken.

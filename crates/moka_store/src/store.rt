@@ -57,6 +57,8 @@ pub struct Store<K: Eq + Hash, V, S: BuildHasher> {
     timers: Timers,
     // The sum of the weights that are counted for the members.
     weight: u128,
+    // What was read ahead. Nobody asks for it, but what nobody keeps is not read.
+    ahead: u64,
 }
 
 // Written out so that a caller's drop is one call.
@@ -70,6 +72,7 @@ impl<K: Eq + Hash + Drop, V: Drop, S: BuildHasher + Drop> Drop for Store<K, V, S
             written: _,
             timers: _,
             weight: _,
+            ahead: _,
         } = self;
     }
 }
@@ -124,6 +127,7 @@ impl<K: Eq + Hash, V, S: BuildHasher> Store<K, V, S> {
             written,
             timers,
             weight: 0,
+            ahead: 0,
         })
     }
 
@@ -595,6 +599,31 @@ impl<K: Eq + Hash, V, S: BuildHasher> Store<K, V, S> {
         };
         let (_, place) = self.access.next(membership.access)?;
         Some(changes::member_at(&self.table, place as usize))
+    }
+
+    /// Reads the rows of the first members, so that they are at hand when these are removed: their lines of memory are
+    /// fetched side by side, and not one after the other. Nothing changes.
+    pub fn read_ahead(&mut self, count: usize)
+        ensures { self.new ≡ self.old }
+    {
+        self.ahead = self.first_rows(count);
+    }
+
+    // Something of the rows of the first members.
+    #[inline(never)]
+    fn first_rows(&self, count: usize) -> u64 {
+        let mut next = self.access.front();
+        let mut read = 0;
+        for _ in 0..count {
+            let Some((slot, place)) = next else {
+                break;
+            };
+            if let Some(row) = self.table.row(place as usize) {
+                read ^= row.number();
+            }
+            next = self.access.next(slot);
+        }
+        read
     }
 
     /// The record at this handle leaves the map and, if it is a member, both orders and the timers. Its number stays.
