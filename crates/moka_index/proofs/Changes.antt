@@ -1,13 +1,13 @@
 -- The groups after each call.
 use Rattle.std.proofs.Common.{◌≡◌, ◌≢◌, ℕ, ◌+◌, ◌-◌, ◌*◌, ◌/◌, ◌%◌, ◌^◌, ◌<◌, ◌≤◌, max, Some, None, List, length, ◌⊎◌, inl, inr, refl, sym, ap, subst, ◌∙◌, arith}
-use Rattle.std.proofs.lemmas.Bool.{cases_eq}
+use Rattle.std.proofs.lemmas.Bool.{cases_eq, cases_lt}
 use Rattle.std.proofs.lemmas.List.{length-set}
 use Rattle.std.specs.Prelude.{slice_set}
 use Rattle.std.specs.FinMap.{FinMap, get, insert, remove, len}
 use Rattle.std.specs.Ordering.{nat_cmp}
 use Rattle.moka_index.specs.declared.group.Group.{Group}
 use Rattle.moka_index.specs.Group.{lane_hash, lane_place, entry_in, with_entry, without_lane, raised, home, HasLanes}
-use Rattle.moka_index.specs.Groups.{entry_at, group_at, pushed, with_reach, probe, distance, upto, entries_of, IsShaped, IsReached, IsGroups}
+use Rattle.moka_index.specs.Groups.{entry_at, group_at, pushed, with_reach, probe, distance, upto, entries_of, IsShaped, IsReached, IsGroups, IsExactAt, AreExactBut, IsTight}
 use Rattle.moka_index.proofs.Probes.{distance-probe}
 use Rattle.moka_index.proofs.Lanes.{entry-here, entry-free, entry-below, with-here, with-other, with-lanes, without-last, without-here, without-other, without-lanes, group-set, group-past_set, entry-inside, entry-at_lane, lane-group, some-same}
 use Rattle.moka_index.proofs.Maps.{Becomes, becomes-insert_entry, becomes-removed, becomes-same, has-upto, found-upto, len-full}
@@ -164,6 +164,38 @@ module _ (groups : List Group) (g : IsGroups groups) (first at step hash place :
       (becomes-insert_entry (entry_at groups) (entry_at new) (7 * length groups) g.apart (7 * at + (group_at groups at).count) place hash (omega arith) free here others (λ q e h. (inside-of groups g q e h).1) fresh)
       new-shaped new-reached g.bounded
 
+  other-reach : (i : ℕ) → i ≢ first → (group_at new i).reach ≡ (group_at groups i).reach
+  other-reach i ne = ap (λ x. x.reach) (group-past_set mid first i (raised (group_at mid first) step) ne) ∙ mid-reach i
+
+  -- what was that far behind its home is so still
+  persists : (r i : ℕ) → IsExactAt (length groups) (entry_at groups) r i → IsExactAt (length groups) (entry_at new) r i
+  persists r i was = elim was as (λ _. IsExactAt (length groups) (entry_at new) r i) [
+    | inl none ↦ inl none
+    | inr w ↦
+        let away : w.0 ≢ 7 * at + (group_at groups at).count = (λ s. let bad : None ≡ Some w.1 = sym free ∙ ap (entry_at groups) (sym s) ∙ w.2 in absurd cc) in
+        inr (w.0, w.1, others w.0 away ∙ w.2, w.3, w.4)
+  ]
+
+  first-exact : IsExactAt (length groups) (entry_at groups) (group_at groups first).reach first → IsExactAt (length groups) (entry_at new) (group_at new first).reach first
+  first-exact was = elim (cases_lt (group_at groups first).reach step) as (λ _. IsExactAt (length groups) (entry_at new) (group_at new first).reach first) [
+    | inl less ↦
+        let is : (group_at new first).reach ≡ step = omega (arith, first-reach) in
+        let far : distance (length groups) first ((7 * at + (group_at groups at).count) / 7) ≡ step =
+        ap (distance (length groups) first) (lane-group at (group_at groups at).count room ∙ there) ∙ distance-probe (length groups) first step first_in step_in in
+        inr (7 * at + (group_at groups at).count, (place, hash), here, sym from, far ∙ sym is)
+    | inr more ↦
+        let is : (group_at groups first).reach ≡ (group_at new first).reach = omega (arith, first-reach) in
+        subst (λ r. IsExactAt (length groups) (entry_at new) r first) is (persists (group_at groups first).reach first was)
+  ]
+
+  pub pushed-tight : IsTight groups → IsTight new
+  pushed-tight t = record {
+    exact = λ i. subst (λ n. IsExactAt n (entry_at new) (group_at new i).reach i) (sym new-len) (elim (cases_eq i first) as (λ _. IsExactAt (length groups) (entry_at new) (group_at new i).reach i) [
+      | inl s ↦ subst (λ j. IsExactAt (length groups) (entry_at new) (group_at new j).reach j) (sym s) (first-exact (t.exact first))
+      | inr ne ↦ subst (λ r. IsExactAt (length groups) (entry_at new) r i) (sym (other-reach i ne)) (persists (group_at groups i).reach i (t.exact i))
+    ]);
+  }
+
 -- ---- a place is removed
 module _ (groups : List Group) (g : IsGroups groups) (at lane p h : ℕ) (at_in : at < length groups) (lane_in : lane < 7) (there : entry_at groups (7 * at + lane) ≡ Some (p, h)) where
   abbrev left : List Group
@@ -238,6 +270,27 @@ module _ (groups : List Group) (g : IsGroups groups) (at lane p h : ℕ) (at_in 
       (becomes-removed (entry_at groups) (entry_at left) (7 * length groups) g.apart (7 * at + lane) p h (7 * at + ((group_at groups at).count - 1)) (omega arith) there gone moved kept (λ q e x. (inside-of groups g q e x).1))
       left-shaped left-reached g.bounded
 
+  -- a reach stays exact if the place that leaves has another home, or was not the farthest
+  pub removed-exact : (i : ℕ) → (((e : ℕ × ℕ) → entry_at groups (7 * at + lane) ≡ Some e → home (length groups) e.1 ≢ i) ⊎ (distance (length groups) i at ≢ (group_at left i).reach)) →
+      IsExactAt (length groups) (entry_at groups) (group_at groups i).reach i → IsExactAt (length left) (entry_at left) (group_at left i).reach i
+  removed-exact i safe was = subst (λ n. IsExactAt n (entry_at left) (group_at left i).reach i) (sym left-len) (elim was as (λ _. IsExactAt (length groups) (entry_at left) (group_at left i).reach i) [
+    | inl none ↦ inl (left-reach i ∙ none)
+    | inr w ↦
+        let far : distance (length groups) i (w.0 / 7) ≡ (group_at left i).reach = w.4 ∙ sym (left-reach i) in
+        elim (cases_eq w.0 (7 * at + lane)) as (λ _. IsExactAt (length groups) (entry_at left) (group_at left i).reach i) [
+          | inl s ↦ elim safe as (λ _. IsExactAt (length groups) (entry_at left) (group_at left i).reach i) [
+            | inl foreign ↦ absurd (foreign w.1 (ap (entry_at groups) (sym s) ∙ w.2) w.3)
+            | inr near ↦ absurd (near (ap (distance (length groups) i) (sym (lane-group at lane lane_in) ∙ ap (λ x. x / 7) (sym s)) ∙ far))
+          ]
+          | inr ne ↦ elim (cases_eq w.0 (7 * at + ((group_at groups at).count - 1))) as (λ _. IsExactAt (length groups) (entry_at left) (group_at left i).reach i) [
+            | inl s ↦
+                let same : (7 * at + lane) / 7 ≡ w.0 / 7 = lane-group at lane lane_in ∙ sym (lane-group at ((group_at groups at).count - 1) last-in) ∙ ap (λ x. x / 7) (sym s) in
+                inr (7 * at + lane, w.1, moved (λ t. ne (s ∙ sym t)) ∙ ap (entry_at groups) (sym s) ∙ w.2, w.3, ap (distance (length groups) i) same ∙ far)
+            | inr nl ↦ inr (w.0, w.1, kept w.0 ne nl ∙ w.2, w.3, far)
+          ]
+        ]
+  ])
+
 -- ---- a reach is lowered
 module _ (groups : List Group) (g : IsGroups groups) (first r : ℕ) (first_in : first < length groups) (less : r ≤ (group_at groups first).reach) (enough : (q : ℕ) (e : ℕ × ℕ) → entry_at groups q ≡ Some e → home (length groups) e.1 ≡ first → distance (length groups) first (q / 7) ≤ r) where
   abbrev lowered : List Group
@@ -282,3 +335,39 @@ module _ (groups : List Group) (g : IsGroups groups) (first r : ℕ) (first_in :
   lowered-leaves = leaves groups lowered (entries_of groups) lowered-len
       (becomes-same (entry_at groups) (entry_at lowered) (7 * length groups) g.apart lowered-entry)
       lowered-shaped lowered-reached g.bounded
+
+  first-lowered : (group_at lowered first).reach ≡ r
+  first-lowered = ap (λ x. x.reach) (group-set groups first (record (group_at groups first) { reach = r }) first_in)
+
+  -- the reach is exact if it is 0, or a place that far behind has its home in the group
+  pub lowered-tight : ((r ≡ 0) ⊎ ((lane : ℕ) × (lane < (group_at groups (probe (length groups) first r)).count) × (home (length groups) (lane_hash (group_at groups (probe (length groups) first r)) lane) ≡ first))) → AreExactBut groups first → IsTight lowered
+  lowered-tight found others = record {
+    exact = λ i. subst (λ n. IsExactAt n (entry_at lowered) (group_at lowered i).reach i) (sym lowered-len) (elim (cases_eq i first) as (λ _. IsExactAt (length groups) (entry_at lowered) (group_at lowered i).reach i) [
+      | inl s ↦ subst (λ j. IsExactAt (length groups) (entry_at lowered) (group_at lowered j).reach j) (sym s) (subst (λ x. IsExactAt (length groups) (entry_at lowered) x first) (sym first-lowered) here)
+      | inr ne ↦
+          let same : (group_at groups i).reach ≡ (group_at lowered i).reach = ap (λ x. x.reach) (sym (group-past_set groups first i (record (group_at groups first) { reach = r }) ne)) in
+          subst (λ x. IsExactAt (length groups) (entry_at lowered) x i) same (persists i (others i ne))
+    ]);
+  }
+    where
+      persists : (i : ℕ) → IsExactAt (length groups) (entry_at groups) (group_at groups i).reach i → IsExactAt (length groups) (entry_at lowered) (group_at groups i).reach i
+      persists i was = elim was as (λ _. IsExactAt (length groups) (entry_at lowered) (group_at groups i).reach i) [
+        | inl none ↦ inl none
+        | inr w ↦ inr (w.0, w.1, lowered-entry w.0 ∙ w.2, w.3, w.4)
+      ]
+
+      here : IsExactAt (length groups) (entry_at lowered) r first
+      here = elim found as (λ _. IsExactAt (length groups) (entry_at lowered) r first) [
+        | inl none ↦ inl none
+        | inr w ↦
+            let at : ℕ = probe (length groups) first r in
+            let lane_in : w.0 < 7 = omega (arith, w.1, (lanes-of groups g at).count) in
+            let r_in : r < length groups = omega (arith, less, (g.shaped first).reach (omega arith)) in
+            inr (
+              7 * at + w.0,
+              (lane_place (group_at groups at) w.0, lane_hash (group_at groups at) w.0),
+              lowered-entry (7 * at + w.0) ∙ entry-at_lane groups at w.0 lane_in ∙ entry-here (group_at groups at) w.0 w.1,
+              w.2,
+              ap (distance (length groups) first) (lane-group at w.0 lane_in) ∙ distance-probe (length groups) first r first_in r_in,
+            )
+      ]

@@ -6,7 +6,7 @@ use Rattle.std.specs.Prelude.{slice_index_or}
 use Rattle.std.specs.FinMap.{get, insert, empty, len}
 use Rattle.moka_index.specs.declared.group.Group.{Group}
 use Rattle.moka_index.specs.Group.{empty_group, lane_hash, lane_place, entry_in}
-use Rattle.moka_index.specs.Groups.{entry_at, group_at, put_entry, upto, entries_of, IsShaped, IsGroups}
+use Rattle.moka_index.specs.Groups.{entry_at, group_at, put_entry, upto, entries_of, IsShaped, IsGroups, IsTight}
 use Rattle.moka_index.proofs.Lanes.{entry-here, entry-free, entry-empty}
 use Rattle.moka_index.proofs.Maps.{upto-free, upto-fresh, len-mono}
 
@@ -31,6 +31,9 @@ blank-groups n bound = record {
   bounded = omega (arith, length-replicate n empty_group);
 }
 
+pub blank-tight : (n : ℕ) → IsTight (replicate n empty_group)
+blank-tight n = record { exact = λ i. inl (ap (λ x. x.reach) (blank-group n i)) }
+
 pub blank-entries : (n : ℕ) → entries_of (replicate n empty_group) ≡ empty
 unfolding entries_of
 blank-entries n = upto-free (entry_at (replicate n empty_group)) (7 * length (replicate n empty_group)) (blank-entry n)
@@ -38,12 +41,14 @@ blank-entries n = upto-free (entry_at (replicate n empty_group)) (7 * length (re
 -- groups to which the places of the first lanes were added
 pub record Moved (from to : List Group) (count q : ℕ) : Type 0 where
   pub groups : IsGroups to
+  pub tight : IsTight to
   pub entries : entries_of to ≡ upto (entry_at from) q
   pub len : length to ≡ count
 
 pub moved-none : (from to : List Group) → to ≡ replicate (length to) empty_group → length to ≤ 2 ^ 32 → Moved from to (length to) 0
 moved-none from to e bound = record {
   groups = subst IsGroups (sym e) (blank-groups (length to) bound);
+  tight = subst IsTight (sym e) (blank-tight (length to));
   entries = ap entries_of e ∙ blank-entries (length to);
   len = refl;
 }
@@ -51,13 +56,15 @@ moved-none from to e bound = record {
 pub moved-past : (from to : List Group) (count q : ℕ) → Moved from to count q → (group_at from (q / 7)).count ≤ q % 7 → Moved from to count (q + 1)
 moved-past from to count q m l = record {
   groups = m.groups;
+  tight = m.tight;
   entries = m.entries ∙ ap (λ o. put_entry o (upto (entry_at from) q)) (sym (entry-free (group_at from (q / 7)) (q % 7) l)) ∙ ap (upto (entry_at from)) (sym (add-one q));
   len = m.len;
 }
 
-pub moved-one : (from to new : List Group) (count q : ℕ) → Moved from to count q → q % 7 < (group_at from (q / 7)).count → IsGroups new → entries_of new ≡ insert (entries_of to) (lane_place (group_at from (q / 7)) (q % 7)) (lane_hash (group_at from (q / 7)) (q % 7)) → length new ≡ length to → Moved from new count (q + 1)
-moved-one from to new count q m l g e n = record {
+pub moved-one : (from to new : List Group) (count q : ℕ) → Moved from to count q → q % 7 < (group_at from (q / 7)).count → IsGroups new → IsTight new → entries_of new ≡ insert (entries_of to) (lane_place (group_at from (q / 7)) (q % 7)) (lane_hash (group_at from (q / 7)) (q % 7)) → length new ≡ length to → Moved from new count (q + 1)
+moved-one from to new count q m l g tight e n = record {
   groups = g;
+  tight = tight;
   entries =
       e
       ∙ ap (λ m. insert m (lane_place (group_at from (q / 7)) (q % 7)) (lane_hash (group_at from (q / 7)) (q % 7))) m.entries

@@ -1,12 +1,12 @@
 -- What a search has seen so far.
-use Rattle.std.proofs.Common.{◌≡◌, ◌≢◌, ℕ, ◌-◌, ◌/◌, ◌%◌, ◌<◌, ◌≤◌, Some, List, length, ◌⊎◌, inl, inr, sym, ap, subst, ◌∙◌, arith}
+use Rattle.std.proofs.Common.{◌≡◌, ◌≢◌, ℕ, ◌+◌, ◌*◌, ◌-◌, ◌/◌, ◌%◌, ◌<◌, ◌≤◌, Some, List, length, ◌⊎◌, inl, inr, sym, ap, subst, ◌∙◌, arith}
 use Rattle.std.proofs.lemmas.Bool.{cases_eq}
 use Rattle.std_collections.specs.IndexTable.Group.{IsBitSet}
 use Rattle.moka_index.specs.declared.group.Group.{Group}
 use Rattle.moka_index.specs.Group.{entry_in, lane_hash, home}
-use Rattle.moka_index.specs.Groups.{group_at, entry_at, probe, distance, IsGroups}
+use Rattle.moka_index.specs.Groups.{group_at, entry_at, probe, distance, IsGroups, IsExactAt, AreExactBut, IsTight, StaysExact}
 use Rattle.moka_index.proofs.Probes.{home-lt, distance-lt, probe-distance}
-use Rattle.moka_index.proofs.Lanes.{entry-is}
+use Rattle.moka_index.proofs.Lanes.{entry-is, some-same}
 use Rattle.std_collections.proofs.IndexTableLemmas.Bits.{no_bit_zero}
 use Rattle.moka_index.proofs.Changes.{inside-of}
 
@@ -69,3 +69,26 @@ falls-next groups first r g l f none = record {
         | inr ne ↦ omega arith
       ];
 }
+
+-- ---- a place that left
+
+module _ (old mid : List Group) (group lane place hash first : ℕ) (len : length mid ≡ length old) (first_is : first ≡ home (length mid) hash) (at : entry_at old (7 * group + lane) ≡ Some (place, hash)) (stays : StaysExact old mid group lane) (tight : IsTight old) where
+  -- all reaches but that of its home stay exact
+  pub others-exact : AreExactBut mid first
+  others-exact i ne = stays i (inl foreign) (tight.exact i)
+    where
+      foreign : (e : ℕ × ℕ) → entry_at old (7 * group + lane) ≡ Some e → home (length old) e.1 ≢ i
+      foreign e there = λ s. let same : e ≡ (place, hash) = some-same e (place, hash) (sym there ∙ at) in
+          ne (sym s ∙ ap (λ (x : ℕ × ℕ). home (length old) x.1) same ∙ ap (λ n. home n hash) (sym len) ∙ sym first_is)
+
+  -- that too, if it is 0 or ends in another group
+  pub all-exact : first < length mid → group < length mid → ((group_at mid first).reach ≡ 0) ⊎ (probe (length mid) first (group_at mid first).reach ≢ group) → IsTight mid
+  all-exact first_in group_in ends = record {
+    exact = λ i. elim (cases_eq i first) as (λ _. IsExactAt (length mid) (entry_at mid) (group_at mid i).reach i) [
+      | inl s ↦ subst (λ j. IsExactAt (length mid) (entry_at mid) (group_at mid j).reach j) (sym s) (elim ends as (λ _. IsExactAt (length mid) (entry_at mid) (group_at mid first).reach first) [
+        | inl none ↦ inl none
+        | inr ne ↦ stays first (inr (λ far. ne (ap (probe (length mid) first) (sym far ∙ ap (λ n. distance n first group) (sym len)) ∙ probe-distance (length mid) first group first_in group_in))) (tight.exact first)
+      ])
+      | inr ne ↦ others-exact i ne
+    ];
+  }

@@ -1,5 +1,5 @@
 -- How the groups of an index hold its places. No public clause cites this module.
-use Rattle.std.specs.Prelude.{◌≡◌, ℕ, zero, suc, ◌+◌, ◌-◌, ◌*◌, ◌/◌, ◌%◌, ◌^◌, ◌<◌, ◌≤◌, cond, nat_lt, nat_le, Option, Some, None, List, length, slice_index_or, slice_set}
+use Rattle.std.specs.Prelude.{◌≡◌, ◌≢◌, ℕ, zero, suc, ◌+◌, ◌-◌, ◌*◌, ◌/◌, ◌%◌, ◌^◌, ◌<◌, ◌≤◌, cond, nat_lt, nat_le, Option, Some, None, List, length, slice_index_or, slice_set, ◌⊎◌}
 use Rattle.std.specs.FinMap as finite
 use Rattle.std.specs.FinMap.{FinMap}
 use Rattle.std.specs.Ordering.{nat_cmp}
@@ -65,6 +65,24 @@ pub record IsShaped (n : ℕ) (g : Group) : Type 0 where
 pub record IsReached (n : ℕ) (at : ℕ → Option (ℕ × ℕ)) (reach : ℕ → ℕ) : Type 0 where
   pub within : (q : ℕ) (e : ℕ × ℕ) → at q ≡ Some e → distance n (home n e.1) (q / 7) ≤ reach (home n e.1)
 
+-- a group's reach, of n groups, is 0, or a place whose home it is lies that far behind it
+abbrev pub IsExactAt : ℕ → (ℕ → Option (ℕ × ℕ)) → (reach i : ℕ) → Type 0
+IsExactAt n at reach i = (reach ≡ 0) ⊎ ((q : ℕ) × (e : ℕ × ℕ) × (at q ≡ Some e) × (home n e.1 ≡ i) × (distance n i (q / 7) ≡ reach))
+
+-- no reach is longer than the places ask for
+pub record IsTight (groups : List Group) : Type 0 where
+  pub exact : (i : ℕ) → IsExactAt (length groups) (entry_at groups) (group_at groups i).reach i
+
+-- the same of all groups but one
+abbrev pub AreExactBut : List Group → ℕ → Type 0
+AreExactBut groups first = (i : ℕ) → i ≢ first → IsExactAt (length groups) (entry_at groups) (group_at groups i).reach i
+
+-- a reach stays exact if the place that leaves a lane has another home, or was not the farthest
+abbrev pub StaysExact : (old new : List Group) → (group lane : ℕ) → Type 0
+StaysExact old new group lane = (i : ℕ) →
+    (((e : ℕ × ℕ) → entry_at old (7 * group + lane) ≡ Some e → home (length old) e.1 ≢ i) ⊎ (distance (length old) i group ≢ (group_at new i).reach)) →
+    IsExactAt (length old) (entry_at old) (group_at old i).reach i → IsExactAt (length new) (entry_at new) (group_at new i).reach i
+
 -- what holds of the groups of every index
 pub record IsGroups (groups : List Group) : Type 0 where
   pub shaped : (i : ℕ) → IsShaped (length groups) (group_at groups i)
@@ -72,8 +90,9 @@ pub record IsGroups (groups : List Group) : Type 0 where
   pub reached : IsReached (length groups) (entry_at groups) (λ i. (group_at groups i).reach)
   pub bounded : length groups ≤ 2 ^ 32
 
--- the places are counted, and a group has at most four on average
+-- the places are counted, a group has at most four on average, and no search goes farther than it must
 pub record IsIndex (groups : List Group) (len : ℕ) : Type 0 where
   pub groups_are : IsGroups groups
   pub counted : len ≡ finite.len (entries_of groups)
   pub fits : len ≤ 4 * length groups
+  pub tight : IsTight groups

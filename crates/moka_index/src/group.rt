@@ -1,5 +1,5 @@
 //! A few places with their hashes, in one cache line.
-ghost use Rattle.std.specs.Prelude.{◌≡◌, ◌≢◌, ℕ, ◌^◌, ◌<◌, ◌≤◌, false, slice_index};
+ghost use Rattle.std.specs.Prelude.{◌≡◌, ◌≢◌, ℕ, ◌^◌, ◌<◌, ◌≤◌, true, false, slice_index};
 ghost use Rattle.std.specs.Int.{w64, trailing_zeros};
 ghost use Rattle.std_collections.specs.IndexTable.Group.{IsBitSet};
 ghost use Rattle.moka_index.specs.Group.{home, lane_hash, with_entry, without_lane};
@@ -93,7 +93,8 @@ impl Group {
     pub(crate) fn has_home(&self, first: usize, count: usize) -> bool
         requires lanes { self.now.count ≤ 7 }
         requires count { count ≤ 2 ^ 32 }
-        ensures { result ≡ false → (lane : ℕ) → lane < self.now.count → home count (lane_hash self.now lane) ≢ first }
+        ensures none { result ≡ false → (lane : ℕ) → lane < self.now.count → home count (lane_hash self.now lane) ≢ first }
+        ensures one { result ≡ true → (lane : ℕ) × (lane < self.now.count) × (home count (lane_hash self.now lane) ≡ first) }
     {
         for lane in 0..self.count as usize {
             if home(self.hashes[lane], count) == first {

@@ -2,12 +2,12 @@
 ghost use Rattle.std.specs.Prelude.{◌≡◌, ℕ, ◌+◌, ◌*◌, ◌^◌, ◌<◌, ◌≤◌, true, false, IfSome, IfNone, IfOk, None, Some, length, replicate};
 ghost use Rattle.std.specs.FinMap as finite;
 ghost use Rattle.moka_index.specs.Group.{home, empty_group, entry_in, HasLanes};
-ghost use Rattle.moka_index.specs.Groups.{probe, behind, group_at, entry_at, entries_of, pushed, with_reach, IsGroups};
+ghost use Rattle.moka_index.specs.Groups.{probe, behind, group_at, entry_at, entries_of, pushed, with_reach, IsGroups, IsTight, StaysExact, AreExactBut};
 
 use crate::group::{Group, LANES, home, lowest_set_bit, without_lowest_bit};
 use std::alloc::{AllocError, Global};
 
-/// A hash has 32 bits.
+/// At most 2^32 groups, since a hash has 32 bits.
 pub(crate) const MOST_GROUPS: usize = 1 << 32;
 
 /// How many places a group has at most on average: the fewer, the fewer searches go on to a second group.
@@ -128,6 +128,7 @@ pub(crate) fn insert_entry(groups: &mut Vec<Group>, hash: u32, place: u32)
     ensures groups { IsGroups groups.new.items }
     ensures entries { entries_of groups.new.items ≡ finite.insert (entries_of groups.old.items) place hash }
     ensures len { length groups.new.items ≡ length groups.old.items }
+    ensures tight { IsTight groups.old.items → IsTight groups.new.items }
 {
     let count = groups.len();
     let first = home(hash, count);
@@ -164,6 +165,7 @@ fn remove_found(groups: &mut Vec<Group>, found: Found)
     ensures groups { IsGroups groups.new.items }
     ensures entries { entries_of groups.new.items ≡ finite.remove (entries_of groups.old.items) found.place }
     ensures len { length groups.new.items ≡ length groups.old.items }
+    ensures exact { StaysExact groups.old.items groups.new.items found.group found.lane }
 {
     groups[found.group].swap_remove(found.lane);
 }
@@ -175,6 +177,7 @@ pub(crate) fn remove_entry(groups: &mut Vec<Group>, hash: u32, place: usize)
     ensures groups { IsGroups groups.new.items }
     ensures entries { entries_of groups.new.items ≡ finite.remove (entries_of groups.old.items) place }
     ensures len { length groups.new.items ≡ length groups.old.items }
+    ensures tight { IsTight groups.old.items → IsTight groups.new.items }
 {
     let Some(found) = find_entry(groups, hash, |p| p == place) else {
         unreachable!()
@@ -195,6 +198,7 @@ fn lower_reach(groups: &mut Vec<Group>, first: usize)
     ensures groups { IsGroups groups.new.items }
     ensures entries { entries_of groups.new.items ≡ entries_of groups.old.items }
     ensures len { length groups.new.items ≡ length groups.old.items }
+    ensures tight { AreExactBut groups.old.items first → IsTight groups.new.items }
 {
     let count = groups.len();
     let mut reach = groups[first].reach;
@@ -213,6 +217,7 @@ pub(crate) fn move_entries(from: &[Group], to: &mut Vec<Group>)
     ensures groups { IsGroups to.new.items }
     ensures entries { entries_of to.new.items ≡ entries_of from.now }
     ensures len { length to.new.items ≡ length to.old.items }
+    ensures tight { IsTight to.new.items }
 {
     for q in 0..LANES * from.len() {
         let group = &from[q / LANES];

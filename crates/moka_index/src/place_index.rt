@@ -1,5 +1,5 @@
 //! An index of places by the hashes of what lies there. It keeps no keys.
-ghost use Rattle.std.specs.Prelude.{◌≡◌, ℕ, ◌+◌, ◌^◌, ◌<◌, ◌≤◌, true, false, IfSome, IfNone, OnOk, IsOk, None, Some, nat_eq};
+ghost use Rattle.std.specs.Prelude.{◌≡◌, ℕ, ◌+◌, ◌*◌, ◌^◌, ◌<◌, ◌≤◌, min, true, false, IfSome, IfNone, OnOk, IsOk, None, Some, nat_eq};
 ghost use Rattle.std.specs.FinMap as finite;
 
 use crate::group::Group;
@@ -75,13 +75,16 @@ impl PlaceIndex {
         self.len() == 0
     }
 
-    /// Makes room for `additional` more places. An error leaves the index as it was: there is no memory, or the
-    /// index would have more than 2^34 places.
+    /// Makes room for `additional` more places. If the index has to grow, it has afterwards room for twice as many places
+    /// as before, or for 2^34, so growth costs constant time a place. An error leaves the index as it was: there is no
+    /// memory, or the index would have more than 2^34 places.
     pub fn reserve(&mut self, additional: usize) -> Result<(), AllocError>
         ensures room { OnOk result (additional ≤ self.new.room) }
         ensures succeeds { additional ≤ self.old.room → IsOk result }
         ensures entries { self.new.entries ≡ self.old.entries }
         ensures kept { self.old.room ≤ self.new.room }
+        ensures doubles { OnOk result (self.old.room < additional
+            → min (2 * (finite.len self.old.entries + self.old.room)) (2 ^ 34) ≤ finite.len self.new.entries + self.new.room) }
     {
         let room = PLACES_PER_GROUP * self.groups.len() - self.len;
         if additional <= room {

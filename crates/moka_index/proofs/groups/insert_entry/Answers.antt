@@ -3,9 +3,9 @@ use Rattle.std.proofs.lemmas.Bool.{cases_eq}
 use Rattle.std.specs.FinMap as finite
 use Rattle.moka_index.specs.declared.group.Group.{Group}
 use Rattle.moka_index.specs.Group.{home}
-use Rattle.moka_index.specs.Groups.{probe, group_at, pushed, with_reach, entries_of}
+use Rattle.moka_index.specs.Groups.{probe, group_at, pushed, with_reach, entries_of, IsTight}
 use Rattle.moka_index.proofs.Probes.{home-lt}
-use Rattle.moka_index.proofs.Changes.{Leaves, full-len, pushed-leaves}
+use Rattle.moka_index.proofs.Changes.{Leaves, full-len, pushed-leaves, pushed-tight}
 use Rattle.moka_index.proofs.Moves.{group-read}
 use Rattle.moka_index.proofs.Search.{Full, full-all}
 use Rattle.moka_index.proofs.groups.insert_entry.Goals as goal
@@ -26,7 +26,7 @@ push_at-requires-clause-first c =
     let n : length c.loop-step.groups.items ≡ length c.args.groups.now.items = ap (λ v. length v.items) same in
     omega (arith, h, n)
 
-left : (c : goal.After-push_at) → Leaves c.args.groups.now.items c.push_at.new.groups.items (finite.insert (entries_of c.args.groups.now.items) c.args.place c.args.hash)
+left : (c : goal.After-push_at) → Leaves c.args.groups.now.items c.push_at.new.groups.items (finite.insert (entries_of c.args.groups.now.items) c.args.place c.args.hash) × (IsTight c.args.groups.now.items → IsTight c.push_at.new.groups.items)
 left c =
     let items : List Group = c.args.groups.now.items in
     let same = c.loop-step.invariant.same in
@@ -41,17 +41,22 @@ left c =
     let room : (group_at items c.probe-at.result).count < 7 = subst (λ x. x.count < 7) read c.if-index-lt-LANES.true in
     let new_is : c.push_at.new.groups.items ≡ with_reach (pushed items c.probe-at.result c.args.hash c.args.place) c.home-first.result c.loop-step.step =
     c.push_at.ensures ∙ ap (λ v. with_reach (pushed v.items c.probe-at.result c.args.hash c.args.place) c.home-first.result c.loop-step.step) same in
-    subst (λ new. Leaves items new (finite.insert (entries_of items) c.args.place c.args.hash)) (sym new_is)
-    (pushed-leaves items c.requires.groups c.home-first.result c.probe-at.result c.loop-step.step c.args.hash c.args.place from first_in at_in step_in there room c.requires.fresh)
+    subst (λ new. Leaves items new (finite.insert (entries_of items) c.args.place c.args.hash) × (IsTight items → IsTight new)) (sym new_is) (
+      pushed-leaves items c.requires.groups c.home-first.result c.probe-at.result c.loop-step.step c.args.hash c.args.place from first_in at_in step_in there room c.requires.fresh,
+      pushed-tight items c.requires.groups c.home-first.result c.probe-at.result c.loop-step.step c.args.hash c.args.place from first_in at_in step_in there room c.requires.fresh,
+    )
+
+pub returns-then-index-lt-LANES-clause-tight : goal.returns-then-index-lt-LANES-clause-tight
+returns-then-index-lt-LANES-clause-tight c = (left c).1
 
 pub returns-then-index-lt-LANES-clause-groups : goal.returns-then-index-lt-LANES-clause-groups
-returns-then-index-lt-LANES-clause-groups c = (left c).groups
+returns-then-index-lt-LANES-clause-groups c = (left c).0.groups
 
 pub returns-then-index-lt-LANES-clause-entries : goal.returns-then-index-lt-LANES-clause-entries
-returns-then-index-lt-LANES-clause-entries c = (left c).entries
+returns-then-index-lt-LANES-clause-entries c = (left c).0.entries
 
 pub returns-then-index-lt-LANES-clause-len : goal.returns-then-index-lt-LANES-clause-len
-returns-then-index-lt-LANES-clause-len c = (left c).len
+returns-then-index-lt-LANES-clause-len c = (left c).0.len
 
 pub loop-step-preserved : goal.loop-step-preserved
 loop-step-preserved c =

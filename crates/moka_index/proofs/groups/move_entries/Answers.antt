@@ -35,7 +35,7 @@ loop-q-preserved c =
     elim c.if-lane-group.branch as (λ _. Moved c.args.from.now c.if-lane-group.to.items (length c.args.to.now.items) (c.loop-q.q + 1)) [
       | then-lane-group w ↦
           subst (λ v. Moved c.args.from.now v.items (length c.args.to.now.items) (c.loop-q.q + 1)) (sym w.to-is)
-          (moved-one c.args.from.now c.loop-q.to.items w.insert_entry.new.groups.items (length c.args.to.now.items) c.loop-q.q c.loop-q.invariant (subst (λ (x : Group). c.loop-q.q % 7 < x.count) read w.if-lane-group.true) w.insert_entry.ensures.groups
+          (moved-one c.args.from.now c.loop-q.to.items w.insert_entry.new.groups.items (length c.args.to.now.items) c.loop-q.q c.loop-q.invariant (subst (λ (x : Group). c.loop-q.q % 7 < x.count) read w.if-lane-group.true) w.insert_entry.ensures.groups (w.insert_entry.ensures.tight c.loop-q.invariant.tight)
           (subst (λ (x : Group). entries_of w.insert_entry.new.groups.items ≡ finite.insert (entries_of c.loop-q.to.items) (lane_place x (c.loop-q.q % 7)) (lane_hash x (c.loop-q.q % 7))) read w.insert_entry.ensures.entries)
           w.insert_entry.ensures.len)
       | else-lane-group w ↦
@@ -51,3 +51,6 @@ returns-clause-entries c = moved-all c.args.from.now c.loop-q.to.items (length c
 
 pub returns-clause-len : goal.returns-clause-len
 returns-clause-len c = c.loop-q.invariant.len
+
+pub returns-clause-tight : goal.returns-clause-tight
+returns-clause-tight c = c.loop-q.invariant.tight

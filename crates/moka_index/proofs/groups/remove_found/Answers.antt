@@ -2,8 +2,8 @@ use Rattle.std.proofs.Common.{◌≡◌, ℕ, ◌+◌, ◌*◌, ◌<◌, ◌≤�
 use Rattle.std.specs.FinMap as finite
 use Rattle.moka_index.specs.declared.group.Group.{Group}
 use Rattle.moka_index.specs.Group.{without_lane}
-use Rattle.moka_index.specs.Groups.{entry_at, group_at, entries_of, IsGroups}
-use Rattle.moka_index.proofs.Changes.{Leaves, lane-below, removed-leaves}
+use Rattle.moka_index.specs.Groups.{entry_at, group_at, entries_of, IsGroups, StaysExact}
+use Rattle.moka_index.proofs.Changes.{Leaves, lane-below, removed-leaves, removed-exact}
 use Rattle.moka_index.proofs.Moves.{group-read}
 use Rattle.moka_index.proofs.groups.remove_found.Goals as goal
 
@@ -29,3 +29,10 @@ returns-clause-groups c = (left c.args.groups.now.items c.requires.groups c.args
 
 pub returns-clause-entries : goal.returns-clause-entries
 returns-clause-entries c = (left c.args.groups.now.items c.requires.groups c.args.found.group c.args.found.lane c.args.found.place c.requires.there.0 c.index_mut.result.now c.swap_remove.new.self c.requires.group c.requires.lane c.requires.there.1 c.index_mut.ensures.value c.swap_remove.ensures).entries
+
+pub returns-clause-exact : goal.returns-clause-exact
+returns-clause-exact c =
+    let items : List Group = c.args.groups.now.items in
+    let read : c.index_mut.result.now ≡ group_at items c.args.found.group = c.index_mut.ensures.value ∙ group-read items c.args.found.group c.index_mut.result.now c.requires.group in
+    subst (λ (x : Group). StaysExact items (slice_set items c.args.found.group x) c.args.found.group c.args.found.lane) (sym (c.swap_remove.ensures ∙ ap (λ x. without_lane x c.args.found.lane) read))
+    (removed-exact items c.requires.groups c.args.found.group c.args.found.lane c.args.found.place c.requires.there.0 c.requires.group c.requires.lane c.requires.there.1)

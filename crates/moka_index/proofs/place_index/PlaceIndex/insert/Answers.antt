@@ -24,4 +24,5 @@ invariant_of-self c =
       groups_are = c.insert_entry.ensures.groups;
       counted = omega (arith, ap finite.len c.insert_entry.ensures.entries, more, c.self.invariant.counted);
       fits = omega (arith, room, c.insert_entry.ensures.len);
+      tight = c.insert_entry.ensures.tight c.self.invariant.tight;
     }

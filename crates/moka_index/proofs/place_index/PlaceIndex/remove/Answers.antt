@@ -23,6 +23,7 @@ invariant_of-self c =
       groups_are = c.remove_entry.ensures.groups;
       counted = omega (arith, ap finite.len c.remove_entry.ensures.entries, less, c.self.invariant.counted);
       fits = omega (arith, c.remove_entry.ensures.len, c.self.invariant.fits);
+      tight = c.remove_entry.ensures.tight c.self.invariant.tight;
     }
 
 pub returns-clause-room : goal.returns-clause-room
