@@ -4,12 +4,12 @@ use Rattle.std.specs.Duration.{as_nanos}
 use Rattle.std.specs.declared.time.Duration.{Duration}
 use Rattle.std.specs.Str.{bytes_eq}
 use Rattle.moka_parts.specs.declared.calls.Call.{Call}
-use Rattle.moka_parts.specs.declared.calls.Call.TheVariants.{Insert, Send, Get, GetUnrecorded, Scan, Contains, Key, Remove, InvalidateAll, InvalidateIf, Run, RunIfDue, Keys, Report, Pending}
+use Rattle.moka_parts.specs.declared.calls.Call.TheVariants.{Insert, Send, Get, GetUnrecorded, Scan, Contains, Key, Remove, InvalidateAll, InvalidateIf, Run, RunIfDue, Keys, Report, Pending, SetCapacity}
 use Rattle.moka_parts.specs.declared.policy.Instant.{Instant}
 use Rattle.moka_script.specs.declared.key_range.KeyRange.{KeyRange}
 use Rattle.moka_script.specs.declared.script.calls.LineCall.{LineCall}
 use Rattle.moka_script.specs.declared.script.calls.LineCall.TheVariants as line_call
-use Rattle.moka_script.specs.Lex.{number_of, lone_number, alone, ◌>>=◌}
+use Rattle.moka_script.specs.Lex.{number_of, number_or_none, lone_number, alone, ◌>>=◌}
 
 -- a call whose value is its bytes
 abbrev pub CallText : Type 0
@@ -128,6 +128,13 @@ due_of arguments = do
   n ← lone_number arguments
   Some (RunIfDue (record { 0 = n }))
 
+-- `resize N`, or `resize none` for no bound
+abbrev pub resize_of : List (List ℕ) → Option CallText
+resize_of (capacity ∷ []) = do
+  c ← number_or_none capacity
+  Some (SetCapacity c)
+resize_of _ = None
+
 -- the call of that name; `keys` asks for those of the one segment
 abbrev pub call_of : List ℕ → List (List ℕ) → Option CallText
 call_of name arguments =
@@ -142,8 +149,9 @@ call_of name arguments =
     else (if bytes_eq name (codes "remove") then remove_of arguments
     else (if bytes_eq name (codes "invall") then invall_of arguments
     else (if bytes_eq name (codes "invif") then invif_of arguments
+    else (if bytes_eq name (codes "resize") then resize_of arguments
     else (if bytes_eq name (codes "due") then due_of arguments
     else (if bytes_eq name (codes "keys") then alone (Keys 0) arguments
     else (if bytes_eq name (codes "report") then alone Report arguments
     else (if bytes_eq name (codes "pending") then alone Pending arguments
-    else None))))))))))))))
+    else None)))))))))))))))

@@ -1,8 +1,9 @@
 -- The words and the numbers of a line.
-use Rattle.std.specs.Prelude.{ℕ, ◌^◌, Bool, ◌&&◌, ◌==◌, nat_le, nat_lt, not, List, [], ◌∷◌, length, filter, map, Option, Some, None, option_and_then, is_some, unwrap_or, if◌then◌else◌}
+use Rattle.std.specs.Prelude.{ℕ, ◌^◌, Bool, ◌&&◌, ◌==◌, nat_le, nat_lt, not, List, [], ◌∷◌, length, filter, map, Option, Some, None, option_and_then, is_some, option_map, unwrap_or, codes, if◌then◌else◌}
 use Rattle.std.specs.Borrow.{Bor}
 use Rattle.std.specs.List.{slice_split, list_all}
 use Rattle.std.specs.Char.{is_ascii_digit}
+use Rattle.std.specs.Str.{bytes_eq}
 use Rattle.std.specs.Str.Parse.{digits_value}
 
 -- a byte that may stand in a line
@@ -24,6 +25,10 @@ is_numeral word = not (length word == 0) && (nat_le (length word) 20 && list_all
 -- the number that a word says, if it is below a power of two
 abbrev pub number_of : ℕ → List ℕ → Option ℕ
 number_of bits word = if is_numeral word && nat_lt (digits_value 10 word) (2 ^ bits) then Some (digits_value 10 word) else None
+
+-- the number that a word says, or none if it is `none`
+abbrev pub number_or_none : List ℕ → Option (Option ℕ)
+number_or_none word = if bytes_eq word (codes "none") then Some None else option_map Some (number_of 64 word)
 
 -- whether a word says a number that fits in 64 bits
 abbrev pub is_number : List ℕ → Bool

@@ -9,7 +9,7 @@ use Rattle.moka_script.specs.declared.rules.Rule.{Rule}
 use Rattle.moka_script.specs.declared.script.settings.Settings.{Settings}
 use Rattle.moka_script.specs.declared.script.settings.Setting.{Setting}
 use Rattle.moka_script.specs.declared.script.settings.Setting.TheVariants.{First, Capacity, Policy, TimeToLive, TimeToIdle, Weigh, Listener, Invalidator, RepeatedIds, Start, Keeper, Auto}
-use Rattle.moka_script.specs.Lex.{number_of, lone_number, alone, ◌>>=◌}
+use Rattle.moka_script.specs.Lex.{number_of, number_or_none, lone_number, alone, ◌>>=◌}
 
 -- the ticket of that number, which is not 0
 abbrev pub ticket_of : ℕ → Option ℕ
@@ -72,17 +72,13 @@ question_named name =
     else (if bytes_eq name (codes "update") then Some Update
     else None))
 
--- the answer that a word says: a number, or `none`
-abbrev pub answer_of : List ℕ → Option (Option ℕ)
-answer_of word = if bytes_eq word (codes "none") then Some None else option_map Some (number_of 64 word)
-
 -- `expire QUESTION KEY MOMENT ANSWER`
 abbrev pub rule_of : List (List ℕ) → Option Rule
 rule_of (question ∷ key ∷ moment ∷ answer ∷ []) = do
   q ← question_named question
   k ← number_of 32 key
   m ← number_of 64 moment
-  a ← answer_of answer
+  a ← number_or_none answer
   Some (record { question = q; key = k; moment = m; answer = a })
 rule_of _ = None
 

@@ -2,7 +2,7 @@
 ghost use Rattle.std.specs.Prelude.{◌≡◌, ◌≤◌, take};
 ghost use Rattle.std.specs.List.{list_all};
 ghost use Rattle.std.specs.Char.{is_ascii_digit};
-ghost use Rattle.moka_script.specs.Lex.{texts, alone, lone_number, words_of, number_of, is_numeral, is_printable};
+ghost use Rattle.moka_script.specs.Lex.{texts, alone, lone_number, words_of, number_of, number_or_none, is_numeral, is_printable};
 
 /// A number has at most twenty digits.
 const MOST_DIGITS: usize = 20;
@@ -50,6 +50,16 @@ pub fn small_number(word: &str) -> Option<u32>
         word.parse().ok()
     } else {
         None
+    }
+}
+
+/// The number that a word says, if it fits in 64 bits, or none if the word is `none`.
+pub fn number_or_none(word: &str) -> Option<Option<u64>>
+    ensures { result ≡ number_or_none word.now }
+{
+    match word {
+        "none" => Some(None),
+        _ => number(word).map(Some),
     }
 }
 

@@ -1,10 +1,10 @@
 //! The calls of a script.
 ghost use Rattle.std.specs.Prelude.{◌≡◌, option_map};
 ghost use Rattle.moka_script.specs.Lex.{texts};
-ghost use Rattle.moka_script.specs.Calls.{call_of, call_text, key_and_moment, insert_of, send_of, get_of, peek_of, scan_of, contains_of, key_of, remove_of, invall_of, invif_of, run_of, due_of};
+ghost use Rattle.moka_script.specs.Calls.{call_of, call_text, key_and_moment, insert_of, send_of, get_of, peek_of, scan_of, contains_of, key_of, remove_of, invall_of, invif_of, run_of, resize_of, due_of};
 
 use crate::key_range::KeyRange;
-use crate::lex::{alone, lone_number, number, small_number};
+use crate::lex::{alone, lone_number, number, number_or_none, small_number};
 use crate::word::Word;
 use moka_parts::calls::{Call, Reply, Ticket};
 use moka_parts::policy::Instant;
@@ -213,6 +213,17 @@ fn due(arguments: &[&str]) -> Option<ScriptCall>
     Some(Call::RunIfDue { now })
 }
 
+/// `resize N`, or `resize none` for no bound
+fn resize(arguments: &[&str]) -> Option<ScriptCall>
+    ensures { result ≡ resize_of (texts arguments.now) }
+{
+    let [capacity] = arguments else {
+        return None;
+    };
+    let capacity = number_or_none(capacity)?;
+    Some(Call::SetCapacity { capacity })
+}
+
 /// The call of that name, if there is one.
 pub fn parse_call<'a>(name: &str, arguments: &[&'a str]) -> Option<LineCall<'a>>
     ensures { option_map call_text result ≡ call_of name.now (texts arguments.now) }
@@ -229,6 +240,7 @@ pub fn parse_call<'a>(name: &str, arguments: &[&'a str]) -> Option<LineCall<'a>>
         "remove" => remove(arguments)?,
         "invall" => invall(arguments)?,
         "invif" => invif(arguments)?,
+        "resize" => resize(arguments)?,
         "due" => due(arguments)?,
         "keys" => alone(Call::Keys { segment: 0 }, arguments)?,
         "report" => alone(Call::Report, arguments)?,

@@ -1,10 +1,10 @@
 //! The settings of a script.
 ghost use Rattle.std.specs.Prelude.{◌≡◌};
 ghost use Rattle.moka_script.specs.Lex.{texts};
-ghost use Rattle.moka_script.specs.Settings.{answer_of, filled, raised, ids_given, ids_of, keeper_of, policy_of, policy_named, question_named, rule_line, rule_of, setting_of};
+ghost use Rattle.moka_script.specs.Settings.{filled, raised, ids_given, ids_of, keeper_of, policy_of, policy_named, question_named, rule_line, rule_of, setting_of};
 
 use crate::first_ticket::FirstTicket;
-use crate::lex::{alone, lone_number, number, small_number};
+use crate::lex::{alone, lone_number, number, number_or_none, small_number};
 use crate::rules::{Question, Rule};
 use crate::weigher::NumberWeigher;
 use moka_parts::policy::EvictionPolicy;
@@ -217,7 +217,7 @@ fn rule(arguments: &[&str]) -> Option<Rule>
     let question = question_named(question)?;
     let key = small_number(key)?;
     let moment = number(moment)?;
-    let answer = answer_of(answer)?;
+    let answer = number_or_none(answer)?;
     Some(Rule {
         question,
         key,
@@ -235,16 +235,6 @@ fn question_named(name: &str) -> Option<Question>
         "read" => Some(Question::Read),
         "update" => Some(Question::Update),
         _ => None,
-    }
-}
-
-/// The answer that a word says: a number, or `none`.
-fn answer_of(word: &str) -> Option<Option<u64>>
-    ensures { result ≡ answer_of word.now }
-{
-    match word {
-        "none" => Some(None),
-        _ => number(word).map(Some),
     }
 }
 
