@@ -19,7 +19,7 @@ use std::time::Duration;
 pub type DefaultHasher = BuildHasherDefault<FoldHasher>;
 
 /// A cache as `CacheConfig::build` makes it; what is left out is not set.
-pub type Cache<K, V, X = NoExpiry, L = NoListener, P = NoPredicate, W = NoWeigher> = BaseCache<
+pub type Engine<K, V, X = NoExpiry, L = NoListener, P = NoPredicate, W = NoWeigher> = BaseCache<
     K,
     V,
     DefaultHasher,
@@ -261,7 +261,7 @@ impl<X, L, P, W> CacheConfig<X, L, P, W> {
         self,
         alloc: Global,
         now: Instant,
-    ) -> Result<Cache<K, V, X, L, P, W>, OutOfMemory>
+    ) -> Result<Engine<K, V, X, L, P, W>, OutOfMemory>
     where
         K: Eq + Hash + Drop,
         V: Drop,

@@ -11,7 +11,7 @@ pub mod base_cache;
 pub mod config;
 
 pub use base_cache::BaseCache;
-pub use config::{Cache, CacheConfig, DefaultHasher};
+pub use config::{CacheConfig, DefaultHasher, Engine};
 pub use moka_parts::calls::{Entry, KvEntry, Ticket};
 pub use moka_parts::closures::{
     ByClosure, NoPredicate, NoTest, NoWeigher, PairFn, PredicateFn, ValueTest, Weigher,

@@ -1,6 +1,6 @@
 //! A cache that is read through.
 use anyhow::Result;
-use moka_engine::{Cache, CacheConfig, FixedClock, Instant, OutOfMemory};
+use moka_engine::{CacheConfig, Engine, FixedClock, Instant, OutOfMemory};
 use std::alloc::Global;
 
 // Nothing expires, so that all is done at one moment.
@@ -9,7 +9,7 @@ const NOW: Instant = Instant(0);
 /// A cache that keeps what is read most often, and makes its runs of maintenance by itself.
 #[derive(Drop)]
 pub struct ReadThrough {
-    cache: Cache<u64, u64>,
+    cache: Engine<u64, u64>,
 }
 
 impl ReadThrough {

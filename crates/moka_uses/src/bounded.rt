@@ -2,7 +2,7 @@
 ghost use Rattle.std.specs.Prelude.{◌≡◌, Some, IfOk, option_map};
 
 use anyhow::Result;
-use moka_engine::{Cache, CacheConfig, Entry, EvictionPolicy, FixedClock, Instant};
+use moka_engine::{CacheConfig, Engine, Entry, EvictionPolicy, FixedClock, Instant};
 use std::alloc::Global;
 
 /// Puts a value into a cache of at most 10,000 entries, and gets it back.
@@ -14,7 +14,7 @@ pub fn put_and_get(alloc: Global, key: u64, value: u64) -> Result<Option<Entry<u
     let config = CacheConfig::default()
         .max_capacity(10_000)
         .eviction_policy(policy);
-    let mut cache: Cache<u64, u64> = config.build(alloc, now)?;
+    let mut cache: Engine<u64, u64> = config.build(alloc, now)?;
     let hash = cache.hash(&key);
     let (ticket, _) = cache.do_insert_with_hash(key, hash, value, now)?;
     cache.send(ticket)?;

@@ -4,7 +4,7 @@ ghost use Rattle.std.specs.Duration.{as_nanos};
 ghost use Rattle.moka_parts.specs.Time.{plus};
 
 use anyhow::Result;
-use moka_engine::{Cache, CacheConfig, Expiry, Instant};
+use moka_engine::{CacheConfig, Engine, Expiry, Instant};
 use std::alloc::Global;
 use std::time::Duration;
 
@@ -47,7 +47,7 @@ impl<K, V> Expiry<K, V> for Lasts {
 }
 
 /// Users' tokens.
-pub type Sessions = Cache<u64, u64, Lasts>;
+pub type Sessions = Engine<u64, u64, Lasts>;
 
 /// Opens a session at one moment, and tells whether it is open at another: it is until its time is over, and not from
 /// then on.

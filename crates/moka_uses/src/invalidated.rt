@@ -3,7 +3,7 @@ ghost use Rattle.std.specs.Prelude.{◌≡◌, ℕ, IfOk, IfErr, OnErr};
 ghost use Rattle.moka_uses.specs.Hidden.{IsBelow, IsNeverShown};
 
 use moka_engine::{
-    Cache, IdSource, Instant, NoExpiry, NoListener, PredicateFn, PredicateId, PredicateRefused,
+    Engine, IdSource, Instant, NoExpiry, NoListener, PredicateFn, PredicateId, PredicateRefused,
 };
 
 /// Says yes to the values below a bound.
@@ -40,7 +40,7 @@ impl IdSource for CountedIds {
 }
 
 /// Numbers by number, made by a configuration with `support_invalidation_closures`.
-pub type Numbers = Cache<u64, u64, NoExpiry, NoListener, Below>;
+pub type Numbers = Engine<u64, u64, NoExpiry, NoListener, Below>;
 
 /// Hides the values below a bound that were written at the moment `now` or before. From then on their keys are not there,
 /// at whatever moment the cache is asked, until they are inserted again (`moka_parts::laws::stays_hidden`).

@@ -3,16 +3,16 @@ ghost use Rattle.std.specs.Prelude.{IfOk};
 ghost use Rattle.moka_parts.specs.Exact.{IsExact};
 
 use anyhow::Result;
-use moka_engine::{Cache, CacheConfig, FixedClock, Instant};
+use moka_engine::{CacheConfig, Engine, FixedClock, Instant};
 use std::alloc::Global;
 
 /// Inserts two entries, sends the second one's operation before the first one's, and makes a run. The count and the
 /// weight that the cache reports are exactly its records'.
-pub fn send_in_other_order(alloc: Global) -> Result<Cache<u64, u64>>
+pub fn send_in_other_order(alloc: Global) -> Result<Engine<u64, u64>>
     ensures { IfOk result (λ cache. IsExact cache.state) }
 {
     let now = Instant(0);
-    let mut cache: Cache<u64, u64> = CacheConfig::default().build(alloc, now)?;
+    let mut cache: Engine<u64, u64> = CacheConfig::default().build(alloc, now)?;
     let (one, other) = (cache.hash(&1), cache.hash(&2));
     let (first, _) = cache.do_insert_with_hash(1, one, 10, now)?;
     let (second, _) = cache.do_insert_with_hash(2, other, 20, now)?;

@@ -2,7 +2,7 @@
 ghost use Rattle.std.specs.Prelude.{◌≡◌, Some, IfOk};
 
 use anyhow::Result;
-use moka_engine::{Cache, CacheConfig, Instant, Listener, NoExpiry, RemovalCause};
+use moka_engine::{CacheConfig, Engine, Instant, Listener, NoExpiry, RemovalCause};
 use std::alloc::Global;
 
 /// Counts the values that leave.
@@ -28,12 +28,12 @@ pub fn replace(
     key: u64,
     first: u64,
     second: u64,
-) -> Result<Cache<u64, u64, NoExpiry, Counter>>
+) -> Result<Engine<u64, u64, NoExpiry, Counter>>
     ensures { IfOk result (λ cache. cache.listener ≡ Some (record { count = 1 })) }
 {
     let now = Instant(0);
     let config = CacheConfig::default().eviction_listener(Counter { count: 0 });
-    let mut cache: Cache<u64, u64, NoExpiry, Counter> = config.build(alloc, now)?;
+    let mut cache: Engine<u64, u64, NoExpiry, Counter> = config.build(alloc, now)?;
     let hash = cache.hash(&key);
     let (put, _) = cache.do_insert_with_hash(key, hash, first, now)?;
     cache.send(put)?;

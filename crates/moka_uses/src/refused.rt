@@ -2,14 +2,14 @@
 ghost use Rattle.std.specs.Prelude.{◌≡◌, ◌↔◌, false, IfErr, IsTrue, OnErr};
 ghost use Rattle.moka_parts.specs.State.{is_disabled};
 
-use moka_engine::{Cache, FixedClock, InsertError, InsertRefused, Instant, SendError};
+use moka_engine::{Engine, FixedClock, InsertError, InsertRefused, Instant, SendError};
 
 /// Puts a value under a key, and sends the operation. A full queue is emptied by a run, and the operation sent again.
 ///
 /// # Errors
 /// The insert that was refused, with key and value; the cache is as it was.
 pub fn put(
-    cache: &mut Cache<u64, u64>,
+    cache: &mut Engine<u64, u64>,
     key: u64,
     value: u64,
     now: Instant,
@@ -52,7 +52,7 @@ mod tests {
 
     #[test]
     fn puts_more_than_the_queue_holds(rt: HostRuntime) -> Result<()> {
-        let mut cache: Cache<u64, u64> = CacheConfig::default().build(rt.alloc(), Instant(0))?;
+        let mut cache: Engine<u64, u64> = CacheConfig::default().build(rt.alloc(), Instant(0))?;
         for key in 0..1_000 {
             if cache.is_map_disabled() {
                 break;
@@ -67,7 +67,7 @@ mod tests {
     #[test]
     fn hands_back_what_is_refused(rt: HostRuntime) -> Result<()> {
         let config = CacheConfig::default().first_ticket(u64::MAX);
-        let mut cache: Cache<u64, u64> = config.build(rt.alloc(), Instant(0))?;
+        let mut cache: Engine<u64, u64> = config.build(rt.alloc(), Instant(0))?;
         let refused = put(&mut cache, 1, 10, Instant(0)).err();
         let back = refused.map(|refused| (refused.key, refused.value, may_put_again(&refused)));
         assert_eq!(rt; back, Some((1, 10, false)));

@@ -3,7 +3,7 @@ ghost use Rattle.std.specs.Prelude.{◌≡◌, Some, IfOk, option_map};
 ghost use Rattle.std.specs.String.{string_bytes};
 
 use anyhow::Result;
-use moka_engine::{Cache, CacheConfig, Entry, EvictionPolicy, FixedClock, Instant};
+use moka_engine::{CacheConfig, Engine, Entry, EvictionPolicy, FixedClock, Instant};
 use std::alloc::Global;
 
 /// Puts a text into a cache of at most 10,000 entries, and gets a clone of it.
@@ -19,7 +19,7 @@ pub fn put_and_get(
     let config = CacheConfig::default()
         .max_capacity(10_000)
         .eviction_policy(policy);
-    let mut cache: Cache<String, String> = config.build(alloc, now)?;
+    let mut cache: Engine<String, String> = config.build(alloc, now)?;
     let hash = cache.hash(&key);
     let asked = key.clone()?;
     let (ticket, _) = cache.do_insert_with_hash(key, hash, text, now)?;

@@ -3,7 +3,7 @@ ghost use Rattle.std.specs.Prelude.{◌≤◌, IfOk};
 
 use anyhow::Result;
 use moka_engine::{
-    Cache, CacheConfig, EvictionPolicy, FixedClock, Instant, NoExpiry, NoListener, NoPredicate,
+    CacheConfig, Engine, EvictionPolicy, FixedClock, Instant, NoExpiry, NoListener, NoPredicate,
     Weigher,
 };
 use std::alloc::Global;
@@ -27,7 +27,7 @@ impl<K> Weigher<K, String> for ByLength {
 }
 
 /// A cache of texts by number.
-pub type Texts = Cache<u64, String, NoExpiry, NoListener, NoPredicate, ByLength>;
+pub type Texts = Engine<u64, String, NoExpiry, NoListener, NoPredicate, ByLength>;
 
 /// Puts two texts into a cache of at most 1,000 bytes, and tells how many bytes it keeps.
 pub fn keep_two(alloc: Global, one: String, other: String) -> Result<u64>

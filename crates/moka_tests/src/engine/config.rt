@@ -2,7 +2,7 @@
 use super::ByKey;
 use crate::parts::laws::OneId;
 use moka_engine::{
-    Cache, CacheConfig, EvictionPolicy, ExpireAfter, FixedClock, HousekeeperConfig, Instant,
+    CacheConfig, Engine, EvictionPolicy, ExpireAfter, FixedClock, HousekeeperConfig, Instant,
     NoExpiry, NoListener, NoPredicate,
 };
 use moka_parts::policy::ExpireAfterCreate;
@@ -29,7 +29,7 @@ impl<K, V> ExpireAfterCreate<K, V> for FiveSeconds {
 type Expiries = ExpireAfter<FiveSeconds, NoExpiry, NoExpiry>;
 
 /// A cache in which each choice was made.
-type Chosen = Cache<u64, u64, Expiries, NoListener, NoPredicate, ByKey>;
+type Chosen = Engine<u64, u64, Expiries, NoListener, NoPredicate, ByKey>;
 
 fn five_seconds() -> Expiries {
     ExpireAfter {
