@@ -12,6 +12,7 @@ ghost use Rattle.moka_parts.specs.Runs.{Befalls};
 ghost use Rattle.moka_parts.specs.Settling.{IsValid};
 ghost use Rattle.moka_parts.specs.State.{Events, is_disabled, keeps_write_list, limits_of, new_state};
 ghost use Rattle.moka_parts.specs.Surroundings.{Leads};
+ghost use Rattle.moka_engine.specs.BaseCache.{IsServed};
 
 use moka_inner::Inner;
 use moka_parts::calls::{Entry, KvEntry, Ticket};
@@ -259,6 +260,7 @@ impl<
         ensures valid { IsValid K.eq self.now.state }
         ensures listening { self.now.state.settings.listening ≡ is_some self.now.listener }
         ensures listed { keeps_write_list self.now.state.settings ≡ true → IsWriteList self.now.state self.now.write_list }
+        ensures served { IsServed self.now.state }
     {
         self.inner.invariant_holds();
     }
