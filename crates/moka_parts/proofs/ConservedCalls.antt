@@ -1,6 +1,7 @@
 -- Where a listener is set, every call tells each value that leaves the map in it, once.
 use Rattle.std.proofs.Common.{◌≡◌, refl, ℕ, Bool, true, false, List, [], ◌∷◌, ◌++◌, length, Option, Some, None, option_map, Result, Ok, Err, ap, sym, ◌∙◌, subst, append-nil, MatchBool}
 use Rattle.std.specs.Prelude.{IsPermutation}
+use Rattle.std.specs.Cmp.{IsEquivalence}
 use Rattle.std.specs.Duration.{as_nanos}
 use Rattle.std.proofs.lemmas.List.Sorted.{IsPermutation-refl, IsPermutation-sym, IsPermutation-trans, IsPermutation-map, IsPermutation-to_front}
 use Rattle.std.specs.FinMap.{get, insert, remove, values}
@@ -223,8 +224,8 @@ module _ {K V X L P W C I : Type 0} (m : Meaning K V X L P W C I) where
   call_conserves s t c r e on h step = absurd step
 
   -- every list of calls
-  pub tells_each_once : TellsEachOnce m
-  tells_each_once s [] laws h on done = tt
-  tells_each_once s (x ∷ xs) laws h on (step, rest) =
+  pub tells_each_once : IsEquivalence m.eq → TellsEachOnce m
+  tells_each_once laws s [] h on done = tt
+  tells_each_once laws s (x ∷ xs) h on (step, rest) =
       let c = call_conserves s x.after x.call x.reply x.events on h.numbered step in
-      (c.values, tells_each_once x.after xs laws (call_keeps m laws s x.after x.call x.reply x.events h step) (ap (λ (y : _). y.listening) c.settings ∙ on) rest)
+      (c.values, tells_each_once laws x.after xs (call_keeps m laws s x.after x.call x.reply x.events h step) (ap (λ (y : _). y.listening) c.settings ∙ on) rest)

@@ -45,3 +45,5 @@ pub mod OrderedList
 pub mod OrderedSteps
 pub mod OrderedRuns
 pub mod OrderedDrive
+pub mod PromisedLaws
+pub mod LeftIdle

@@ -70,14 +70,14 @@ module _ {K V X L P W C I : Type 0} (m : Meaning K V X L P W C I) where
       go false (ch, by, done) = subst (HasOrder settings) (sym by.1) (h.0, λ kept. (write_list_at_end s ns ch, run_in_order m.says s terms.now ns ch (ap keeps_write_list h.0 ∙ kept) by.0 valid.rising (h.1 kept)))
 
   -- calls in the order of time keep a state in order
-  pub stays_in_order : StaysInOrder m
-  stays_in_order s [] ns laws valid kept orderly order done = (ns, order)
-  stays_in_order s (x ∷ xs) ns laws valid kept orderly order (step, rest) =
+  pub stays_in_order : IsEquivalence m.eq → StaysInOrder m
+  stays_in_order laws s [] ns valid kept orderly order done = (ns, order)
+  stays_in_order laws s (x ∷ xs) ns valid kept orderly order (step, rest) =
       let next = call_ends m s.settings ns (MaintenanceRun m.says) (HasOrder s.settings) (run_has_order s.settings ns)
       (λ t reads housekeeping h. (h.0, λ k. let o = h.1 k in (o.0, order_with t o.0 o.1 reads t.invalid_before t.predicates housekeeping t.capacity t.next_number)))
       s x.after x.call x.reply x.events valid (refl, λ k. order) orderly.0 step in
       let at : HasOrder s.settings x.after = elim next [ inl after ↦ after | inr as_before ↦ (as_before.1.0, λ k. (ns, as_before.1.1 k)) ] in
-      stays_in_order x.after xs (at.1 kept).0 laws (call_keeps m laws s x.after x.call x.reply x.events valid step) (ap keeps_write_list at.0 ∙ kept) orderly.1 (at.1 kept).1 rest
+      stays_in_order laws x.after xs (at.1 kept).0 (call_keeps m laws s x.after x.call x.reply x.events valid step) (ap keeps_write_list at.0 ∙ kept) orderly.1 (at.1 kept).1 rest
 
 -- ---- calls with their write lists
 
@@ -90,7 +90,7 @@ module _ {K V X L P W C I : Type 0} (m : Meaning K V X L P W C I) where
         s x.after x.call x.reply x.events tt step.0
 
     -- so it is one of the reference cache
-    listed_call_made : CallStep m (MaintenanceRun m.says) s x.call x.reply x.events x.after
+    pub listed_call_made : CallStep m (MaintenanceRun m.says) s x.call x.reply x.events x.after
     listed_call_made =
         weaker_call m (PromisedRun m.says m.read) (MaintenanceRun m.says) (λ _. Unit {0}) (λ s terms course notices t _ run. promised_is_run m.says m.read s terms course notices t run) (λ _ _ _ _ _ good. good)
         s x.after x.call x.reply x.events tt listed_call_promised
@@ -105,7 +105,7 @@ module _ {K V X L P W C I : Type 0} (m : Meaning K V X L P W C I) where
           s x.after x.call x.reply x.events (valid, order) step.0
 
       -- in the order of time it leaves a state in order
-      listed_call_ends : IsOrderly s x.call → (keeps_write_list s.settings ≡ true → IsInOrder s before) → IsListedIn s.settings after x.after
+      pub listed_call_ends : IsOrderly s x.call → (keeps_write_list s.settings ≡ true → IsInOrder s before) → IsListedIn s.settings after x.after
       listed_call_ends orderly order = elim (call_ends m s.settings before (ListedRun m.says m.read before after) (IsListedIn s.settings after)
           (λ q terms course notices t ok h run. listed_run_ends m.says m.read before after q terms course notices t run m.eq ok s.settings h)
           (λ t reads housekeeping h. (h.0, λ kept. order_with t after (h.1 kept) reads t.invalid_before t.predicates housekeeping t.capacity t.next_number))
@@ -147,6 +147,7 @@ module _ {K V X L P W C I : Type 0} (m : Meaning K V X L P W C I) where
   drives_in_order calls replies steps old new clock clock_after ids ids_after laws valid listed made lists = record {
     steps = steps;
     is_run = made;
+    listed = lists;
     orderly = λ empty orderly. listed_steps_orderly old.state old.write_list new.write_list steps laws valid (λ kept. empty_in_order old.state old.write_list empty (listed kept)) orderly lists;
     told_once = λ listening. calls_tell_each_once m made laws valid listening;
   }

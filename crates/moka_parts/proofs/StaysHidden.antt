@@ -299,7 +299,7 @@ module _ {K V X L P W C I : Type 0} (m : Meaning K V X L P W C I) (laws : IsEqui
       go (Some r) true found look = let at = record_of_key_found m.eq s.records key r found in absurd (not_both m.says s r now (h at.0 r at.1 at.2) look)
 
 -- a key that is hidden stays so until it is inserted again
-pub stays_hidden : {K V X L P W C I : Type 0} (m : Meaning K V X L P W C I) → StaysHidden m
-stays_hidden m s steps key now later shown laws valid are forward never last look after =
+pub stays_hidden : {K V X L P W C I : Type 0} (m : Meaning K V X L P W C I) → IsEquivalence m.eq → StaysHidden m
+stays_hidden m laws s steps key now later shown valid are forward never last look after =
     hides_look m laws key (last_state s steps) later shown
     (hidden_later m.eq m.says key (last_state s steps) (last_moment now steps) later last (steps_hide m laws key s steps now valid are forward never (look_hides m laws key s now valid.numbered look))) after

@@ -246,5 +246,5 @@ module _ {K V X L P W C I : Type 0} (m : Meaning K V X L P W C I) (laws : IsEqui
   calls_keep s (x ∷ xs) h (step, rest) = calls_keep x.after xs (call_keeps s x.after x.call x.reply x.events h step) rest
 
 -- the same as a law
-pub stays_valid : {K V X L P W C I : Type 0} (m : Meaning K V X L P W C I) → StaysValid m
-stays_valid m s steps laws h are = calls_keep m laws s steps h are
+pub stays_valid : {K V X L P W C I : Type 0} (m : Meaning K V X L P W C I) → IsEquivalence m.eq → StaysValid m
+stays_valid m laws s steps h are = calls_keep m laws s steps h are

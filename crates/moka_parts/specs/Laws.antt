@@ -1,6 +1,6 @@
 -- Laws that users rely on, as facts of the reference cache.
-use Rattle.std.specs.Prelude.{◌≡◌, ℕ, Bool, true, false, ◌+◌, ◌-◌, ◌<◌, ◌≤◌, List, [], ◌∷◌, ◌++◌, length, take, map, Option, Some, None, option_map, Result, Ok, Err, ◌⊎◌, slice_get, IsPermutation, ⊤}
-use Rattle.std.specs.FinMap.{get, values, len}
+use Rattle.std.specs.Prelude.{◌≡◌, ℕ, Bool, true, false, ◌+◌, ◌-◌, ◌<◌, ◌≤◌, List, [], ◌∷◌, ◌++◌, length, take, map, Option, Some, None, option_map, Result, Ok, Err, ◌⊎◌, slice_get, IsPermutation, Contains, is_some, ⊤}
+use Rattle.std.specs.FinMap.{get, values, len, contains_key}
 use Rattle.moka_parts.specs.declared.policy.Instant.{Instant}
 use Rattle.moka_parts.specs.declared.records.Record.{Record}
 use Rattle.moka_parts.specs.declared.records.Member.{Member}
@@ -10,23 +10,24 @@ use Rattle.moka_parts.specs.declared.calls.Call.TheVariants as call
 use Rattle.moka_parts.specs.declared.calls.Reply.{Reply}
 use Rattle.moka_parts.specs.declared.calls.Reply.TheVariants as reply
 use Rattle.moka_parts.specs.declared.error.OutOfMemory.{OutOfMemory}
+use Rattle.moka_parts.specs.declared.error.SendError.{SendError}
 use Rattle.moka_parts.specs.declared.calls.Entry.{Entry}
 use Rattle.moka_parts.specs.declared.calls.KvEntry.{KvEntry}
 use Rattle.moka_parts.specs.declared.calls.Ticket.{Ticket}
 use Rattle.moka_parts.specs.Settling.{IsConsistentState, IsWellNumbered, IsValid, IsAllSent}
-use Rattle.std.specs.Cmp.{IsEquivalence}
 use Rattle.moka_parts.specs.Time.{moment_of, is_before}
 use Rattle.moka_parts.specs.Records.{Records, Notice, record_of_key, with_record, numbers_of, total_weight}
-use Rattle.moka_parts.specs.State.{State, Settings, Contents, Meaning, Events, new_state, keeps_write_list}
+use Rattle.moka_parts.specs.State.{State, Settings, Contents, Meaning, Events, is_disabled, new_state, keeps_write_list}
 use Rattle.moka_sketch.specs.Frequency.{frequency}
 use Rattle.moka_parts.specs.Candidates.{prefix, frequency_of_all}
 use Rattle.moka_parts.specs.Bounds.{removed_by, IsPlainSurplus}
 use Rattle.moka_parts.specs.Writes.{fate_by_policy, Preferred}
-use Rattle.moka_parts.specs.Maintenance.{Choice, Removes, MovesToBack, Drops, Freedom, Terms, Course, after_choice, kept_by_choice, CoversNothing, before_steps, AreFree, left_in_run, at_end, MaintenanceRun}
+use Rattle.moka_parts.specs.Maintenance.{Choice, Removes, MovesToBack, Drops, Freedom, Terms, Course, after_choice, after_choices, kept_by_choice, CoversNothing, before_steps, AreFree, RunsBy, left_in_run, at_end, MaintenanceRun}
 use Rattle.moka_parts.specs.Exact.{IsExact, IsWithin}
-use Rattle.moka_parts.specs.Calls.{GetStep, PeekStep, ContainsStep, RemoveStep, entry_of}
-use Rattle.moka_parts.specs.Order.{IsInOrder}
-use Rattle.moka_parts.specs.Runs.{Cache, Step, AreOrderly, AreSteps, MakesCalls, ReferenceRun, PromisedRun, last_state}
+use Rattle.moka_parts.specs.Calls.{GetStep, PeekStep, ContainsStep, SendStep, RemoveStep, entry_of}
+use Rattle.moka_parts.specs.Order.{IsInOrder, KeepsOrder, AgesOutInOrder}
+use Rattle.moka_parts.specs.Runs.{Cache, Step, CallStep, AreOrderly, AreSteps, MakesCalls, ReferenceRun, PromisedRun, last_state}
+use Rattle.moka_parts.specs.Listed.{ListedRun, ListedStep, AreListedSteps}
 use Rattle.moka_parts.specs.declared.policy.EvictionPolicy.TheVariants.{TinyLfu}
 
 -- ---- gets and looks
@@ -104,8 +105,7 @@ module _ {K V X L P W C I : Type 0} (m : Meaning K V X L P W C I) where
   -- a key that is hidden stays so until it is inserted again
   abbrev pub StaysHidden : Type 0
   StaysHidden = (s : State K V X P W) (steps : List (Step K V X P W)) (key : K) (now later : ℕ) (shown : Bool) →
-      IsEquivalence m.eq → IsValid m.eq s →
-      AreSteps m (MaintenanceRun m.says) s steps → NeverGoesBack now s steps → InsertsNever m.eq key steps → last_moment now steps ≤ later →
+      IsValid m.eq s → AreSteps m (MaintenanceRun m.says) s steps → NeverGoesBack now s steps → InsertsNever m.eq key steps → last_moment now steps ≤ later →
       ContainsStep m.says m.eq s key now false → ContainsStep m.says m.eq (last_state s steps) key later shown → shown ≡ false
 
 -- ---- predicates, removals, admissions
@@ -125,6 +125,15 @@ module _ {K V P : Type 0} (says : P → K → V → Bool → Type 0) where
 -- a run drops a predicate only when it covers no record of the map
 abbrev pub DropsOnlyIdle : {K V X P W : Type 0} → (P → K → V → Bool → Type 0) → State K V X P W → ℕ → Freedom → Type 0
 DropsOnlyIdle says s now ch = AreFree says s now ch → AllDropIdle says (before_steps s ch) s.predicates ch.steps
+
+-- a run at some moment of which the predicate covers no record of the map
+abbrev pub CoversNothingIn : {K V X P W : Type 0} → (P → K → V → Bool → Type 0) → Registered P → State K V X P W → Terms → Course → List (Notice K V) → State K V X P W → Type 0
+CoversNothingIn says p s terms course notices t = (ch : Freedom) × RunsBy says s terms ch course notices t × (first rest : List Choice) × (ch.steps ≡ first ++ rest) × CoversNothing says (after_choices (before_steps s ch) first) p
+
+-- a predicate that is registered before the calls and not after them left in a call with a run at some moment of which it covered nothing
+abbrev pub PredicatesLeaveIdle : {K V X L P W C I : Type 0} → Meaning K V X L P W C I → Type 0
+PredicatesLeaveIdle {K} {V} {X} {L} {P} {W} m = (s : State K V X P W) (steps : List (Step K V X P W)) (p : Registered P) → AreSteps m (MaintenanceRun m.says) s steps → Contains s.predicates p → (Contains (last_state s steps).predicates p → ⊥) →
+    (done later : List (Step K V X P W)) × (x : Step K V X P W) × (steps ≡ done ++ x ∷ later) × (is_some x.events.passes ≡ true) × CallStep m (CoversNothingIn m.says p) (last_state s done) x.call x.reply x.events x.after
 
 -- a removal gives the stored entry, visible or hidden, and every other key's record stays
 abbrev pub RemovesJustOne : {K V X P W : Type 0} → (K → K → Bool) → State K V X P W → Type 0
@@ -171,7 +180,7 @@ TellsWhatLeaves s ch = IsPermutation (values_of s.records) (map (λ n. n.1) (lef
 
 -- where a listener is set, every call tells exactly what leaves the map in it, each once
 abbrev pub TellsEachOnce : {K V X L P W C I : Type 0} → Meaning K V X L P W C I → Type 0
-TellsEachOnce {K} {V} {X} {L} {P} {W} m = (s : State K V X P W) (steps : List (Step K V X P W)) → IsEquivalence m.eq → IsValid m.eq s → s.settings.listening ≡ true → AreSteps m (MaintenanceRun m.says) s steps → AllConserveValues s steps
+TellsEachOnce {K} {V} {X} {L} {P} {W} m = (s : State K V X P W) (steps : List (Step K V X P W)) → IsValid m.eq s → s.settings.listening ≡ true → AreSteps m (MaintenanceRun m.says) s steps → AllConserveValues s steps
 
 -- ---- looks that leave no trace
 
@@ -213,14 +222,47 @@ module _ {K V X P W : Type 0} (says : P → K → V → Bool → Type 0) (s : St
 
 -- every list of calls keeps a state valid
 abbrev pub StaysValid : {K V X L P W C I : Type 0} → Meaning K V X L P W C I → Type 0
-StaysValid {K} {V} {X} {L} {P} {W} m = (s : State K V X P W) (steps : List (Step K V X P W)) → IsEquivalence m.eq → IsValid m.eq s → AreSteps m (MaintenanceRun m.says) s steps → IsValid m.eq (last_state s steps)
+StaysValid {K} {V} {X} {L} {P} {W} m = (s : State K V X P W) (steps : List (Step K V X P W)) → IsValid m.eq s → AreSteps m (MaintenanceRun m.says) s steps → IsValid m.eq (last_state s steps)
 
 -- where the write list is kept, a list of calls in the order of time keeps a state in order
 abbrev pub StaysInOrder : {K V X L P W C I : Type 0} → Meaning K V X L P W C I → Type 0
-StaysInOrder {K} {V} {X} {L} {P} {W} m = (s : State K V X P W) (steps : List (Step K V X P W)) (before : List ℕ) → IsEquivalence m.eq → IsValid m.eq s → keeps_write_list s.settings ≡ true → AreOrderly s steps → IsInOrder s before →
+StaysInOrder {K} {V} {X} {L} {P} {W} m = (s : State K V X P W) (steps : List (Step K V X P W)) (before : List ℕ) → IsValid m.eq s → keeps_write_list s.settings ≡ true → AreOrderly s steps → IsInOrder s before →
     AreSteps m (MaintenanceRun m.says) s steps → (after : List ℕ) × IsInOrder (last_state s steps) after
 
 -- calls whose runs of maintenance keep their promises are a run of the reference cache
 abbrev pub IsOfReference : {K V X L P W C I : Type 0} → (S : Type 0) → Meaning K V X L P W C I → Type 0
 IsOfReference {K} {V} {X} {L} {P} {W} {C} {I} S m = (calls : List (Call K V P)) (replies : List (Reply K V P)) (steps : List (Step K V X P W)) (old new : Cache K V S X L P W) (clock clock_after : C) (ids ids_after : I) →
     MakesCalls m (PromisedRun m.says m.read) calls replies steps old clock ids new clock_after ids_after → ReferenceRun m calls replies steps old clock ids new clock_after ids_after
+
+-- ---- the runs and calls that contracts promise, with their write lists
+
+module _ {K V X P : Type 0} (W : Type 0) (says : P → K → V → Bool → Type 0) (read : X → K → V → ℕ → Option ℕ → ℕ → Option ℕ) where
+  -- such a run is one of the reference cache
+  abbrev pub RunsAreOfReference : Type 0
+  RunsAreOfReference = (before after : List ℕ) (s : State K V X P W) (terms : Terms) (course : Course) (notices : List (Notice K V)) (t : State K V X P W) → ListedRun says read before after s terms course notices t → MaintenanceRun says s terms course notices t
+
+  -- from a state in order such a run leaves nothing that is past its time
+  abbrev pub RunsAgeOut : (K → K → Bool) → Type 0
+  RunsAgeOut eq = (before after : List ℕ) (s : State K V X P W) (terms : Terms) (course : Course) (notices : List (Notice K V)) (t : State K V X P W) → IsValid eq s → ListedRun says read before after s terms course notices t → AgesOutInOrder s before terms course t
+
+  -- after such a run of a map that is not disabled each operation that waits to be sent can be sent
+  abbrev pub SendsAfterRun : Type 0
+  SendsAfterRun = (before after : List ℕ) (s : State K V X P W) (terms : Terms) (course : Course) (notices : List (Notice K V)) (t : State K V X P W) → ListedRun says read before after s terms course notices t → is_disabled s.capacity ≡ false →
+      (ticket : ℕ) (a : Result (Unit {0}) SendError) (u : State K V X P W) → contains_key t.outstanding ticket ≡ true → SendStep t ticket a u → a ≡ Ok tt
+
+module _ {K V X L P W C I : Type 0} (m : Meaning K V X L P W C I) where
+  -- such a call is one of the reference cache
+  abbrev pub StepsAreOfReference : Type 0
+  StepsAreOfReference = (s : State K V X P W) (before : List ℕ) (x : Step K V X P W) (after : List ℕ) → ListedStep m s before x after → CallStep m (MaintenanceRun m.says) s x.call x.reply x.events x.after
+
+  -- and so is a list of them
+  abbrev pub ListsAreOfReference : Type 0
+  ListsAreOfReference = (s : State K V X P W) (before : List ℕ) (steps : List (Step K V X P W)) (last : List ℕ) → AreListedSteps m s before steps last → AreSteps m (MaintenanceRun m.says) s steps
+
+  -- where the write list is kept, such a call in the order of time keeps a state in order with the list that it leaves
+  abbrev pub CallsKeepOrder : Type 0
+  CallsKeepOrder = (s : State K V X P W) (before : List ℕ) (x : Step K V X P W) (after : List ℕ) → IsValid m.eq s → ListedStep m s before x after → KeepsOrder s before x.call x.after after
+
+  -- and so does a list of them
+  abbrev pub ListsKeepOrder : Type 0
+  ListsKeepOrder = (s : State K V X P W) (before : List ℕ) (steps : List (Step K V X P W)) (last : List ℕ) → IsValid m.eq s → AreListedSteps m s before steps last → keeps_write_list s.settings ≡ true → AreOrderly s steps → IsInOrder s before → IsInOrder (last_state s steps) last

@@ -5,7 +5,8 @@ ghost use Rattle.moka_parts.specs.declared.records.Member.{Member};
 ghost use Rattle.moka_parts.specs.State.{State, Contents};
 ghost use Rattle.moka_parts.specs.Maintenance.{Freedom};
 ghost use Rattle.moka_parts.specs.Runs.{PromisedRun};
-ghost use Rattle.moka_parts.specs.Laws.{GetsWhatIsContained, StaysHidden, DropsOnlyIdle, RemovesJustOne, AdmitsWell, TellsEachOnce, PeeksQuietly, StartsValid, StaysValid, StaysInOrder, EndsExact, CountsNearly, RemovesEnough, RemovesFirst, IsOfReference};
+ghost use Rattle.moka_parts.specs.Listed.{ListedRun};
+ghost use Rattle.moka_parts.specs.Laws.{GetsWhatIsContained, StaysHidden, DropsOnlyIdle, RemovesJustOne, AdmitsWell, TellsEachOnce, PeeksQuietly, StartsValid, StaysValid, StaysInOrder, EndsExact, CountsNearly, RemovesEnough, RemovesFirst, IsOfReference, PredicatesLeaveIdle, RunsAreOfReference, StepsAreOfReference, ListsAreOfReference, RunsAgeOut, SendsAfterRun, CallsKeepOrder, ListsKeepOrder};
 
 use crate::closures::{PredicateFn, Weigher};
 use crate::housekeeper::Clock;
@@ -13,9 +14,11 @@ use crate::invalidator::IdSource;
 use crate::notification::Listener;
 use crate::policy::Expiry;
 
-/// A get finds a value exactly where the key is contained, unless memory for a clone is refused.
+/// A get finds a value exactly where the key is contained, unless memory for a clone is refused: a get of `drive`, and one of
+/// `BaseCache` from one write list to another.
 pub fn gets_what_is_contained<K: Eq, V, X: Expiry<K, V>, P: PredicateFn<K, V>, W>()
-    ensures { GetsWhatIsContained {W = W} K.eq P.says X.read (PromisedRun P.says X.read) }
+    ensures promised { GetsWhatIsContained {W = W} K.eq P.says X.read (PromisedRun P.says X.read) }
+    ensures listed { (before after : List ℕ) → GetsWhatIsContained {W = W} K.eq P.says X.read (ListedRun P.says X.read before after) }
 {}
 
 /// A key that is hidden stays so until it is inserted again, where moments never go back.
@@ -35,6 +38,21 @@ pub fn stays_hidden<
 /// A run drops a predicate only when it covers no record of the map.
 pub fn drops_only_idle<K, V, X, P: PredicateFn<K, V>, W>()
     ensures { (s : State K V X P W) (now : ℕ) (free : Freedom) → DropsOnlyIdle P.says s now free }
+{}
+
+/// A predicate that is registered before a list of calls and not after it left in a run at some moment of which it
+/// covered no record of the map.
+pub fn predicates_leave_idle<
+    K: Eq,
+    V,
+    X: Expiry<K, V>,
+    L: Listener<K, V>,
+    P: PredicateFn<K, V>,
+    W: Weigher<K, V>,
+    C: Clock,
+    I: IdSource,
+>()
+    ensures { PredicatesLeaveIdle (record { eq = K.eq; tells = L.tells; says = P.says; weighs = W.weighs; observes = C.reads; gives = I.gives; created = X.created; read = X.read; updated = X.updated }) }
 {}
 
 /// A removal hands out the entry of its key, visible or hidden, and every other key's record stays.
@@ -133,4 +151,77 @@ pub fn is_of_reference<
     I: IdSource,
 >()
     ensures { IsOfReference S (record { eq = K.eq; tells = L.tells; says = P.says; weighs = W.weighs; observes = C.reads; gives = I.gives; created = X.created; read = X.read; updated = X.updated }) }
+{}
+
+/// A run that `BaseCache` promises is one of the reference cache.
+pub fn runs_are_of_reference<K, V, X: Expiry<K, V>, P: PredicateFn<K, V>, W>()
+    ensures { RunsAreOfReference W P.says X.read }
+{}
+
+/// A call that `BaseCache` promises, from one write list to another, is one of the reference cache.
+pub fn steps_are_of_reference<
+    K: Eq,
+    V,
+    X: Expiry<K, V>,
+    L: Listener<K, V>,
+    P: PredicateFn<K, V>,
+    W: Weigher<K, V>,
+    C: Clock,
+    I: IdSource,
+>()
+    ensures { StepsAreOfReference (record { eq = K.eq; tells = L.tells; says = P.says; weighs = W.weighs; observes = C.reads; gives = I.gives; created = X.created; read = X.read; updated = X.updated }) }
+{}
+
+/// Calls that lead from one write list to the next are steps of the reference cache, so every law holds of them.
+pub fn lists_are_of_reference<
+    K: Eq,
+    V,
+    X: Expiry<K, V>,
+    L: Listener<K, V>,
+    P: PredicateFn<K, V>,
+    W: Weigher<K, V>,
+    C: Clock,
+    I: IdSource,
+>()
+    ensures { ListsAreOfReference (record { eq = K.eq; tells = L.tells; says = P.says; weighs = W.weighs; observes = C.reads; gives = I.gives; created = X.created; read = X.read; updated = X.updated }) }
+{}
+
+/// From a state in the order of writing, a whole run with every operation sent leaves no record past its time to live,
+/// and none written before the invalidation of all.
+pub fn runs_age_out<K: Eq, V, X: Expiry<K, V>, P: PredicateFn<K, V>, W>()
+    ensures { RunsAgeOut W P.says X.read K.eq }
+{}
+
+/// After a run of a map that is not disabled each operation that waits can be sent: both queues are empty.
+pub fn sends_after_run<K, V, X: Expiry<K, V>, P: PredicateFn<K, V>, W>()
+    ensures { SendsAfterRun W P.says X.read }
+{}
+
+/// Where the write list is kept, a call in the order of time keeps a state in the order of writing, with the write list
+/// that the call leaves.
+pub fn calls_keep_order<
+    K: Eq,
+    V,
+    X: Expiry<K, V>,
+    L: Listener<K, V>,
+    P: PredicateFn<K, V>,
+    W: Weigher<K, V>,
+    C: Clock,
+    I: IdSource,
+>()
+    ensures { CallsKeepOrder (record { eq = K.eq; tells = L.tells; says = P.says; weighs = W.weighs; observes = C.reads; gives = I.gives; created = X.created; read = X.read; updated = X.updated }) }
+{}
+
+/// The same of a list of calls, with the write list that the last of them leaves.
+pub fn lists_keep_order<
+    K: Eq,
+    V,
+    X: Expiry<K, V>,
+    L: Listener<K, V>,
+    P: PredicateFn<K, V>,
+    W: Weigher<K, V>,
+    C: Clock,
+    I: IdSource,
+>()
+    ensures { ListsKeepOrder (record { eq = K.eq; tells = L.tells; says = P.says; weighs = W.weighs; observes = C.reads; gives = I.gives; created = X.created; read = X.read; updated = X.updated }) }
 {}

@@ -100,7 +100,7 @@ module _ {X L W C I : Type 0} (m : Meaning ℕ (List ℕ) X L KeyRange W C I) wh
   told_in_full laws s steps false (Some after) valid empty listens done heard = absurd heard
   told_in_full laws s steps true None valid empty listens done heard = absurd heard
   told_in_full laws s steps true (Some after) valid empty listens done heard =
-      let within = fits s steps done (tells_each_once m s steps laws valid listens done) in
+      let within = fits s steps done (tells_each_once m laws s steps valid listens done) in
       let nothing : length (values_of s.records) ≡ 0 = ap length empty in
       sym (keeps_all (record { told = []; room = room_of (calls_of steps) }) after (notices_of steps) heard (omega arith))
 

@@ -33,6 +33,9 @@ fn hold_of_states(_rt: HostRuntime) {
     starts_valid::<u8, char, NoExpiry, NoPredicate, NoWeigher>();
     ends_exact::<u8, char, NoExpiry, NoPredicate, NoWeigher>();
     counts_nearly::<u8, char, NoExpiry, NoPredicate, NoWeigher>();
+    runs_are_of_reference::<u8, char, NoExpiry, NoPredicate, NoWeigher>();
+    runs_age_out::<u8, char, NoExpiry, NoPredicate, NoWeigher>();
+    sends_after_run::<u8, char, NoExpiry, NoPredicate, NoWeigher>();
 }
 
 #[test]
@@ -41,6 +44,38 @@ fn hold_of_lists_of_calls(_rt: HostRuntime) {
     stays_valid::<u8, char, NoExpiry, NoListener, NoPredicate, NoWeigher, FixedClock, OneId>();
     stays_in_order::<u8, char, NoExpiry, NoListener, NoPredicate, NoWeigher, FixedClock, OneId>();
     tells_each_once::<u8, char, NoExpiry, NoListener, NoPredicate, NoWeigher, FixedClock, OneId>();
+    predicates_leave_idle::<
+        u8,
+        char,
+        NoExpiry,
+        NoListener,
+        NoPredicate,
+        NoWeigher,
+        FixedClock,
+        OneId,
+    >();
+    steps_are_of_reference::<
+        u8,
+        char,
+        NoExpiry,
+        NoListener,
+        NoPredicate,
+        NoWeigher,
+        FixedClock,
+        OneId,
+    >();
+    lists_are_of_reference::<
+        u8,
+        char,
+        NoExpiry,
+        NoListener,
+        NoPredicate,
+        NoWeigher,
+        FixedClock,
+        OneId,
+    >();
+    calls_keep_order::<u8, char, NoExpiry, NoListener, NoPredicate, NoWeigher, FixedClock, OneId>();
+    lists_keep_order::<u8, char, NoExpiry, NoListener, NoPredicate, NoWeigher, FixedClock, OneId>();
     is_of_reference::<
         u8,
         char,
