@@ -1,1 +1,10 @@
 pub mod Quiet
+pub mod Made
+pub mod Waiting
+pub mod Posting
+pub mod Asking
+pub mod Stays
+pub mod Put
+pub mod Getting
+pub mod Lists
+pub mod Alike

@@ -1,2 +1,5 @@
 pub mod Meanings
 pub mod Replies
+pub mod Synchronous
+pub mod Unsent
+pub mod Laws

@@ -1,0 +1,226 @@
+-- A record whose present operation was not sent yet stays in every run.
+use Rattle.std.proofs.Common.{◌≡◌, refl, ℕ, ◌<◌, Bool, true, false, cond, ◌==◌, ◌&&◌, ◌-◌, nat_lt, List, [], ◌∷◌, Option, Some, None, Result, Ok, Err, option_map, ap, sym, subst, ◌∙◌, ◌⊎◌, inl, inr, MatchBool, true≢false, arith, if◌then◌else◌}
+use Rattle.std.specs.Option.{option_map_or}
+use Rattle.std.specs.FinMap.{get, insert, remove}
+use Rattle.moka_parts.specs.declared.policy.EvictionPolicy.{EvictionPolicy}
+use Rattle.moka_parts.specs.declared.policy.EvictionPolicy.TheVariants.{TinyLfu, Lru}
+use Rattle.moka_parts.specs.declared.records.Record.{Record}
+use Rattle.moka_parts.specs.declared.records.Member.{Member}
+use Rattle.moka_parts.specs.declared.records.Operation.{Operation}
+use Rattle.moka_parts.specs.declared.records.Operation.TheVariants.{Upsert, Removal}
+use Rattle.moka_parts.specs.declared.records.Registered.{Registered}
+use Rattle.moka_parts.specs.declared.records.Ticketed.{Ticketed}
+use Rattle.moka_parts.specs.Records.{Notice, Records, is_settled, settled_members, is_member, has_room, total_weight}
+use Rattle.moka_parts.specs.State.{State, Contents, Events, contents, is_disabled}
+use Rattle.moka_parts.specs.Candidates.{prefix, victims_for, is_preferred}
+use Rattle.moka_parts.specs.Writes.{Fate, Ignored, Overtaken, Counted, Admitted, TooHeavy, Preferred, Refused, with_applied, without_records, rejected, fate_by_frequency, fate_by_policy, fate_of_newcomer, fate_of_record, after_fate, after_write, after_writes}
+use Rattle.moka_parts.specs.Maintenance.{Choice, Removes, MovesToBack, Drops, Freedom, Terms, Course, Tests, DoesNothing, RunsBy, RunsWith, IsJustified, AreJustified, after_choice, after_choices, kept_by_choice, after_queued_reads, before_steps, tests_of}
+use Rattle.moka_parts.proofs.Maps.{AreApart, same_or_apart, get_inserted, get_past_insert, get_past_remove}
+use Rattle.moka_parts.proofs.RunKeeps.{reads_keep}
+use Rattle.moka_parts.specs.declared.error.SendError.{SendError}
+use Rattle.moka_parts.specs.declared.error.SendError.TheVariants.{UnknownTicket, QueueFull}
+use Rattle.moka_parts.specs.Housekeeping.{is_due}
+use Rattle.moka_parts.specs.Calls.{KeeperRun, RunsIfDue, Unchanged, SendsAt, SendStep}
+use Rattle.moka_drive.specs.Unsent.{IsHeld, IsOlder, AreOlder, HoldsUnsent}
+
+both : (a b : Bool) → (a && b) ≡ true → b ≡ true
+both true b e = e
+both false b e = cc
+
+same_some : {A : Type 0} (x y : A) → Some x ≡ Some y → x ≡ y
+same_some x y e = cc
+
+not_equal : (a g : ℕ) → a < g → (a == g) ≡ false
+not_equal a g less = grind arith
+
+not_equal_back : (a g : ℕ) → a < g → (g == a) ≡ false
+not_equal_back a g less = grind arith
+
+module _ {K V : Type 0} (n : ℕ) (r : Record K V) where
+  -- so it is not settled
+  unsettled : (records : Records K V) → IsHeld n r records → is_settled records n ≡ false
+  unsettled records h = rw h.there (not_equal h.applied r.generation h.below)
+
+  apart_from_settled : (records : Records K V) → IsHeld n r records → (k : ℕ) → is_settled records k ≡ true → AreApart n k
+  apart_from_settled records h k settled = elim (same_or_apart n k) [
+    | inl e ↦ absurd (true≢false (sym settled ∙ sym (ap (is_settled records) e) ∙ unsettled records h))
+    | inr apart ↦ apart
+  ]
+
+  past_insert : (records : Records K V) (k : ℕ) (q : Record K V) → AreApart n k → IsHeld n r records → IsHeld n r (insert records k q)
+  past_insert records k q apart h = record { applied = h.applied; there = get_past_insert records k q n apart ∙ h.there; below = h.below }
+
+  past_remove : (records : Records K V) (k : ℕ) → AreApart n k → IsHeld n r records → IsHeld n r (remove records k)
+  past_remove records k apart h = record { applied = h.applied; there = get_past_remove records k n apart ∙ h.there; below = h.below }
+
+  -- what an operation older than the record is noted in
+  noted : (others records : Records K V) (k g : ℕ) (q : Record K V) → get records k ≡ Some q → (k ≡ n → g < r.generation) → IsHeld n r records → IsHeld n r others → IsHeld n r (with_applied others k q g)
+  noted others records k g q there older h rest = elim (same_or_apart n k) [
+    | inl e ↦
+        let same : q ≡ record r { applied = h.applied } = same_some q (record r { applied = h.applied }) (sym there ∙ sym (ap (get records) e) ∙ h.there) in
+        record {
+          applied = g;
+          there = ap (get (insert others k (record q { applied = g }))) e ∙ get_inserted others k (record q { applied = g }) ∙ ap (λ (x : Record K V). Some (record x { applied = g })) same;
+          below = older (sym e);
+        }
+    | inr apart ↦ past_insert others k (record q { applied = g }) apart rest
+  ]
+
+  -- ---- members that leave
+
+  -- none of the members is the record's
+  abbrev AreOthers : List Member → Type 0
+  AreOthers [] = Unit {0}
+  AreOthers (a ∷ members) = AreApart n a.number × AreOthers members
+
+  one_more_other : (a : Member) (members : List Member) (b : Bool) → (b ≡ true → AreApart n a.number) → AreOthers members → AreOthers (cond b (a ∷ members) members)
+  one_more_other a members true apart others = (apart refl, others)
+  one_more_other a members false apart others = others
+
+  others_settled : (records : Records K V) → IsHeld n r records → (members : List Member) → AreOthers (settled_members records members)
+  others_settled records h [] = tt
+  others_settled records h (a ∷ members) = one_more_other a (settled_members records members) (is_settled records a.number) (apart_from_settled records h a.number) (others_settled records h members)
+
+  others_front : (a : Member) (front : List Member) (b : Bool) (o : Option (List Member)) → AreApart n a.number → ((behind : List Member) → o ≡ Some behind → AreOthers behind) → (if b then Some [] else option_map (λ front. a ∷ front) o) ≡ Some front → AreOthers front
+  others_front a front true o apart rest e = subst AreOthers (same_some [] front e) tt
+  others_front a front false None apart rest e = (let impossible : None ≡ Some front = e in absurd (cc))
+  others_front a front false (Some behind) apart rest e = subst AreOthers (same_some (a ∷ behind) front e) (apart, rest behind refl)
+
+  others_none : (front : List Member) (b : Bool) → (if b then Some [] else None) ≡ Some front → AreOthers front
+  others_none front true e = subst AreOthers (same_some [] front e) tt
+  others_none front false e = (let impossible : None ≡ Some front = e in absurd (cc))
+
+  others_prefix : (members : List Member) (w : ℕ) (front : List Member) → prefix members w ≡ Some front → AreOthers members → AreOthers front
+  others_prefix [] w front e others = others_none front (w == 0) e
+  others_prefix (a ∷ members) w front e others = others_front a front (w == 0) (prefix members (w - a.counted)) others.0 (λ behind is. others_prefix members (w - a.counted) behind is others.1) e
+
+  without_others : (victims : List Member) (records : Records K V) → AreOthers victims → IsHeld n r records → IsHeld n r (without_records victims records)
+  without_others [] records others h = h
+  without_others (a ∷ victims) records others h = without_others victims (remove records a.number) others.1 (past_remove records a.number others.0 h)
+
+  -- ---- writes
+
+  -- the victims, if there are any, are others
+  abbrev SparesIt : Fate → Type 0
+  SparesIt (Preferred victims) = AreOthers victims
+  SparesIt f = Unit {0}
+
+  fate_spares : (capacity : Option ℕ) (policy : EvictionPolicy) (c : Contents K V) (k g w hash : ℕ) (q : Record K V) → IsHeld n r c.records → SparesIt (fate_of_record capacity policy c k g w hash q)
+  fate_spares capacity policy c k g w hash q h = elim (nat_lt q.applied g) as (λ b. SparesIt (if b then (if is_member k c.access then Counted else fate_of_newcomer capacity policy c w hash) else (if is_member k c.access then Overtaken else Ignored))) [
+    | true ↦ elim (is_member k c.access) as (λ b. SparesIt (if b then Counted else fate_of_newcomer capacity policy c w hash)) [ true ↦ tt | false ↦ newcomer ]
+    | false ↦ elim (is_member k c.access) as (λ b. SparesIt (if b then Overtaken else Ignored)) [ true ↦ tt | false ↦ tt ]
+  ]
+    where
+      by_choice : (o : Option (List Member)) → victims_for c w ≡ o → SparesIt (fate_by_frequency c hash o)
+      by_choice None is = tt
+      by_choice (Some victims) is = elim (is_preferred c hash victims) as (λ b. SparesIt (if b then Preferred victims else Refused)) [
+        | true ↦ others_prefix (settled_members c.records c.access) w victims is (others_settled c.records h c.access)
+        | false ↦ tt
+      ]
+
+      by_policy : (policy : EvictionPolicy) → SparesIt (fate_by_policy policy c w hash)
+      by_policy Lru = tt
+      by_policy TinyLfu = by_choice (victims_for c w) refl
+
+      newcomer : SparesIt (fate_of_newcomer capacity policy c w hash)
+      newcomer = elim (has_room capacity (total_weight c.access) w) as (λ b. SparesIt (if b then Admitted else (if has_room capacity 0 w then fate_by_policy policy c w hash else TooHeavy))) [
+        | true ↦ tt
+        | false ↦ elim (has_room capacity 0 w) as (λ b. SparesIt (if b then fate_by_policy policy c w hash else TooHeavy)) [ true ↦ by_policy policy | false ↦ tt ]
+      ]
+
+  rejected_holds : (c : Contents K V) (k g : ℕ) (q : Record K V) → get c.records k ≡ Some q → (k ≡ n → g < r.generation) → IsHeld n r c.records → IsHeld n r (rejected k g q c).records
+  rejected_holds c k g q there older h = go (q.generation == g) refl
+    where
+      go : (b : Bool) → (q.generation == g) ≡ b → IsHeld n r (if b then remove c.records k else with_applied c.records k q g)
+      go false differs = noted c.records c.records k g q there older h h
+      go true same = elim (same_or_apart n k) [
+        | inl e ↦
+            let is : q ≡ record r { applied = h.applied } = same_some q (record r { applied = h.applied }) (sym there ∙ sym (ap (get c.records) e) ∙ h.there) in
+            absurd (true≢false (sym same ∙ ap (λ (x : Record K V). x.generation == g) is ∙ not_equal_back g r.generation (older (sym e))))
+        | inr apart ↦ past_remove c.records k apart h
+      ]
+
+  fate_holds : (c : Contents K V) (k g w : ℕ) (moved : List ℕ) (q : Record K V) (f : Fate) → get c.records k ≡ Some q → (k ≡ n → g < r.generation) → SparesIt f → IsHeld n r c.records → IsHeld n r (after_fate c k g w moved q f).records
+  fate_holds c k g w moved q Ignored there older spares h = h
+  fate_holds c k g w moved q Overtaken there older spares h = h
+  fate_holds c k g w moved q Counted there older spares h = noted c.records c.records k g q there older h h
+  fate_holds c k g w moved q Admitted there older spares h = noted c.records c.records k g q there older h h
+  fate_holds c k g w moved q TooHeavy there older spares h = rejected_holds c k g q there older h
+  fate_holds c k g w moved q (Preferred victims) there older spares h = noted (without_records victims c.records) c.records k g q there older h (without_others victims c.records spares h)
+  fate_holds c k g w moved q Refused there older spares h = rejected_holds c k g q there older h
+
+  write_holds : (capacity : Option ℕ) (policy : EvictionPolicy) (c : Contents K V) (o : Operation) (moved : List ℕ) → IsOlder n r o → IsHeld n r c.records → IsHeld n r (after_write capacity policy c o moved).records
+  write_holds capacity policy c (Removal k g) moved older h = h
+  write_holds capacity policy c (Upsert k g w hash) moved older h = found (get c.records k) refl
+    where
+      found : (o : Option (Record K V)) → get c.records k ≡ o → IsHeld n r (option_map_or (λ q. after_fate c k g w moved q (option_map_or (fate_of_record capacity policy c k g w hash) o Ignored)) o c).records
+      found None there = h
+      found (Some q) there = fate_holds c k g w moved q (fate_of_record capacity policy c k g w hash q) there older (fate_spares capacity policy c k g w hash q h) h
+
+  writes_hold : (capacity : Option ℕ) (policy : EvictionPolicy) (c : Contents K V) (hs : List Ticketed) (ms : List (List ℕ)) → AreOlder n r hs → IsHeld n r c.records → IsHeld n r (after_writes capacity policy c hs ms).records
+  writes_hold capacity policy c [] ms older h = h
+  writes_hold capacity policy c (x ∷ hs) [] older h = writes_hold capacity policy (after_write capacity policy c x.operation []) hs [] older.1 (write_holds capacity policy c x.operation [] older.0 h)
+  writes_hold capacity policy c (x ∷ hs) (moved ∷ ms) older h = writes_hold capacity policy (after_write capacity policy c x.operation moved) hs ms older.1 (write_holds capacity policy c x.operation moved older.0 h)
+
+  -- ---- steps
+
+  module _ {P : Type 0} (says : P → K → V → Bool → Type 0) (q : Tests) where
+    choice_holds : (c : Contents K V) (ps : List (Registered P)) (x : Choice) → IsJustified says q c ps x → IsHeld n r c.records → IsHeld n r (after_choice c x).records
+    choice_holds c ps (Removes k cause) (gone, there, settled, ground) h = past_remove c.records k (apart_from_settled c.records h k (both (is_member k c.access) (is_settled c.records k) settled)) h
+    choice_holds c ps (MovesToBack k) just h = h
+    choice_holds c ps (Drops i) just h = h
+
+    choices_hold : (c : Contents K V) (ps : List (Registered P)) (xs : List Choice) → AreJustified says q c ps xs → IsHeld n r c.records → IsHeld n r (after_choices c xs).records
+    choices_hold c ps [] just h = h
+    choices_hold c ps (x ∷ xs) (just, rest) h = choices_hold (after_choice c x) (kept_by_choice ps x) xs rest (choice_holds c ps x just h)
+
+-- ---- a run
+
+module _ {K V X P W : Type 0} (says : P → K → V → Bool → Type 0) (Outcome : State K V X P W → Terms → Course → State K V X P W → Type 0) (Detail : State K V X P W → Terms → Freedom → Course → Type 0) where
+  -- a run holds a record whose queued operations are older
+  pub run_holds : (n : ℕ) (r : Record K V) (s : State K V X P W) (terms : Terms) (course : Course) (notices : List (Notice K V)) (t : State K V X P W) → AreOlder n r s.writes → IsHeld n r s.records → RunsWith says Outcome Detail s terms course notices t → IsHeld n r t.records
+  run_holds n r s terms course notices t older h run = go (is_disabled s.capacity) run.0
+    where
+      go : (b : Bool) → MatchBool b (DoesNothing s course notices t) ((ch : Freedom) × RunsBy says s terms ch course notices t × Detail s terms ch course) → IsHeld n r t.records
+      go true nothing = subst (λ (x : State K V X P W). IsHeld n r x.records) (sym nothing.0) h
+      go false (ch, by, detail) =
+          let read : IsHeld n r (after_queued_reads s).records = subst (IsHeld n r) (sym (reads_keep (contents s) s.reads)) h in
+          let written : IsHeld n r (before_steps s ch).records = writes_hold n r s.capacity s.settings.policy (after_queued_reads s) s.writes ch.moves older read in
+          subst (λ (x : State K V X P W). IsHeld n r x.records) (sym by.1) (choices_hold n r says (tests_of s terms.now) (before_steps s ch) s.predicates ch.steps by.0.1 written)
+
+  -- it empties the queue of writes or leaves it
+  pub run_writes : (s : State K V X P W) (terms : Terms) (course : Course) (notices : List (Notice K V)) (t : State K V X P W) → RunsWith says Outcome Detail s terms course notices t → (t.writes ≡ []) ⊎ (t.writes ≡ s.writes)
+  run_writes s terms course notices t run = go (is_disabled s.capacity) run.0
+    where
+      go : (b : Bool) → MatchBool b (DoesNothing s course notices t) ((ch : Freedom) × RunsBy says s terms ch course notices t × Detail s terms ch course) → (t.writes ≡ []) ⊎ (t.writes ≡ s.writes)
+      go true nothing = inr (ap (λ (x : State K V X P W). x.writes) nothing.0)
+      go false (ch, by, detail) = inl (ap (λ (x : State K V X P W). x.writes) by.1)
+
+module _ {K V X P W : Type 0} (Runs : State K V X P W → Terms → Course → List (Notice K V) → State K V X P W → Type 0) (holds : (s : State K V X P W) (terms : Terms) (course : Course) (notices : List (Notice K V)) (t : State K V X P W) → Runs s terms course notices t → HoldsUnsent s t)
+    (writes : (s : State K V X P W) (terms : Terms) (course : Course) (notices : List (Notice K V)) (t : State K V X P W) → Runs s terms course notices t → (t.writes ≡ []) ⊎ (t.writes ≡ s.writes)) where
+  -- so does the run that is due, if one is
+  pub due_holds : (s : State K V X P W) (queued now : ℕ) (e : Events K V) (t : State K V X P W) → RunsIfDue Runs s queued now e t → HoldsUnsent s t × ((t.writes ≡ []) ⊎ (t.writes ≡ s.writes))
+  due_holds s queued now e t step = go (is_due s.housekeeping queued now) step
+    where
+      go : (b : Bool) → MatchBool b (KeeperRun Runs s now e t) (Unchanged s e t) → HoldsUnsent s t × ((t.writes ≡ []) ⊎ (t.writes ≡ s.writes))
+      go true (answer, mid, (course, ran, same, told), changed) =
+          let h = holds s _ course e.notices mid ran in
+          let w = writes s _ course e.notices mid ran in
+          let out : t.writes ≡ mid.writes = ap (λ (x : State K V X P W). x.writes) changed in
+          ((λ n r older held. subst (λ (x : State K V X P W). IsHeld n r x.records) (sym changed) (h n r older held)), elim w [ inl none ↦ inl (out ∙ none) | inr left ↦ inr (out ∙ left) ])
+      go false (same, none) = ((λ n r older held. subst (λ (x : State K V X P W). IsHeld n r x.records) (sym same) held), inr (ap (λ (x : State K V X P W). x.writes) same))
+
+-- what is older than a record in a queue is so in an empty one
+pub older_left : {K V : Type 0} (n : ℕ) (r : Record K V) (before after : List Ticketed) → (after ≡ []) ⊎ (after ≡ before) → AreOlder n r before → AreOlder n r after
+older_left n r before after (inl none) older = subst (AreOlder n r) (sym none) tt
+older_left n r before after (inr same) older = subst (AreOlder n r) (sym same) older
+
+-- a send leaves the records
+pub send_holds : {K V X P W : Type 0} (s : State K V X P W) (ticket : ℕ) (a : Result (Unit {0}) SendError) (t : State K V X P W) → SendStep s ticket a t → t.records ≡ s.records
+send_holds {K} {V} {X} {P} {W} s ticket a t step = go (get s.outstanding ticket) a step
+  where
+    go : (o : Option Operation) (a : Result (Unit {0}) SendError) → SendsAt s ticket o a t → t.records ≡ s.records
+    go (Some o) (Ok u) h = ap (λ (x : State K V X P W). x.records) h.1
+    go (Some o) (Err QueueFull) h = ap (λ (x : State K V X P W). x.records) h.1
+    go None (Err UnknownTicket) h = ap (λ (x : State K V X P W). x.records) h
+    go o a h = absurd h

@@ -1,0 +1,388 @@
+//! The synchronous cache: put, get and remove in one call each. moka: `sync::cache`.
+ghost use Rattle.std.specs.Prelude.{◌≡◌, true, false, Option, Some, None, Result, Ok, Err, IfOk, IfSome, OnErr, IfErr, is_some};
+ghost use Rattle.std.specs.FinMap as finite;
+ghost use Rattle.std.specs.List.{fold};
+ghost use Rattle.moka_parts.specs.Calls.{ContainsStep, no_events};
+ghost use Rattle.moka_parts.specs.Copies.{IsCopiedAnswer};
+ghost use Rattle.moka_parts.specs.Exact.{IsExact, IsWithin};
+ghost use Rattle.moka_parts.specs.Records.{record_of_key};
+ghost use Rattle.moka_parts.specs.Runs.{Befalls};
+ghost use Rattle.moka_parts.specs.State.{is_disabled};
+ghost use Rattle.moka_parts.specs.declared.calls.Call.TheVariants as call;
+ghost use Rattle.moka_parts.specs.declared.calls.Reply.TheVariants as reply;
+ghost use Rattle.moka_parts.specs.declared.error.InsertRefused.{InsertRefused};
+ghost use Rattle.moka_parts.specs.declared.error.OutOfMemory.{OutOfMemory};
+ghost use Rattle.moka_parts.specs.declared.records.Operation.{Operation};
+ghost use Rattle.moka_parts.specs.declared.records.Record.{Record};
+ghost use Rattle.moka_drive.specs.Unsent.{HoldsUnsent, HidesNoMore, IsThere, ShowsWrites};
+ghost use Rattle.moka_drive.specs.Synchronous.{Makes, meaning_of, hears_clones, Just, own_run, Posts, InsertsEntry, GetsValue, RemovesEntry, GetsOrInserts, HandsOutMade, removed, invalidated};
+
+use crate::error::{GetWithRefused, NotTold};
+use moka_engine::base_cache::BaseCache;
+use moka_engine::config::DefaultHasher;
+use moka_parts::calls::Ticket;
+use moka_parts::closures::{NoPredicate, NoWeigher, PredicateFn, Weigher};
+use moka_parts::error::{InsertError, InsertRefused, OutOfMemory};
+use moka_parts::housekeeper::Clock;
+use moka_parts::notification::{Listener, NoListener};
+use moka_parts::policy::{Expiry, Instant, NoExpiry};
+use std::hash::{BuildHasher, Hash};
+use std::marker::Model;
+
+// How often a run of its own may go back to its queues.
+const MAX_LOG_SYNC_REPEATS: u32 = 4;
+
+// How many entries a sweep of a run of its own looks at in a pass.
+const EVICTION_BATCH_SIZE: u32 = 384;
+
+/// A cache that sends each operation as it is handed out, so that none waits between two calls. Each call is given the
+/// moment, and a clock for the runs of maintenance that it makes. moka: `sync::cache::Cache`.
+pub struct Cache<
+    K: Eq + Hash,
+    V,
+    X: Expiry<K, V> = NoExpiry,
+    L: Listener<K, V> = NoListener,
+    P: PredicateFn<K, V> = NoPredicate,
+    W: Weigher<K, V> = NoWeigher,
+    S: BuildHasher = DefaultHasher,
+> {
+    engine: BaseCache<K, V, S, X, L, P, W>,
+}
+
+impl<
+    K: Eq + Hash,
+    V,
+    X: Expiry<K, V>,
+    L: Listener<K, V>,
+    P: PredicateFn<K, V>,
+    W: Weigher<K, V>,
+    S: BuildHasher,
+> Model for Cache<K, V, X, L, P, W, S> {
+    ghost use Rattle.std.specs.Prelude.{◌≡◌};
+    ghost use Rattle.std.specs.Coded.{codes, coded_ℕ};
+    ghost use Rattle.std.specs.FinMap as finite;
+    ghost use Rattle.moka_parts.specs.Runs as runs;
+
+    ghost Value = { runs.Cache K V S X L P W };
+
+    ghost coded = { Prim.hlevel (codes, finite.code, coded_ℕ, K.code, V.code, S.code, X.code, L.code, P.code, W.code) };
+
+    ghost view = { λ c. c.engine };
+
+    ghost invariant = { λ c. c.engine.state.outstanding ≡ finite.empty };
+}
+
+// A cache that is let go notifies nobody.
+impl<
+    K: Eq + Hash + Drop,
+    V: Drop,
+    X: Expiry<K, V> + Drop,
+    L: Listener<K, V> + Drop,
+    P: PredicateFn<K, V> + Drop,
+    W: Weigher<K, V> + Drop,
+    S: BuildHasher + Drop,
+> Drop for Cache<K, V, X, L, P, W, S> {
+    fn drop(self) {
+        let Cache { engine: _ } = self;
+    }
+}
+
+impl<
+    K: Eq + Hash,
+    V,
+    X: Expiry<K, V>,
+    L: Listener<K, V>,
+    P: PredicateFn<K, V>,
+    W: Weigher<K, V>,
+    S: BuildHasher,
+> Cache<K, V, X, L, P, W, S> {
+    /// A cache over an engine all of whose operations were sent.
+    pub fn new(engine: BaseCache<K, V, S, X, L, P, W>) -> Self
+        requires { engine.state.outstanding ≡ finite.empty }
+        ensures { result ≡ engine }
+    {
+        Cache { engine }
+    }
+
+    /// No operation waits to be sent. It does nothing when it runs.
+    pub fn invariant_holds(&self)
+        ensures { self.now.state.outstanding ≡ finite.empty }
+    {
+        let _ = &self.engine;
+    }
+
+    /// The engine below.
+    pub fn engine(&self) -> &BaseCache<K, V, S, X, L, P, W>
+        ensures { result.now ≡ self.now }
+    {
+        &self.engine
+    }
+
+    /// How many entries the last run of maintenance counted.
+    pub fn entry_count(&self) -> u64
+        ensures { result ≡ self.now.state.count }
+    {
+        self.engine.entry_count()
+    }
+
+    /// The weight that the last run of maintenance counted, saturating.
+    pub fn weighted_size(&self) -> u64
+        ensures { result ≡ self.now.state.weight }
+    {
+        self.engine.weighted_size()
+    }
+
+    /// Whether a key is there and visible at the moment `now`. Nothing is recorded.
+    pub fn contains_key(&self, key: &K, now: Instant) -> bool
+        ensures { ContainsStep P.says K.eq self.now.state key.now now.0 result }
+    {
+        let hash = self.engine.hash(key);
+        self.engine.contains_key_with_hash(key, hash, now)
+    }
+
+    /// Puts a value under a key at the moment `now`. A cache of capacity 0 lets both go.
+    ///
+    /// # Errors
+    /// `NumbersUsedUp` and `OutOfMemory`, with key and value; nothing has changed.
+    pub fn insert<C: Clock>(
+        &mut self,
+        key: K,
+        value: V,
+        now: Instant,
+        clock: &mut C,
+    ) -> Result<(), InsertRefused<K, V>>
+    where
+        K: Drop,
+        V: Drop,
+        P: Drop,
+        ensures made { Makes (meaning_of K.eq L.tells P.says W.weighs C.reads X.created X.read X.updated)
+            (InsertsEntry key (S.Hasher.finish (fold S.Hasher.write (S.build_hasher self.old.hasher) (K.hash_input key))) value now result)
+            self.old clock.old self.new clock.new }
+        ensures back { IfErr result (λ refused. (refused.key ≡ key) × (refused.value ≡ value)) }
+        ensures unchanged { OnErr result ((self.new.state ≡ self.old.state) × (clock.new ≡ clock.old)) }
+        ensures kept { IfOk result (λ _. is_disabled self.old.state.capacity ≡ false → IsThere K.eq self.new.state key value now) }
+        ensures shown { IfOk result (λ _. is_disabled self.old.state.capacity ≡ false → ShowsWrites self.old.state now.0 → ContainsStep P.says K.eq self.new.state key now.0 true) }
+    {
+        self.engine.invariant_holds();
+        if self.engine.is_map_disabled() {
+            return Ok(());
+        }
+        let hash = self.engine.hash(&key);
+        let ticket = match self.engine.do_insert_with_hash(key, hash, value, now) {
+            Ok((ticket, _)) => ticket,
+            Err(refused) => return Err(refused),
+        };
+        post(&mut self.engine, ticket, now, clock);
+        self.engine.invariant_holds();
+        Ok(())
+    }
+
+    /// A clone of a key's value, if the key is there and visible at the moment `now`. The read is queued.
+    ///
+    /// # Errors
+    /// `OutOfMemory` where memory for the clone is refused. Nothing has changed.
+    pub fn get<C: Clock>(
+        &mut self,
+        key: &K,
+        now: Instant,
+        clock: &mut C,
+    ) -> Result<Option<V>, OutOfMemory>
+    where
+        K: Clone + Drop,
+        V: Clone + Drop,
+        P: Drop,
+        ensures made { (own : Result (Option V) OutOfMemory) × IsCopiedAnswer V.is_clone own result
+            × Makes (meaning_of K.eq L.tells P.says W.weighs C.reads X.created X.read X.updated)
+            (GetsValue key.now (S.Hasher.finish (fold S.Hasher.write (S.build_hasher self.old.hasher) (K.hash_input key.now))) now own)
+            self.old clock.old self.new clock.new }
+        ensures value { IfOk result (λ found. IfSome found (λ v. (r : Record K V) × (record_of_key K.eq self.old.state.records key.now ≡ Some r) × V.is_clone r.value v)) }
+        ensures shown { IfOk result (λ found. ContainsStep P.says K.eq self.old.state key.now now.0 (is_some found)) }
+        ensures found { ContainsStep P.says K.eq self.old.state key.now now.0 true → IfOk result (λ found. is_some found ≡ true) }
+        ensures unchanged { OnErr result ((self.new.state ≡ self.old.state) × (clock.new ≡ clock.old)) }
+    {
+        self.engine.invariant_holds();
+        let hash = self.engine.hash(key);
+        match self.engine.get_with_hash(key, hash, false, now, clock) {
+            Ok(Some(entry)) => Ok(Some(entry.into_value())),
+            Ok(None) => Ok(None),
+            Err(refused) => Err(refused),
+        }
+    }
+
+    /// Takes a key out, and hands its value out, expired or not. The listener, if one is set, is told.
+    ///
+    /// # Errors
+    /// `NotTold`, with the value, where a listener is set and memory for a clone is refused. The entry is gone all the
+    /// same.
+    pub fn remove<C: Clock>(
+        &mut self,
+        key: &K,
+        now: Instant,
+        clock: &mut C,
+    ) -> Result<Option<V>, NotTold<V>>
+    where
+        K: Clone + Drop,
+        V: Clone + Drop,
+        P: Drop,
+        ensures { (taken : Option (V × Result (Unit {0}) OutOfMemory)) × (result ≡ removed taken)
+            × Makes (meaning_of K.eq (hears_clones K.is_clone V.is_clone L.tells) P.says W.weighs C.reads X.created X.read X.updated)
+            (RemovesEntry key.now (S.Hasher.finish (fold S.Hasher.write (S.build_hasher self.old.hasher) (K.hash_input key.now))) now taken)
+            self.old clock.old self.new clock.new }
+    {
+        let Some((value, told)) = self.take(key, now, clock) else {
+            return Ok(None);
+        };
+        match told {
+            Ok(()) => Ok(Some(value)),
+            Err(error) => Err(NotTold { error, value }),
+        }
+    }
+
+    /// Takes a key out, expired or not, and lets its value go. The listener, if one is set, is told.
+    ///
+    /// # Errors
+    /// As `remove`.
+    pub fn invalidate<C: Clock>(
+        &mut self,
+        key: &K,
+        now: Instant,
+        clock: &mut C,
+    ) -> Result<(), NotTold<V>>
+    where
+        K: Clone + Drop,
+        V: Clone + Drop,
+        P: Drop,
+        ensures { (taken : Option (V × Result (Unit {0}) OutOfMemory)) × (result ≡ invalidated taken)
+            × Makes (meaning_of K.eq (hears_clones K.is_clone V.is_clone L.tells) P.says W.weighs C.reads X.created X.read X.updated)
+            (RemovesEntry key.now (S.Hasher.finish (fold S.Hasher.write (S.build_hasher self.old.hasher) (K.hash_input key.now))) now taken)
+            self.old clock.old self.new clock.new }
+    {
+        let Some((value, told)) = self.take(key, now, clock) else {
+            return Ok(());
+        };
+        match told {
+            Ok(()) => Ok(()),
+            Err(error) => Err(NotTold { error, value }),
+        }
+    }
+
+    // Takes a key out: its value, and whether the listener was told.
+    fn take<C: Clock>(
+        &mut self,
+        key: &K,
+        now: Instant,
+        clock: &mut C,
+    ) -> Option<(V, Result<(), OutOfMemory>)>
+    where
+        K: Clone + Drop,
+        V: Clone + Drop,
+        P: Drop,
+        ensures { Makes (meaning_of K.eq (hears_clones K.is_clone V.is_clone L.tells) P.says W.weighs C.reads X.created X.read X.updated)
+            (RemovesEntry key.now (S.Hasher.finish (fold S.Hasher.write (S.build_hasher self.old.hasher) (K.hash_input key.now))) now result)
+            self.old clock.old self.new clock.new }
+    {
+        self.engine.invariant_holds();
+        let hash = self.engine.hash(key);
+        let Some((entry, ticket)) = self.engine.remove_entry(key, hash) else {
+            return None;
+        };
+        let told = self.engine.notify_invalidate(&entry, now);
+        post(&mut self.engine, ticket, now, clock);
+        Some((entry.value, told))
+    }
+
+    /// A clone of a key's value, if the key is there and visible at the moment `now`, and else the value that `init`
+    /// makes, which is inserted; a clone of it is handed out. `init` is called only where the key is not there.
+    ///
+    /// # Errors
+    /// `Lookup`, with the key, where memory for the clone of a value that is there is refused; and `Insert`, with key and
+    /// the value that was made, where memory for its clone or for the insert is refused, or tickets are used up.
+    pub fn get_with<F: FnOnce() -> V, C: Clock>(
+        &mut self,
+        key: K,
+        init: F,
+        now: Instant,
+        clock: &mut C,
+    ) -> Result<V, GetWithRefused<K, V>>
+    where
+        K: Clone + Drop,
+        V: Clone + Drop,
+        P: Drop,
+        requires callable { ContainsStep P.says K.eq self.old.state key now.0 false → F.pre init }
+        ensures { (made : Option V) × (own : Result V (Option (InsertRefused K V)))
+            × ((value : V) → made ≡ Some value → F.post init value)
+            × HandsOutMade V.is_clone key own result
+            × Makes (meaning_of K.eq L.tells P.says W.weighs C.reads X.created X.read X.updated)
+            (GetsOrInserts key (S.Hasher.finish (fold S.Hasher.write (S.build_hasher self.old.hasher) (K.hash_input key))) now made own)
+            self.old clock.old self.new clock.new }
+    {
+        match self.get(&key, now, clock) {
+            Ok(Some(value)) => return Ok(value),
+            Ok(None) => {}
+            Err(_) => return Err(GetWithRefused::Lookup(key)),
+        }
+        let value = init();
+        let Ok(copy) = value.clone() else {
+            let error = InsertError::OutOfMemory;
+            return Err(GetWithRefused::Insert(InsertRefused { error, key, value }));
+        };
+        match self.insert(key, value, now, clock) {
+            Ok(()) => Ok(copy),
+            Err(refused) => Err(GetWithRefused::Insert(refused)),
+        }
+    }
+
+    /// Invalidates all entries that were written or read before the moment `now`, also where that is earlier than before.
+    pub fn invalidate_all(&mut self, now: Instant)
+        ensures step { self.new.state ≡ record self.old.state { invalid_before = Some now } }
+        ensures events { Befalls L.tells no_events self.old self.new }
+    {
+        self.engine.invalidate_all(now);
+    }
+
+    /// Runs maintenance without a time limit. The answer tells whether more is left.
+    ///
+    /// It leaves count and weight exactly the entries', and the weight within the capacity.
+    pub fn run_pending_tasks<C: Clock>(&mut self, now: Instant, clock: &mut C) -> bool
+    where
+        K: Drop,
+        V: Drop,
+        P: Drop,
+        ensures made { Makes (meaning_of K.eq L.tells P.says W.weighs C.reads X.created X.read X.updated)
+            (Just (own_run now) (reply.Run result)) self.old clock.old self.new clock.new }
+        ensures exact { IsExact self.new.state }
+        ensures within { IsWithin self.new.state.capacity self.new.state.access }
+    {
+        self.engine.run_pending_tasks(now, clock, None, MAX_LOG_SYNC_REPEATS, EVICTION_BATCH_SIZE)
+    }
+}
+
+// Makes the run that is due, if one is, and sends the operation; where the queue is full it is emptied by another run.
+fn post<
+    K: Eq + Hash + Drop,
+    V: Drop,
+    S: BuildHasher,
+    X: Expiry<K, V>,
+    L: Listener<K, V>,
+    P: PredicateFn<K, V> + Drop,
+    W: Weigher<K, V>,
+    C: Clock,
+>(engine: &mut BaseCache<K, V, S, X, L, P, W>, ticket: Ticket, now: Instant, clock: &mut C)
+    requires waiting { (o : Operation) × (engine.old.state.outstanding ≡ finite.insert finite.empty ticket.0 o) }
+    requires enabled { is_disabled engine.old.state.capacity ≡ false }
+    ensures made { Makes (meaning_of K.eq L.tells P.says W.weighs C.reads X.created X.read X.updated)
+        (Posts now ticket) engine.old clock.old engine.new clock.new }
+    ensures sent { engine.new.state.outstanding ≡ finite.empty }
+    ensures holds { HoldsUnsent engine.old.state engine.new.state }
+    ensures hides { HidesNoMore engine.old.state engine.new.state }
+{
+    engine.apply_reads_writes_if_needed(now, clock);
+    match engine.send(ticket) {
+        Ok(()) => {}
+        // The ticket is known, so the queue is full.
+        Err(_) => {
+            engine.run_pending_tasks(now, clock, None, MAX_LOG_SYNC_REPEATS, EVICTION_BATCH_SIZE);
+            let _sent = engine.send(ticket);
+        }
+    }
+}

@@ -1,0 +1,135 @@
+//! Worked calls of the synchronous cache.
+use crate::cache::Cache;
+use moka_engine::{CacheConfig, FixedClock, Instant, Listener, RemovalCause};
+use std::alloc::Global;
+use std::cell::Cell;
+use std::test::Fail;
+
+const NOW: Instant = Instant(0);
+
+fn plain(
+    alloc: Global,
+    capacity: Option<u64>,
+    is_automatic: bool,
+) -> Result<Cache<u64, u64>, Fail> {
+    let mut config = CacheConfig::default();
+    if let Some(capacity) = capacity {
+        config = config.max_capacity(capacity);
+    }
+    let Ok(mut engine) = config.build(alloc, NOW) else {
+        return Err("memory".into());
+    };
+    if !is_automatic {
+        engine.disable_auto_run();
+    }
+    Ok(Cache::new(engine))
+}
+
+#[test]
+fn sends_at_once(rt: HostRuntime) -> Result<(), Fail> {
+    let mut cache = plain(rt.alloc(), None, false)?;
+    for key in 0..400 {
+        assert!(rt; cache.insert(key, key, NOW, &mut FixedClock(NOW)).is_ok());
+    }
+    assert_eq!(rt; cache.engine().outstanding(), 0);
+    assert_eq!(rt; cache.engine().queued_writes(), 16);
+    assert_eq!(rt; cache.entry_count(), 384);
+    cache.run_pending_tasks(NOW, &mut FixedClock(NOW));
+    assert_eq!(rt; cache.entry_count(), 400);
+    Ok(())
+}
+
+#[test]
+fn runs_by_itself(rt: HostRuntime) -> Result<(), Fail> {
+    let mut cache = plain(rt.alloc(), None, true)?;
+    for key in 0..65 {
+        assert!(rt; cache.insert(key, key, NOW, &mut FixedClock(NOW)).is_ok());
+    }
+    assert_eq!(rt;
+        (cache.entry_count(), cache.engine().queued_writes()),
+        (64, 1)
+    );
+    Ok(())
+}
+
+#[test]
+fn makes_once(rt: HostRuntime) -> Result<(), Fail> {
+    let mut cache = plain(rt.alloc(), None, false)?;
+    let called = Cell::new(0);
+    let first = cache.get_with(1, || 10, NOW, &mut FixedClock(NOW));
+    let maker = || {
+        called.set(1);
+        20
+    };
+    let second = cache.get_with(1, maker, NOW, &mut FixedClock(NOW));
+    assert_eq!(rt;
+        (first.ok(), second.ok(), called.get()),
+        (Some(10), Some(10), 0)
+    );
+    Ok(())
+}
+
+#[test]
+fn keeps_nothing(rt: HostRuntime) -> Result<(), Fail> {
+    let mut cache = plain(rt.alloc(), Some(0), false)?;
+    let made = cache.get_with(1, || 10, NOW, &mut FixedClock(NOW));
+    assert_eq!(rt; made.ok(), Some(10));
+    assert_eq!(rt; cache.get(&1, NOW, &mut FixedClock(NOW)).ok(), Some(None));
+    Ok(())
+}
+
+#[derive(Drop)]
+struct Last {
+    told: Option<(u64, u64, RemovalCause)>,
+}
+
+impl Listener<u64, u64> for Last {
+    ghost use Rattle.std.specs.Prelude.{◌≡◌, Some};
+
+    ghost tells = { λ _ key value cause after. after.told ≡ Some (key, value, cause) };
+
+    fn notify(&mut self, key: u64, value: u64, cause: RemovalCause) {
+        self.told = Some((key, value, cause));
+    }
+}
+
+#[test]
+fn tells_of_a_removal(rt: HostRuntime) -> Result<(), Fail> {
+    let config = CacheConfig::default().eviction_listener(Last { told: None });
+    let Ok(mut engine) = config.build::<u64, u64>(rt.alloc(), NOW) else {
+        return Err("memory".into());
+    };
+    engine.disable_auto_run();
+    let mut cache = Cache::new(engine);
+    let at = Instant(1);
+    assert!(rt; cache.insert(1, 10, NOW, &mut FixedClock(NOW)).is_ok());
+    assert_eq!(rt;
+        cache.remove(&1, at, &mut FixedClock(at)).ok(),
+        Some(Some(10))
+    );
+    let told = cache.engine().listener().and_then(|last| last.told);
+    assert_eq!(rt; told, Some((1, 10, RemovalCause::Explicit)));
+    assert_eq!(rt; cache.engine().queued_writes(), 2);
+    Ok(())
+}
+
+#[test]
+fn keeps_texts(rt: HostRuntime) -> Result<(), Fail> {
+    let alloc = rt.alloc();
+    let Ok(engine) = CacheConfig::default().build::<String, String>(alloc, NOW) else {
+        return Err("memory".into());
+    };
+    let mut cache = Cache::new(engine);
+    let key = format!(in alloc; "key")?;
+    let asked = key.clone()?;
+    let text = format!(in alloc; "text")?;
+    assert!(rt; cache.insert(key, text, NOW, &mut FixedClock(NOW)).is_ok());
+    let text = format!(in alloc; "text")?;
+    assert_eq!(rt;
+        cache.get(&asked, NOW, &mut FixedClock(NOW)).ok(),
+        Some(Some(text))
+    );
+    assert!(rt; cache.remove(&asked, NOW, &mut FixedClock(NOW)).is_ok());
+    assert!(rt; !cache.contains_key(&asked, NOW));
+    Ok(())
+}
