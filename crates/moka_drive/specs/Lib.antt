@@ -3,3 +3,4 @@ pub mod Replies
 pub mod Synchronous
 pub mod Unsent
 pub mod Laws
+pub mod Texts

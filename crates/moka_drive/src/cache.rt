@@ -8,6 +8,7 @@ ghost use Rattle.moka_parts.specs.Exact.{IsExact, IsWithin};
 ghost use Rattle.moka_parts.specs.Records.{record_of_key};
 ghost use Rattle.moka_parts.specs.Runs.{Befalls};
 ghost use Rattle.moka_parts.specs.State.{is_disabled};
+ghost use Rattle.moka_engine.specs.Config.{new_cache};
 ghost use Rattle.moka_parts.specs.declared.calls.Call.TheVariants as call;
 ghost use Rattle.moka_parts.specs.declared.calls.Reply.TheVariants as reply;
 ghost use Rattle.moka_parts.specs.declared.error.InsertRefused.{InsertRefused};
@@ -19,13 +20,14 @@ ghost use Rattle.moka_drive.specs.Synchronous.{Makes, meaning_of, hears_clones, 
 
 use crate::error::{GetWithRefused, NotTold};
 use moka_engine::base_cache::BaseCache;
-use moka_engine::config::DefaultHasher;
+use moka_engine::config::{CacheConfig, DefaultHasher};
 use moka_parts::calls::Ticket;
 use moka_parts::closures::{NoPredicate, NoWeigher, PredicateFn, Weigher};
 use moka_parts::error::{InsertError, InsertRefused, OutOfMemory};
 use moka_parts::housekeeper::Clock;
 use moka_parts::notification::{Listener, NoListener};
 use moka_parts::policy::{Expiry, Instant, NoExpiry};
+use std::alloc::Global;
 use std::hash::{BuildHasher, Hash};
 use std::marker::Model;
 
@@ -102,6 +104,30 @@ impl<
         ensures { result ≡ engine }
     {
         Cache { engine }
+    }
+
+    /// An empty cache made at the moment `now`, with this hasher. It takes its memory from `alloc`.
+    ///
+    /// # Errors
+    /// As `CacheConfig::build_with_hasher`.
+    pub fn build_with_hasher(
+        config: CacheConfig<X, L, P, W>,
+        alloc: Global,
+        hasher: S,
+        now: Instant,
+    ) -> Result<Self, OutOfMemory>
+    where
+        K: Drop,
+        V: Drop,
+        S: Clone,
+        X: Drop,
+        L: Drop,
+        P: Drop,
+        W: Drop,
+        ensures { IfOk result (λ c. c ≡ new_cache config hasher now.0) }
+    {
+        let engine = config.build_with_hasher(alloc, hasher, now)?;
+        Ok(Cache::new(engine))
     }
 
     /// No operation waits to be sent. It does nothing when it runs.
@@ -354,6 +380,37 @@ impl<
         ensures within { IsWithin self.new.state.capacity self.new.state.access }
     {
         self.engine.run_pending_tasks(now, clock, None, MAX_LOG_SYNC_REPEATS, EVICTION_BATCH_SIZE)
+    }
+}
+
+impl<
+    K: Eq + Hash,
+    V,
+    X: Expiry<K, V>,
+    L: Listener<K, V>,
+    P: PredicateFn<K, V>,
+    W: Weigher<K, V>,
+> Cache<K, V, X, L, P, W> {
+    /// An empty cache made at the moment `now`, with the default hasher. It takes its memory from `alloc`.
+    ///
+    /// # Errors
+    /// As `CacheConfig::build`.
+    pub fn build(
+        config: CacheConfig<X, L, P, W>,
+        alloc: Global,
+        now: Instant,
+    ) -> Result<Self, OutOfMemory>
+    where
+        K: Drop,
+        V: Drop,
+        X: Drop,
+        L: Drop,
+        P: Drop,
+        W: Drop,
+        ensures { IfOk result (λ c. c ≡ new_cache config c.hasher now.0) }
+    {
+        let engine = config.build(alloc, now)?;
+        Ok(Cache::new(engine))
     }
 }
 

@@ -1,5 +1,7 @@
 //! What calls of the synchronous cache refuse beside what the engine's do.
 use moka_parts::error::{InsertRefused, OutOfMemory};
+use std::error::Error;
+use std::fmt;
 
 /// A removal whose listener was not told, since memory for a clone was refused. The value is gone from the cache, and
 /// comes back.
@@ -8,6 +10,19 @@ pub struct NotTold<V> {
     pub error: OutOfMemory,
     pub value: V,
 }
+
+impl<V> fmt::Display for NotTold<V> {
+    ghost use Rattle.std.specs.Prelude.{Some};
+    ghost use Rattle.moka_parts.specs.Texts.{out_of_memory_text};
+
+    ghost output = { λ _. Some out_of_memory_text };
+
+    fn fmt<W: fmt::Write>(&self, f: &mut fmt::Formatter<W>) -> fmt::Result {
+        write!(f, "{}", self.error)
+    }
+}
+
+impl<V: fmt::Debug + Drop> Error for NotTold<V> {}
 
 /// Why a get with a maker gave no value.
 #[derive(Debug, Drop)]
@@ -18,3 +33,19 @@ pub enum GetWithRefused<K, V> {
     /// are used up. The look-up stands, and key and value come back.
     Insert(InsertRefused<K, V>),
 }
+
+impl<K, V> fmt::Display for GetWithRefused<K, V> {
+    ghost use Rattle.std.specs.Prelude.{Some};
+    ghost use Rattle.moka_drive.specs.Texts.{get_with_text};
+
+    ghost output = { λ refused. Some (get_with_text refused) };
+
+    fn fmt<W: fmt::Write>(&self, f: &mut fmt::Formatter<W>) -> fmt::Result {
+        match self {
+            GetWithRefused::Lookup(_) => write!(f, "{OutOfMemory}"),
+            GetWithRefused::Insert(refused) => write!(f, "{refused}"),
+        }
+    }
+}
+
+impl<K: fmt::Debug + Drop, V: fmt::Debug + Drop> Error for GetWithRefused<K, V> {}

@@ -2,12 +2,16 @@
 #![tactic(auto)]
 
 pub mod cache;
+pub mod clock;
 pub mod driver;
 pub mod error;
 pub mod laws;
 #[cfg(test)]
 mod tests;
+pub mod timed;
 
 pub use cache::Cache;
+pub use clock::{ManualClock, SystemClock};
 pub use driver::drive;
 pub use error::{GetWithRefused, NotTold};
+pub use timed::TimedCache;

@@ -1,9 +1,12 @@
 //! Worked calls of the synchronous cache.
 use crate::cache::Cache;
+use crate::clock::{ManualClock, SystemClock};
+use crate::timed::TimedCache;
 use moka_engine::{CacheConfig, FixedClock, Instant, Listener, RemovalCause};
 use std::alloc::Global;
 use std::cell::Cell;
 use std::test::Fail;
+use std::time::Duration;
 
 const NOW: Instant = Instant(0);
 
@@ -131,5 +134,35 @@ fn keeps_texts(rt: HostRuntime) -> Result<(), Fail> {
     );
     assert!(rt; cache.remove(&asked, NOW, &mut FixedClock(NOW)).is_ok());
     assert!(rt; !cache.contains_key(&asked, NOW));
+    Ok(())
+}
+
+#[test]
+fn ages_by_its_own_clock(rt: HostRuntime) -> Result<(), Fail> {
+    let config = CacheConfig::default().time_to_live(Duration::from_secs(5));
+    let clock = ManualClock { now: NOW };
+    let Ok(mut cache) = TimedCache::build(config, rt.alloc(), clock) else {
+        return Err("memory".into());
+    };
+    assert!(rt; cache.insert(1, 10).is_ok());
+    cache.clock.advance(Duration::from_secs(4));
+    assert_eq!(rt; cache.get(&1).ok(), Some(Some(10)));
+    cache.clock.advance(Duration::from_secs(1));
+    assert_eq!(rt; cache.get(&1).ok(), Some(None));
+    cache.run_pending_tasks();
+    assert_eq!(rt; cache.entry_count(), 0);
+    Ok(())
+}
+
+#[test]
+fn reads_the_system_clock(rt: HostRuntime) -> Result<(), Fail> {
+    let config = CacheConfig::default().time_to_live(Duration::from_secs(1_000));
+    let Ok(mut cache) = TimedCache::build(config, rt.alloc(), SystemClock::new(&rt)) else {
+        return Err("memory".into());
+    };
+    assert_eq!(rt; cache.get_with(1, || 10).ok(), Some(10));
+    assert!(rt; cache.contains_key(&1));
+    assert_eq!(rt; cache.remove(&1).ok(), Some(Some(10)));
+    assert!(rt; !cache.contains_key(&1));
     Ok(())
 }

@@ -1,0 +1,244 @@
+//! A synchronous cache that owns its clock.
+ghost use Rattle.std.specs.Prelude.{◌≡◌, true, false, Option, Some, Result, IfOk, IfErr, OnErr, is_some};
+ghost use Rattle.std.specs.List.{fold};
+ghost use Rattle.moka_parts.specs.Calls.{ContainsStep, no_events};
+ghost use Rattle.moka_parts.specs.Copies.{IsCopiedAnswer};
+ghost use Rattle.moka_parts.specs.Exact.{IsExact, IsWithin};
+ghost use Rattle.moka_parts.specs.Runs.{Befalls};
+ghost use Rattle.moka_parts.specs.State.{is_disabled};
+ghost use Rattle.moka_parts.specs.declared.calls.Reply.TheVariants as reply;
+ghost use Rattle.moka_parts.specs.declared.error.InsertRefused.{InsertRefused};
+ghost use Rattle.moka_parts.specs.declared.error.OutOfMemory.{OutOfMemory};
+ghost use Rattle.moka_parts.specs.declared.policy.Instant.{Instant};
+ghost use Rattle.moka_engine.specs.Config.{new_cache};
+ghost use Rattle.moka_drive.specs.Unsent.{IsThere, ShowsWrites};
+ghost use Rattle.moka_drive.specs.Synchronous.{Makes, meaning_of, hears_clones, Just, own_run, InsertsEntry, GetsValue, RemovesEntry, GetsOrInserts, HandsOutMade, removed, invalidated};
+
+use crate::cache::Cache;
+use crate::error::{GetWithRefused, NotTold};
+use moka_engine::config::{CacheConfig, DefaultHasher};
+use moka_parts::closures::{NoPredicate, NoWeigher, PredicateFn, Weigher};
+use moka_parts::error::{InsertRefused, OutOfMemory};
+use moka_parts::housekeeper::Clock;
+use moka_parts::notification::{Listener, NoListener};
+use moka_parts::policy::{Expiry, NoExpiry};
+use std::alloc::Global;
+use std::hash::{BuildHasher, Hash};
+
+/// A cache with a clock, which each call that needs the moment reads once at its start.
+#[derive(Drop)]
+pub struct TimedCache<
+    K: Eq + Hash,
+    V,
+    C,
+    X: Expiry<K, V> = NoExpiry,
+    L: Listener<K, V> = NoListener,
+    P: PredicateFn<K, V> = NoPredicate,
+    W: Weigher<K, V> = NoWeigher,
+    S: BuildHasher = DefaultHasher,
+> {
+    /// The cache, whose calls are given moments.
+    pub cache: Cache<K, V, X, L, P, W, S>,
+    /// The clock.
+    pub clock: C,
+}
+
+impl<
+    K: Eq + Hash,
+    V,
+    C: Clock,
+    X: Expiry<K, V>,
+    L: Listener<K, V>,
+    P: PredicateFn<K, V>,
+    W: Weigher<K, V>,
+> TimedCache<K, V, C, X, L, P, W> {
+    /// An empty cache made at the clock's moment, with the default hasher. It takes its memory from `alloc`.
+    ///
+    /// # Errors
+    /// As `CacheConfig::build`.
+    pub fn build(
+        config: CacheConfig<X, L, P, W>,
+        alloc: Global,
+        mut clock: C,
+    ) -> Result<Self, OutOfMemory>
+    where
+        K: Drop,
+        V: Drop,
+        C: Drop,
+        X: Drop,
+        L: Drop,
+        P: Drop,
+        W: Drop,
+        ensures { IfOk result (λ c. (now : Instant) × C.reads clock now c.clock × (c.cache ≡ new_cache config c.cache.hasher now.0)) }
+    {
+        let now = clock.now();
+        let cache = Cache::build(config, alloc, now)?;
+        Ok(TimedCache { cache, clock })
+    }
+}
+
+impl<
+    K: Eq + Hash,
+    V,
+    C: Clock,
+    X: Expiry<K, V>,
+    L: Listener<K, V>,
+    P: PredicateFn<K, V>,
+    W: Weigher<K, V>,
+    S: BuildHasher,
+> TimedCache<K, V, C, X, L, P, W, S> {
+    /// How many entries the last run of maintenance counted.
+    pub fn entry_count(&self) -> u64
+        ensures { result ≡ self.now.cache.state.count }
+    {
+        self.cache.entry_count()
+    }
+
+    /// The weight that the last run of maintenance counted, saturating.
+    pub fn weighted_size(&self) -> u64
+        ensures { result ≡ self.now.cache.state.weight }
+    {
+        self.cache.weighted_size()
+    }
+
+    /// Whether a key is there and visible. Nothing is recorded.
+    pub fn contains_key(&mut self, key: &K) -> bool
+        ensures { (now : Instant) × C.reads self.old.clock now self.new.clock
+            × ContainsStep P.says K.eq self.old.cache.state key.now now.0 result × (self.new.cache ≡ self.old.cache) }
+    {
+        let now = self.clock.now();
+        self.cache.contains_key(key, now)
+    }
+
+    /// Puts a value under a key. A cache of capacity 0 lets both go.
+    ///
+    /// # Errors
+    /// As `Cache::insert`.
+    pub fn insert(&mut self, key: K, value: V) -> Result<(), InsertRefused<K, V>>
+    where
+        K: Drop,
+        V: Drop,
+        P: Drop,
+        ensures made { (now : Instant) × (read : C) × C.reads self.old.clock now read
+            × Makes (meaning_of K.eq L.tells P.says W.weighs C.reads X.created X.read X.updated)
+            (InsertsEntry key (S.Hasher.finish (fold S.Hasher.write (S.build_hasher self.old.cache.hasher) (K.hash_input key))) value now result)
+            self.old.cache read self.new.cache self.new.clock
+            × IfOk result (λ _. is_disabled self.old.cache.state.capacity ≡ false → IsThere K.eq self.new.cache.state key value now)
+            × IfOk result (λ _. is_disabled self.old.cache.state.capacity ≡ false → ShowsWrites self.old.cache.state now.0 → ContainsStep P.says K.eq self.new.cache.state key now.0 true) }
+        ensures back { IfErr result (λ refused. (refused.key ≡ key) × (refused.value ≡ value)) }
+        ensures unchanged { OnErr result (self.new.cache.state ≡ self.old.cache.state) }
+    {
+        let now = self.clock.now();
+        self.cache.insert(key, value, now, &mut self.clock)
+    }
+
+    /// A clone of a key's value, if the key is there and visible. The read is queued.
+    ///
+    /// # Errors
+    /// As `Cache::get`.
+    pub fn get(&mut self, key: &K) -> Result<Option<V>, OutOfMemory>
+    where
+        K: Clone + Drop,
+        V: Clone + Drop,
+        P: Drop,
+        ensures made { (now : Instant) × (read : C) × C.reads self.old.clock now read
+            × ((own : Result (Option V) OutOfMemory) × IsCopiedAnswer V.is_clone own result
+            × Makes (meaning_of K.eq L.tells P.says W.weighs C.reads X.created X.read X.updated)
+            (GetsValue key.now (S.Hasher.finish (fold S.Hasher.write (S.build_hasher self.old.cache.hasher) (K.hash_input key.now))) now own)
+            self.old.cache read self.new.cache self.new.clock)
+            × IfOk result (λ found. ContainsStep P.says K.eq self.old.cache.state key.now now.0 (is_some found)) }
+        ensures unchanged { OnErr result (self.new.cache.state ≡ self.old.cache.state) }
+    {
+        let now = self.clock.now();
+        self.cache.get(key, now, &mut self.clock)
+    }
+
+    /// Takes a key out, and hands its value out, expired or not. The listener, if one is set, is told.
+    ///
+    /// # Errors
+    /// As `Cache::remove`.
+    pub fn remove(&mut self, key: &K) -> Result<Option<V>, NotTold<V>>
+    where
+        K: Clone + Drop,
+        V: Clone + Drop,
+        P: Drop,
+        ensures { (now : Instant) × (read : C) × C.reads self.old.clock now read
+            × ((taken : Option (V × Result (Unit {0}) OutOfMemory)) × (result ≡ removed taken)
+            × Makes (meaning_of K.eq (hears_clones K.is_clone V.is_clone L.tells) P.says W.weighs C.reads X.created X.read X.updated)
+            (RemovesEntry key.now (S.Hasher.finish (fold S.Hasher.write (S.build_hasher self.old.cache.hasher) (K.hash_input key.now))) now taken)
+            self.old.cache read self.new.cache self.new.clock) }
+    {
+        let now = self.clock.now();
+        self.cache.remove(key, now, &mut self.clock)
+    }
+
+    /// Takes a key out, expired or not, and lets its value go. The listener, if one is set, is told.
+    ///
+    /// # Errors
+    /// As `Cache::invalidate`.
+    pub fn invalidate(&mut self, key: &K) -> Result<(), NotTold<V>>
+    where
+        K: Clone + Drop,
+        V: Clone + Drop,
+        P: Drop,
+        ensures { (now : Instant) × (read : C) × C.reads self.old.clock now read
+            × ((taken : Option (V × Result (Unit {0}) OutOfMemory)) × (result ≡ invalidated taken)
+            × Makes (meaning_of K.eq (hears_clones K.is_clone V.is_clone L.tells) P.says W.weighs C.reads X.created X.read X.updated)
+            (RemovesEntry key.now (S.Hasher.finish (fold S.Hasher.write (S.build_hasher self.old.cache.hasher) (K.hash_input key.now))) now taken)
+            self.old.cache read self.new.cache self.new.clock) }
+    {
+        let now = self.clock.now();
+        self.cache.invalidate(key, now, &mut self.clock)
+    }
+
+    /// A clone of a key's value, if the key is there and visible, and else of the value that `init` makes, which is
+    /// inserted. `init` is called only where the key is not there.
+    ///
+    /// # Errors
+    /// As `Cache::get_with`.
+    pub fn get_with<F: FnOnce() -> V>(&mut self, key: K, init: F) -> Result<V, GetWithRefused<K, V>>
+    where
+        K: Clone + Drop,
+        V: Clone + Drop,
+        P: Drop,
+        requires { (now : Instant) → ContainsStep P.says K.eq self.old.cache.state key now.0 false → F.pre init }
+        ensures { (now : Instant) × (read : C) × C.reads self.old.clock now read
+            × ((made : Option V) × (own : Result V (Option (InsertRefused K V)))
+            × ((value : V) → made ≡ Some value → F.post init value)
+            × HandsOutMade V.is_clone key own result
+            × Makes (meaning_of K.eq L.tells P.says W.weighs C.reads X.created X.read X.updated)
+            (GetsOrInserts key (S.Hasher.finish (fold S.Hasher.write (S.build_hasher self.old.cache.hasher) (K.hash_input key))) now made own)
+            self.old.cache read self.new.cache self.new.clock) }
+    {
+        let now = self.clock.now();
+        self.cache.get_with(key, init, now, &mut self.clock)
+    }
+
+    /// Invalidates all entries that were written or read before the clock's moment.
+    pub fn invalidate_all(&mut self)
+        ensures { (now : Instant) × C.reads self.old.clock now self.new.clock
+            × (self.new.cache.state ≡ record self.old.cache.state { invalid_before = Some now })
+            × Befalls L.tells no_events self.old.cache self.new.cache }
+    {
+        let now = self.clock.now();
+        self.cache.invalidate_all(now);
+    }
+
+    /// Runs maintenance without a time limit. The answer tells whether more is left.
+    ///
+    /// It leaves count and weight exactly the entries', and the weight within the capacity.
+    pub fn run_pending_tasks(&mut self) -> bool
+    where
+        K: Drop,
+        V: Drop,
+        P: Drop,
+        ensures made { (now : Instant) × (read : C) × C.reads self.old.clock now read
+            × Makes (meaning_of K.eq L.tells P.says W.weighs C.reads X.created X.read X.updated)
+            (Just (own_run now) (reply.Run result)) self.old.cache read self.new.cache self.new.clock }
+        ensures exact { IsExact self.new.cache.state }
+        ensures within { IsWithin self.new.cache.state.capacity self.new.cache.state.access }
+    {
+        let now = self.clock.now();
+        self.cache.run_pending_tasks(now, &mut self.clock)
+    }
+}
