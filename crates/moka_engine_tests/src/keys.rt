@@ -1,0 +1,127 @@
+//! A key is cloned only where a call needs the clone.
+use moka_engine::{
+    CacheConfig, Engine, FixedClock, Instant, Listener, NoExpiry, NoTest, RemovalCause,
+};
+use std::alloc::{AllocError, Global};
+use std::cell::Cell;
+use std::process::Abort;
+use std::rc::Rc;
+use std::test::Fail;
+use std::time::Duration;
+
+/// A key of which no clone can be made.
+#[derive(Debug, PartialEq, Eq, Hash, Drop)]
+struct Unique(u64);
+
+impl Clone for Unique {
+    fn clone(&self) -> Result<Self, AllocError> {
+        Err(AllocError)
+    }
+}
+
+/// Counts the notices, also for others than the cache.
+#[derive(Drop)]
+struct Counter {
+    told: Rc<Cell<u32>>,
+}
+
+impl<K: Drop, V: Drop> Listener<K, V> for Counter {
+    ghost tells = { λ _ _ _ _ _. Unit {0} };
+
+    fn notify(&mut self, _: K, _: V, _: RemovalCause) {
+        self.told.set(self.told.get().wrapping_add(1));
+    }
+}
+
+type UniqueCache = Engine<Unique, u64, NoExpiry, Counter>;
+
+/// A cache with an entry that was written at the moment 0, and that expires when it was idle for ten nanoseconds.
+fn filled(alloc: Global, told: Rc<Cell<u32>>) -> Result<UniqueCache, Fail> {
+    let config = CacheConfig::default()
+        .time_to_idle(Duration::from_nanos(10))
+        .eviction_listener(Counter { told });
+    let built = config.build(alloc, Instant(0));
+    let mut cache: UniqueCache = built.map_err(|_| Fail::from("memory"))?;
+    settle(&mut cache, Unique(1), 10)?;
+    Ok(cache)
+}
+
+/// Inserts an entry, and sends its operation.
+fn settle(cache: &mut UniqueCache, key: Unique, value: u64) -> Result<(), Fail> {
+    if cache.is_map_disabled() {
+        return Err("disabled".into());
+    }
+    let Ok((ticket, _)) = cache.do_insert_with_hash(key, 1, value, Instant(0)) else {
+        return Err("refused".into());
+    };
+    cache.send(ticket).map_err(|_| Fail::from("full"))
+}
+
+/// The value that a get finds of the key, which asks for a clone of the key or does not.
+fn get(cache: &mut UniqueCache, key: u64, need_key: bool, now: Instant) -> Result<Option<u64>, ()> {
+    let found = cache.get_with_hash(&Unique(key), 1, need_key, now, &mut FixedClock(now));
+    match found {
+        Ok(entry) => Ok(entry.map(|entry| entry.value)),
+        Err(_) => Err(()),
+    }
+}
+
+fn check_looks(rt: &impl Abort, cache: &mut UniqueCache) {
+    assert_eq!(rt; get(cache, 1, false, Instant(1)), Ok(Some(10)));
+    let noted = cache.get_with_hash_without_recording(&Unique(1), 1, Some(&mut NoTest), Instant(1));
+    assert!(rt; matches!(noted, Ok(Some(10))));
+    assert!(rt; matches!(cache.scanning_get(&Unique(1), Instant(1)), Ok(Some(10))));
+    assert!(rt; cache.contains_key_with_hash(&Unique(1), 1, Instant(1)));
+    assert!(rt; cache.get_key_with_hash(&Unique(1), 1).is_some());
+}
+
+#[test]
+fn looks_up_without_a_clone(rt: HostRuntime) -> Result<(), Fail> {
+    let told = Rc::new(rt.alloc(), Cell::new(0))?;
+    let mut cache = filled(rt.alloc(), told.clone()?)?;
+    check_looks(&rt, &mut cache);
+    Ok(())
+}
+
+/// Replaces the entry, lets one expire and takes one out, none of which needs a clone.
+fn check_writes(rt: &impl Abort, cache: &mut UniqueCache) -> Result<(), Fail> {
+    settle(cache, Unique(1), 20)?;
+    settle(cache, Unique(2), 20)?;
+    assert!(rt; cache.remove_entry(&Unique(2), 1).is_some());
+    let now = Instant(10);
+    cache.run_pending_tasks(now, &mut FixedClock(now), None, 1, 384);
+    assert_eq!(rt; get(cache, 1, true, now), Ok(None));
+    Ok(())
+}
+
+#[test]
+fn writes_without_a_clone(rt: HostRuntime) -> Result<(), Fail> {
+    let told = Rc::new(rt.alloc(), Cell::new(0))?;
+    let mut cache = filled(rt.alloc(), told.clone()?)?;
+    check_writes(&rt, &mut cache)?;
+    // One was replaced, and one has expired.
+    assert_eq!(rt; told.get(), 2);
+    Ok(())
+}
+
+/// Calls that need a clone of the key are refused: the read is neither noted nor queued, and nobody is told.
+fn check_refusals(rt: &impl Abort, cache: &mut UniqueCache) -> Result<(), Fail> {
+    assert_eq!(rt; get(cache, 1, true, Instant(5)), Err(()));
+    assert_eq!(rt; get(cache, 2, true, Instant(5)), Ok(None));
+    assert_eq!(rt; cache.queued_reads(), 1);
+    assert!(rt; cache.contains_key_with_hash(&Unique(1), 1, Instant(9)));
+    assert!(rt; !cache.contains_key_with_hash(&Unique(1), 1, Instant(10)));
+    assert!(rt; cache.keys(0).is_err());
+    let (entry, _) = cache.remove_entry(&Unique(1), 1).ok_or("none")?;
+    assert!(rt; cache.notify_invalidate(&entry, Instant(5)).is_err());
+    Ok(())
+}
+
+#[test]
+fn changes_nothing_where_a_clone_is_refused(rt: HostRuntime) -> Result<(), Fail> {
+    let told = Rc::new(rt.alloc(), Cell::new(0))?;
+    let mut cache = filled(rt.alloc(), told.clone()?)?;
+    check_refusals(&rt, &mut cache)?;
+    assert_eq!(rt; told.get(), 0);
+    Ok(())
+}

@@ -1,0 +1,9 @@
+//! Tests of the engine's calls, and nothing else.
+#![tactic(auto)]
+
+#[cfg(test)]
+mod drops;
+#[cfg(test)]
+mod keys;
+#[cfg(test)]
+mod sizes;

@@ -1,0 +1,77 @@
+//! Memory that is there is not refused, whatever the size.
+use moka_engine::{CacheConfig, Engine, Instant, NoExpiry, NoListener, NoPredicate};
+use moka_parts::invalidator::{IdSource, PredicateId};
+use moka_sketch::frequency_sketch::FrequencySketch;
+use std::alloc::Global;
+use std::process::Abort;
+use std::test::Fail;
+use uuid::Uuid;
+
+type TestCache = Engine<u64, u64, NoExpiry, NoListener, NoPredicate>;
+
+/// Counts its identifiers up.
+#[derive(Clone, Copy)]
+struct Counted(u128);
+
+impl IdSource for Counted {
+    ghost gives = { λ _ _ _. Unit {0} };
+
+    fn next_id(&mut self) -> PredicateId {
+        self.0 = self.0.wrapping_add(1);
+        Uuid::from_u128(self.0)
+    }
+}
+
+fn check_predicates(rt: &impl Abort, cache: &mut TestCache) {
+    let mut ids = Counted(0);
+    for number in 1..2_049u64 {
+        let registered = cache.invalidate_entries_if(NoPredicate, Instant(0), &mut ids);
+        assert!(rt; registered.is_ok(), "predicate {number}");
+        assert_eq!(rt; cache.invalidation_predicate_count(), number);
+    }
+}
+
+#[test]
+fn registers_thousands_of_predicates(rt: HostRuntime) -> Result<(), Fail> {
+    let config = CacheConfig::default().support_invalidation_closures();
+    let mut cache: TestCache = config.build(rt.alloc(), Instant(0))?;
+    check_predicates(&rt, &mut cache);
+    Ok(())
+}
+
+/// A name of as many letters.
+fn name_of(alloc: Global, length: usize) -> Result<String, Fail> {
+    let mut name = String::new(alloc);
+    for _ in 0..length {
+        name.push('n')?;
+    }
+    Ok(name)
+}
+
+#[test]
+fn has_a_long_name(rt: HostRuntime) -> Result<(), Fail> {
+    for length in [0, 64, 65, 10_000] {
+        let config = CacheConfig::default().name(name_of(rt.alloc(), length)?);
+        let cache: TestCache = config.build(rt.alloc(), Instant(0))?;
+        assert_eq!(rt; cache.name().map(str::len), Some(length));
+    }
+    Ok(())
+}
+
+#[test]
+fn has_room_for_millions(rt: HostRuntime) -> Result<(), Fail> {
+    let config = CacheConfig::default().initial_capacity(3_000_000);
+    let cache: TestCache = config.build(rt.alloc(), Instant(0))?;
+    assert_eq!(rt; cache.entry_count(), 0);
+    Ok(())
+}
+
+#[test]
+fn has_a_sketch_of_a_million_words(rt: HostRuntime) -> Result<(), Fail> {
+    for length in [128, 65_536, 131_072, 1_048_576] {
+        let mut sketch = FrequencySketch::new(rt.alloc())?;
+        assert!(rt; sketch.ensure_capacity(length).is_ok(), "{length} words");
+        assert_eq!(rt; sketch.table_len() as u64, length);
+    }
+    Ok(())
+}
