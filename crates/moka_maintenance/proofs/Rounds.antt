@@ -1,28 +1,33 @@
 -- A scan's walk from the cursor to the end, and then from the front on.
-use Rattle.std.proofs.Common.{◌≡◌, ◌≢◌, refl, ℕ, ◌+◌, ◌-◌, ◌≤◌, ◌<◌, ◌⊎◌, Bool, true, false, true≢false, cond, ◌==◌, ◌||◌, List, [], ◌∷◌, ◌++◌, length, Option, Some, None, IfSome, is_some, is_none, option_map, slice_get, inl, inr, ap, sym, subst, ◌∙◌, arith, append-nil}
-use Rattle.std.proofs.lemmas.Bool.{ne_eqb, cond-false}
+use Rattle.std.proofs.Common.{◌≡◌, ◌≢◌, refl, ℕ, suc, ◌+◌, ◌-◌, ◌≤◌, ◌<◌, ◌⊎◌, Bool, true, false, true≢false, cond, not, ◌==◌, ◌||◌, List, [], ◌∷◌, ◌++◌, length, Option, Some, None, is_some, is_none, slice_get, inl, inr, ap, sym, subst, ◌∙◌, arith, append_assoc, append-nil}
+use Rattle.std.proofs.lemmas.Bool.{ne_eqb, cond-true, cond-false}
+use Rattle.std.proofs.lemmas.List.Sorted.{IsPermutation-append_comm}
+use Rattle.std.proofs.lemmas.Map.Keys.{IsDistinct-IsPermutation}
 use Rattle.std.specs.FinMap.{get}
-use Rattle.std.specs.List.{IsDistinct}
+use Rattle.std.specs.List.{AllByRecursion, IsDistinct}
 use Rattle.moka_parts.specs.declared.notification.RemovalCause.{RemovalCause}
 use Rattle.moka_parts.specs.declared.records.Member.{Member}
 use Rattle.moka_parts.specs.declared.records.Record.{Record}
 use Rattle.moka_parts.specs.declared.records.Registered.{Registered}
-use Rattle.moka_parts.specs.Records.{Records, counted_of, is_listed, is_member, is_settled, settled_members, without_member}
+use Rattle.moka_parts.specs.Records.{Records, counted_of, is_listed, is_member, is_settled, numbers_of, settled_members, without_member, without_number}
 use Rattle.moka_parts.specs.Maintenance.{Choice, Removes, MovesToBack, Drops}
 use Rattle.moka_parts.specs.Order.{IsListOf}
 use Rattle.moka_parts.specs.Scan.{AreUncovered}
-use Rattle.moka_parts.proofs.Maps.{itself_tested, same_by_test}
+use Rattle.moka_parts.proofs.Maps.{itself_tested, same_by_test, same_or_apart}
 use Rattle.moka_parts.proofs.Scanned.{uncovered-append, uncovered-kept}
-use Rattle.moka_store.specs.declared.store.Handle.{Handle}
+use Rattle.moka_parts.proofs.WriteList.{listed_past_taken_out}
 use Rattle.moka_store.specs.Store.{Kept}
 use Rattle.moka_store.proofs.Gets.{after_remove}
 use Rattle.moka_store.proofs.Members.{counted-without}
-use Rattle.moka_maintenance.specs.Scanning.{MayScan, IsWalked, IsRound}
+use Rattle.moka_maintenance.specs.Scanning.{from_cursor, before_cursor, round_from, LeavesSome, MayScan, IsWalked, GoesRound, IsRound}
 use Rattle.moka_maintenance.specs.Steps.{Stock, after_step, after_steps, stock_in}
 use Rattle.moka_maintenance.proofs.Stepped.{length-on, length-removed, stepped-on}
-use Rattle.moka_maintenance.proofs.Walked.{no_steps, split_at, unlisted_all}
+use Rattle.moka_maintenance.proofs.Walked.{all_mid, none_looked, settled-append, settled-same, settled_few, some-append, stands_still, unlisted_all}
 
 -- ---- lists
+
+later_listed : (m n : ℕ) (ns : List ℕ) → is_listed n ns ≡ true → ((m == n) || is_listed n ns) ≡ true
+later_listed m n ns e = elim (m == n) as (λ b. (b || is_listed n ns) ≡ true) [ true ↦ refl | false ↦ e ]
 
 listed_joined : (n : ℕ) (xs ys : List ℕ) → is_listed n (xs ++ ys) ≡ true → (is_listed n xs ≡ true) ⊎ (is_listed n ys ≡ true)
 listed_joined n [] ys e = inr e
@@ -32,23 +37,20 @@ listed_joined n (x ∷ xs) ys e = go (x == n) (listed_joined n xs ys) e
     go true later e = inl refl
     go false later e = later e
 
-prefix_listed : (n : ℕ) (xs ys zs ws : List ℕ) → xs ++ ys ≡ zs ++ ws → length xs ≤ length zs → is_listed n xs ≡ true → is_listed n zs ≡ true
-prefix_listed n [] ys zs ws e few there = absurd (true≢false (sym there))
-prefix_listed n (x ∷ xs) ys [] ws e few there = absurd (omega arith)
-prefix_listed n (x ∷ xs) ys (z ∷ zs) ws e few there =
-    let same : x ≡ z = cc in
-    let rest : xs ++ ys ≡ zs ++ ws = cc in
-    go (x == n) refl same (prefix_listed n xs ys zs ws rest (omega arith)) there
+listed_first : (n : ℕ) (xs ys : List ℕ) → is_listed n xs ≡ true → is_listed n (xs ++ ys) ≡ true
+listed_first n [] ys e = absurd (true≢false (sym e))
+listed_first n (x ∷ xs) ys e = go (x == n) (listed_first n xs ys) e
   where
-    go : (b : Bool) → (x == n) ≡ b → x ≡ z → (is_listed n xs ≡ true → is_listed n zs ≡ true) → (b || is_listed n xs) ≡ true → ((z == n) || is_listed n zs) ≡ true
-    go true is same later there = ap (λ k. (k == n) || is_listed n zs) (sym same) ∙ ap (λ b. b || is_listed n zs) is
-    go false is same later there = ap (λ k. (k == n) || is_listed n zs) (sym same) ∙ ap (λ b. b || is_listed n zs) is ∙ later there
+    go : (b : Bool) → (is_listed n xs ≡ true → is_listed n (xs ++ ys) ≡ true) → (b || is_listed n xs) ≡ true → (b || is_listed n (xs ++ ys)) ≡ true
+    go true later e = refl
+    go false later e = later e
+
+listed_second : (n : ℕ) (xs ys : List ℕ) → is_listed n ys ≡ true → is_listed n (xs ++ ys) ≡ true
+listed_second n [] ys e = e
+listed_second n (x ∷ xs) ys e = later_listed x n (xs ++ ys) (listed_second n xs ys e)
 
 member_past : (n m : ℕ) (access : List Member) → n ≢ m → is_member n access ≡ true → is_member n (without_member m access) ≡ true
 member_past n m access other there = ap is_some (counted-without m n access ∙ cond-false (n == m) None (counted_of n access) (ne_eqb n m other)) ∙ there
-
-later_listed : (m n : ℕ) (ns : List ℕ) → is_listed n ns ≡ true → ((m == n) || is_listed n ns) ≡ true
-later_listed m n ns e = elim (m == n) as (λ b. (b || is_listed n ns) ≡ true) [ true ↦ refl | false ↦ e ]
 
 -- a list without repetition of members' numbers is no longer than theirs
 listed_few : (ns : List ℕ) (access : List Member) → IsDistinct (◌==◌) ns → ((n : ℕ) → is_listed n ns ≡ true → is_member n access ≡ true) → length ns ≤ length access
@@ -91,20 +93,132 @@ still_there c (Removes m cause ∷ xs) n r at = (after_remove c.records m n r (s
 still_there c (MovesToBack m ∷ xs) n r at = still_there (after_step c (MovesToBack m)) xs n r at
 still_there c (Drops i ∷ xs) n r at = still_there c xs n r at
 
--- where a walk starts
-pub record Start (ns : List ℕ) (start : Option ℕ) : Type 0 where
-  pub before : List ℕ
-  pub rest : List ℕ
-  pub list : ns ≡ before ++ rest
-  pub at : start ≡ slice_get rest 0
+-- ---- the round from a cursor
 
-start_at : (ns : List ℕ) (start : Option ℕ) → IfSome start (λ n. is_listed n ns ≡ true) → (start ≡ None → slice_get ns 0 ≡ None) → Start ns start
-start_at ns (Some n) listed none = let s = split_at n ns listed in record { before = s.before; rest = n ∷ s.behind; list = s.is; at = refl }
-start_at ns None listed none = record { before = []; rest = ns; list = refl; at = sym (none refl) }
+-- the order of writing is what stands before the cursor, and what stands from it on
+pub before_and_from : (cursor : Option ℕ) (ns : List ℕ) → ns ≡ before_cursor cursor ns ++ from_cursor cursor ns
+before_and_from None ns = refl
+before_and_from (Some n) [] = refl
+before_and_from (Some n) (m ∷ ns) = elim (m == n) as (λ b. m ∷ ns ≡ cond b [] (m ∷ before_cursor (Some n) ns) ++ cond b (m ∷ ns) (from_cursor (Some n) ns)) [
+  | true ↦ refl
+  | false ↦ ap (λ zs. m ∷ zs) (before_and_from (Some n) ns)
+]
 
-pub start_of_handle : (ns : List ℕ) (o : Option Handle) → IfSome o (λ h. is_listed h.number ns ≡ true) → (o ≡ None → slice_get ns 0 ≡ None) → Start ns (option_map (λ (h : Handle). h.number) o)
-start_of_handle ns None listed none = start_at ns None tt (λ _. none refl)
-start_of_handle ns (Some h) listed none = start_at ns (Some h.number) listed (λ e. cc)
+-- a cursor at a number is the first of those from it on
+pub first_from : (n : ℕ) (ns : List ℕ) → is_listed n ns ≡ true → Some n ≡ slice_get (from_cursor (Some n) ns) 0
+first_from n [] there = absurd (true≢false (sym there))
+first_from n (m ∷ ns) there = go (m == n) refl (first_from n ns) there
+  where
+    go : (b : Bool) → (m == n) ≡ b → (is_listed n ns ≡ true → Some n ≡ slice_get (from_cursor (Some n) ns) 0) → (b || is_listed n ns) ≡ true → Some n ≡ slice_get (cond b (m ∷ ns) (from_cursor (Some n) ns)) 0
+    go true same later there = ap (λ k. Some k) (sym (same_by_test m n same))
+    go false other later there = later there
+
+at_split : (xs ys : List ℕ) (n : ℕ) → IsDistinct (◌==◌) (xs ++ n ∷ ys) → (from_cursor (Some n) (xs ++ n ∷ ys) ≡ n ∷ ys) × (before_cursor (Some n) (xs ++ n ∷ ys) ≡ xs)
+unfolding IsDistinct
+at_split [] ys n once = (cond-true (n == n) (n ∷ ys) (from_cursor (Some n) ys) (itself_tested n), cond-true (n == n) [] (n ∷ before_cursor (Some n) ys) (itself_tested n))
+at_split (x ∷ xs) ys n once =
+    let other = all_mid (λ y. (x == y) ≡ false) xs ys n once.0 in
+    let rest = at_split xs ys n once.1 in (
+      cond-false (x == n) (x ∷ (xs ++ n ∷ ys)) (from_cursor (Some n) (xs ++ n ∷ ys)) other ∙ rest.0,
+      cond-false (x == n) [] (x ∷ before_cursor (Some n) (xs ++ n ∷ ys)) other ∙ ap (λ zs. x ∷ zs) rest.1,
+    )
+
+-- the round from the first of some, or from the front where there are none
+round_at : (xs ys : List ℕ) (next : Option ℕ) → IsDistinct (◌==◌) (xs ++ ys) → next ≡ slice_get ys 0 → round_from next (xs ++ ys) ≡ ys ++ xs
+round_at xs [] next once at = ap (λ o. round_from o (xs ++ [])) at ∙ append-nil (xs ++ []) ∙ append-nil xs
+round_at xs (n ∷ ys) next once at =
+    let split = at_split xs ys n once in
+    ap (λ o. round_from o (xs ++ n ∷ ys)) at ∙ ap (λ zs. zs ++ before_cursor (Some n) (xs ++ n ∷ ys)) split.0 ∙ ap (λ zs. (n ∷ ys) ++ zs) split.1
+
+-- ---- lists of which one is a part of another
+
+record Prefix (xs ys zs ws : List ℕ) : Type 0 where
+  left : List ℕ
+  longer : zs ≡ xs ++ left
+  rest : ys ≡ left ++ ws
+
+prefix_of : (xs ys zs ws : List ℕ) → xs ++ ys ≡ zs ++ ws → length xs ≤ length zs → Prefix xs ys zs ws
+prefix_of [] ys zs ws e few = record { left = zs; longer = refl; rest = e }
+prefix_of (x ∷ xs) ys [] ws e few = absurd (omega arith)
+prefix_of (x ∷ xs) ys (z ∷ zs) ws e few =
+    let same : x ≡ z = cc in
+    let others : xs ++ ys ≡ zs ++ ws = cc in
+    let rest = prefix_of xs ys zs ws others (omega arith) in
+    record { left = rest.left; longer = ap (λ k. k ∷ zs) (sym same) ∙ ap (λ ks. x ∷ ks) rest.longer; rest = rest.rest }
+
+some_few : (xs ks : List ℕ) → LeavesSome xs ks → length ks ≤ length xs
+some_few [] ks none = let e = ap length none in omega arith
+some_few (x ∷ xs) ks (inl gone) = let rest = some_few xs ks gone in omega arith
+some_few (x ∷ xs) ks (inr there) = let rest = some_few xs there.0 there.2 in let e = ap length there.1 in omega arith
+
+all_prefix : (P : ℕ → Type 0) (xs ys : List ℕ) → AllByRecursion P (xs ++ ys) → AllByRecursion P xs
+all_prefix P [] ys h = tt
+all_prefix P (x ∷ xs) ys h = (h.0, all_prefix P xs ys h.1)
+
+once_prefix : (xs ys : List ℕ) → IsDistinct (◌==◌) (xs ++ ys) → IsDistinct (◌==◌) xs
+unfolding IsDistinct
+once_prefix [] ys once = tt
+once_prefix (x ∷ xs) ys once = (all_prefix (λ y. (x == y) ≡ false) xs ys once.0, once_prefix xs ys once.1)
+
+flips : (a b : ℕ) → (a == b) ≡ (b == a)
+flips a b = elim (same_or_apart a b) [
+  | inl same ↦ ap (λ k. k == b) same ∙ ap (λ k. b == k) (sym same)
+  | inr apart ↦ apart.forth ∙ sym apart.back
+]
+
+-- no number stands twice in the first of a round
+round_once : (before rest walked ahead : List ℕ) → IsDistinct (◌==◌) (before ++ rest) → rest ++ before ≡ walked ++ ahead → IsDistinct (◌==◌) walked
+round_once before rest walked ahead once round = once_prefix walked ahead (subst (IsDistinct (◌==◌)) round (IsDistinct-IsPermutation (◌==◌) flips (before ++ rest) (rest ++ before) (IsPermutation-append_comm before rest) once))
+
+taken_out : (n : ℕ) (ns : List ℕ) → length (without_number n ns) ≤ length ns
+taken_out n [] = omega arith
+taken_out n (m ∷ ns) = let rest = taken_out n ns in elim (m == n) as (λ b. length (cond (not b) (m ∷ without_number n ns) (without_number n ns)) ≤ length (m ∷ ns)) [
+  | true ↦ omega arith
+  | false ↦ omega arith
+]
+
+one_taken_out : (n : ℕ) (ns : List ℕ) → is_listed n ns ≡ true → length (without_number n ns) + 1 ≤ length ns
+one_taken_out n [] e = absurd (true≢false (sym e))
+one_taken_out n (m ∷ ns) e = go (m == n) (one_taken_out n ns) e
+  where
+    go : (b : Bool) → (is_listed n ns ≡ true → length (without_number n ns) + 1 ≤ length ns) → (b || is_listed n ns) ≡ true → length (cond (not b) (m ∷ without_number n ns) (without_number n ns)) + 1 ≤ length (m ∷ ns)
+    go true later e = let rest = taken_out n ns in omega arith
+    go false later e = let rest = later e in omega arith
+
+-- numbers none of which stands twice are no more than those of a list that has each of them
+distinct_few : (ks ns : List ℕ) → IsDistinct (◌==◌) ks → ((n : ℕ) → is_listed n ks ≡ true → is_listed n ns ≡ true) → length ks ≤ length ns
+unfolding IsDistinct
+distinct_few [] ns once all = omega arith
+distinct_few (k ∷ ks) ns once all =
+    let less = one_taken_out k ns (all k (ap (λ b. b || is_listed k ks) (itself_tested k))) in
+    let rest = distinct_few ks (without_number k ns) once.1 (λ n there. elim (same_or_apart n k) [
+      | inl same ↦ absurd (true≢false (sym (subst (λ j. is_listed j ks ≡ true) same there) ∙ unlisted_all k ks once.0))
+      | inr apart ↦ listed_past_taken_out k n ns apart ∙ all n (later_listed k n ks there)
+    ]) in
+    omega arith
+
+numbered : (n : ℕ) (access : List Member) → is_listed n (numbers_of access) ≡ is_member n access
+numbered n [] = refl
+numbered n (a ∷ access) = elim (a.number == n) as (λ b. (b || is_listed n (numbers_of access)) ≡ is_some (cond b (Some a.counted) (counted_of n access))) [
+  | true ↦ refl
+  | false ↦ numbered n access
+]
+
+length_numbers : (access : List Member) → length (numbers_of access) ≡ length access
+length_numbers [] = refl
+length_numbers (a ∷ access) = ap suc (length_numbers access)
+
+-- members none of which stands twice are no more than the numbers in the order of writing
+members_few : (access : List Member) (ns : List ℕ) → IsDistinct (◌==◌) (numbers_of access) → IsListOf access ns → length access ≤ length ns
+members_few access ns once h = subst (λ i. i ≤ length ns) (length_numbers access) (distinct_few (numbers_of access) ns once (λ n there. h.1 n ∙ sym (numbered n access) ∙ there))
+
+none_left : (ns : List ℕ) → length ns ≤ 0 → ns ≡ []
+none_left [] few = refl
+none_left (n ∷ ns) few = absurd (omega arith)
+
+left_none : (xs ys : List ℕ) → xs ++ ys ≡ [] → xs ≡ []
+left_none [] ys e = refl
+left_none (x ∷ xs) ys e = absurd (let l = ap length e in omega arith)
 
 nothing_ahead : (ns : List ℕ) (next : Option ℕ) → next ≡ slice_get ns 0 → is_none next ≡ true → ns ≡ []
 nothing_ahead [] next at none = refl
@@ -114,10 +228,26 @@ some_ahead : (ns : List ℕ) (next : Option ℕ) → next ≡ slice_get ns 0 →
 some_ahead [] next at some = absurd (true≢false (sym (ap is_none at) ∙ some))
 some_ahead (n ∷ ns) next at some = omega arith
 
+-- what a store says of both its orders
+pub record IsKnown {K V S : Type 0} (s : Kept K V S) : Type 0 where
+  pub distinct : IsDistinct (◌==◌) (numbers_of s.access)
+  pub once : IsDistinct (◌==◌) s.written
+  pub listed : s.ordered ≡ true → IsListOf s.access s.written
+  pub unlisted : s.ordered ≡ false → s.written ≡ []
+
 -- ---- one walk, and then another
 
-module _ {K V L P S : Type 0} (tells : L → K → V → RemovalCause → L → Type 0) (says : P → K → V → Bool → Type 0) (ps : List (Registered P)) (batch : ℕ) (old mid : Kept K V S) (l m : Option L) (before rest : List ℕ) (looked passed : ℕ)
-    (h : IsWalked tells says ps old mid l m before rest mid.cursor looked passed) (list : old.written ≡ before ++ rest) (known : old.ordered ≡ true → IsListOf old.access old.written) (most : looked ≤ batch) where
+module _ {K V L P S : Type 0} (tells : L → K → V → RemovalCause → L → Type 0) (says : P → K → V → Bool → Type 0) (ps : List (Registered P)) (batch : ℕ) (old mid : Kept K V S) (l m : Option L) (looked passed : ℕ) (known : IsKnown old)
+    (h : IsWalked tells says ps old mid l m (before_cursor old.cursor old.written) (from_cursor old.cursor old.written) mid.cursor looked passed) (once : IsDistinct (◌==◌) mid.written) (most : looked ≤ batch) where
+  abbrev before : List ℕ
+  before = before_cursor old.cursor old.written
+
+  abbrev rest : List ℕ
+  rest = from_cursor old.cursor old.written
+
+  list : old.written ≡ before ++ rest
+  list = before_and_from old.cursor old.written
+
   lengths : length old.written ≡ length before + (passed + length h.ahead)
   lengths =
       let all = ap length list ∙ length-on before rest in
@@ -125,21 +255,51 @@ module _ {K V L P S : Type 0} (tells : L → K → V → RemovalCause → L → 
       let c = h.count in
       omega arith
 
-  -- the walk did not come to the end
-  pub round-part : is_none mid.cursor ≡ false → (length old.access ≤ passed) ⊎ (batch ≤ looked) → (end : Bool) → end ≡ false → IsRound tells says ps batch old mid l m looked end
-  round-part on stopped end part = record {
-    by = h.by;
-    few = h.few;
-    most = most;
-    unlooked = λ ordered some none. elim stopped [ inl all ↦ absurd (beyond ordered all) | inr used ↦ absurd (omega arith) ];
-    whole = λ ordered large. elim stopped [ inl all ↦ absurd (beyond ordered all) | inr used ↦ absurd (beyond ordered (let f = h.fewer in omega arith)) ];
-  }
-    where
-      beyond : old.ordered ≡ true → length old.access ≤ passed → ⊥
-      beyond ordered all = let few = written_few old.access old.written (known ordered) in let more = some_ahead h.ahead mid.cursor h.at on in let sum = lengths in omega arith
+  fewer : looked ≤ passed
+  fewer = let some = settled_few old.records h.walked in let all = h.looks in let c = h.count in omega arith
 
-  module _ (new : Kept K V S) (k : Option L) (looked_then passed_then : ℕ) (over : is_none mid.cursor ≡ true) (j : IsWalked tells says ps mid new m k [] mid.written new.cursor looked_then passed_then) (few_then : looked_then ≤ batch - looked)
-      (stopped : is_none new.cursor ≡ false → (length old.access - passed ≤ passed_then) ⊎ (batch - looked ≤ looked_then)) where
+  -- the walk did not come to the end
+  module _ (on : is_none mid.cursor ≡ false) (stopped : (length old.access ≤ passed) ⊎ (batch ≤ looked)) where
+    beyond : length old.access ≤ passed → ⊥
+    beyond all = go old.ordered refl
+      where
+        go : (b : Bool) → old.ordered ≡ b → ⊥
+        go true ordered = let few = written_few old.access old.written (known.listed ordered) in let more = some_ahead h.ahead mid.cursor h.at on in let sum = lengths in absurd (omega arith)
+        go false off = let none = ap length (known.unlisted off) in let more = some_ahead h.ahead mid.cursor h.at on in let sum = lengths in absurd (omega arith)
+
+    goes-part : GoesRound says ps batch old mid looked
+    goes-part = record {
+      walked = h.walked;
+      ahead = h.ahead ++ before;
+      round = round;
+      once = round_once before rest h.walked (h.ahead ++ before) (subst (IsDistinct (◌==◌)) list known.once) round;
+      looks = h.looks;
+      uncovered = h.uncovered;
+      most = most;
+      used = λ _. elim stopped [ inl all ↦ absurd (beyond all) | inr used ↦ inl (omega arith) ];
+      kept = h.kept;
+      stay = h.stay;
+      next = ap (round_from mid.cursor) list_now ∙ round_at (before ++ h.kept) h.ahead mid.cursor (subst (IsDistinct (◌==◌)) list_now once) h.at ∙ sym (append_assoc h.ahead before h.kept);
+    }
+      where
+        round : rest ++ before ≡ h.walked ++ (h.ahead ++ before)
+        round = ap (λ zs. zs ++ before) h.split ∙ append_assoc h.walked h.ahead before
+
+        list_now : mid.written ≡ (before ++ h.kept) ++ h.ahead
+        list_now = h.list ∙ sym (append_assoc before h.kept h.ahead)
+
+    pub round-part : (end : Bool) → end ≡ false → IsRound tells says ps batch old mid l m looked end
+    round-part end part = record {
+      by = h.by;
+      goes = goes-part;
+      few = h.few;
+      unlooked = λ ordered some none. elim stopped [ inl all ↦ absurd (beyond all) | inr used ↦ absurd (omega arith) ];
+      whole = λ ordered large. elim stopped [ inl all ↦ absurd (beyond all) | inr used ↦ absurd (beyond (let f = fewer in omega arith)) ];
+    }
+
+  -- it did, and another walk began at the front
+  module _ (new : Kept K V S) (k : Option L) (looked_then passed_then : ℕ) (over : is_none mid.cursor ≡ true) (j : IsWalked tells says ps mid new m k [] mid.written new.cursor looked_then passed_then) (once_then : IsDistinct (◌==◌) new.written) (few_then : looked_then ≤ batch - looked)
+      (few_passed : passed_then ≤ length old.access - passed) (stopped : is_none new.cursor ≡ false → (length old.access - passed ≤ passed_then) ⊎ (batch - looked ≤ looked_then)) where
     none_ahead : h.ahead ≡ []
     none_ahead = nothing_ahead h.ahead mid.cursor h.at over
 
@@ -152,57 +312,97 @@ module _ {K V L P S : Type 0} (tells : L → K → V → RemovalCause → L → 
     there_now : before ++ (h.kept ++ h.ahead) ≡ j.walked ++ j.ahead
     there_now = sym h.list ∙ j.split
 
-    -- the second walk went past all that stood before the start
-    back : old.ordered ≡ true → (looked_then < batch - looked) ⊎ (length old.access ≤ batch) → length before ≤ passed_then
-    back ordered within = go (is_none new.cursor) refl
-      where
-        few : length old.written ≤ length old.access
-        few = written_few old.access old.written (known ordered)
+    lengths_now : length before + length h.kept ≡ passed_then + length j.ahead
+    lengths_now =
+        let all = ap length there_now ∙ length-on j.walked j.ahead in
+        let first = length-on before (h.kept ++ h.ahead) in
+        let then = length-on h.kept h.ahead in
+        let none = ap length none_ahead in
+        let c = j.count in
+        omega arith
 
-        past : (length old.access - passed ≤ passed_then) ⊎ (batch - looked ≤ looked_then) → length before ≤ passed_then
-        past (inl all) = let sum = total in let f = few in omega arith
-        past (inr used) = elim within [
-          | inl less ↦ absurd (omega arith)
-          | inr large ↦ (let sum = total in let f = few in let g = h.fewer in let i = j.fewer in omega arith)
+    -- the second walk went no farther than to the start
+    in_front : passed_then ≤ length before
+    in_front = go old.ordered refl
+      where
+        go : (b : Bool) → old.ordered ≡ b → passed_then ≤ length before
+        go true ordered = let few = members_few old.access old.written known.distinct (known.listed ordered) in let sum = total in omega arith
+        go false off = let none = ap length (known.unlisted off) in let sum = total in let few = some_few h.walked h.kept h.stay in let c = h.count in let now = lengths_now in omega arith
+
+    part : Prefix j.walked j.ahead before (h.kept ++ h.ahead)
+    part = prefix_of j.walked j.ahead before (h.kept ++ h.ahead) (sym there_now) (let c = j.count in let f = in_front in omega arith)
+
+    lengths_left : length before ≡ passed_then + length part.left
+    lengths_left = let all = ap length part.longer ∙ length-on j.walked part.left in let c = j.count in omega arith
+
+    -- the batch is used up, or the second walk went past all that stood before the start
+    used_up : (looked + looked_then ≡ batch) ⊎ (part.left ≡ [])
+    used_up = go (is_none new.cursor) refl
+      where
+        through : length old.access - passed ≤ passed_then → (b : Bool) → old.ordered ≡ b → part.left ≡ []
+        through all true ordered = none_left part.left (let few = written_few old.access old.written (known.listed ordered) in let sum = total in let left = lengths_left in omega arith)
+        through all false off = none_left part.left (let none = ap length (known.unlisted off) in let sum = total in let left = lengths_left in omega arith)
+
+        go : (b : Bool) → is_none new.cursor ≡ b → (looked + looked_then ≡ batch) ⊎ (part.left ≡ [])
+        go true none = inr (left_none part.left (h.kept ++ h.ahead) (sym part.rest ∙ nothing_ahead j.ahead new.cursor j.at none))
+        go false some = elim (stopped some) [
+          | inl all ↦ inr (through all old.ordered refl)
+          | inr used ↦ inl (omega arith)
         ]
 
-        go : (b : Bool) → is_none new.cursor ≡ b → length before ≤ passed_then
-        go true none =
-            let gone = ap length (nothing_ahead j.ahead new.cursor j.at none) in
-            let a = length-on before (h.kept ++ h.ahead) in
-            let b = length-on j.walked j.ahead in
-            let same = ap length there_now in
-            let c = j.count in
-            omega arith
-        go false some = past (stopped some)
+    -- what the second walk passes was as it is now
+    same_records : (n : ℕ) → is_listed n j.walked ≡ true → get mid.records n ≡ get old.records n
+    same_records n there =
+        let listed : is_listed n mid.written ≡ true = ap (is_listed n) j.split ∙ listed_first n j.walked j.ahead there in
+        ap (λ (c : Stock K V). get c.records n) h.by.led ∙ (stands_still says ps (stock_in old) h.by.steps n h.by.may (ap (λ (c : Stock K V). is_listed n c.written) (sym h.by.led) ∙ listed)).1
 
-    met : length before ≤ passed_then → (n : ℕ) → is_listed n before ≡ true → is_listed n j.walked ≡ true
-    met enough n there = prefix_listed n before (h.kept ++ h.ahead) j.walked j.ahead there_now (let c = j.count in omega arith) there
-
-    pub round-whole : (end : Bool) → end ≡ true → IsRound tells says ps batch old new l k (looked + looked_then) end
-    unfolding stepped-on
-    round-whole end over_all = record {
-      by = stepped-on tells (MayScan says ps) (stock_in old) (stock_in mid) (stock_in new) l m k h.by j.by;
-      few = (let both = length-on h.by.steps j.by.steps in let f = h.few in let g = j.few in omega arith);
+    goes-whole : GoesRound says ps batch old new (looked + looked_then)
+    goes-whole = record {
+      walked = h.walked ++ j.walked;
+      ahead = part.left;
+      round = round;
+      once = round_once before rest (h.walked ++ j.walked) part.left (subst (IsDistinct (◌==◌)) list known.once) round;
+      looks = (let first = h.looks in let then = j.looks ∙ ap length (settled-same old.records mid.records j.walked same_records) in let both = settled-append old.records h.walked j.walked in omega arith);
+      uncovered = uncovered-append says ps new.records h.walked j.walked first j.uncovered;
       most = omega arith;
-      unlooked = λ ordered some none. none_settled old.records old.access (λ n member. unsettled ordered some none n (known_listed ordered n member));
-      whole = λ ordered large. (subst (AreUncovered says ps new.records) (sym list) (uncovered-append says ps new.records before rest (first (back ordered (inr large))) second), over_all);
+      used = λ _. used_up;
+      kept = h.kept ++ j.kept;
+      stay = some-append h.walked h.kept j.walked j.kept h.stay j.stay;
+      next = ap (round_from new.cursor) j.list ∙ round_at j.kept j.ahead new.cursor (subst (IsDistinct (◌==◌)) j.list once_then) j.at ∙ ap (λ zs. zs ++ j.kept) ahead_is ∙ append_assoc part.left h.kept j.kept;
     }
       where
-        known_listed : old.ordered ≡ true → (n : ℕ) → is_member n old.access ≡ true → is_listed n (before ++ rest) ≡ true
-        known_listed ordered n member = ap (is_listed n) (sym list) ∙ (known ordered).1 n ∙ member
+        round : rest ++ before ≡ (h.walked ++ j.walked) ++ part.left
+        round = ap (λ zs. zs ++ before) all_walked ∙ ap (λ zs. h.walked ++ zs) part.longer ∙ sym (append_assoc h.walked j.walked part.left)
 
-        same_records : looked + looked_then ≡ 0 → mid.records ≡ old.records
-        same_records none = ap (λ (c : Stock K V). c.records) (h.by.led ∙ ap (after_steps (stock_in old)) (no_steps h.by.steps (let f = h.few in omega arith)))
+        first : AreUncovered says ps new.records h.walked
+        first = uncovered-kept says ps mid.records new.records h.walked (λ n r at. still_there (stock_in mid) j.by.steps n r (sym (ap (λ (c : Stock K V). get c.records n) j.by.led) ∙ at)) h.uncovered
 
-        unsettled : old.ordered ≡ true → 1 ≤ batch → looked + looked_then ≡ 0 → (n : ℕ) → is_listed n (before ++ rest) ≡ true → is_settled old.records n ≡ false
-        unsettled ordered some none n there = elim (listed_joined n before rest there) [
-          | inl early ↦ sym (ap (λ rs. is_settled rs n) (same_records none)) ∙ j.unlooked (omega arith) n (met (back ordered (inl (omega arith))) n early)
-          | inr late ↦ h.unlooked (omega arith) n (ap (is_listed n) (sym all_walked) ∙ late)
+        ahead_is : j.ahead ≡ part.left ++ h.kept
+        ahead_is = part.rest ∙ ap (λ zs. part.left ++ (h.kept ++ zs)) none_ahead ∙ ap (λ zs. part.left ++ zs) (append-nil h.kept)
+
+    -- all are passed, where the batch is not used up
+    all_passed : looked + looked_then < batch ⊎ length old.access ≤ batch → old.ordered ≡ true → (n : ℕ) → is_listed n old.written ≡ true → is_listed n (h.walked ++ j.walked) ≡ true
+    all_passed within ordered n there = elim used_up [
+      | inl used ↦ all_by (elim within [
+        | inl less ↦ absurd (omega arith)
+        | inr large ↦ (let few = written_few old.access old.written (known.listed ordered) in let sum = total in let f = fewer in let some = settled_few mid.records j.walked in let all = j.looks in let c = j.count in let left = lengths_left in none_left part.left (omega arith))
+      ])
+      | inr through ↦ all_by through
+    ]
+      where
+        all_by : part.left ≡ [] → is_listed n (h.walked ++ j.walked) ≡ true
+        all_by none = elim (listed_joined n before rest (ap (is_listed n) (sym list) ∙ there)) [
+          | inl early ↦ listed_second n h.walked j.walked (ap (is_listed n) (sym (part.longer ∙ ap (λ zs. j.walked ++ zs) none ∙ append-nil j.walked)) ∙ early)
+          | inr late ↦ listed_first n h.walked j.walked (ap (is_listed n) (sym all_walked) ∙ late)
         ]
 
-        first : length before ≤ passed_then → AreUncovered says ps new.records before
-        first enough = record { settled = λ n r listed at applied. j.uncovered.settled n r (met enough n listed) at applied }
-
-        second : AreUncovered says ps new.records rest
-        second = subst (AreUncovered says ps new.records) (sym all_walked) (uncovered-kept says ps mid.records new.records h.walked (λ n r at. still_there (stock_in mid) j.by.steps n r (sym (ap (λ (c : Stock K V). get c.records n) j.by.led) ∙ at)) h.uncovered)
+    pub round-whole : (end : Bool) → end ≡ true → IsRound tells says ps batch old new l k (looked + looked_then) end
+    unfolding stepped-on goes-whole
+    round-whole end over_all = record {
+      by = stepped-on tells (MayScan says ps) (stock_in old) (stock_in mid) (stock_in new) l m k h.by j.by;
+      goes = goes-whole;
+      few = (let both = length-on h.by.steps j.by.steps in let f = h.few in let g = j.few in omega arith);
+      unlooked = λ ordered some none. none_settled old.records old.access (λ n member.
+          none_looked old.records (h.walked ++ j.walked) (sym goes-whole.looks ∙ none) n (all_passed (inl (omega arith)) ordered n ((known.listed ordered).1 n ∙ member)));
+      whole = λ ordered large. (record { settled = λ n r listed at applied. goes-whole.uncovered.settled n r (all_passed (inr large) ordered n listed) at applied }, over_all);
+    }

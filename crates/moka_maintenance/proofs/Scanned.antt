@@ -1,7 +1,8 @@
 -- A scan, from a walk round and the drop of predicates behind it.
-use Rattle.std.proofs.Common.{◌≡◌, refl, ℕ, zero, suc, ◌<◌, ◌≤◌, ◌⊎◌, Bool, true, false, true≢false, not, ◌==◌, List, [], ◌∷◌, ◌++◌, length, Option, Some, remove, Contains, inl, inr, ap, sym, subst, ◌∙◌, arith}
+use Rattle.std.proofs.Common.{◌≡◌, refl, ℕ, zero, suc, ◌<◌, ◌≤◌, ◌⊎◌, Bool, true, false, true≢false, not, ◌==◌, List, [], ◌∷◌, ◌++◌, length, Option, Some, remove, Contains, inl, inr, ap, sym, subst, ◌∙◌, arith, append-nil}
 use Rattle.std.proofs.lemmas.List.Elements.{Contains-append_right}
 use Rattle.std.specs.FinMap.{get}
+use Rattle.std.specs.List.{IsDistinct}
 use Rattle.moka_parts.specs.declared.notification.RemovalCause.{RemovalCause}
 use Rattle.moka_parts.specs.declared.records.Record.{Record}
 use Rattle.moka_parts.specs.declared.records.Registered.{Registered}
@@ -10,9 +11,9 @@ use Rattle.moka_parts.specs.Visibility.{Covers, SomeCovers}
 use Rattle.moka_parts.specs.Order.{IsListOf}
 use Rattle.moka_parts.specs.State.{Contents}
 use Rattle.moka_parts.proofs.Maps.{itself_tested, same_by_test}
-use Rattle.moka_parts.proofs.Scanned.{not_one_covers}
+use Rattle.moka_parts.proofs.Scanned.{not_one_covers, uncovered-none}
 use Rattle.moka_store.specs.Store.{Kept}
-use Rattle.moka_maintenance.specs.Scanning.{AreDrops, MayScan, IsRound, AreDropped, AllDropped, IsScanned}
+use Rattle.moka_maintenance.specs.Scanning.{round_from, AreDrops, MayScan, GoesRound, IsRound, AreDropped, AllDropped, IsScanned}
 use Rattle.moka_maintenance.specs.Steps.{Stock, AreAllMembers, HasNoSettled, after_steps, contents_in, stock_in}
 use Rattle.moka_maintenance.proofs.Dropping.{drops_stay, kept-append}
 use Rattle.moka_maintenance.proofs.Popped.{first_or_rest}
@@ -98,11 +99,30 @@ covers_fewer {K} {V} {P} says ps (q ∷ qs) less r covered = elim covered [
 -- ---- the scan
 
 module _ {K V L P S : Type 0} (tells : L → K → V → RemovalCause → L → Type 0) (says : P → K → V → Bool → Type 0) (batch : ℕ) (old : Kept K V S) (ps : List (Registered P)) (l : Option L) where
+  -- nothing is passed
+  goes-none : length ps ≡ 0 → GoesRound says ps batch old old 0
+  unfolding IsDistinct
+  goes-none none = record {
+    walked = [];
+    ahead = round_from old.cursor old.written;
+    round = refl;
+    once = tt;
+    looks = refl;
+    uncovered = uncovered-none says ps old.records;
+    most = omega arith;
+    used = λ some. absurd (omega arith);
+    kept = [];
+    stay = refl;
+    next = sym (append-nil (round_from old.cursor old.written));
+  }
+
   pub scanned-none : length ps ≡ 0 → IsScanned tells says ps batch old old ps l l false
   unfolding stepped-none
   scanned-none none = record {
     by = stepped-none tells (MayScan says ps) (stock_in old) l;
     dropped = dropped-none says (contents_in old) ps ps refl;
+    looked = 0;
+    goes = goes-none none;
     few = omega arith;
     unregistered = λ e. (refl, refl);
     idle = λ e. refl;
@@ -131,14 +151,16 @@ module _ {K V L P S : Type 0} (tells : L → K → V → RemovalCause → L → 
     still none = go left refl
       where
         go : (b : Bool) → left ≡ b → left ≡ false
-        go true is = (let m = met is in let n = h.most in absurd (omega arith))
+        go true is = (let m = met is in let n = h.goes.most in absurd (omega arith))
         go false is = is
 
     joined : AreDropped says (contents_in new) ps qs → (old.ordered ≡ true → length old.access ≤ batch → AreAllMembers (stock_in old) → qs ≡ []) → IsScanned tells says ps batch old new qs l k left
     joined dropped whole = record {
       by = h.by;
       dropped = dropped;
-      few = (let f = h.few in let m = h.most in omega arith);
+      looked = looked;
+      goes = h.goes;
+      few = h.few;
       unregistered = λ none. (let empty = ap length none in absurd (omega arith));
       idle = still;
       more = more;

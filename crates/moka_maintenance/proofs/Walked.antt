@@ -1,6 +1,7 @@
 -- A walk along the order of writing, member after member.
-use Rattle.std.proofs.Common.{◌≡◌, refl, ℕ, ◌+◌, ◌≤◌, Bool, true, false, true≢false, not, ◌==◌, ◌||◌, List, [], ◌∷◌, ◌++◌, length, Option, Some, slice_get, inl, inr, ap, sym, subst, ◌∙◌, arith, append_assoc}
+use Rattle.std.proofs.Common.{◌≡◌, ◌≢◌, refl, ℕ, ◌+◌, ◌≤◌, Bool, true, false, true≢false, cond, not, ◌==◌, ◌||◌, List, [], ◌∷◌, ◌++◌, length, Option, Some, slice_get, inl, inr, ap, sym, subst, ◌∙◌, arith, append_assoc, append-nil}
 use Rattle.std.proofs.lemmas.Bool.{cond-true, cond-false}
+use Rattle.std.proofs.lemmas.List.Elements.{filter-append}
 use Rattle.std.specs.FinMap.{get, remove}
 use Rattle.std.specs.List.{IsDistinct, AllByRecursion}
 use Rattle.std.specs.Option.{option_map_or}
@@ -8,21 +9,21 @@ use Rattle.moka_parts.specs.declared.notification.RemovalCause.{RemovalCause}
 use Rattle.moka_parts.specs.declared.notification.RemovalCause.TheVariants.{Explicit}
 use Rattle.moka_parts.specs.declared.records.Record.{Record}
 use Rattle.moka_parts.specs.declared.records.Registered.{Registered}
-use Rattle.moka_parts.specs.Records.{is_applied, is_listed, is_settled, without_number}
+use Rattle.moka_parts.specs.Records.{Records, is_applied, is_listed, is_settled, without_number}
 use Rattle.moka_parts.specs.Visibility.{NoneCovers}
-use Rattle.moka_parts.specs.Maintenance.{Choice, Removes}
+use Rattle.moka_parts.specs.Maintenance.{Choice, Removes, MovesToBack, Drops}
 use Rattle.moka_parts.proofs.Maps.{itself_tested, same_by_test, same_or_apart}
 use Rattle.moka_parts.proofs.Scanned.{uncovered-none, uncovered-push, uncovered-kept}
-use Rattle.moka_parts.proofs.WriteList.{listed_pushed, unlisted_taken_out}
+use Rattle.moka_parts.proofs.WriteList.{listed_taken_out, listed_past_taken_out, unlisted_taken_out}
 use Rattle.moka_store.specs.Store.{Kept, number_after}
-use Rattle.moka_store.proofs.Gets.{after_remove}
-use Rattle.moka_maintenance.specs.Scanning.{MayScan, LooksAt, IsWalked}
-use Rattle.moka_maintenance.specs.Steps.{Stock, after_steps, stock_in}
+use Rattle.moka_store.proofs.Gets.{after_remove, get-past_remove}
+use Rattle.moka_maintenance.specs.Scanning.{LeavesSome, settled_numbers, MayScan, LooksAt, IsWalked}
+use Rattle.moka_maintenance.specs.Steps.{Stock, after_step, after_steps, stock_in, MayAll}
 use Rattle.moka_maintenance.proofs.Stepped.{length-on, stepped-none, stepped-one, stepped-on}
 
 -- ---- a number between others, where none stands twice
 
-all_mid : (P : ℕ → Type 0) (xs ys : List ℕ) (n : ℕ) → AllByRecursion P (xs ++ n ∷ ys) → P n
+pub all_mid : (P : ℕ → Type 0) (xs ys : List ℕ) (n : ℕ) → AllByRecursion P (xs ++ n ∷ ys) → P n
 all_mid P [] ys n h = h.0
 all_mid P (x ∷ xs) ys n h = all_mid P xs ys n h.1
 
@@ -46,6 +47,10 @@ unfolding IsDistinct
 without_split [] ys n once = cond-false (not (n == n)) (n ∷ without_number n ys) (without_number n ys) (ap not (itself_tested n)) ∙ unlisted_taken_out n ys (unlisted_all n ys once.0)
 without_split (x ∷ xs) ys n once = cond-true (not (x == n)) (x ∷ without_number n (xs ++ n ∷ ys)) (without_number n (xs ++ n ∷ ys)) (ap not (all_mid (λ y. (x == y) ≡ false) xs ys n once.0)) ∙ ap (λ zs. x ∷ zs) (without_split xs ys n once.1)
 
+pub listed_between : (xs ys : List ℕ) (n : ℕ) → is_listed n (xs ++ n ∷ ys) ≡ true
+listed_between [] ys n = ap (λ b. b || is_listed n ys) (itself_tested n)
+listed_between (x ∷ xs) ys n = elim (x == n) as (λ b. (b || is_listed n (xs ++ n ∷ ys)) ≡ true) [ true ↦ refl | false ↦ listed_between xs ys n ]
+
 pub record Split (n : ℕ) (ns : List ℕ) : Type 0 where
   pub before : List ℕ
   pub behind : List ℕ
@@ -68,6 +73,72 @@ head_of : (n : ℕ) (ns : List ℕ) → Some n ≡ slice_get ns 0 → Head n ns
 head_of n [] e = cc
 head_of n (m ∷ ns) e = let same : n ≡ m = cc in record { behind = ns; is = ap (λ k. k ∷ ns) (sym same) }
 
+-- ---- what a walk passes and what stays of it
+
+pub some-append : (xs ks ys js : List ℕ) → LeavesSome xs ks → LeavesSome ys js → LeavesSome (xs ++ ys) (ks ++ js)
+some-append [] ks ys js none more = subst (λ zs. LeavesSome ys (zs ++ js)) (sym none) more
+some-append (x ∷ xs) ks ys js (inl gone) more = inl (some-append xs ks ys js gone more)
+some-append (x ∷ xs) ks ys js (inr there) more = inr (there.0 ++ js, ap (λ zs. zs ++ js) there.1, some-append xs there.0 ys js there.2 more)
+
+one_stays : (n : ℕ) → LeavesSome (n ∷ []) (n ∷ [])
+one_stays n = inr ([], refl, refl)
+
+one_leaves : (n : ℕ) → LeavesSome (n ∷ []) []
+one_leaves n = inl refl
+
+module _ {K V : Type 0} (records : Records K V) where
+  pub settled-append : (xs ys : List ℕ) → length (settled_numbers records (xs ++ ys)) ≡ length (settled_numbers records xs) + length (settled_numbers records ys)
+  settled-append xs ys = ap length (filter-append (λ n. is_settled records n) xs ys) ∙ length-on (settled_numbers records xs) (settled_numbers records ys)
+
+  one_more : (ns : List ℕ) (n : ℕ) → is_settled records n ≡ true → length (settled_numbers records (ns ++ n ∷ [])) ≡ length (settled_numbers records ns) + 1
+  one_more ns n e = let all = settled-append ns (n ∷ []) in let one = ap length (cond-true (is_settled records n) (n ∷ []) [] e) in omega arith
+
+  no_more : (ns : List ℕ) (n : ℕ) → is_settled records n ≡ false → length (settled_numbers records (ns ++ n ∷ [])) ≡ length (settled_numbers records ns)
+  no_more ns n e = let all = settled-append ns (n ∷ []) in let one = ap length (cond-false (is_settled records n) (n ∷ []) [] e) in omega arith
+
+  pub settled_few : (ns : List ℕ) → length (settled_numbers records ns) ≤ length ns
+  settled_few [] = omega arith
+  settled_few (n ∷ ns) = let rest = settled_few ns in elim (is_settled records n) as (λ b. length (cond b (n ∷ settled_numbers records ns) (settled_numbers records ns)) ≤ length (n ∷ ns)) [
+    | true ↦ omega arith
+    | false ↦ omega arith
+  ]
+
+  pub none_looked : (ns : List ℕ) → length (settled_numbers records ns) ≡ 0 → (n : ℕ) → is_listed n ns ≡ true → is_settled records n ≡ false
+  none_looked [] none n there = absurd (true≢false (sym there))
+  none_looked (m ∷ ns) none n there = go (is_settled records m) refl (m == n) refl (λ none there. none_looked ns none n there) none there
+    where
+      go : (s : Bool) → is_settled records m ≡ s → (b : Bool) → (m == n) ≡ b → (length (settled_numbers records ns) ≡ 0 → is_listed n ns ≡ true → is_settled records n ≡ false) → length (cond s (m ∷ settled_numbers records ns) (settled_numbers records ns)) ≡ 0 → (b || is_listed n ns) ≡ true → is_settled records n ≡ false
+      go true e b f later none there = absurd (omega arith)
+      go false e true f later none there = ap (is_settled records) (sym (same_by_test m n f)) ∙ e
+      go false e false f later none there = later none there
+
+-- the same numbers are settled, where their records are the same
+pub settled-same : {K V : Type 0} (records others : Records K V) (ns : List ℕ) → ((n : ℕ) → is_listed n ns ≡ true → get others n ≡ get records n) → settled_numbers others ns ≡ settled_numbers records ns
+settled-same records others [] same = refl
+settled-same records others (m ∷ ns) same =
+    ap (λ o. cond (option_map_or is_applied o false) (m ∷ settled_numbers others ns) (settled_numbers others ns)) (same m (ap (λ b. b || is_listed m ns) (itself_tested m)))
+    ∙ ap (λ zs. cond (is_settled records m) (m ∷ zs) zs) (settled-same records others ns (λ n there. same n (later n there)))
+  where
+    later : (n : ℕ) → is_listed n ns ≡ true → ((m == n) || is_listed n ns) ≡ true
+    later n there = elim (m == n) as (λ b. (b || is_listed n ns) ≡ true) [ true ↦ refl | false ↦ there ]
+
+listed_still : (n m : ℕ) (ns : List ℕ) → is_listed n (without_number m ns) ≡ true → (n ≢ m) × (is_listed n ns ≡ true)
+listed_still n m ns there = elim (same_or_apart n m) [
+  | inl same ↦ absurd (true≢false (sym (subst (λ k. is_listed k (without_number m ns) ≡ true) same there) ∙ listed_taken_out m ns))
+  | inr apart ↦ ((λ same. true≢false (sym (ap (λ k. k == m) same ∙ itself_tested m) ∙ apart.forth)), sym (listed_past_taken_out m n ns apart) ∙ there)
+]
+
+module _ {K V P : Type 0} (says : P → K → V → Bool → Type 0) (ps : List (Registered P)) where
+  -- what still stands in the order of writing after steps of a scan stood there before, and has the record that it had
+  pub stands_still : (c : Stock K V) (xs : List Choice) (n : ℕ) → MayAll (MayScan says ps) c xs → is_listed n (after_steps c xs).written ≡ true → (is_listed n c.written ≡ true) × (get (after_steps c xs).records n ≡ get c.records n)
+  stands_still c [] n may there = (there, refl)
+  stands_still c (Removes m cause ∷ xs) n may there =
+      let rest = stands_still (after_step c (Removes m cause)) xs n may.1 there in
+      let now = listed_still n m c.written rest.0 in
+      (now.1, rest.1 ∙ get-past_remove c.records m n now.0)
+  stands_still c (MovesToBack m ∷ xs) n may there = absurd may.0
+  stands_still c (Drops i ∷ xs) n may there = absurd may.0
+
 pub no_steps : (xs : List Choice) → length xs ≤ 0 → xs ≡ []
 no_steps [] h = refl
 no_steps (x ∷ xs) h = absurd (omega arith)
@@ -85,10 +156,10 @@ module _ {K V L P S : Type 0} (tells : L → K → V → RemovalCause → L → 
     list = list;
     at = at;
     count = refl;
+    stay = refl;
+    looks = refl;
     by = stepped-none tells (MayScan says ps) (stock_in old) l;
     few = omega arith;
-    fewer = omega arith;
-    unlooked = λ _ n there. absurd (true≢false (sym there));
     uncovered = uncovered-none says ps old.records;
   }
 
@@ -111,21 +182,16 @@ module _ {K V L P S : Type 0} (tells : L → K → V → RemovalCause → L → 
     count_is : passed + 1 ≡ length (h.walked ++ n ∷ [])
     count_is = let both = length-on h.walked (n ∷ []) in let one : length (n ∷ []) ≡ 1 = refl in let c = h.count in omega arith
 
-    -- where none was looked at, nothing has changed
-    unchanged : looked ≡ 0 → mid.records ≡ old.records
-    unchanged none = ap (λ (c : Stock K V). c.records) (h.by.led ∙ ap (after_steps (stock_in old)) (no_steps h.by.steps (let f = h.few in omega arith)))
+    -- it has the record that it had
+    same_record : get mid.records n ≡ get old.records n
+    same_record = ap (λ (c : Stock K V). get c.records n) h.by.led ∙ (stands_still says ps (stock_in old) h.by.steps n h.by.may (ap (λ (c : Stock K V). is_listed n c.written) (sym h.by.led) ∙ ap (is_listed n) list_is ∙ listed_between (before ++ h.kept) here.behind n)).1
 
-    listed_cases : (k : ℕ) → is_listed k (h.walked ++ n ∷ []) ≡ true → (is_listed k h.walked ≡ true → is_settled old.records k ≡ false) → is_settled old.records n ≡ false → is_settled old.records k ≡ false
-    listed_cases k there earlier now = go (is_listed k h.walked) refl (n == k) refl (sym (listed_pushed k n h.walked) ∙ there)
-      where
-        go : (a : Bool) → is_listed k h.walked ≡ a → (b : Bool) → (n == k) ≡ b → (a || b) ≡ true → is_settled old.records k ≡ false
-        go true e b f both = earlier e
-        go false e true f both = ap (is_settled old.records) (sym (same_by_test n k f)) ∙ now
-        go false e false f both = cc
+    same_settled : is_settled old.records n ≡ is_settled mid.records n
+    same_settled = ap (λ o. option_map_or is_applied o false) (sym same_record)
 
     -- it stays
-    stays : (more : ℕ) → looked ≤ more → more ≤ passed + 1 → (more ≡ 0 → is_settled old.records n ≡ false) → ((r : Record K V) → get mid.records n ≡ Some r → is_applied r ≡ true → NoneCovers says ps r) → IsWalked tells says ps old mid l m before rest (number_after n mid.written) more (passed + 1)
-    stays more least most unsettled found = record {
+    stays : (more : ℕ) → looked ≤ more → more ≡ length (settled_numbers old.records (h.walked ++ n ∷ [])) → ((r : Record K V) → get mid.records n ≡ Some r → is_applied r ≡ true → NoneCovers says ps r) → IsWalked tells says ps old mid l m before rest (number_after n mid.written) more (passed + 1)
+    stays more least looks found = record {
       walked = h.walked ++ n ∷ [];
       kept = h.kept ++ n ∷ [];
       ahead = here.behind;
@@ -133,10 +199,10 @@ module _ {K V L P S : Type 0} (tells : L → K → V → RemovalCause → L → 
       list = h.list ∙ ap (λ zs. before ++ (h.kept ++ zs)) here.is ∙ ap (λ zs. before ++ zs) (sym (append_assoc h.kept (n ∷ []) here.behind));
       at = next_is;
       count = count_is;
+      stay = some-append h.walked h.kept (n ∷ []) (n ∷ []) h.stay (one_stays n);
+      looks = looks;
       by = h.by;
       few = (let f = h.few in omega arith);
-      fewer = most;
-      unlooked = λ none k there. listed_cases k there (h.unlooked (omega arith) k) (unsettled none);
       uncovered = uncovered-push says ps mid.records h.walked n found h.uncovered;
     }
 
@@ -144,18 +210,18 @@ module _ {K V L P S : Type 0} (tells : L → K → V → RemovalCause → L → 
     walked-unsettled new k turn =
         subst (λ k. IsWalked tells says ps old new l k before rest (number_after n mid.written) looked (passed + 1)) (sym turn.2)
         (subst (λ new. IsWalked tells says ps old new l m before rest (number_after n mid.written) looked (passed + 1)) (sym turn.1)
-        (stays looked (omega arith) (let f = h.fewer in omega arith) (λ none. sym (ap (λ rs. is_settled rs n) (unchanged none)) ∙ turn.0) (λ r at applied. absurd (true≢false (sym applied ∙ sym (settled_is r at) ∙ turn.0)))))
+        (stays looked (omega arith) (h.looks ∙ sym (no_more old.records h.walked n (same_settled ∙ turn.0))) (λ r at applied. absurd (true≢false (sym applied ∙ sym (settled_is r at) ∙ turn.0)))))
       where
         settled_is : (r : Record K V) → get mid.records n ≡ Some r → is_settled mid.records n ≡ is_applied r
         settled_is r at = ap (λ o. option_map_or is_applied o false) at
 
     pub walked-settled : (new : Kept K V S) (k : Option L) → LooksAt tells says ps mid new m k n true → IsWalked tells says ps old new l k before rest (number_after n mid.written) (looked + 1) (passed + 1)
     unfolding stepped-one stepped-on
-    walked-settled new k turn = elim turn.1 [
+    walked-settled new k turn = let looked_now = ap (λ i. i + 1) h.looks ∙ sym (one_more old.records h.walked n (same_settled ∙ turn.0)) in elim turn.1 [
       | inl same ↦
           subst (λ k. IsWalked tells says ps old new l k before rest (number_after n mid.written) (looked + 1) (passed + 1)) (sym same.1)
           (subst (λ new. IsWalked tells says ps old new l m before rest (number_after n mid.written) (looked + 1) (passed + 1)) (sym same.0)
-          (stays (looked + 1) (omega arith) (let f = h.fewer in omega arith) (λ none. absurd (omega arith)) (λ r at applied. same.2 r at)))
+          (stays (looked + 1) (omega arith) looked_now (λ r at applied. same.2 r at)))
       | inr left ↦
           let records : new.records ≡ remove mid.records n = ap (λ (s : Kept K V S). s.records) left.1 in
           let gone : (j : ℕ) (r : Record K V) → get new.records j ≡ Some r → (j ≡ n → ⊥) × (get mid.records j ≡ Some r) = λ j r at. after_remove mid.records n j r (sym (ap (λ rs. get rs j) records) ∙ at) in
@@ -167,14 +233,14 @@ module _ {K V L P S : Type 0} (tells : L → K → V → RemovalCause → L → 
             list = ap (λ (s : Kept K V S). s.written) left.1 ∙ ap (without_number n) list_is ∙ without_split (before ++ h.kept) here.behind n once_there ∙ append_assoc before h.kept here.behind;
             at = next_is;
             count = count_is;
+            stay = subst (LeavesSome (h.walked ++ n ∷ [])) (append-nil h.kept) (some-append h.walked h.kept (n ∷ []) [] h.stay (one_leaves n));
+            looks = looked_now;
             by = stepped-on tells (MayScan says ps) (stock_in old) (stock_in mid) (stock_in new) l m k h.by (stepped-one tells (MayScan says ps) (stock_in mid) (stock_in new) m k (Removes n Explicit) left.0 (ap stock_in left.1) left.3);
             few = (let f = h.few in let both = length-on h.by.steps (Removes n Explicit ∷ []) in omega arith);
-            fewer = (let f = h.fewer in omega arith);
-            unlooked = λ none. absurd (omega arith);
             uncovered = uncovered-push says ps new.records h.walked n (λ r at applied. absurd ((gone n r at).0 refl)) (uncovered-kept says ps mid.records new.records h.walked (λ j r at. (gone j r at).1) h.uncovered);
           }
     ]
 
   -- a cursor put elsewhere
   pub walked-cursor : (new : Kept K V S) (m : Option L) (next at : Option ℕ) (looked passed : ℕ) → IsWalked tells says ps old new l m before rest next looked passed → IsWalked tells says ps old (record new { cursor = at }) l m before rest next looked passed
-  walked-cursor new m next at looked passed h = record { walked = h.walked; kept = h.kept; ahead = h.ahead; split = h.split; list = h.list; at = h.at; count = h.count; by = h.by; few = h.few; fewer = h.fewer; unlooked = h.unlooked; uncovered = h.uncovered }
+  walked-cursor new m next at looked passed h = record { walked = h.walked; kept = h.kept; ahead = h.ahead; split = h.split; list = h.list; at = h.at; count = h.count; stay = h.stay; looks = h.looks; by = h.by; few = h.few; uncovered = h.uncovered }

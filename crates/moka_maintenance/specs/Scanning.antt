@@ -1,11 +1,12 @@
 -- A scan along the order of writing for what registered predicates cover, and the drop of predicates that cover nothing.
-use Rattle.std.specs.Prelude.{◌≡◌, ℕ, ◌≤◌, ◌<◌, Bool, true, false, ◌&&◌, ◌⊎◌, List, [], ◌∷◌, ◌++◌, length, Option, Some, slice_get, Contains}
+use Rattle.std.specs.Prelude.{◌≡◌, ℕ, ◌≤◌, ◌<◌, Bool, true, false, ◌&&◌, ◌⊎◌, ◌==◌, if◌then◌else◌, List, [], ◌∷◌, ◌++◌, length, Option, Some, None, slice_get, Contains}
 use Rattle.std.specs.FinMap.{get}
+use Rattle.std.specs.List.{IsDistinct, filter}
 use Rattle.moka_parts.specs.declared.notification.RemovalCause.{RemovalCause}
 use Rattle.moka_parts.specs.declared.notification.RemovalCause.TheVariants.{Explicit}
 use Rattle.moka_parts.specs.declared.records.Record.{Record}
 use Rattle.moka_parts.specs.declared.records.Registered.{Registered}
-use Rattle.moka_parts.specs.Records.{is_listed, is_member, is_settled}
+use Rattle.moka_parts.specs.Records.{Records, is_member, is_settled}
 use Rattle.moka_parts.specs.State.{Contents}
 use Rattle.moka_parts.specs.Visibility.{Covers, SomeCovers, NoneCovers}
 use Rattle.moka_parts.specs.Maintenance.{Choice, Removes, MovesToBack, Drops, Tests, kept_by_choices, AreJustified}
@@ -13,6 +14,31 @@ use Rattle.moka_parts.specs.Scan.{AreUncovered}
 use Rattle.moka_store.specs.Store.{Kept}
 use Rattle.moka_maintenance.specs.Expelled.{without_record}
 use Rattle.moka_maintenance.specs.Steps.{Stock, contents_in, stock_in, left_by_step, AreAllMembers, HasNoSettled, IsStepped, Told}
+
+-- the numbers from the cursor on, which is at the front where it is at none
+abbrev pub from_cursor : Option ℕ → List ℕ → List ℕ
+from_cursor None ns = ns
+from_cursor (Some n) [] = []
+from_cursor (Some n) (m ∷ ns) = if m == n then m ∷ ns else from_cursor (Some n) ns
+
+-- the numbers before the cursor
+abbrev pub before_cursor : Option ℕ → List ℕ → List ℕ
+before_cursor None ns = []
+before_cursor (Some n) [] = []
+before_cursor (Some n) (m ∷ ns) = if m == n then [] else m ∷ before_cursor (Some n) ns
+
+-- once round: from the cursor to the end, and then from the front to the cursor
+abbrev pub round_from : Option ℕ → List ℕ → List ℕ
+round_from cursor ns = from_cursor cursor ns ++ before_cursor cursor ns
+
+-- the second list is the first without some of its numbers
+abbrev pub LeavesSome : List ℕ → List ℕ → Type 0
+LeavesSome [] kept = kept ≡ []
+LeavesSome (n ∷ ns) kept = LeavesSome ns kept ⊎ ((rest : List ℕ) × (kept ≡ n ∷ rest) × LeavesSome ns rest)
+
+-- those of the numbers whose records are settled
+abbrev pub settled_numbers : {K V : Type 0} → Records K V → List ℕ → List ℕ
+settled_numbers records ns = filter (λ n. is_settled records n) ns
 
 -- each step drops a predicate
 abbrev pub AreDrops : List Choice → Type 0
@@ -44,6 +70,24 @@ module _ {K V P : Type 0} (says : P → K → V → Bool → Type 0) where
   MayScan ps c (MovesToBack n) = ⊥
   MayScan ps c (Drops i) = ⊥
 
+  -- once round at most: the members passed, how many of them were looked at, and where the next round begins
+  pub record GoesRound {S : Type 0} (ps : List (Registered P)) (batch : ℕ) (old new : Kept K V S) (looked : ℕ) : Type 0 where
+    -- those passed are the first of the round, and none of them twice
+    pub walked : List ℕ
+    pub ahead : List ℕ
+    pub round : round_from old.cursor old.written ≡ walked ++ ahead
+    pub once : IsDistinct (◌==◌) walked
+    -- those of them that are settled were looked at, and no predicate covers one that stays
+    pub looks : looked ≡ length (settled_numbers old.records walked)
+    pub uncovered : AreUncovered says ps new.records walked
+    pub most : looked ≤ batch
+    -- where a predicate is, the batch is used up unless the round is through
+    pub used : 0 < length ps → (looked ≡ batch) ⊎ (ahead ≡ [])
+    -- the next round begins behind those passed, and ends with those of them that stay
+    pub kept : List ℕ
+    pub stay : LeavesSome walked kept
+    pub next : round_from new.cursor new.written ≡ ahead ++ kept
+
 module _ {K V L P : Type 0} (tells : L → K → V → RemovalCause → L → Type 0) (says : P → K → V → Bool → Type 0) (ps : List (Registered P)) where
   -- a member is looked at: one that is not settled stays; a settled one stays where no predicate covers it, and else leaves
   abbrev pub LooksAt : {S : Type 0} → Kept K V S → Kept K V S → Option L → Option L → ℕ → Bool → Type 0
@@ -61,19 +105,19 @@ module _ {K V L P : Type 0} (tells : L → K → V → RemovalCause → L → Ty
     pub list : new.written ≡ before ++ (kept ++ ahead)
     pub at : next ≡ slice_get ahead 0
     pub count : passed ≡ length walked
+    pub stay : LeavesSome walked kept
+    -- those that are settled were looked at
+    pub looks : looked ≡ length (settled_numbers old.records walked)
     pub by : IsStepped tells (MayScan says ps) (stock_in old) (stock_in new) l m
-    -- each member that leaves was looked at, and each that was looked at was passed
+    -- each member that leaves was looked at
     pub few : length by.steps ≤ looked
-    pub fewer : looked ≤ passed
-    -- where none was looked at, none of them is settled
-    pub unlooked : looked ≡ 0 → (n : ℕ) → is_listed n walked ≡ true → is_settled old.records n ≡ false
     pub uncovered : AreUncovered says ps new.records walked
 
   -- a walk from the cursor, at most once round: the members looked at, and whether it came to the end
   pub record IsRound {S : Type 0} (batch : ℕ) (old new : Kept K V S) (l m : Option L) (looked : ℕ) (end : Bool) : Type 0 where
     pub by : IsStepped tells (MayScan says ps) (stock_in old) (stock_in new) l m
+    pub goes : GoesRound says ps batch old new looked
     pub few : length by.steps ≤ looked
-    pub most : looked ≤ batch
     pub unlooked : old.ordered ≡ true → 1 ≤ batch → looked ≡ 0 → HasNoSettled (stock_in old)
     -- with a batch for all members it is a whole one
     pub whole : old.ordered ≡ true → length old.access ≤ batch → AreUncovered says ps new.records old.written × (end ≡ true)
@@ -82,7 +126,10 @@ module _ {K V L P : Type 0} (tells : L → K → V → RemovalCause → L → Ty
   pub record IsScanned {S : Type 0} (batch : ℕ) (old new : Kept K V S) (qs : List (Registered P)) (l m : Option L) (left : Bool) : Type 0 where
     pub by : IsStepped tells (MayScan says ps) (stock_in old) (stock_in new) l m
     pub dropped : AreDropped says (contents_in new) ps qs
-    pub few : length by.steps ≤ batch
+    pub looked : ℕ
+    pub goes : GoesRound says ps batch old new looked
+    -- each member that leaves was looked at
+    pub few : length by.steps ≤ looked
     -- without predicates nothing is done
     pub unregistered : ps ≡ [] → (by.steps ≡ []) × (left ≡ false)
     pub idle : batch ≡ 0 → left ≡ false

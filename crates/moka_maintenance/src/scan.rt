@@ -8,7 +8,7 @@ ghost use Rattle.moka_parts.specs.declared.records.Registered.{Registered};
 ghost use Rattle.moka_parts.specs.Maintenance.{CoversNothing};
 ghost use Rattle.moka_parts.specs.Records.{counted_of};
 ghost use Rattle.moka_store.specs.Store.{IsPlaced, IsOrdered};
-ghost use Rattle.moka_maintenance.specs.Scanning.{CoversSome, LooksAt, IsWalked, IsRound, AllDropped, IsScanned};
+ghost use Rattle.moka_maintenance.specs.Scanning.{from_cursor, CoversSome, LooksAt, IsWalked, IsRound, AllDropped, IsScanned};
 ghost use Rattle.moka_maintenance.specs.Steps.{contents_in, AddsNoPlace, LeavesNoRow};
 ghost use Rattle.moka_maintenance.specs.Timers.{DropsTimers};
 
@@ -30,9 +30,10 @@ struct Stretch {
     is_end: bool,
 }
 
-/// Looks at up to `batch` settled members, none of them twice, and removes those that a registered predicate covers. Where
-/// the end of the order was reached, predicates that cover no record leave. Whether more is left: a member was looked at,
-/// and a predicate is left.
+/// Goes round the order of writing from its cursor, once at most, until it has looked at `batch` settled members, and
+/// removes those that a registered predicate covers. The cursor comes to stand behind the last that was passed. Where the
+/// end of the order was reached, predicates that cover no record leave. Whether more is left: a member was looked at, and
+/// a predicate is left.
 pub(crate) fn scan<K: Eq + Hash + Drop, V: Drop, S: BuildHasher, L: Listener<K, V>, P: Drop>(
     store: &mut Store<K, V, S>,
     notifier: &mut RemovalNotifier<L>,
@@ -93,7 +94,7 @@ where
 // The member at the cursor, or else the first.
 fn start_of<K: Eq + Hash, V, S: BuildHasher>(store: &Store<K, V, S>) -> Option<Handle>
     ensures ordered { IfSome result (IsOrdered store.now) }
-    ensures none { result ≡ None → slice_get store.now.written 0 ≡ None }
+    ensures first { option_map (λ h. h.number) result ≡ slice_get (from_cursor store.now.cursor store.now.written) 0 }
 {
     match store.cursor() {
         Some(handle) => Some(handle),
