@@ -19,7 +19,7 @@ use Rattle.moka_maintenance.proofs.Rounds.{still_there}
 use Rattle.moka_maintenance.proofs.Scanned.{covers_fewer, dropped-later, dropped-none, dropped-on, kept_there, nothing_kept}
 use Rattle.moka_maintenance.proofs.Stepped.{fewer_run, may-also, members-steps, steps-append, length-on, removed-on, run_leaves, shrinks, stepped-also, stepped-none, stepped-on}
 use Rattle.moka_maintenance.proofs.PassSteps.{both_make_room}
-use Rattle.moka_maintenance.proofs.Clocked.{Clocked, IsChecked}
+use Rattle.moka_maintenance.proofs.Clocked.{Clocked, IsChecked, clocked_ends}
 
 -- ---- passes
 
@@ -154,6 +154,7 @@ module _ {K V L P : Type 0} (tells : L → K → V → RemovalCause → L → Ty
       read = k.read;
       timed = λ is. subst (λ b. length k.readings ≡ passes + 1 + (if b then 1 else 0)) (sym k.early) (let t = k.timed is in omega arith);
       untimed = k.untimed;
+      ends = clocked_ends k;
       whole = λ _ some is. p.scan_more (sym (ap (λ b. b || scan) (swept some)) ∙ is);
       unfinished = λ order _ some there. elim (p.unfinished order some there) [ inl is ↦ inl (ap (λ b. more || b) is ∙ or_true more) | inr none ↦ inr none ];
       cut = λ late. absurd (true≢false (sym late ∙ k.early));
@@ -201,6 +202,7 @@ module _ {K V L P : Type 0} (tells : L → K → V → RemovalCause → L → Ty
       read = k.read;
       timed = λ is. subst (λ b. length k.readings ≡ passes + 1 + (if b then 1 else 0)) (sym k.lateness) (k.timed is);
       untimed = k.untimed;
+      ends = k.ends;
       whole = λ early. absurd (true≢false (sym k.lateness ∙ early));
       unfinished = λ order early. absurd (true≢false (sym k.lateness ∙ early));
       cut = λ _. refl;

@@ -340,6 +340,18 @@ module _ {K V X P W L C : Type 0} {tells : L → K → V → RemovalCause → L 
           removes_first says s terms.now choices capacity terms.batch simple.consistent is_free plain
           (ap length removed_same ∙ ran.batch_used (sym cut_late ∙ cut) one plain.no_predicate (all_before makes_room ran.by.steps ran.dropped.steps (removes_for_size_alone says s terms.now choices capacity simple.consistent is_free plain makes_room (λ n. refl))))
 
+    -- no reading but the last is late by the limit given, whether the clock is read at all or not
+    ends_by_terms : (b : Bool) → s.settings.listening ≡ b → is_late (if b then terms.limit else None) (take (length ran.readings - 1) ran.readings) ≡ false → is_late terms.limit (take (length ran.readings - 1) ran.readings) ≡ false
+    ends_by_terms true listens none = none
+    ends_by_terms false listens none = subst (λ rs. is_late terms.limit (take (length rs - 1) rs) ≡ false) (sym unread) (late_of_none terms.limit)
+      where
+        unread : ran.readings ≡ []
+        unread = ran.untimed (ap (λ b. is_some (if b then terms.limit else None)) listens)
+
+        late_of_none : (limit : Option ℕ) → is_late limit (take (length {A = Instant} [] - 1) []) ≡ false
+        late_of_none None = refl
+        late_of_none (Some limit) = refl
+
     bounded : IsBounded s terms choices course
     bounded = record {
       made = ran.made;
@@ -347,6 +359,7 @@ module _ {K V X P W L C : Type 0} {tells : L → K → V → RemovalCause → L 
       removing = λ cut. subst (λ ns. passes ≤ length ns) (sym removed_same) (ran.removing (sym cut_late ∙ cut));
       timed = λ timed. ran.timed (sym timed_limited ∙ timed) ∙ ap (λ b. passes + (if b then 1 else 0)) (sym cut_late);
       untimed = λ untimed. ran.untimed (sym timed_limited ∙ untimed);
+      ends = ends_by_terms s.settings.listening refl ran.ends;
       surplus = just_surplus;
       cut_surplus = first_batch;
     }

@@ -1,5 +1,5 @@
 -- Passes of the steps that remove, and the clock between them.
-use Rattle.std.specs.Prelude.{◌≡◌, ℕ, ◌+◌, ◌-◌, ◌*◌, ◌/◌, ◌<◌, nat_le, Bool, true, false, ◌||◌, ◌≤◌, ◌⊎◌, List, [], ◌++◌, length, Option, Some, None, is_some, if◌then◌else◌}
+use Rattle.std.specs.Prelude.{◌≡◌, ℕ, ◌+◌, ◌-◌, ◌*◌, ◌/◌, ◌<◌, nat_le, Bool, true, false, ◌||◌, ◌≤◌, ◌⊎◌, List, [], ◌++◌, length, take, Option, Some, None, is_some, if◌then◌else◌}
 use Rattle.std.specs.List.{list_all}
 use Rattle.moka_parts.specs.declared.notification.RemovalCause.{RemovalCause}
 use Rattle.moka_parts.specs.declared.policy.Instant.{Instant}
@@ -86,6 +86,8 @@ module _ {K V L P : Type 0} (tells : L → K → V → RemovalCause → L → Ty
       pub read : Leads reads c readings d
       pub timed : is_some limit ≡ true → length readings ≡ passes + (if is_late limit readings then 1 else 0)
       pub untimed : is_some limit ≡ false → readings ≡ []
+      -- no reading but the last is late
+      pub ends : is_late limit (take (length readings - 1) readings) ≡ false
       -- a whole run leaves more only where a predicate is left, and wherever one is beside a settled member
       pub whole : is_late limit readings ≡ false → 1 ≤ batch → left ≡ true → 0 < length qs
       pub unfinished : ordered ≡ true → is_late limit readings ≡ false → 1 ≤ batch → 0 < length qs → (left ≡ true) ⊎ HasNoSettled after

@@ -8,7 +8,7 @@ use Rattle.moka_parts.specs.Records.{is_settled, numbers_of, total_weight}
 use Rattle.moka_parts.specs.State.{State, Contents}
 use Rattle.moka_parts.specs.Visibility.{has_lapsed}
 use Rattle.moka_parts.specs.Candidates.{prefix}
-use Rattle.moka_parts.specs.Maintenance.{Choice, Freedom, Removes, MovesToBack, Drops, Terms, Course, is_timed, is_cut, before_steps}
+use Rattle.moka_parts.specs.Maintenance.{Choice, Freedom, Removes, MovesToBack, Drops, Terms, Course, is_timed, is_late, is_cut, before_steps}
 use Rattle.moka_parts.specs.Settling.{IsWhole}
 
 -- the numbers of the records that the steps remove, in order
@@ -37,6 +37,8 @@ pub record IsBounded {K V X P W : Type 0} (s : State K V X P W) (terms : Terms) 
   -- a reading a pass, and one more where the run is cut
   pub timed : is_timed s.settings terms ≡ true → length course.readings ≡ course.passes + (if is_cut s.settings terms course then 1 else 0)
   pub untimed : is_timed s.settings terms ≡ false → course.readings ≡ []
+  -- it ends with the first reading that is late
+  pub ends : is_late terms.limit (take (length course.readings - 1) course.readings) ≡ false
   -- a whole run removes just enough from the front
   pub surplus : (capacity : ℕ) → IsPlainSurplus s terms.now capacity (before_steps s ch) → IsWhole s terms course → (front : List Member) × (prefix (before_steps s ch).access (total_weight (before_steps s ch).access - capacity) ≡ Some front) × (removed_by ch.steps ≡ numbers_of front)
   -- one that is cut after its first pass removes a batch from the front
