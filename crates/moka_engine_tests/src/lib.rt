@@ -4,6 +4,10 @@
 #[cfg(test)]
 mod drops;
 #[cfg(test)]
+mod expiry;
+#[cfg(test)]
 mod keys;
 #[cfg(test)]
 mod sizes;
+#[cfg(test)]
+mod sketch;

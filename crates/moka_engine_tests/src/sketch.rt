@@ -1,0 +1,65 @@
+//! How long the sketch is that comes on at a capacity. moka: `test_skt_capacity_will_not_overflow`.
+use moka_maintenance::sketch::enable_frequency_sketch;
+use moka_parts::policy::{EvictionPolicy, Instant};
+use moka_parts::records::Record;
+use moka_sketch::frequency_sketch::{FrequencySketch, sketch_capacity, table_len_for};
+use moka_store::Store;
+use std::alloc::Global;
+use std::hash::{BuildHasherDefault, FoldHasher};
+use std::test::Fail;
+
+type TestStore = Store<u64, u64, BuildHasherDefault<FoldHasher>>;
+
+/// A store with one member of this weight.
+fn store_of(alloc: Global, weight: u32) -> Result<TestStore, Fail> {
+    let mut store: TestStore = Store::new(alloc, BuildHasherDefault::new(), false, false)?;
+    store.reserve(1)?;
+    if let Err(hash) = store.find_or_hash(&1) {
+        let first = Record {
+            number: 1,
+            key: 1,
+            hash: 1,
+            value: 10,
+            written: Instant(0),
+            read: Instant(0),
+            expires: None,
+            weight,
+            generation: 1,
+            applied: 0,
+        };
+        let handle = store.insert_new(first, hash);
+        store.admit(handle, weight);
+    }
+    Ok(store)
+}
+
+/// The length of the sketch in a cache of a capacity of which half is taken.
+fn length_at(alloc: Global, capacity: u64) -> Result<usize, Fail> {
+    let store = store_of(alloc, u32::try_from(capacity / 2)?)?;
+    let mut sketch = FrequencySketch::new(alloc)?;
+    let policy = EvictionPolicy::TinyLfu;
+    enable_frequency_sketch(&store, &mut sketch, Some(capacity), policy, false);
+    Ok(sketch.table_len())
+}
+
+/// At a capacity of 0 none comes on here; the longest, of 8 GiB, are not made.
+#[test]
+fn has_a_word_for_each_unit_of_capacity(rt: HostRuntime) -> Result<(), Fail> {
+    for (capacity, length) in [
+        (0, 0),
+        (1, 128),
+        (128, 128),
+        (129, 256),
+        (65_536, 65_536),
+        (65_537, 131_072),
+        (1_000_000, 1_048_576),
+    ] {
+        assert_eq!(rt; length_at(rt.alloc(), capacity)?, length, "at {capacity}");
+    }
+    let longest = 1 << 30;
+    for capacity in [longest - 1, longest, u64::MAX] {
+        let asked = u64::from(sketch_capacity(capacity));
+        assert_eq!(rt; table_len_for(asked), longest as usize, "at {capacity}");
+    }
+    Ok(())
+}
