@@ -1,0 +1,217 @@
+"""Deletes the contracts from a source in Rattle, and makes ordinary Rust of what is left.
+
+Rattle's sources are Rust's, with clauses and ghost items among them. `deleted` takes these out and changes nothing else;
+`same_code.py` shows that Rattle's compiler makes the same code of the outcome. `erased` does the same, and then what Rust
+has otherwise: bounds and impls of `Drop` go, and paths and a few calls are renamed. A form that no rule knows, or a word
+of Rattle's that is left over, is refused.
+"""
+
+import collections
+import re
+
+# The kit's libraries, and the modules of std from which Rust's differ: the stand-ins for both are in src/support.
+LIBRARIES = ["anyhow", "circular_buffer", "slab", "uuid"]
+STD = ["alloc", "collections", "hash", "io", "simd", "time"]
+STD_OF_TESTS = ["process", "rc", "test"]
+# What no outcome may have.
+LEFT_OVER = ["ghost", "requires", "ensures", "prove!", "Drop", "Model", "tactic", "unsafe", "HostRuntime)", "λ", "≡"]
+
+FORMS = [
+    ("space", re.compile(r"\s+")),
+    ("string", re.compile(r'(?:b|c)?r(#*)".*?"\1', re.S)),
+    ("string", re.compile(r'(?:b|c)?"(?:[^"\\]|\\.)*"', re.S)),
+    ("char", re.compile(r"b?'(?:[^'\\\n]|\\(?:x[0-9a-fA-F]{2}|u\{[0-9a-fA-F_]+\}|.))'")),
+    ("lifetime", re.compile(r"'[^\W\d]\w*")),
+    ("number", re.compile(r"\d\w*(?:\.\d\w*)?")),
+    ("word", re.compile(r"[^\W\d]\w*")),
+    ("comment", re.compile(r"//[^\n]*")),
+    ("mark", re.compile(r".", re.S)),
+]
+CLAUSE = re.compile(r"(?:requires|ensures)\*?(?:\s+\w+)?\s*(?=\{)")
+GHOST_USE = re.compile(r"ghost\s+use\s[^;]*;")
+GHOST_ITEM = re.compile(r"ghost\s+\w+\s*[:=]\s*(?=\{)")
+GHOST_MORE = re.compile(r"\s*(?:by|=)\s*(?=\{)")
+GHOST_END = re.compile(r"\s*[;,]")
+IMPL_DROP = re.compile(
+    r"^impl\b(?:(?!^\}|^impl\b).)*?\bDrop for [^{]*\{\n    fn drop\(self\)\s*\{\s*let \w+ \{([^}]*)\} = self;\s*\}\n\}\n",
+    re.M | re.S,
+)
+
+
+class Refused(Exception):
+    """A form that no rule knows."""
+
+
+# How often each rule was used.
+used = collections.Counter()
+
+
+def behind_braces(text, at):
+    """The place behind the brace that closes the one at a place. Proof terms have no braces in strings."""
+    depth = 0
+    for i in range(at, len(text)):
+        depth += (text[i] == "{") - (text[i] == "}")
+        if depth == 0:
+            return i + 1
+    raise Refused(f"braces that do not close: {text[at:at + 60]}")
+
+
+def ghost_end(text, at):
+    """Where the clause or ghost item ends that begins at a place, and the name of its rule."""
+    if m := CLAUSE.match(text, at):
+        return behind_braces(text, m.end()), "a clause"
+    if m := GHOST_USE.match(text, at):
+        return m.end(), "ghost use"
+    m = GHOST_ITEM.match(text, at)
+    if not m:
+        raise Refused(f"a ghost item of another form: {text[at:at + 60]}")
+    end = behind_braces(text, m.end())
+    while m := GHOST_MORE.match(text, end):
+        end = behind_braces(text, m.end())
+    m = GHOST_END.match(text, end)
+    if not m:
+        raise Refused(f"a ghost item without an end: {text[at:at + 60]}")
+    return m.end(), "a ghost member or field"
+
+
+def without_ghosts(text, left):
+    """Deletes clauses and ghost items, but for those words in strings and comments. `left` says what stays of each."""
+    out, at = [], 0
+    while at < len(text):
+        if text.startswith("/*", at):
+            raise Refused("a block comment")
+        kind, m = next((kind, m) for kind, form in FORMS if (m := form.match(text, at)))
+        if kind == "word" and m.group() in ("requires", "ensures", "ghost"):
+            end, rule = ghost_end(text, at)
+            out.append(left(text[at:end]))
+            at = end
+            used[rule] += 1
+        else:
+            out.append(m.group())
+            at = m.end()
+    return "".join(out)
+
+
+def change(rule, form, to, text, flags=0):
+    """Replaces a form, and counts how often."""
+    text, count = re.subn(form, to, text, flags=flags | re.M)
+    used[rule] += count
+    return text
+
+
+def deleted(text, keeps_lines=False):
+    """The source without its contracts, for Rattle's own compiler; where lines are kept, each stays where it was."""
+
+    def left(gone):
+        return "\n" * gone.count("\n") if keeps_lines else ""
+
+    def left_of(m):
+        return left(m.group())
+
+    text = without_ghosts(text, left)
+    text = change("impl Model", r"^impl\b(?:(?!^\}|^impl\b|\{).)*?\bModel for [^{]*\{\s*\}\n", left_of, text, re.S)
+    text = change("use Model", r"^use std::marker::Model;\n", left_of, text)
+    return change("use Model", r"^use std::marker::\{Model, PhantomData\};", "use std::marker::PhantomData;", text)
+
+
+def without_drops(text):
+    """Takes bounds and impls of `Drop` away: Rust drops by itself, and each impl only takes its value apart."""
+
+    def gone(m):
+        if not re.fullmatch(r"(?:\s*\w+: _,?)*\s*", m.group(1)):
+            raise Refused(f"a drop that does more: {m.group()}")
+        used["impl Drop, which only takes apart"] += 1
+        return ""
+
+    text = IMPL_DROP.sub(gone, text)
+    text = change("derive(Drop)", r"#\[derive\(Drop\)\]\n", "", text)
+    text = change("derive(Drop)", r"(#\[derive\([^\]]*?), Drop\b", r"\1", text)
+    text = change("a bound Drop", r" \+ Drop\b", "", text)
+    lines, in_where = [], False
+    for line in text.split("\n"):
+        in_where = line.strip() == "where" or (in_where and not line.strip().startswith(("{", "}")))
+        if in_where and re.fullmatch(r"[ \t]*\w+: Drop,", line):
+            used["a bound Drop"] += 1
+        else:
+            lines.append(line)
+    text = change("a bound Drop", r"(\w): Drop\b(?=[,>])", r"\1", "\n".join(lines))
+    return re.sub(r"^[ \t]*where\n(?=[ \t]*\{)", "", text, flags=re.M)
+
+
+def written_clone(m):
+    """A clone that is written out; Rust's has no way to refuse but a panic."""
+    form = r"fn clone\(&self\) -> Result<\w+, AllocError> (\{.*\})\n\}\n\Z"
+    to = r"fn clone(&self) -> Self {\n        crate::support::clone::unless_refused((|| \1)())\n    }\n}\n"
+    made, count = re.subn(form, to, m.group(), flags=re.S)
+    if count != 1:
+        raise Refused(f"a clone of another form: {m.group()}")
+    used["a clone that is written out"] += 1
+    return made
+
+
+def renamed(text):
+    """What Rust names otherwise."""
+    text = change("a Formatter of any writer", r"fmt::Formatter<W>", "fmt::Formatter<'_>", text)
+    text = change("a Formatter of any writer", r"<W: fmt::Write>", "", text)
+    text = change("a Formatter of any writer", r"(fn \w+<[^>(]*), W: fmt::Write>", r"\1>", text)
+    text = re.sub(r"^impl\b[^{\n]*\bClone for [^{]*\{\n.*?^\}\n", written_clone, text, flags=re.M | re.S)
+    text = change("a clone that can fail", r"\.clone\(\)", ".try_clone()", text)
+    text = change("a text of an allocator", r"\bString::from_str\(alloc, ", "crate::support::string::from_str(alloc, ", text)
+    return change("items of an iterator", r"(?<=\))\.collect\((?=alloc\))", ".collect_in(", text)
+
+
+def renamed_tests(text):
+    """What tests name otherwise: they have the runtime at hand, which Rust's do not need."""
+    runtime = "a test's runtime"
+    text = change(runtime, r"(#\[test\]\s*fn \w+)\(_?rt: HostRuntime\)([^{]*\{)", r"\1()\2\n    let rt = HostRuntime;", text)
+    text = change(runtime, r"\b(assert(?:_eq|_ne)?!)\(\s*rt;", r"\1(", text)
+    text = change("a test's text", r"\bformat!\(in [\w.()]+; ", "crate::support::test::text!(", text)
+    text = change("a test's list", r"\bvec!\[in [\w.()]+; ([^;\]]+); ([^\]]+)\]", r"Vec::from_elem(Global, \1, \2)", text)
+    text = change("a test's text", r"\bString::new\(alloc\)", "String::new()", text)
+    text = change("a test's text", r"\.push\(('[^'\\]')\)\?", r".push(\1)", text)
+    names = "|".join(STD_OF_TESTS)
+    return change("a path to a library", r"(?<![\w:`])std::(?=(?:%s)::)" % names, "crate::support::test::", text)
+
+
+def with_paths(text, crate, homes):
+    """Paths to crates and libraries, which are modules of one crate now. `homes` has the module of each crate's module."""
+    text = change("a path to a crate", r"(?<!\$)\bcrate::(?!support::)", f"crate::{homes[crate]}::{crate}::", text)
+    for name, home in homes.items():
+        text = change("a path to a crate", r"(?<![\w:`])%s::" % name, f"crate::{home}::{name}::", text)
+    for name in LIBRARIES:
+        text = change("a path to a library", r"(?<![\w:`])%s::" % name, f"crate::support::{name}::", text)
+    for name in STD:
+        text = change("a path to a library", r"(?<![\w:`])std::%s::" % name, f"crate::support::{name}::", text)
+    return text
+
+
+def with_preludes(text):
+    """The names that each module of Rattle has at hand, in front of the module and of its tests."""
+    uses = "use crate::support::prelude::*;\n"
+    of_tests = "use crate::support::test::prelude::*;\n"
+    head = re.match(r"(?://!.*\n)*", text).group()
+    body = re.sub(r"^(mod tests \{\n)", r"\1    " + of_tests, text[len(head):], flags=re.M)
+    is_test = "HostRuntime" in body or "::test::" in body
+    if is_test and body.count(of_tests) == 0:
+        uses += "#[cfg(test)]\n" + of_tests
+    return head + uses + body
+
+
+def erased(text, crate, homes):
+    """A source as an ordinary module of Rust."""
+    text = deleted(text)
+    text = change("a tactic", r"^[ \t]*#!?\[tactic\([^\]]*\)\]\n", "", text)
+    # Blank space and comments that spoke of what is gone.
+    text = re.sub(r"[ \t]+$", "", text, flags=re.M)
+    text = re.sub(r"\n[ \t\n]*\n([ \t]*\{)", r"\n\1", text)
+    text = without_drops(text)
+    text = re.sub(r"\n[ \t\n]*;", ";", text)
+    text = re.sub(r"\n{3,}", "\n\n", text)
+    text = renamed(text)
+    text = renamed_tests(text)
+    text = with_preludes(with_paths(text, crate, homes))
+    code = re.sub(r"//.*", "", text)
+    for word in LEFT_OVER:
+        if re.search(r"(?<!\w)%s(?!\w)" % re.escape(word), code):
+            raise Refused(f"{word} is left over")
+    return text

@@ -1,0 +1,102 @@
+#!/usr/bin/env python3
+"""Tests of the eraser: what each rule makes of its form, and which forms are refused."""
+
+import sys
+import unittest
+
+sys.dont_write_bytecode = True
+from erase import Refused, deleted, erased  # noqa: E402
+
+HOMES = {"moka_index": "engine", "moka_engine": "engine", "moka_tests": "proved_tests"}
+USES = "use crate::support::prelude::*;\n"
+
+
+def made(text, crate="moka_engine"):
+    return erased(text, crate, HOMES).removeprefix(USES)
+
+
+class Deletes(unittest.TestCase):
+    def test_clauses(self):
+        text = "fn f(x: u64) -> u64\n    requires { 1 ≤ x }\n    ensures big { x ≤ result × {} }\n{\n    x\n}\n"
+        self.assertEqual(made(text), "fn f(x: u64) -> u64\n{\n    x\n}\n")
+        self.assertEqual(made("fn f()\n    requires* r { A };\n"), "fn f();\n")
+
+    def test_ghost_items(self):
+        self.assertEqual(made("ghost use A.{a, b};\nfn f() {}\n"), "\nfn f() {}\n")
+        text = "trait T {\n    ghost says: { A } = { λ a. a };\n\n    fn f();\n}\n"
+        self.assertEqual(made(text), "trait T {\n\n    fn f();\n}\n")
+        self.assertEqual(made("impl T for A {\n    ghost says = { A } by { B };\n}\n"), "impl T for A {\n\n}\n")
+
+    def test_models(self):
+        text = "use std::marker::{Model, PhantomData};\nimpl<K> Model for A<K> {\n    ghost Value = { K };\n}\nstruct B;\n"
+        self.assertEqual(made(text), "use std::marker::PhantomData;\nstruct B;\n")
+
+    def test_tactics(self):
+        self.assertEqual(made("#![tactic(auto)]\nmod a;\n"), "mod a;\n")
+
+    def test_drops(self):
+        self.assertEqual(made("#[derive(Drop)]\nstruct A;\n"), "struct A;\n")
+        self.assertEqual(made("#[derive(Clone, Drop)]\nstruct A;\n"), "#[derive(Clone)]\nstruct A;\n")
+        self.assertEqual(made("impl<K: Eq + Drop, V: Drop> A<K, V> {}\n"), "impl<K: Eq, V> A<K, V> {}\n")
+        self.assertEqual(made("fn f<K>(k: K)\nwhere\n    K: Drop,\n{\n}\n"), "fn f<K>(k: K)\n{\n}\n")
+        text = "impl<K: Drop> Drop for A<K> {\n    fn drop(self) {\n        let A { a: _, b: _ } = self;\n    }\n}\nfn f() {}\n"
+        self.assertEqual(made(text), "fn f() {}\n")
+
+    def test_leaves_strings_and_comments(self):
+        text = 'fn f() -> &str { "ghost use {" }\n// requires { a }\n'
+        self.assertEqual(deleted(text), text)
+        self.assertEqual(deleted("let c = '{'; let d: &'a str = r#\"ensures { \"#;\n").count("{"), 2)
+
+    def test_keeps_lines(self):
+        text = "ghost use A.{\n    a};\nfn f()\n    ensures { a\n    }\n{}\n"
+        self.assertEqual(deleted(text, keeps_lines=True).count("\n"), text.count("\n"))
+
+
+class Renames(unittest.TestCase):
+    def test_paths(self):
+        self.assertEqual(made("use crate::a::B;\n"), "use crate::engine::moka_engine::a::B;\n")
+        self.assertEqual(made("use moka_index::Index;\n"), "use crate::engine::moka_index::Index;\n")
+        self.assertEqual(made("use std::hash::Hash;\nuse slab::Slab;\nuse std::fmt;\n"),
+                         "use crate::support::hash::Hash;\nuse crate::support::slab::Slab;\nuse std::fmt;\n")
+
+    def test_clones_and_formatters(self):
+        self.assertEqual(made("let b = a.clone();\n"), "let b = a.try_clone();\n")
+        self.assertEqual(made("fn fmt<W: fmt::Write>(&self, f: &mut fmt::Formatter<W>) -> fmt::Result {}\n"),
+                         "fn fmt(&self, f: &mut fmt::Formatter<'_>) -> fmt::Result {}\n")
+
+    def test_clones_that_are_written_out(self):
+        text = "impl Clone for A {\n    fn clone(&self) -> Result<Self, AllocError> {\n        Ok(A(self.0.clone()?))\n    }\n}\n"
+        wanted = "impl Clone for A {\n    fn clone(&self) -> Self {\n        crate::support::clone::unless_refused((|| {\n"
+        wanted += "        Ok(A(self.0.try_clone()?))\n    })())\n    }\n}\n"
+        self.assertEqual(made(text), wanted)
+
+    def test_tests(self):
+        text = "#[test]\nfn f(rt: HostRuntime) -> Result<(), Fail> {\n    assert_eq!(rt; 1, 1);\n}\n"
+        out = made(text, "moka_tests")
+        self.assertIn("fn f() -> Result<(), Fail> {\n    let rt = HostRuntime;\n    assert_eq!( 1, 1);\n}\n", out)
+        self.assertIn("use crate::support::test::prelude::*;", out)
+
+
+class Refuses(unittest.TestCase):
+    def test_unknown_forms(self):
+        for text in [
+            "ghost fn f() {}\n",
+            "fn f() requires a + b {}\n",
+            "trait T { ghost says = { a } }\n",
+            "fn f() ensures { a \n",
+            "/* a block comment */\n",
+            "fn f() { prove!{ a } }\n",
+            "impl Drop for A {\n    fn drop(self) {\n        count();\n    }\n}\n",
+            "impl Drop for A {\n    fn drop(self) {\n        let A { a } = self;\n    }\n}\n",
+            "fn f() { unsafe { g() } }\n",
+            "#[tactic(none)] fn f() {}\n",
+            "impl Model for A { fn f() {} }\n",
+            "fn f(rt: HostRuntime) {}\n",
+            "impl Clone for A {\n    fn clone(&self) -> A {\n        A\n    }\n}\n",
+        ]:
+            with self.subTest(text), self.assertRaises(Refused):
+                erased(text, "moka_engine", HOMES)
+
+
+if __name__ == "__main__":
+    unittest.main()

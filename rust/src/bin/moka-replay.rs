@@ -1,0 +1,27 @@
+//! `moka-replay [file]` replays a script on the generated engine, from the file or from standard input.
+
+use ravulemis::Global;
+use ravulemis::replay::moka_replay::arguments::script_path;
+use ravulemis::replay::moka_replay::replay::replay_opened;
+use ravulemis::replay::moka_script::failure::tell;
+use std::fs::File;
+use std::io::{BufWriter, stdin};
+use std::mem::ManuallyDrop;
+use std::os::fd::FromRawFd;
+use std::process::ExitCode;
+
+fn main() -> ExitCode {
+    let mut err = std::io::stderr();
+    let arguments: Vec<String> = std::env::args().collect();
+    // SAFETY: it is open, and is not closed. Rust's own would write at the end what it could not write before.
+    let out = ManuallyDrop::new(unsafe { File::from_raw_fd(1) });
+    let mut buffer = BufWriter::new(&*out);
+    let status = match script_path(&arguments) {
+        Ok(None) => replay_opened(Global, Ok(stdin()), &mut buffer, &mut err),
+        Ok(Some(path)) => replay_opened(Global, File::open(path), &mut buffer, &mut err),
+        Err(failure) => tell(&mut err, failure),
+    };
+    // What a refused write left is let go, and not written after all.
+    let (_out, _unwritten) = buffer.into_parts();
+    ExitCode::from(status)
+}

@@ -1,0 +1,97 @@
+//! What the calls of an entry answer.
+
+use std::sync::Arc;
+
+/// A key with its value, as a call of an entry found or left it. moka: `Entry`.
+#[derive(Debug)]
+pub struct Entry<K, V> {
+    pub(crate) key: Arc<K>,
+    pub(crate) value: V,
+    pub(crate) is_fresh: bool,
+    pub(crate) is_old_value_replaced: bool,
+}
+
+impl<K, V: Clone> Clone for Entry<K, V> {
+    fn clone(&self) -> Self {
+        Entry {
+            key: Arc::clone(&self.key),
+            value: self.value.clone(),
+            ..*self
+        }
+    }
+}
+
+impl<K, V> Entry<K, V> {
+    pub(crate) fn found(key: Arc<K>, value: V) -> Self {
+        Entry {
+            key,
+            value,
+            is_fresh: false,
+            is_old_value_replaced: false,
+        }
+    }
+
+    /// The key.
+    pub fn key(&self) -> &K {
+        &self.key
+    }
+
+    /// The value.
+    pub fn value(&self) -> &V {
+        &self.value
+    }
+
+    /// The value, out of the entry.
+    pub fn into_value(self) -> V {
+        self.value
+    }
+
+    /// Whether the call put the value there.
+    pub fn is_fresh(&self) -> bool {
+        self.is_fresh
+    }
+
+    /// Whether the call put the value there in place of another.
+    pub fn is_old_value_replaced(&self) -> bool {
+        self.is_old_value_replaced
+    }
+}
+
+/// What is to be done with an entry. moka: `ops::compute::Op`.
+#[derive(Clone, Copy, Debug, PartialEq, Eq)]
+pub enum Op<V> {
+    /// Nothing.
+    Nop,
+    /// The value is put there.
+    Put(V),
+    /// The entry is taken out.
+    Remove,
+}
+
+/// What was done with an entry. moka: `ops::compute::CompResult`.
+#[derive(Debug)]
+pub enum CompResult<K, V> {
+    /// There was none, and now there is this.
+    Inserted(Entry<K, V>),
+    /// The value was replaced by this.
+    ReplacedWith(Entry<K, V>),
+    /// This was taken out.
+    Removed(Entry<K, V>),
+    /// There was none, and there is none.
+    StillNone(Arc<K>),
+    /// It stayed as it was.
+    Unchanged(Entry<K, V>),
+}
+
+impl<K, V> CompResult<K, V> {
+    /// The entry that is there or was taken out, if there is or was one.
+    pub fn into_entry(self) -> Option<Entry<K, V>> {
+        match self {
+            CompResult::StillNone(_) => None,
+            CompResult::Inserted(entry)
+            | CompResult::ReplacedWith(entry)
+            | CompResult::Removed(entry)
+            | CompResult::Unchanged(entry) => Some(entry),
+        }
+    }
+}

@@ -1,0 +1,117 @@
+//! The keys that the engine is given: shared, and hashed once.
+
+use std::hash::{BuildHasher, Hash, Hasher};
+use std::sync::Arc;
+
+/// Whether a kept key is the one that is sought. It may be asked by any thread that a cache is sent to.
+pub(crate) type Test<'a, K> = &'a (dyn Fn(&K) -> bool + Sync);
+
+/// A key with its hash. The engine keeps each key once and is asked by that very one, or by a test. So the caller's `Eq`
+/// runs in look-ups that change nothing, and nowhere else.
+pub(crate) struct Key<'a, K> {
+    hash: u64,
+    form: Form<'a, K>,
+}
+
+enum Form<'a, K> {
+    Kept(Arc<K>),
+    Sought(Test<'a, K>),
+}
+
+impl<'a, K> Key<'a, K> {
+    #[inline]
+    pub fn kept(hash: u64, key: Arc<K>) -> Self {
+        let form = Form::Kept(key);
+        Key { hash, form }
+    }
+
+    #[inline]
+    pub fn sought(hash: u64, test: Test<'a, K>) -> Self {
+        let form = Form::Sought(test);
+        Key { hash, form }
+    }
+
+    pub fn hash(&self) -> u64 {
+        self.hash
+    }
+
+    /// The key itself, of one that is kept.
+    #[inline]
+    pub fn shared(&self) -> Option<&Arc<K>> {
+        match &self.form {
+            Form::Kept(key) => Some(key),
+            Form::Sought(_) => None,
+        }
+    }
+
+    pub fn into_shared(self) -> Option<Arc<K>> {
+        match self.form {
+            Form::Kept(key) => Some(key),
+            Form::Sought(_) => None,
+        }
+    }
+}
+
+impl<K> Clone for Key<'_, K> {
+    #[inline]
+    fn clone(&self) -> Self {
+        let form = match &self.form {
+            Form::Kept(key) => Form::Kept(Arc::clone(key)),
+            Form::Sought(test) => Form::Sought(*test),
+        };
+        Key { hash: self.hash, form }
+    }
+}
+
+impl<K> PartialEq for Key<'_, K> {
+    #[inline]
+    fn eq(&self, other: &Self) -> bool {
+        match (&self.form, &other.form) {
+            (Form::Kept(one), Form::Kept(other)) => Arc::ptr_eq(one, other),
+            (Form::Kept(key), Form::Sought(test)) | (Form::Sought(test), Form::Kept(key)) => {
+                self.hash == other.hash && test(key)
+            }
+            (Form::Sought(_), Form::Sought(_)) => false,
+        }
+    }
+}
+
+impl<K> Eq for Key<'_, K> {}
+
+impl<K> Hash for Key<'_, K> {
+    #[inline]
+    fn hash<H: Hasher>(&self, state: &mut H) {
+        state.write_u64(self.hash);
+    }
+}
+
+/// The engine's hasher: it hands on the hash that a key carries.
+#[derive(Clone, Copy)]
+pub(crate) struct Carried;
+
+pub(crate) struct CarriedHash(u64);
+
+impl BuildHasher for Carried {
+    type Hasher = CarriedHash;
+
+    #[inline]
+    fn build_hasher(&self) -> CarriedHash {
+        CarriedHash(0)
+    }
+}
+
+impl Hasher for CarriedHash {
+    fn write(&mut self, _: &[u8]) {
+        unreachable!("a key writes its hash alone")
+    }
+
+    #[inline]
+    fn write_u64(&mut self, hash: u64) {
+        self.0 = hash;
+    }
+
+    #[inline]
+    fn finish(&self) -> u64 {
+        self.0
+    }
+}

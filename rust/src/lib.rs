@@ -1,0 +1,51 @@
+//! A bounded in-memory cache whose engine is generated from proved sources.
+#![forbid(unsafe_code)]
+
+#[cfg(not(target_pointer_width = "64"))]
+compile_error!("the engine's proofs hold for usize of 64 bits: this target has another width");
+
+#[allow(dead_code, unused_imports, unused_labels, unused_variables, clippy::all)]
+#[rustfmt::skip]
+mod engine;
+#[allow(dead_code, unused_imports, unused_labels, unused_variables, clippy::all)]
+#[cfg(test)]
+#[rustfmt::skip]
+mod proved_tests;
+#[allow(dead_code, unused_imports, unused_labels, unused_variables, clippy::all)]
+#[cfg(any(test, feature = "replay"))]
+#[doc(hidden)]
+#[rustfmt::skip]
+pub mod replay;
+#[allow(dead_code, clippy::all)]
+mod support;
+
+mod entry;
+mod key;
+mod making;
+mod notices;
+mod policy;
+mod settings;
+mod shard;
+pub mod sync;
+pub mod unsync;
+
+pub use engine::moka_engine::{EvictionPolicy, RemovalCause};
+pub use engine::moka_parts::error::PredicateError;
+pub use entry::Entry;
+pub use policy::{Expiry, Policy, Stats};
+#[cfg(feature = "replay")]
+#[doc(hidden)]
+pub use support::alloc::Global;
+
+/// What is to be done with an entry, and what was.
+pub mod ops {
+    /// For `and_compute_with`.
+    pub mod compute {
+        pub use crate::entry::{CompResult, Op};
+    }
+}
+
+// The README's example is tested with the others.
+#[cfg(doctest)]
+#[doc = include_str!("../README.md")]
+struct Readme;

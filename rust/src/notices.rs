@@ -1,0 +1,151 @@
+//! What the listener is told, and what is counted.
+
+use crate::engine::moka_engine::Listener;
+use crate::key::Key;
+use crate::{RemovalCause, Stats};
+use std::cell::Cell;
+use std::collections::VecDeque;
+use std::panic::{AssertUnwindSafe, catch_unwind};
+use std::sync::atomic::{AtomicBool, AtomicU64, Ordering};
+use std::sync::{Arc, Mutex, MutexGuard, PoisonError, TryLockError};
+
+/// The caller's listener.
+pub(crate) type Told<K, V> = Arc<dyn Fn(Arc<K>, V, RemovalCause) + Send + Sync>;
+
+type Notice<K, V> = (Arc<K>, V, RemovalCause);
+
+/// A lock whose data is whole even after a panic.
+pub(crate) fn locked<T>(mutex: &Mutex<T>) -> MutexGuard<'_, T> {
+    mutex.lock().unwrap_or_else(PoisonError::into_inner)
+}
+
+// With so many notices waiting a caller waits for its turn to tell them, so that a slow listener is not left behind.
+const MOST_WAITING: usize = 1024;
+
+thread_local! {
+    // Whether this thread is in a listener.
+    static IS_TELLING: Cell<bool> = const { Cell::new(false) };
+}
+
+/// Notices that wait until the lock of their shard is released, and the listener that is then told of them, in order.
+pub(crate) struct Notices<K, V> {
+    listener: Told<K, V>,
+    // No notice is put here or taken out under the lock of the shard and that of the turn at once.
+    waiting: Mutex<VecDeque<Notice<K, V>>>,
+    turn: Mutex<()>,
+    has_panicked: AtomicBool,
+}
+
+impl<K, V> Notices<K, V> {
+    pub fn new(listener: Told<K, V>) -> Self {
+        Notices {
+            listener,
+            waiting: Mutex::new(VecDeque::new()),
+            turn: Mutex::new(()),
+            has_panicked: AtomicBool::new(false),
+        }
+    }
+
+    fn push(&self, notice: Notice<K, V>) {
+        locked(&self.waiting).push_back(notice);
+    }
+
+    fn pop(&self) -> Option<Notice<K, V>> {
+        locked(&self.waiting).pop_front()
+    }
+
+    /// Tells the listener what waits. Where another thread does that it goes on with these; where the listener itself made
+    /// the call, they follow the notice that it is told now.
+    pub fn deliver(&self) {
+        let mut waiting = locked(&self.waiting).len();
+        while waiting > 0 {
+            let is_inner = IS_TELLING.get();
+            let turn = match self.turn.try_lock() {
+                Ok(turn) => turn,
+                Err(TryLockError::Poisoned(turn)) => turn.into_inner(),
+                Err(TryLockError::WouldBlock) if is_inner || waiting < MOST_WAITING => return,
+                Err(TryLockError::WouldBlock) => locked(&self.turn),
+            };
+            while let Some(notice) = self.pop() {
+                self.tell(notice, is_inner);
+            }
+            drop(turn);
+            // One that came after the last look, while the turn was taken.
+            waiting = locked(&self.waiting).len();
+        }
+    }
+
+    // A listener that panicked is told no more.
+    fn tell(&self, (key, value, cause): Notice<K, V>, is_inner: bool) {
+        if self.has_panicked.load(Ordering::Relaxed) {
+            return;
+        }
+        IS_TELLING.set(true);
+        let told = catch_unwind(AssertUnwindSafe(|| (self.listener)(key, value, cause)));
+        IS_TELLING.set(is_inner);
+        if told.is_err() {
+            self.has_panicked.store(true, Ordering::Relaxed);
+        }
+    }
+}
+
+/// Values that left, by cause.
+#[derive(Default)]
+pub(crate) struct Causes {
+    expired: AtomicU64,
+    explicit: AtomicU64,
+    replaced: AtomicU64,
+    size: AtomicU64,
+}
+
+impl Causes {
+    pub fn count(&self, cause: RemovalCause) {
+        let counter = match cause {
+            RemovalCause::Expired => &self.expired,
+            RemovalCause::Explicit => &self.explicit,
+            RemovalCause::Replaced => &self.replaced,
+            RemovalCause::Size => &self.size,
+        };
+        counter.fetch_add(1, Ordering::Relaxed);
+    }
+
+    pub fn add_to(&self, stats: &mut Stats) {
+        stats.expired += self.expired.load(Ordering::Relaxed);
+        stats.explicit += self.explicit.load(Ordering::Relaxed);
+        stats.replaced += self.replaced.load(Ordering::Relaxed);
+        stats.evicted += self.size.load(Ordering::Relaxed);
+    }
+}
+
+/// The engine's listener: it counts, and keeps for the caller's.
+pub(crate) struct Teller<K, V> {
+    pub causes: Arc<Causes>,
+    pub notices: Option<Arc<Notices<K, V>>>,
+}
+
+impl<K, V> Teller<K, V> {
+    /// Counts a value that leaves, and keeps it for the listener.
+    pub fn leaves(&self, key: Arc<K>, value: V, cause: RemovalCause) {
+        self.causes.count(cause);
+        if let Some(notices) = &self.notices {
+            notices.push((key, value, cause));
+        }
+    }
+}
+
+impl<K, V> Clone for Teller<K, V> {
+    fn clone(&self) -> Self {
+        Teller {
+            causes: Arc::clone(&self.causes),
+            notices: self.notices.clone(),
+        }
+    }
+}
+
+impl<K, V> Listener<Key<'_, K>, V> for Teller<K, V> {
+    fn notify(&mut self, key: Key<'_, K>, value: V, cause: RemovalCause) {
+        if let Some(key) = key.into_shared() {
+            self.leaves(key, value, cause);
+        }
+    }
+}

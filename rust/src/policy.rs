@@ -1,0 +1,160 @@
+//! What a cache is asked and told of its policy.
+
+use crate::engine::moka_engine as engine;
+use crate::key::Key;
+use std::sync::Arc;
+use std::time::{Duration, Instant};
+
+/// Decides when each entry expires. moka: `Expiry`.
+///
+/// Each call answers how long the entry lasts from now on, `None` for always. A time to live or to idle of the cache holds
+/// beside it, and the earliest end counts.
+///
+/// ```
+/// use ravulemis::{Expiry, sync::Cache};
+/// use std::time::{Duration, Instant};
+///
+/// struct ByLength;
+///
+/// impl Expiry<u32, String> for ByLength {
+///     fn expire_after_create(&self, _: &u32, value: &String, _: Instant) -> Option<Duration> {
+///         Some(Duration::from_secs(value.len() as u64))
+///     }
+/// }
+///
+/// let cache = Cache::builder().max_capacity(100).expire_after(ByLength).build();
+/// cache.insert(1, "four".to_string());
+/// cache.insert(2, String::new());
+/// assert_eq!(cache.get(&1).as_deref(), Some("four"));
+/// assert_eq!(cache.get(&2), None);
+/// ```
+pub trait Expiry<K, V> {
+    /// Asked when an entry is created.
+    #[allow(unused_variables)]
+    fn expire_after_create(&self, key: &K, value: &V, created_at: Instant) -> Option<Duration> {
+        None
+    }
+
+    /// Asked when an entry is read; `duration_until_expiry` is what it has left, and the default answer.
+    #[allow(unused_variables)]
+    fn expire_after_read(
+        &self,
+        key: &K,
+        value: &V,
+        read_at: Instant,
+        duration_until_expiry: Option<Duration>,
+        last_modified_at: Instant,
+    ) -> Option<Duration> {
+        duration_until_expiry
+    }
+
+    /// Asked when a value is replaced; `duration_until_expiry` is what the entry has left, and the default answer.
+    #[allow(unused_variables)]
+    fn expire_after_update(
+        &self,
+        key: &K,
+        value: &V,
+        updated_at: Instant,
+        duration_until_expiry: Option<Duration>,
+    ) -> Option<Duration> {
+        duration_until_expiry
+    }
+}
+
+/// The limits of a cache. moka: `Policy`.
+#[derive(Clone, Debug)]
+pub struct Policy {
+    pub(crate) max_capacity: Option<u64>,
+    pub(crate) shards: usize,
+    pub(crate) time_to_live: Option<Duration>,
+    pub(crate) time_to_idle: Option<Duration>,
+}
+
+impl Policy {
+    /// The greatest total weight that is kept, if there is a bound.
+    pub fn max_capacity(&self) -> Option<u64> {
+        self.max_capacity
+    }
+
+    /// The number of shards.
+    pub fn num_segments(&self) -> usize {
+        self.shards
+    }
+
+    /// How long an entry stays after it was written.
+    pub fn time_to_live(&self) -> Option<Duration> {
+        self.time_to_live
+    }
+
+    /// How long an entry stays after it was written or read.
+    pub fn time_to_idle(&self) -> Option<Duration> {
+        self.time_to_idle
+    }
+}
+
+/// What a cache has counted since it was built.
+#[derive(Clone, Copy, Debug, Default, PartialEq, Eq)]
+pub struct Stats {
+    /// Look-ups that found a value.
+    pub hits: u64,
+    /// Look-ups that found none. Hits and misses are all look-ups.
+    pub misses: u64,
+    /// Values that were made by `get_with` and its like.
+    pub loads: u64,
+    /// Makers that gave no value, by an error or a panic.
+    pub load_failures: u64,
+    /// Values that left since their time was over.
+    pub expired: u64,
+    /// Values that a caller took out or invalidated, and that have left.
+    pub explicit: u64,
+    /// Values that were replaced.
+    pub replaced: u64,
+    /// Values for which there was no room.
+    pub evicted: u64,
+}
+
+/// The engine's expiry: the caller's, asked with moments of std.
+pub(crate) struct Asked<K, V> {
+    pub expiry: Arc<dyn Expiry<K, V> + Send + Sync>,
+    /// The engine's moment 0.
+    pub start: Instant,
+}
+
+impl<K, V> Asked<K, V> {
+    fn moment(&self, moment: engine::Instant) -> Instant {
+        self.start + Duration::from_nanos(moment.0)
+    }
+}
+
+impl<K, V> engine::Expiry<Key<'_, K>, V> for Asked<K, V> {
+    fn expire_after_create(&self, key: &Key<'_, K>, value: &V, created_at: engine::Instant) -> Option<Duration> {
+        let key = key.shared()?;
+        self.expiry.expire_after_create(key, value, self.moment(created_at))
+    }
+
+    fn expire_after_read(
+        &self,
+        key: &Key<'_, K>,
+        value: &V,
+        read_at: engine::Instant,
+        left: Option<Duration>,
+        last_modified_at: engine::Instant,
+    ) -> Option<Duration> {
+        let (read_at, last_modified_at) = (self.moment(read_at), self.moment(last_modified_at));
+        let key = key.shared()?;
+        self.expiry
+            .expire_after_read(key, value, read_at, left, last_modified_at)
+    }
+
+    fn expire_after_update(
+        &self,
+        key: &Key<'_, K>,
+        value: &V,
+        updated_at: engine::Instant,
+        left: Option<Duration>,
+    ) -> Option<Duration> {
+        let key = key.shared()?;
+        self.expiry
+            .expire_after_update(key, value, self.moment(updated_at), left)
+    }
+}

@@ -1,0 +1,422 @@
+//! A cache that threads share: shards by the key's hash, each behind a lock.
+//!
+//! ```
+//! use ravulemis::sync::Cache;
+//! use std::thread;
+//!
+//! let cache = Cache::new(10_000);
+//! thread::scope(|scope| {
+//!     for thread in 0..4 {
+//!         let cache = cache.clone();
+//!         scope.spawn(move || {
+//!             for key in thread * 100..(thread + 1) * 100 {
+//!                 cache.insert(key, format!("value {key}"));
+//!             }
+//!         });
+//!     }
+//! });
+//! assert_eq!(cache.get(&250).as_deref(), Some("value 250"));
+//! ```
+
+mod builder;
+mod entry;
+mod iter;
+mod loads;
+
+pub use builder::CacheBuilder;
+pub use entry::{OwnedKeyEntrySelector, RefKeyEntrySelector};
+pub use iter::Iter;
+
+use crate::key::Test;
+use crate::making::Makers;
+use crate::notices::{Causes, Notices, locked};
+use crate::settings::{Settings, Tests};
+use crate::shard::Shard;
+use crate::{Policy, PredicateError, Stats};
+use std::borrow::Borrow;
+use std::fmt;
+use std::hash::{BuildHasher, Hash, RandomState};
+use std::sync::Arc;
+use std::sync::Mutex;
+use std::sync::atomic::{AtomicU64, Ordering};
+
+/// Names a predicate that was registered.
+pub type PredicateId = String;
+
+/// A shard, what is being made for it, and what its listener is still to be told.
+struct Place<K: 'static, V> {
+    shard: Mutex<Shard<K, V>>,
+    makers: Makers<K, V>,
+    notices: Option<Arc<Notices<K, V>>>,
+}
+
+struct Shared<K: 'static, V, S> {
+    places: Box<[Place<K, V>]>,
+    hasher: S,
+    settings: Arc<Settings<K, V>>,
+    causes: Arc<Causes>,
+    loads: AtomicU64,
+    load_failures: AtomicU64,
+    // The identifier of the last predicate.
+    last_predicate: AtomicU64,
+}
+
+/// A bounded cache that threads share. A clone is another owner of the same cache. moka: `sync::Cache`.
+///
+/// Each shard is a cache of its own behind a lock, and has its share of the capacity; the builder says how many there are.
+/// The listener is called by the thread whose call found something to tell, or another's that is telling, after the lock
+/// was released, in the order in which values left the shard. So it may call the cache.
+///
+/// # Panics of the caller's own code
+/// If the weigher, the expiry, a predicate or a clone of a value panics in the middle of a call, the shard is **emptied** by
+/// the next call for it: its entries are gone, and the listener is not told of them. The panic goes on to the caller whose
+/// call it was. A panic of `Eq` or `Hash`, of a maker of `get_with`, of a closure of an entry or of the listener changes
+/// nothing; after its first the listener is told no more.
+pub struct Cache<K: 'static, V, S = RandomState>(Arc<Shared<K, V, S>>);
+
+impl<K, V, S> Clone for Cache<K, V, S> {
+    /// Another owner of the same cache.
+    ///
+    /// ```
+    /// let cache = ravulemis::sync::Cache::new(100);
+    /// let other = cache.clone();
+    /// cache.insert(1, 'a');
+    /// assert_eq!(other.get(&1), Some('a'));
+    /// ```
+    fn clone(&self) -> Self {
+        Cache(Arc::clone(&self.0))
+    }
+}
+
+impl<K, V, S> fmt::Debug for Cache<K, V, S> {
+    fn fmt(&self, f: &mut fmt::Formatter<'_>) -> fmt::Result {
+        let name = &self.0.settings.name;
+        f.debug_struct("Cache").field("name", name).finish_non_exhaustive()
+    }
+}
+
+impl<K, V> Cache<K, V, RandomState>
+where
+    K: Eq + Hash + Send + Sync + 'static,
+    V: Clone + Send + Sync + 'static,
+{
+    /// A cache of at most so many entries, from which TinyLFU evicts.
+    ///
+    /// ```
+    /// let cache = ravulemis::sync::Cache::new(100);
+    /// cache.insert("key", 7);
+    /// assert_eq!(cache.get("key"), Some(7));
+    /// ```
+    pub fn new(max_capacity: u64) -> Self {
+        Cache::builder().max_capacity(max_capacity).build()
+    }
+
+    /// What builds a cache of these types.
+    ///
+    /// ```
+    /// use ravulemis::{EvictionPolicy, sync::Cache};
+    ///
+    /// let builder = Cache::builder().max_capacity(100).eviction_policy(EvictionPolicy::lru());
+    /// let cache: Cache<u32, u32> = builder.build();
+    /// assert_eq!(cache.policy().max_capacity(), Some(100));
+    /// ```
+    pub fn builder() -> CacheBuilder<K, V> {
+        CacheBuilder::default()
+    }
+}
+
+impl<K: 'static, V, S> Cache<K, V, S> {
+    /// The cache's name, if it has one.
+    ///
+    /// ```
+    /// # use ravulemis::sync::Cache;
+    /// let cache: Cache<u32, u32> = Cache::builder().name("users").build();
+    /// assert_eq!(cache.name(), Some("users"));
+    /// ```
+    pub fn name(&self) -> Option<&str> {
+        self.0.settings.name.as_deref()
+    }
+
+    /// What is told of the cache's limits.
+    ///
+    /// ```
+    /// # use ravulemis::sync::Cache;
+    /// let cache: Cache<u32, u32> = Cache::new(100);
+    /// assert_eq!(cache.policy().max_capacity(), Some(100));
+    /// assert_eq!(cache.policy().time_to_live(), None);
+    /// ```
+    pub fn policy(&self) -> Policy {
+        let settings = &self.0.settings;
+        Policy {
+            max_capacity: settings.max_capacity,
+            shards: self.0.places.len(),
+            time_to_live: settings.time_to_live,
+            time_to_idle: settings.time_to_idle,
+        }
+    }
+}
+
+impl<K, V, S> Cache<K, V, S>
+where
+    K: Eq + Hash + Send + Sync + 'static,
+    V: Clone + Send + Sync + 'static,
+    S: BuildHasher,
+{
+    fn place(&self, hash: u64) -> &Place<K, V> {
+        // The engine's table takes other bits of the hash.
+        let spread = hash.wrapping_mul(0x9E37_79B9_7F4A_7C15) >> 32;
+        &self.0.places[spread as usize & (self.0.places.len() - 1)]
+    }
+
+    // Makes a call under the lock of a shard, and tells the listener of what left by it.
+    #[inline]
+    fn with<R>(&self, place: &Place<K, V>, call: impl FnOnce(&mut Shard<K, V>) -> R) -> R {
+        let mut shard = locked(&place.shard);
+        shard.recover();
+        let answer = call(&mut shard);
+        drop(shard);
+        if let Some(notices) = &place.notices {
+            notices.deliver();
+        }
+        answer
+    }
+
+    // Makes a call for a key by a borrowed form of it.
+    #[inline]
+    fn with_key<Q, R>(&self, key: &Q, call: impl FnOnce(&mut Shard<K, V>, u64, Test<'_, K>) -> R) -> R
+    where
+        K: Borrow<Q>,
+        Q: Eq + Hash + Sync + ?Sized,
+    {
+        let hash = self.0.hasher.hash_one(key);
+        self.with(self.place(hash), |shard| {
+            call(shard, hash, &|kept| kept.borrow() == key)
+        })
+    }
+
+    fn with_each(&self, mut call: impl FnMut(&mut Shard<K, V>)) {
+        for place in &self.0.places {
+            self.with(place, &mut call);
+        }
+    }
+
+    fn insert_shared(&self, hash: u64, key: Arc<K>, value: V) {
+        self.with(self.place(hash), |shard| shard.insert(hash, key, value));
+    }
+
+    /// A clone of a key's value.
+    ///
+    /// The key may be any borrowed form of the cache's type of keys.
+    ///
+    /// ```
+    /// let cache = ravulemis::sync::Cache::new(100);
+    /// cache.insert("key".to_string(), 7);
+    /// assert_eq!(cache.get("key"), Some(7));
+    /// assert_eq!(cache.get("another"), None);
+    /// ```
+    #[inline]
+    pub fn get<Q>(&self, key: &Q) -> Option<V>
+    where
+        K: Borrow<Q>,
+        Q: Eq + Hash + Sync + ?Sized,
+    {
+        self.with_key(key, |shard, hash, test| shard.get(hash, test))
+    }
+
+    /// Whether there is a value under a key. It counts as no read.
+    ///
+    /// ```
+    /// let cache = ravulemis::sync::Cache::new(100);
+    /// cache.insert(1, 'a');
+    /// assert!(cache.contains_key(&1));
+    /// assert!(!cache.contains_key(&2));
+    /// ```
+    pub fn contains_key<Q>(&self, key: &Q) -> bool
+    where
+        K: Borrow<Q>,
+        Q: Eq + Hash + Sync + ?Sized,
+    {
+        self.with_key(key, |shard, hash, test| shard.contains(hash, test))
+    }
+
+    /// Puts a value under a key. An old value leaves as `Replaced`.
+    ///
+    /// ```
+    /// let cache = ravulemis::sync::Cache::new(100);
+    /// cache.insert(1, 'a');
+    /// cache.insert(1, 'b');
+    /// assert_eq!(cache.get(&1), Some('b'));
+    /// ```
+    #[inline]
+    pub fn insert(&self, key: K, value: V) {
+        self.insert_shared(self.0.hasher.hash_one(&key), Arc::new(key), value);
+    }
+
+    /// Takes a key's value out. One that has expired or was invalidated leaves too, and is not handed out.
+    ///
+    /// ```
+    /// let cache = ravulemis::sync::Cache::new(100);
+    /// cache.insert(1, 'a');
+    /// assert_eq!(cache.remove(&1), Some('a'));
+    /// assert_eq!(cache.remove(&1), None);
+    /// ```
+    pub fn remove<Q>(&self, key: &Q) -> Option<V>
+    where
+        K: Borrow<Q>,
+        Q: Eq + Hash + Sync + ?Sized,
+    {
+        self.with_key(key, |shard, hash, test| shard.remove(hash, test))
+    }
+
+    /// Lets a key's value go.
+    ///
+    /// ```
+    /// let cache = ravulemis::sync::Cache::new(100);
+    /// cache.insert(1, 'a');
+    /// cache.invalidate(&1);
+    /// assert_eq!(cache.get(&1), None);
+    /// ```
+    pub fn invalidate<Q>(&self, key: &Q)
+    where
+        K: Borrow<Q>,
+        Q: Eq + Hash + Sync + ?Sized,
+    {
+        self.remove(key);
+    }
+
+    /// Hides all values that are there. They leave in later runs of maintenance.
+    ///
+    /// ```
+    /// let cache = ravulemis::sync::Cache::new(100);
+    /// cache.insert(1, 'a');
+    /// cache.invalidate_all();
+    /// cache.insert(2, 'b');
+    /// assert_eq!((cache.get(&1), cache.get(&2)), (None, Some('b')));
+    /// ```
+    pub fn invalidate_all(&self) {
+        self.with_each(|shard| shard.invalidate_all());
+    }
+
+    /// Hides all values that are there and to which the predicate says yes. They leave in later runs of maintenance, and the
+    /// predicate with them. It has to answer equal arguments equally.
+    ///
+    /// # Errors
+    /// `InvalidationClosuresDisabled` where the builder was not told `support_invalidation_closures`; `OutOfMemory` where a
+    /// shard had no memory for one more predicate: then some shards may have it already.
+    ///
+    /// ```
+    /// # use ravulemis::sync::Cache;
+    /// let cache = Cache::builder().max_capacity(100).support_invalidation_closures().build();
+    /// cache.insert(1, 10);
+    /// cache.insert(2, 20);
+    /// cache.invalidate_entries_if(|_, value| *value > 10)?;
+    /// assert_eq!((cache.get(&1), cache.get(&2)), (Some(10), None));
+    /// # Ok::<(), ravulemis::PredicateError>(())
+    /// ```
+    pub fn invalidate_entries_if<F>(&self, predicate: F) -> Result<PredicateId, PredicateError>
+    where
+        F: Fn(&K, &V) -> bool + Send + Sync + 'static,
+    {
+        let predicate: Tests<K, V> = Arc::new(predicate);
+        let id = self.0.last_predicate.fetch_add(1, Ordering::Relaxed) + 1;
+        let mut answer = Ok(id.to_string());
+        self.with_each(|shard| {
+            if let Err(error) = shard.invalidate_entries_if(Arc::clone(&predicate), id.into()) {
+                answer = Err(error);
+            }
+        });
+        answer
+    }
+
+    /// Does what calls left for later: what has expired, was invalidated or exceeds the capacity leaves.
+    ///
+    /// ```
+    /// let cache = ravulemis::sync::Cache::new(2);
+    /// for key in 0..10 {
+    ///     cache.insert(key, key);
+    /// }
+    /// cache.run_pending_tasks();
+    /// assert_eq!(cache.entry_count(), 2);
+    /// ```
+    pub fn run_pending_tasks(&self) {
+        self.with_each(|shard| shard.run_pending_tasks());
+    }
+
+    /// How many entries the last runs of maintenance left.
+    ///
+    /// ```
+    /// let cache = ravulemis::sync::Cache::new(100);
+    /// cache.insert(1, 'a');
+    /// cache.run_pending_tasks();
+    /// assert_eq!(cache.entry_count(), 1);
+    /// ```
+    pub fn entry_count(&self) -> u64 {
+        let mut count = 0;
+        self.with_each(|shard| count += shard.entry_count());
+        count
+    }
+
+    /// The total weight that the last runs of maintenance left.
+    ///
+    /// ```
+    /// # use ravulemis::sync::Cache;
+    /// let cache = Cache::builder().weigher(|_, text: &String| text.len() as u32).build();
+    /// cache.insert(1, "four".to_string());
+    /// cache.run_pending_tasks();
+    /// assert_eq!(cache.weighted_size(), 4);
+    /// ```
+    pub fn weighted_size(&self) -> u64 {
+        let mut weight: u64 = 0;
+        self.with_each(|shard| weight = weight.saturating_add(shard.weighted_size()));
+        weight
+    }
+
+    /// What the cache has counted.
+    ///
+    /// ```
+    /// let cache = ravulemis::sync::Cache::new(100);
+    /// cache.insert(1, 'a');
+    /// cache.get(&1);
+    /// cache.get(&2);
+    /// assert_eq!((cache.stats().hits, cache.stats().misses), (1, 1));
+    /// ```
+    pub fn stats(&self) -> Stats {
+        let mut stats = Stats {
+            loads: self.0.loads.load(Ordering::Relaxed),
+            load_failures: self.0.load_failures.load(Ordering::Relaxed),
+            ..Stats::default()
+        };
+        self.0.causes.add_to(&mut stats);
+        self.with_each(|shard| shard.add_to(&mut stats));
+        stats
+    }
+
+    /// All visible entries, shard by shard. A shard's keys are those at the moment when the iterator comes to it; an entry
+    /// that has gone since is left out. No lock is held between two items, and nothing counts as a read.
+    ///
+    /// ```
+    /// let cache = ravulemis::sync::Cache::new(100);
+    /// cache.insert(1, 'a');
+    /// cache.insert(2, 'b');
+    /// let mut entries: Vec<_> = cache.iter().map(|(key, value)| (*key, value)).collect();
+    /// entries.sort();
+    /// assert_eq!(entries, [(1, 'a'), (2, 'b')]);
+    /// ```
+    pub fn iter(&self) -> Iter<'_, K, V, S> {
+        Iter::new(self)
+    }
+}
+
+impl<'a, K, V, S> IntoIterator for &'a Cache<K, V, S>
+where
+    K: Eq + Hash + Send + Sync + 'static,
+    V: Clone + Send + Sync + 'static,
+    S: BuildHasher,
+{
+    type Item = (Arc<K>, V);
+    type IntoIter = Iter<'a, K, V, S>;
+
+    fn into_iter(self) -> Self::IntoIter {
+        self.iter()
+    }
+}

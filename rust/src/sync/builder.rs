@@ -1,0 +1,150 @@
+//! What builds a shared cache.
+
+use super::{Cache, Place, Shared};
+use crate::making::Makers;
+use crate::notices::{Causes, Notices};
+use crate::settings::{Settings, setters};
+use crate::shard::Shard;
+use crate::{EvictionPolicy, Expiry, RemovalCause};
+use std::hash::{BuildHasher, Hash, RandomState};
+use std::sync::atomic::AtomicU64;
+use std::sync::{Arc, Mutex};
+use std::time::{Duration, Instant};
+
+// At least so many entries are a shard's share where the builder chooses the shards.
+const LEAST_SHARE: u64 = 1024;
+// At most so many shards are chosen by the builder, and asked of it.
+const MOST_CHOSEN: u64 = 64;
+const MOST_ASKED: usize = 1 << 16;
+
+/// What a shared cache is built with. moka: `sync::CacheBuilder`.
+///
+/// ```
+/// use ravulemis::{EvictionPolicy, RemovalCause, sync::Cache};
+/// use std::time::Duration;
+///
+/// let cache = Cache::builder()
+///     .name("pages")
+///     .max_capacity(32 << 20)
+///     .initial_capacity(1000)
+///     .eviction_policy(EvictionPolicy::tiny_lfu())
+///     .weigher(|_: &String, page: &Vec<u8>| page.len().try_into().unwrap_or(u32::MAX))
+///     .eviction_listener(|url, _, cause: RemovalCause| println!("{url} has left: {cause:?}"))
+///     .time_to_live(Duration::from_secs(3600))
+///     .time_to_idle(Duration::from_secs(600))
+///     .support_invalidation_closures()
+///     .shards(4)
+///     .build();
+/// cache.insert("/".to_string(), b"page".to_vec());
+/// assert_eq!(cache.get("/"), Some(b"page".to_vec()));
+/// ```
+pub struct CacheBuilder<K, V> {
+    settings: Settings<K, V>,
+    shards: Option<usize>,
+}
+
+impl<K, V> Default for CacheBuilder<K, V> {
+    fn default() -> Self {
+        CacheBuilder {
+            settings: Settings::default(),
+            shards: None,
+        }
+    }
+}
+
+impl<K, V> CacheBuilder<K, V>
+where
+    K: Eq + Hash + Send + Sync + 'static,
+    V: Clone + Send + Sync + 'static,
+{
+    /// A builder of a cache of at most so many entries.
+    ///
+    /// ```
+    /// use ravulemis::sync::CacheBuilder;
+    /// let cache = CacheBuilder::new(100).build();
+    /// cache.insert(1, 'a');
+    /// ```
+    pub fn new(max_capacity: u64) -> Self {
+        CacheBuilder::default().max_capacity(max_capacity)
+    }
+
+    setters!();
+
+    /// Is told key, value and cause of each value that leaves, after the lock of its shard was released. By default nobody
+    /// is told.
+    pub fn eviction_listener(mut self, listener: impl Fn(Arc<K>, V, RemovalCause) + Send + Sync + 'static) -> Self {
+        self.settings.listener = Some(Arc::new(listener));
+        self
+    }
+
+    /// The number of shards, made a power of two, 1 to 65,536. Each has its share of the capacity, so an entry that weighs
+    /// more than a share is not kept, and a shard whose keys come often evicts before the whole is full.
+    ///
+    /// By default a cache with a weigher has one shard, another one for each 1,024 entries of its capacity, up to 64.
+    pub fn shards(mut self, shards: usize) -> Self {
+        self.shards = Some(shards);
+        self
+    }
+
+    /// An empty cache.
+    ///
+    /// # Panics
+    /// Where there is no memory for the initial capacity.
+    pub fn build(self) -> Cache<K, V> {
+        self.build_with_hasher(RandomState::new())
+    }
+
+    /// An empty cache whose keys are hashed by this.
+    ///
+    /// # Panics
+    /// Where there is no memory for the initial capacity.
+    ///
+    /// ```
+    /// use std::hash::RandomState;
+    /// let cache = ravulemis::sync::CacheBuilder::new(100).build_with_hasher(RandomState::new());
+    /// cache.insert(1, 'a');
+    /// ```
+    pub fn build_with_hasher<S: BuildHasher>(self, hasher: S) -> Cache<K, V, S> {
+        let count = self.count_of_shards();
+        let mut settings = self.settings;
+        settings.initial_capacity = settings.initial_capacity.map(|all| all.div_ceil(count));
+        let (settings, causes, start) = (Arc::new(settings), Arc::new(Causes::default()), Instant::now());
+        let places = (0..count).map(|index| {
+            let listener = settings.listener.clone();
+            let notices = listener.map(|listener| Arc::new(Notices::new(listener)));
+            let share = settings.max_capacity.map(|all| share(all, index, count));
+            let shard = Shard::new(settings.clone(), share, causes.clone(), notices.clone(), start);
+            Place {
+                shard: Mutex::new(shard),
+                makers: Makers::default(),
+                notices,
+            }
+        });
+        Cache(Arc::new(Shared {
+            places: places.collect(),
+            hasher,
+            settings,
+            causes,
+            loads: AtomicU64::new(0),
+            load_failures: AtomicU64::new(0),
+            last_predicate: AtomicU64::new(0),
+        }))
+    }
+
+    fn count_of_shards(&self) -> usize {
+        if let Some(asked) = self.shards {
+            return asked.clamp(1, MOST_ASKED).next_power_of_two();
+        }
+        if self.settings.weigher.is_some() {
+            return 1;
+        }
+        let wanted = self.settings.max_capacity.map_or(MOST_CHOSEN, |all| all / LEAST_SHARE);
+        1 << wanted.clamp(1, MOST_CHOSEN).ilog2()
+    }
+}
+
+// The capacity of one of so many shards: all shares together are the whole.
+fn share(all: u64, index: usize, count: usize) -> u64 {
+    let (index, count) = (index as u64, count as u64);
+    all / count + u64::from(index < all % count)
+}

@@ -1,0 +1,339 @@
+//! Calls for one key that look first and then decide.
+
+use super::Cache;
+use super::loads::{Always, Optionally, always, made, made_or_failed, made_or_nothing, shared_error};
+use crate::entry::{CompResult, Entry, Op};
+use crate::making::Outcome;
+use std::any::TypeId;
+use std::borrow::Borrow;
+use std::convert::Infallible;
+use std::hash::{BuildHasher, Hash};
+use std::sync::Arc;
+
+/// A key of a cache, and what is to be done with its entry: see [`Cache::entry`].
+pub struct OwnedKeyEntrySelector<'a, K: 'static, V, S> {
+    cache: &'a Cache<K, V, S>,
+    hash: u64,
+    key: K,
+}
+
+/// A borrowed form of a key of a cache, and what is to be done with its entry: see [`Cache::entry_by_ref`].
+pub struct RefKeyEntrySelector<'a, K: 'static, Q: ?Sized, V, S> {
+    cache: &'a Cache<K, V, S>,
+    hash: u64,
+    key: &'a Q,
+}
+
+impl<K, V, S> Cache<K, V, S>
+where
+    K: Eq + Hash + Send + Sync + 'static,
+    V: Clone + Send + Sync + 'static,
+    S: BuildHasher,
+{
+    /// Selects a key, for one of the calls of the selector.
+    ///
+    /// ```
+    /// let cache = ravulemis::sync::Cache::new(100);
+    /// let entry = cache.entry("key".to_string()).or_insert(7);
+    /// assert!(entry.is_fresh());
+    /// assert_eq!((entry.key().as_str(), *entry.value()), ("key", 7));
+    /// assert!(!cache.entry("key".to_string()).or_insert(8).is_fresh());
+    /// ```
+    pub fn entry(&self, key: K) -> OwnedKeyEntrySelector<'_, K, V, S> {
+        let hash = self.0.hasher.hash_one(&key);
+        OwnedKeyEntrySelector { cache: self, hash, key }
+    }
+
+    /// As [`entry`](Self::entry), by a borrowed form of the key; an owned one is made only where an entry is made.
+    ///
+    /// ```
+    /// let cache = ravulemis::sync::Cache::<String, u32>::new(100);
+    /// assert_eq!(cache.entry_by_ref("key").or_insert(7).into_value(), 7);
+    /// assert_eq!(cache.get("key"), Some(7));
+    /// ```
+    pub fn entry_by_ref<'a, Q>(&'a self, key: &'a Q) -> RefKeyEntrySelector<'a, K, Q, V, S>
+    where
+        K: Borrow<Q>,
+        Q: Eq + Hash + Sync + ToOwned<Owned = K> + ?Sized,
+    {
+        let hash = self.0.hasher.hash_one(key);
+        RefKeyEntrySelector { cache: self, hash, key }
+    }
+
+    // The entry of a key, with the value made where it is missing or to be replaced.
+    fn entry_loaded(
+        &self,
+        hash: u64,
+        key: Arc<K>,
+        kind: TypeId,
+        mut replaces: impl FnMut(&V) -> bool,
+        make: impl FnOnce() -> Outcome<V>,
+    ) -> (Arc<K>, bool, Outcome<V>) {
+        let mut is_replaced = false;
+        let outcome = self.load(
+            hash,
+            Arc::clone(&key),
+            kind,
+            |value| {
+                is_replaced = replaces(value);
+                is_replaced
+            },
+            make,
+        );
+        (key, is_replaced, outcome)
+    }
+
+    // Decides about the entry of a key, while no other does so for this key.
+    fn compute<E>(
+        &self,
+        hash: u64,
+        key: Arc<K>,
+        decide: impl FnOnce(Option<Entry<K, V>>) -> Result<Op<V>, E>,
+    ) -> Result<CompResult<K, V>, E> {
+        let place = self.place(hash);
+        place.makers.alone(Arc::clone(&key), || {
+            let there = self.with(place, |shard| shard.peek(hash, &|kept| *kept == *key));
+            let there = there.map(|(key, value)| Entry::found(key, value));
+            Ok(match (decide(there.clone())?, there) {
+                (Op::Nop, Some(entry)) => CompResult::Unchanged(entry),
+                (Op::Nop | Op::Remove, None) => CompResult::StillNone(key),
+                (Op::Remove, Some(entry)) => {
+                    self.with(place, |shard| shard.remove(hash, &|kept| *kept == *key));
+                    CompResult::Removed(entry)
+                }
+                (Op::Put(value), there) => {
+                    self.insert_shared(hash, Arc::clone(&key), value.clone());
+                    let entry = Entry {
+                        key,
+                        value,
+                        is_fresh: true,
+                        is_old_value_replaced: there.is_some(),
+                    };
+                    match there {
+                        Some(_) => CompResult::ReplacedWith(entry),
+                        None => CompResult::Inserted(entry),
+                    }
+                }
+            })
+        })
+    }
+}
+
+fn entry_of<K, V>((key, is_replaced, outcome): (Arc<K>, bool, Outcome<V>)) -> Option<Entry<K, V>> {
+    match outcome {
+        Outcome::Made { value, is_fresh } => Some(Entry {
+            key,
+            value,
+            is_fresh,
+            is_old_value_replaced: is_fresh && is_replaced,
+        }),
+        Outcome::Nothing | Outcome::Failed(_) => None,
+    }
+}
+
+/// The calls that both selectors have.
+macro_rules! calls {
+    () => {
+        /// The entry of the key, into which this value is put where there was none.
+        ///
+        /// ```
+        /// let cache = ravulemis::sync::Cache::new(100);
+        /// assert_eq!(cache.entry(1).or_insert('a').into_value(), 'a');
+        /// assert_eq!(cache.entry_by_ref(&1).or_insert('b').into_value(), 'a');
+        /// ```
+        pub fn or_insert(self, default: V) -> Entry<K, V> {
+            self.or_insert_with(|| default)
+        }
+
+        /// The entry of the key, into which the default value is put where there was none.
+        ///
+        /// ```
+        /// let cache = ravulemis::sync::Cache::<u32, u32>::new(100);
+        /// assert_eq!(cache.entry(1).or_default().into_value(), 0);
+        /// assert_eq!(cache.entry_by_ref(&2).or_default().into_value(), 0);
+        /// ```
+        pub fn or_default(self) -> Entry<K, V>
+        where
+            V: Default,
+        {
+            self.or_insert_with(V::default)
+        }
+
+        /// The entry of the key, whose value is made where there was none, as by `get_with`.
+        ///
+        /// ```
+        /// let cache = ravulemis::sync::Cache::new(100);
+        /// assert!(cache.entry(1).or_insert_with(|| 'a').is_fresh());
+        /// assert!(!cache.entry_by_ref(&1).or_insert_with(|| 'b').is_fresh());
+        /// ```
+        pub fn or_insert_with(self, init: impl FnOnce() -> V) -> Entry<K, V> {
+            self.or_insert_with_if(init, |_| false)
+        }
+
+        /// The entry of the key, whose value is made where there was none, or one that the test says is to be replaced.
+        ///
+        /// ```
+        /// let cache = ravulemis::sync::Cache::new(100);
+        /// cache.insert(1, 'a');
+        /// let entry = cache.entry(1).or_insert_with_if(|| 'b', |old| *old == 'a');
+        /// assert!(entry.is_old_value_replaced());
+        /// let entry = cache.entry_by_ref(&1).or_insert_with_if(|| 'c', |old| *old == 'a');
+        /// assert_eq!(entry.into_value(), 'b');
+        /// ```
+        pub fn or_insert_with_if(
+            self,
+            init: impl FnOnce() -> V,
+            mut replace_if: impl FnMut(&V) -> bool,
+        ) -> Entry<K, V> {
+            let found = self.look();
+            let (cache, hash) = (self.cache, self.hash);
+            match found {
+                Some((key, value)) if !replace_if(&value) => Entry::found(key, value),
+                _ => {
+                    let kind = TypeId::of::<Always>();
+                    let loaded = cache.entry_loaded(hash, self.into_shared(), kind, replace_if, || made(init()));
+                    always(entry_of(loaded))
+                }
+            }
+        }
+
+        /// The entry of the key, whose value is made where there was none; `None` where the maker gives none.
+        ///
+        /// ```
+        /// let cache = ravulemis::sync::Cache::new(100);
+        /// assert!(cache.entry(1).or_optionally_insert_with(|| None).is_none());
+        /// let entry = cache.entry_by_ref(&1).or_optionally_insert_with(|| Some('a'));
+        /// assert!(entry.is_some_and(|entry| entry.is_fresh()));
+        /// ```
+        pub fn or_optionally_insert_with(self, init: impl FnOnce() -> Option<V>) -> Option<Entry<K, V>> {
+            if let Some((key, value)) = self.look() {
+                return Some(Entry::found(key, value));
+            }
+            let (cache, hash, kind) = (self.cache, self.hash, TypeId::of::<Optionally>());
+            let make = || made_or_nothing(init());
+            entry_of(cache.entry_loaded(hash, self.into_shared(), kind, |_| false, make))
+        }
+
+        /// The entry of the key, whose value is made where there was none.
+        ///
+        /// # Errors
+        /// The maker's, which all share that waited for it with an error of the same type.
+        ///
+        /// ```
+        /// let cache = ravulemis::sync::Cache::<u32, u32>::new(100);
+        /// assert!(cache.entry(1).or_try_insert_with(|| "one".parse::<u32>()).is_err());
+        /// let entry = cache.entry_by_ref(&1).or_try_insert_with(|| "1".parse::<u32>());
+        /// assert!(entry.is_ok_and(|entry| entry.is_fresh()));
+        /// ```
+        pub fn or_try_insert_with<F, E>(self, init: F) -> Result<Entry<K, V>, Arc<E>>
+        where
+            F: FnOnce() -> Result<V, E>,
+            E: Send + Sync + 'static,
+        {
+            if let Some((key, value)) = self.look() {
+                return Ok(Entry::found(key, value));
+            }
+            let (cache, hash, kind) = (self.cache, self.hash, TypeId::of::<E>());
+            let make = || made_or_failed(init());
+            let (key, is_replaced, outcome) = cache.entry_loaded(hash, self.into_shared(), kind, |_| false, make);
+            let outcome = shared_error(outcome)?;
+            Ok(always(entry_of((key, is_replaced, outcome))))
+        }
+
+        /// Puts the value there that the closure makes of the entry, if there is one. No other call of this kind for the key
+        /// is made meanwhile. The closure may call the cache, but not so for its own key.
+        ///
+        /// ```
+        /// let cache = ravulemis::sync::Cache::new(100);
+        /// let count = |cache: &ravulemis::sync::Cache<&'static str, u32>| {
+        ///     let entry = cache.entry("key").and_upsert_with(|old| old.map_or(1, |old| old.into_value() + 1));
+        ///     entry.into_value()
+        /// };
+        /// assert_eq!((count(&cache), count(&cache)), (1, 2));
+        /// ```
+        pub fn and_upsert_with(self, f: impl FnOnce(Option<Entry<K, V>>) -> V) -> Entry<K, V> {
+            let answer = self.and_compute_with(|there| Op::Put(f(there)));
+            always(answer.into_entry())
+        }
+
+        /// Puts, removes or leaves the entry as the closure says of what is there. No other call of this kind for the key is
+        /// made meanwhile. The closure may call the cache, but not so for its own key.
+        ///
+        /// ```
+        /// use ravulemis::ops::compute::{CompResult, Op};
+        /// let cache = ravulemis::sync::Cache::new(100);
+        /// let answer = cache.entry(1).and_compute_with(|there| match there {
+        ///     Some(_) => Op::Remove,
+        ///     None => Op::Put('a'),
+        /// });
+        /// assert!(matches!(answer, CompResult::Inserted(_)));
+        /// let answer = cache.entry_by_ref(&1).and_compute_with(|_| Op::Remove);
+        /// assert!(matches!(answer, CompResult::Removed(_)));
+        /// ```
+        pub fn and_compute_with(self, f: impl FnOnce(Option<Entry<K, V>>) -> Op<V>) -> CompResult<K, V> {
+            let Ok(answer) = self.and_try_compute_with(|there| Ok::<_, Infallible>(f(there)));
+            answer
+        }
+
+        /// As `and_compute_with`, by a closure that may fail: then nothing is done.
+        ///
+        /// # Errors
+        /// The closure's.
+        ///
+        /// ```
+        /// use ravulemis::ops::compute::Op;
+        /// let cache = ravulemis::sync::Cache::<u32, u32>::new(100);
+        /// let answer = cache.entry(1).and_try_compute_with(|_| "one".parse().map(Op::Put));
+        /// assert!(answer.is_err());
+        /// assert!(!cache.contains_key(&1));
+        /// ```
+        pub fn and_try_compute_with<E>(
+            self,
+            f: impl FnOnce(Option<Entry<K, V>>) -> Result<Op<V>, E>,
+        ) -> Result<CompResult<K, V>, E> {
+            let (cache, hash) = (self.cache, self.hash);
+            cache.compute(hash, self.into_shared(), f)
+        }
+    };
+}
+
+impl<K, V, S> OwnedKeyEntrySelector<'_, K, V, S>
+where
+    K: Eq + Hash + Send + Sync + 'static,
+    V: Clone + Send + Sync + 'static,
+    S: BuildHasher,
+{
+    fn look(&self) -> Option<(Arc<K>, V)> {
+        let place = self.cache.place(self.hash);
+        let key = &self.key;
+        self.cache
+            .with(place, |shard| shard.get_entry(self.hash, &|kept| kept == key))
+    }
+
+    fn into_shared(self) -> Arc<K> {
+        Arc::new(self.key)
+    }
+
+    calls!();
+}
+
+impl<K, Q, V, S> RefKeyEntrySelector<'_, K, Q, V, S>
+where
+    K: Eq + Hash + Borrow<Q> + Send + Sync + 'static,
+    Q: Eq + Hash + Sync + ToOwned<Owned = K> + ?Sized,
+    V: Clone + Send + Sync + 'static,
+    S: BuildHasher,
+{
+    fn look(&self) -> Option<(Arc<K>, V)> {
+        let place = self.cache.place(self.hash);
+        let key = self.key;
+        self.cache
+            .with(place, |shard| shard.get_entry(self.hash, &|kept| kept.borrow() == key))
+    }
+
+    fn into_shared(self) -> Arc<K> {
+        Arc::new(self.key.to_owned())
+    }
+
+    calls!();
+}

@@ -1,0 +1,552 @@
+//! A cache with one owner: no locks, no shards.
+//!
+//! ```
+//! use ravulemis::unsync::Cache;
+//!
+//! let mut cache = Cache::new(10_000);
+//! cache.insert("a key".to_string(), 7);
+//! assert_eq!(cache.get("a key"), Some(7));
+//! ```
+
+use crate::key::Test;
+use crate::notices::{Causes, Notices, locked};
+use crate::settings::{Settings, setters};
+use crate::shard::Shard;
+use crate::{Entry, EvictionPolicy, Expiry, Policy, PredicateError, RemovalCause, Stats};
+use std::borrow::Borrow;
+use std::fmt;
+use std::hash::{BuildHasher, Hash, RandomState};
+use std::sync::{Arc, Mutex};
+use std::time::{Duration, Instant};
+
+/// Names a predicate that was registered.
+pub type PredicateId = String;
+
+/// A bounded cache with one owner. It is `Send` where keys and values are.
+///
+/// The listener is called at the end of the call that found something to tell, in the order in which values left.
+///
+/// # Panics of the caller's own code
+/// If the weigher, the expiry, a predicate or a clone of a value panics in the middle of a call, the cache is **emptied** by
+/// the next call that changes it: its entries are gone, and the listener is not told of them. A panic of `Eq` or `Hash`, of
+/// a maker of `get_with` or of the listener changes nothing; after its first the listener is told no more.
+pub struct Cache<K: 'static, V, S = RandomState> {
+    shard: Shard<K, V>,
+    notices: Option<Arc<Notices<K, V>>>,
+    hasher: S,
+    settings: Arc<Settings<K, V>>,
+    causes: Arc<Causes>,
+    loads: u64,
+    load_failures: u64,
+    last_predicate: u64,
+}
+
+/// What a cache with one owner is built with.
+///
+/// ```
+/// use ravulemis::{EvictionPolicy, RemovalCause, unsync::Cache};
+/// use std::sync::mpsc;
+///
+/// let (sender, left) = mpsc::channel();
+/// let mut cache = Cache::builder()
+///     .max_capacity(2)
+///     .eviction_policy(EvictionPolicy::lru())
+///     .eviction_listener(move |key, _, cause| sender.send((*key, cause)).unwrap())
+///     .build();
+/// for key in 0..3 {
+///     cache.insert(key, key);
+/// }
+/// cache.run_pending_tasks();
+/// assert_eq!(left.try_recv(), Ok((0, RemovalCause::Size)));
+/// ```
+pub struct CacheBuilder<K, V> {
+    settings: Settings<K, V>,
+}
+
+impl<K, V> Default for CacheBuilder<K, V> {
+    fn default() -> Self {
+        let settings = Settings::default();
+        CacheBuilder { settings }
+    }
+}
+
+impl<K: Eq + Hash + Sync + 'static, V: Clone + 'static> CacheBuilder<K, V> {
+    /// A builder of a cache of at most so many entries.
+    pub fn new(max_capacity: u64) -> Self {
+        CacheBuilder::default().max_capacity(max_capacity)
+    }
+
+    setters!();
+
+    /// Is told key, value and cause of each value that leaves, at the end of the call. By default nobody is told.
+    pub fn eviction_listener(mut self, listener: impl FnMut(Arc<K>, V, RemovalCause) + Send + 'static) -> Self {
+        let listener = Mutex::new(listener);
+        self.settings.listener = Some(Arc::new(move |key, value, cause| locked(&listener)(key, value, cause)));
+        self
+    }
+
+    /// An empty cache.
+    ///
+    /// # Panics
+    /// Where there is no memory for the initial capacity.
+    pub fn build(self) -> Cache<K, V> {
+        self.build_with_hasher(RandomState::new())
+    }
+
+    /// An empty cache whose keys are hashed by this.
+    ///
+    /// # Panics
+    /// Where there is no memory for the initial capacity.
+    ///
+    /// ```
+    /// use std::hash::RandomState;
+    /// let mut cache = ravulemis::unsync::CacheBuilder::new(100).build_with_hasher(RandomState::new());
+    /// cache.insert(1, 'a');
+    /// ```
+    pub fn build_with_hasher<S: BuildHasher>(self, hasher: S) -> Cache<K, V, S> {
+        let (settings, causes) = (Arc::new(self.settings), Arc::new(Causes::default()));
+        let notices = settings
+            .listener
+            .clone()
+            .map(|listener| Arc::new(Notices::new(listener)));
+        let capacity = settings.max_capacity;
+        Cache {
+            shard: Shard::new(
+                settings.clone(),
+                capacity,
+                causes.clone(),
+                notices.clone(),
+                Instant::now(),
+            ),
+            notices,
+            hasher,
+            settings,
+            causes,
+            loads: 0,
+            load_failures: 0,
+            last_predicate: 0,
+        }
+    }
+}
+
+impl<K, V, S> fmt::Debug for Cache<K, V, S> {
+    fn fmt(&self, f: &mut fmt::Formatter<'_>) -> fmt::Result {
+        let name = &self.settings.name;
+        f.debug_struct("Cache").field("name", name).finish_non_exhaustive()
+    }
+}
+
+impl<K: Eq + Hash + Sync + 'static, V: Clone + 'static> Cache<K, V> {
+    /// A cache of at most so many entries, from which TinyLFU evicts.
+    ///
+    /// ```
+    /// let mut cache = ravulemis::unsync::Cache::new(100);
+    /// cache.insert("key", 7);
+    /// assert_eq!(cache.get("key"), Some(7));
+    /// ```
+    pub fn new(max_capacity: u64) -> Self {
+        Cache::builder().max_capacity(max_capacity).build()
+    }
+
+    /// What builds a cache of these types.
+    ///
+    /// ```
+    /// # use ravulemis::unsync::Cache;
+    /// let cache: Cache<u32, u32> = Cache::builder().max_capacity(100).build();
+    /// assert_eq!(cache.policy().max_capacity(), Some(100));
+    /// ```
+    pub fn builder() -> CacheBuilder<K, V> {
+        CacheBuilder::default()
+    }
+}
+
+impl<K: Eq + Hash + Sync + 'static, V: Clone + 'static, S: BuildHasher> Cache<K, V, S> {
+    /// The cache's name, if it has one.
+    ///
+    /// ```
+    /// # use ravulemis::unsync::Cache;
+    /// let cache: Cache<u32, u32> = Cache::builder().name("users").build();
+    /// assert_eq!(cache.name(), Some("users"));
+    /// ```
+    pub fn name(&self) -> Option<&str> {
+        self.settings.name.as_deref()
+    }
+
+    /// What is told of the cache's limits.
+    ///
+    /// ```
+    /// let cache = ravulemis::unsync::Cache::<u32, u32>::new(100);
+    /// assert_eq!(cache.policy().max_capacity(), Some(100));
+    /// ```
+    pub fn policy(&self) -> Policy {
+        Policy {
+            max_capacity: self.settings.max_capacity,
+            shards: 1,
+            time_to_live: self.settings.time_to_live,
+            time_to_idle: self.settings.time_to_idle,
+        }
+    }
+
+    // Makes a call, and tells the listener of what left by it.
+    #[inline]
+    fn with<R>(&mut self, call: impl FnOnce(&mut Shard<K, V>) -> R) -> R {
+        self.shard.recover();
+        let answer = call(&mut self.shard);
+        if let Some(notices) = &self.notices {
+            notices.deliver();
+        }
+        answer
+    }
+
+    // Makes a call for a key by a borrowed form of it.
+    #[inline]
+    fn with_key<Q, R>(&mut self, key: &Q, call: impl FnOnce(&mut Shard<K, V>, u64, Test<'_, K>) -> R) -> R
+    where
+        K: Borrow<Q>,
+        Q: Eq + Hash + Sync + ?Sized,
+    {
+        let hash = self.hasher.hash_one(key);
+        self.with(|shard| call(shard, hash, &|kept| kept.borrow() == key))
+    }
+
+    /// A clone of a key's value, by the key or any borrowed form of it.
+    ///
+    /// ```
+    /// let mut cache = ravulemis::unsync::Cache::new(100);
+    /// cache.insert("key".to_string(), 7);
+    /// assert_eq!(cache.get("key"), Some(7));
+    /// assert_eq!(cache.get("another"), None);
+    /// ```
+    #[inline]
+    pub fn get<Q>(&mut self, key: &Q) -> Option<V>
+    where
+        K: Borrow<Q>,
+        Q: Eq + Hash + Sync + ?Sized,
+    {
+        self.with_key(key, |shard, hash, test| shard.get(hash, test))
+    }
+
+    /// Whether there is a value under a key. It counts as no read.
+    ///
+    /// ```
+    /// let mut cache = ravulemis::unsync::Cache::new(100);
+    /// cache.insert(1, 'a');
+    /// assert!(cache.contains_key(&1));
+    /// assert!(!cache.contains_key(&2));
+    /// ```
+    pub fn contains_key<Q>(&self, key: &Q) -> bool
+    where
+        K: Borrow<Q>,
+        Q: Eq + Hash + Sync + ?Sized,
+    {
+        let hash = self.hasher.hash_one(key);
+        !self.shard.is_broken() && self.shard.contains(hash, &|kept| kept.borrow() == key)
+    }
+
+    /// Puts a value under a key. An old value leaves as `Replaced`.
+    ///
+    /// ```
+    /// let mut cache = ravulemis::unsync::Cache::new(100);
+    /// cache.insert(1, 'a');
+    /// cache.insert(1, 'b');
+    /// assert_eq!(cache.get(&1), Some('b'));
+    /// ```
+    #[inline]
+    pub fn insert(&mut self, key: K, value: V) {
+        let hash = self.hasher.hash_one(&key);
+        self.with(|shard| shard.insert(hash, Arc::new(key), value));
+    }
+
+    /// A clone of a key's value, which is made and put there if it is missing. A maker that panics has changed nothing.
+    ///
+    /// ```
+    /// let mut cache = ravulemis::unsync::Cache::new(100);
+    /// assert_eq!(cache.get_with(1, || 'a'), 'a');
+    /// assert_eq!(cache.get_with(1, || unreachable!()), 'a');
+    /// ```
+    pub fn get_with(&mut self, key: K, init: impl FnOnce() -> V) -> V {
+        self.entry(key).or_insert_with(init).into_value()
+    }
+
+    /// As [`get_with`](Self::get_with), by a maker that may give no value: then nothing is put there.
+    ///
+    /// ```
+    /// let mut cache = ravulemis::unsync::Cache::new(100);
+    /// assert_eq!(cache.optionally_get_with(1, || None), None);
+    /// assert_eq!(cache.optionally_get_with(1, || Some('a')), Some('a'));
+    /// ```
+    pub fn optionally_get_with(&mut self, key: K, init: impl FnOnce() -> Option<V>) -> Option<V> {
+        self.try_get_with(key, || init().ok_or(())).ok()
+    }
+
+    /// As [`get_with`](Self::get_with), by a maker that may fail: then nothing is put there.
+    ///
+    /// # Errors
+    /// The maker's.
+    ///
+    /// ```
+    /// let mut cache = ravulemis::unsync::Cache::<u32, u32>::new(100);
+    /// assert!(cache.try_get_with(1, || "seven".parse::<u32>()).is_err());
+    /// assert_eq!(cache.try_get_with(1, || "7".parse::<u32>()), Ok(7));
+    /// ```
+    pub fn try_get_with<E>(&mut self, key: K, init: impl FnOnce() -> Result<V, E>) -> Result<V, E> {
+        self.entry(key).or_try_insert_with(init).map(Entry::into_value)
+    }
+
+    /// Selects a key, for one of the calls of the selector.
+    ///
+    /// ```
+    /// let mut cache = ravulemis::unsync::Cache::new(100);
+    /// let entry = cache.entry("key").or_insert_with(|| 7);
+    /// assert!(entry.is_fresh());
+    /// assert_eq!((*entry.key(), *entry.value()), ("key", 7));
+    /// ```
+    pub fn entry(&mut self, key: K) -> EntrySelector<'_, K, V, S> {
+        let hash = self.hasher.hash_one(&key);
+        EntrySelector { cache: self, hash, key }
+    }
+
+    /// Takes a key's value out. One that has expired or was invalidated leaves too, and is not handed out.
+    ///
+    /// ```
+    /// let mut cache = ravulemis::unsync::Cache::new(100);
+    /// cache.insert(1, 'a');
+    /// assert_eq!(cache.remove(&1), Some('a'));
+    /// assert_eq!(cache.remove(&1), None);
+    /// ```
+    pub fn remove<Q>(&mut self, key: &Q) -> Option<V>
+    where
+        K: Borrow<Q>,
+        Q: Eq + Hash + Sync + ?Sized,
+    {
+        self.with_key(key, |shard, hash, test| shard.remove(hash, test))
+    }
+
+    /// Lets a key's value go.
+    ///
+    /// ```
+    /// let mut cache = ravulemis::unsync::Cache::new(100);
+    /// cache.insert(1, 'a');
+    /// cache.invalidate(&1);
+    /// assert_eq!(cache.get(&1), None);
+    /// ```
+    pub fn invalidate<Q>(&mut self, key: &Q)
+    where
+        K: Borrow<Q>,
+        Q: Eq + Hash + Sync + ?Sized,
+    {
+        self.remove(key);
+    }
+
+    /// Hides all values that are there. They leave in later runs of maintenance.
+    ///
+    /// ```
+    /// let mut cache = ravulemis::unsync::Cache::new(100);
+    /// cache.insert(1, 'a');
+    /// cache.invalidate_all();
+    /// cache.insert(2, 'b');
+    /// assert_eq!((cache.get(&1), cache.get(&2)), (None, Some('b')));
+    /// ```
+    pub fn invalidate_all(&mut self) {
+        self.with(|shard| shard.invalidate_all());
+    }
+
+    /// Hides all values that are there and to which the predicate says yes. They leave in later runs of maintenance, and the
+    /// predicate with them. It has to answer equal arguments equally.
+    ///
+    /// # Errors
+    /// `InvalidationClosuresDisabled` where the builder was not told `support_invalidation_closures`; `OutOfMemory` where
+    /// there is no memory for one more predicate.
+    ///
+    /// ```
+    /// # use ravulemis::unsync::Cache;
+    /// let mut cache = Cache::builder().support_invalidation_closures().build();
+    /// cache.insert(1, 10);
+    /// cache.insert(2, 20);
+    /// cache.invalidate_entries_if(|_, value| *value > 10)?;
+    /// assert_eq!((cache.get(&1), cache.get(&2)), (Some(10), None));
+    /// # Ok::<(), ravulemis::PredicateError>(())
+    /// ```
+    pub fn invalidate_entries_if<F>(&mut self, predicate: F) -> Result<PredicateId, PredicateError>
+    where
+        F: Fn(&K, &V) -> bool + Send + Sync + 'static,
+    {
+        self.last_predicate += 1;
+        let id = self.last_predicate;
+        self.with(|shard| shard.invalidate_entries_if(Arc::new(predicate), id.into()))?;
+        Ok(id.to_string())
+    }
+
+    /// Does what calls left for later: what has expired, was invalidated or exceeds the capacity leaves.
+    ///
+    /// ```
+    /// let mut cache = ravulemis::unsync::Cache::new(2);
+    /// for key in 0..10 {
+    ///     cache.insert(key, key);
+    /// }
+    /// cache.run_pending_tasks();
+    /// assert_eq!(cache.entry_count(), 2);
+    /// ```
+    pub fn run_pending_tasks(&mut self) {
+        self.with(|shard| shard.run_pending_tasks());
+    }
+
+    /// How many entries the last run of maintenance left.
+    ///
+    /// ```
+    /// let mut cache = ravulemis::unsync::Cache::new(100);
+    /// cache.insert(1, 'a');
+    /// cache.run_pending_tasks();
+    /// assert_eq!(cache.entry_count(), 1);
+    /// ```
+    pub fn entry_count(&self) -> u64 {
+        if self.shard.is_broken() {
+            0
+        } else {
+            self.shard.entry_count()
+        }
+    }
+
+    /// The total weight that the last run of maintenance left.
+    ///
+    /// ```
+    /// # use ravulemis::unsync::Cache;
+    /// let mut cache = Cache::builder().weigher(|_, text: &String| text.len() as u32).build();
+    /// cache.insert(1, "four".to_string());
+    /// cache.run_pending_tasks();
+    /// assert_eq!(cache.weighted_size(), 4);
+    /// ```
+    pub fn weighted_size(&self) -> u64 {
+        if self.shard.is_broken() {
+            0
+        } else {
+            self.shard.weighted_size()
+        }
+    }
+
+    /// What the cache has counted.
+    ///
+    /// ```
+    /// let mut cache = ravulemis::unsync::Cache::new(100);
+    /// cache.insert(1, 'a');
+    /// cache.get(&1);
+    /// cache.get(&2);
+    /// assert_eq!((cache.stats().hits, cache.stats().misses), (1, 1));
+    /// ```
+    pub fn stats(&self) -> Stats {
+        let mut stats = Stats {
+            loads: self.loads,
+            load_failures: self.load_failures,
+            ..Stats::default()
+        };
+        self.causes.add_to(&mut stats);
+        self.shard.add_to(&mut stats);
+        stats
+    }
+
+    /// All visible entries. Nothing counts as a read.
+    ///
+    /// ```
+    /// let mut cache = ravulemis::unsync::Cache::new(100);
+    /// cache.insert(1, 'a');
+    /// assert_eq!(cache.iter().map(|(key, value)| (*key, value)).collect::<Vec<_>>(), [(1, 'a')]);
+    /// ```
+    pub fn iter(&self) -> impl Iterator<Item = (Arc<K>, V)> {
+        let keys = if self.shard.is_broken() {
+            Vec::new()
+        } else {
+            self.shard.keys()
+        };
+        let with_value = |(hash, key)| {
+            let value = self.shard.scan(hash, &key)?;
+            Some((key, value))
+        };
+        keys.into_iter().filter_map(with_value)
+    }
+}
+
+/// A key of a cache, and what is to be done with its entry: see [`Cache::entry`].
+pub struct EntrySelector<'a, K: 'static, V, S> {
+    cache: &'a mut Cache<K, V, S>,
+    hash: u64,
+    key: K,
+}
+
+impl<K: Eq + Hash + Sync + 'static, V: Clone + 'static, S: BuildHasher> EntrySelector<'_, K, V, S> {
+    /// The entry of the key, into which this value is put where there was none.
+    ///
+    /// ```
+    /// let mut cache = ravulemis::unsync::Cache::new(100);
+    /// assert_eq!(cache.entry(1).or_insert('a').into_value(), 'a');
+    /// ```
+    pub fn or_insert(self, default: V) -> Entry<K, V> {
+        self.or_insert_with(|| default)
+    }
+
+    /// The entry of the key, whose value is made where there was none.
+    ///
+    /// ```
+    /// let mut cache = ravulemis::unsync::Cache::new(100);
+    /// assert!(cache.entry(1).or_insert_with(|| 'a').is_fresh());
+    /// ```
+    pub fn or_insert_with(self, init: impl FnOnce() -> V) -> Entry<K, V> {
+        let Ok(entry) = self.or_try_insert_with(|| Ok::<_, std::convert::Infallible>(init()));
+        entry
+    }
+
+    /// The entry of the key, whose value is made where there was none.
+    ///
+    /// # Errors
+    /// The maker's: then nothing is put there.
+    ///
+    /// ```
+    /// let mut cache = ravulemis::unsync::Cache::<u32, u32>::new(100);
+    /// assert!(cache.entry(1).or_try_insert_with(|| "one".parse::<u32>()).is_err());
+    /// ```
+    pub fn or_try_insert_with<E>(self, init: impl FnOnce() -> Result<V, E>) -> Result<Entry<K, V>, E> {
+        let EntrySelector { cache, hash, key } = self;
+        if let Some((key, value)) = cache.with(|shard| shard.get_entry(hash, &|kept| *kept == key)) {
+            return Ok(Entry::found(key, value));
+        }
+        // Counted as failed until it has not.
+        cache.load_failures += 1;
+        let value = init()?;
+        cache.load_failures -= 1;
+        cache.loads += 1;
+        Ok(put(cache, hash, Arc::new(key), value, false))
+    }
+
+    /// Puts the value there that the closure makes of the entry, if there is one.
+    ///
+    /// ```
+    /// let mut cache = ravulemis::unsync::Cache::new(100);
+    /// for _ in 0..3 {
+    ///     cache.entry("key").and_upsert_with(|old| old.map_or(1, |old| old.into_value() + 1));
+    /// }
+    /// assert_eq!(cache.get("key"), Some(3));
+    /// ```
+    pub fn and_upsert_with(self, f: impl FnOnce(Option<Entry<K, V>>) -> V) -> Entry<K, V> {
+        let EntrySelector { cache, hash, key } = self;
+        let there = cache.with(|shard| shard.peek(hash, &|kept| *kept == key));
+        let is_there = there.is_some();
+        let value = f(there.map(|(key, value)| Entry::found(key, value)));
+        put(cache, hash, Arc::new(key), value, is_there)
+    }
+}
+
+// Puts a value there, and answers the entry.
+fn put<K: Eq + Hash + Sync + 'static, V: Clone + 'static, S: BuildHasher>(
+    cache: &mut Cache<K, V, S>,
+    hash: u64,
+    key: Arc<K>,
+    value: V,
+    is_old_value_replaced: bool,
+) -> Entry<K, V> {
+    cache.with(|shard| shard.insert(hash, Arc::clone(&key), value.clone()));
+    Entry {
+        key,
+        value,
+        is_fresh: true,
+        is_old_value_replaced,
+    }
+}

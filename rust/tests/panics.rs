@@ -1,0 +1,169 @@
+//! What follows where the caller's own code panics.
+
+use ravulemis::{sync, unsync};
+use std::hash::{Hash, Hasher};
+use std::panic::{AssertUnwindSafe, catch_unwind};
+use std::sync::Arc;
+use std::sync::atomic::{AtomicBool, AtomicU32, Ordering};
+use std::thread;
+use std::time::Duration;
+
+fn panics<R>(call: impl FnOnce() -> R) -> bool {
+    catch_unwind(AssertUnwindSafe(call)).is_err()
+}
+
+/// A value whose clone panics where it is told to.
+struct Fragile(u32, Arc<AtomicBool>);
+
+impl Clone for Fragile {
+    fn clone(&self) -> Self {
+        assert!(!self.1.load(Ordering::SeqCst), "a clone that panics");
+        Fragile(self.0, Arc::clone(&self.1))
+    }
+}
+
+#[test]
+fn a_clone_that_panics_empties_the_shard() {
+    let breaks = Arc::new(AtomicBool::new(false));
+    let cache = sync::Cache::builder().max_capacity(100).shards(2).build();
+    for key in 0..50 {
+        cache.insert(key, Fragile(key, Arc::clone(&breaks)));
+    }
+    breaks.store(true, Ordering::SeqCst);
+    assert!(panics(|| cache.get(&1)));
+    breaks.store(false, Ordering::SeqCst);
+    let left = (0..50)
+        .filter(|key| cache.get(key).is_some_and(|it| it.0 == *key))
+        .count();
+    assert!(
+        0 < left && left < 50,
+        "one of two shards was emptied, {left} entries are left"
+    );
+    assert!(cache.get(&1).is_none());
+    cache.insert(1, Fragile(1, breaks));
+    cache.run_pending_tasks();
+    assert!(cache.get(&1).is_some());
+    assert_eq!(cache.entry_count(), left as u64 + 1);
+}
+
+#[test]
+fn a_weigher_that_panics_empties_the_cache() {
+    let weigher = |_: &u32, value: &u32| {
+        if *value == 13 {
+            panic!("a weigher that panics")
+        } else {
+            *value
+        }
+    };
+    let mut cache = unsync::Cache::builder().weigher(weigher).build();
+    cache.insert(1, 1);
+    assert!(panics(|| cache.insert(2, 13)));
+    assert_eq!(
+        (cache.contains_key(&1), cache.iter().count(), cache.entry_count()),
+        (false, 0, 0)
+    );
+    cache.insert(3, 3);
+    cache.run_pending_tasks();
+    assert_eq!(
+        (cache.get(&1), cache.get(&3), cache.weighted_size()),
+        (None, Some(3), 3)
+    );
+}
+
+/// A key whose comparison panics if one of the two is 13.
+#[derive(Debug)]
+struct Moody(u32);
+
+impl PartialEq for Moody {
+    fn eq(&self, other: &Self) -> bool {
+        assert!(self.0 != 13 && other.0 != 13, "a comparison that panics");
+        self.0 == other.0
+    }
+}
+
+impl Eq for Moody {}
+
+impl Hash for Moody {
+    fn hash<H: Hasher>(&self, state: &mut H) {
+        // All hashes are equal, so that keys are compared.
+        assert!(self.0 != 14, "a hash that panics");
+        state.write_u32(0);
+    }
+}
+
+#[test]
+fn a_comparison_or_hash_that_panics_changes_nothing() {
+    let mut cache = unsync::Cache::new(100);
+    for key in 0..10 {
+        cache.insert(Moody(key), key);
+    }
+    for key in [13, 14] {
+        assert!(panics(|| cache.get(&Moody(key))));
+        assert!(panics(|| cache.insert(Moody(key), key)));
+        assert!(panics(|| cache.remove(&Moody(key))));
+    }
+    for key in 0..10 {
+        assert_eq!(cache.get(&Moody(key)), Some(key));
+    }
+    cache.run_pending_tasks();
+    assert_eq!(cache.entry_count(), 10);
+}
+
+#[test]
+fn a_maker_that_panics_harms_nobody() {
+    let (cache, calls) = (sync::Cache::new(100), AtomicU32::new(0));
+    let values = thread::scope(|scope| {
+        let ask = || {
+            cache.get_with(1, || {
+                let is_first = calls.fetch_add(1, Ordering::SeqCst) == 0;
+                thread::sleep(Duration::from_millis(100));
+                assert!(!is_first, "a maker that panics");
+                7
+            })
+        };
+        let threads: Vec<_> = (0..4).map(|_| scope.spawn(ask)).collect();
+        threads
+            .into_iter()
+            .map(|it| it.join())
+            .filter_map(Result::ok)
+            .collect::<Vec<_>>()
+    });
+    assert_eq!((values, calls.load(Ordering::SeqCst)), (vec![7; 3], 2));
+    assert_eq!((cache.get(&1), cache.stats().load_failures), (Some(7), 1));
+}
+
+#[test]
+fn an_upsert_that_panics_changes_nothing() {
+    let cache = sync::Cache::new(100);
+    cache.insert(1, 'a');
+    assert!(panics(|| cache
+        .entry(1)
+        .and_upsert_with(|_| panic!("an upsert that panics"))));
+    assert_eq!(
+        cache
+            .entry(1)
+            .and_upsert_with(|old| old.unwrap().into_value())
+            .into_value(),
+        'a'
+    );
+}
+
+#[test]
+fn a_listener_that_panics_is_told_no_more() {
+    let told = Arc::new(AtomicU32::new(0));
+    let counts = Arc::clone(&told);
+    let cache = sync::Cache::builder()
+        .max_capacity(100)
+        .eviction_listener(move |_, _, _| {
+            counts.fetch_add(1, Ordering::SeqCst);
+            panic!("a listener that panics");
+        })
+        .build();
+    for value in 0..10 {
+        cache.insert(1, value);
+    }
+    assert_eq!(
+        (cache.get(&1), told.load(Ordering::SeqCst), cache.stats().replaced),
+        (Some(9), 1, 9)
+    );
+}

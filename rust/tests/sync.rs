@@ -1,0 +1,185 @@
+//! The cache that threads share.
+
+use ravulemis::sync::Cache;
+use ravulemis::{EvictionPolicy, RemovalCause};
+use std::sync::atomic::{AtomicU32, AtomicU64, Ordering};
+use std::sync::{Arc, Barrier, Mutex};
+use std::thread;
+use std::time::Duration;
+
+#[test]
+fn threads_share_it() {
+    let cache = Cache::new(10_000);
+    thread::scope(|scope| {
+        for thread in 0..16 {
+            let cache = cache.clone();
+            scope.spawn(move || {
+                for key in thread * 64..(thread + 1) * 64 {
+                    cache.insert(key, key.to_string());
+                    assert_eq!(cache.get(&key), Some(key.to_string()));
+                }
+                for key in (thread * 64..(thread + 1) * 64).step_by(4) {
+                    cache.invalidate(&key);
+                }
+            });
+        }
+    });
+    for key in 0..16 * 64 {
+        assert_eq!(cache.get(&key), (key % 4 != 0).then(|| key.to_string()));
+    }
+    cache.run_pending_tasks();
+    assert_eq!((cache.entry_count(), cache.iter().count()), (16 * 48, 16 * 48));
+}
+
+#[test]
+fn shards_share_the_capacity() {
+    for (capacity, shards) in [(1, 1), (7, 4), (1000, 16), (100_000, 64)] {
+        let builder = Cache::builder()
+            .max_capacity(capacity)
+            .eviction_policy(EvictionPolicy::lru());
+        let cache = builder.shards(shards).build();
+        assert_eq!(cache.policy().num_segments(), shards);
+        for key in 0..2 * capacity {
+            cache.insert(key, ());
+        }
+        cache.run_pending_tasks();
+        assert!(cache.entry_count() <= capacity);
+    }
+}
+
+#[test]
+fn the_builder_chooses_the_shards() {
+    let shards = |capacity| Cache::<u32, u32>::new(capacity).policy().num_segments();
+    assert_eq!([0, 1, 2000, 2048, 10_000, 1 << 30].map(shards), [1, 1, 1, 2, 8, 64]);
+    let weighed = Cache::builder()
+        .max_capacity(1 << 30)
+        .weigher(|_: &u32, _: &u32| 1)
+        .build();
+    assert_eq!(weighed.policy().num_segments(), 1);
+}
+
+#[test]
+fn one_makes_for_all_that_wait() {
+    let (cache, made, start) = (Cache::new(100), AtomicU32::new(0), Barrier::new(8));
+    thread::scope(|scope| {
+        for _ in 0..8 {
+            scope.spawn(|| {
+                start.wait();
+                for key in 0..50u32 {
+                    let make = || {
+                        thread::sleep(Duration::from_millis(1));
+                        made.fetch_add(1, Ordering::SeqCst);
+                        key + 1
+                    };
+                    assert_eq!(cache.get_with(key, make), key + 1);
+                }
+            });
+        }
+    });
+    assert_eq!((made.load(Ordering::SeqCst), cache.stats().loads), (50, 50));
+}
+
+#[test]
+fn waiters_share_an_error() {
+    let (cache, made, start) = (Cache::<u32, u32>::new(100), AtomicU32::new(0), Barrier::new(4));
+    let errors = Mutex::new(Vec::new());
+    thread::scope(|scope| {
+        for _ in 0..4 {
+            scope.spawn(|| {
+                start.wait();
+                let make = || {
+                    made.fetch_add(1, Ordering::SeqCst);
+                    thread::sleep(Duration::from_millis(200));
+                    Err::<u32, _>("refused".to_string())
+                };
+                let error = cache.try_get_with(1, make).unwrap_err();
+                errors.lock().unwrap().push(error);
+            });
+        }
+    });
+    let errors = errors.into_inner().unwrap();
+    assert_eq!(made.load(Ordering::SeqCst), 1);
+    assert!(errors.iter().all(|error| Arc::ptr_eq(error, &errors[0])));
+    assert_eq!((cache.get(&1), cache.stats().load_failures), (None, 1));
+}
+
+#[test]
+fn upserts_of_a_key_follow_each_other() {
+    let cache = Cache::new(100);
+    thread::scope(|scope| {
+        for _ in 0..4 {
+            scope.spawn(|| {
+                for _ in 0..500 {
+                    let more = |old: Option<ravulemis::Entry<_, u64>>| old.map_or(1, |old| old.into_value() + 1);
+                    cache.entry_by_ref("key").and_upsert_with(more);
+                }
+            });
+        }
+    });
+    assert_eq!(cache.get(&"key".to_string()), Some(2000));
+}
+
+#[test]
+fn each_value_is_there_or_was_told_once() {
+    let told = Arc::new((AtomicU64::new(0), AtomicU64::new(0)));
+    let listener = Arc::clone(&told);
+    let cache = Cache::builder()
+        .max_capacity(500)
+        .shards(4)
+        .eviction_listener(move |_, value: u64, _| {
+            listener.0.fetch_add(1, Ordering::SeqCst);
+            listener.1.fetch_add(value, Ordering::SeqCst);
+        })
+        .build();
+    const EACH: u64 = 20_000;
+    thread::scope(|scope| {
+        for thread in 0..4 {
+            let cache = &cache;
+            scope.spawn(move || {
+                for step in 0..EACH {
+                    cache.insert(step % 2000, thread * EACH + step);
+                }
+            });
+        }
+    });
+    cache.run_pending_tasks();
+    let (mut count, mut sum) = (told.0.load(Ordering::SeqCst), told.1.load(Ordering::SeqCst));
+    for (_, value) in &cache {
+        count += 1;
+        sum += value;
+    }
+    assert_eq!((count, sum), (4 * EACH, (0..4 * EACH).sum()));
+    assert!(cache.entry_count() <= 500);
+}
+
+#[test]
+fn a_listener_may_call_the_cache() {
+    let own: Arc<Mutex<Option<Cache<u32, u32>>>> = Arc::default();
+    let seen = Arc::clone(&own);
+    let cache = Cache::builder()
+        .max_capacity(10)
+        .eviction_listener(move |key, value, cause| {
+            let cache = seen.lock().unwrap().clone();
+            if let (Some(cache), RemovalCause::Explicit) = (cache, cause) {
+                cache.insert(*key + 100, value);
+            }
+        })
+        .build();
+    *own.lock().unwrap() = Some(cache.clone());
+    cache.insert(1, 7);
+    cache.invalidate(&1);
+    assert_eq!((cache.get(&1), cache.get(&101)), (None, Some(7)));
+    *own.lock().unwrap() = None;
+}
+
+#[test]
+fn borrowed_forms_find_the_key() {
+    let cache = Cache::<String, u32>::new(100);
+    cache.insert("key".to_string(), 1);
+    assert!(cache.contains_key("key"));
+    assert_eq!((cache.get("key"), cache.get(&"key".to_string())), (Some(1), Some(1)));
+    assert_eq!((cache.remove("key"), cache.get("key")), (Some(1), None));
+    let bytes = Cache::<Vec<u8>, u32>::new(100);
+    bytes.insert(vec![1, 2], 3);
+    assert_eq!(bytes.get([1, 2].as_slice()), Some(3));
+}

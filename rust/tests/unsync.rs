@@ -1,0 +1,205 @@
+//! The cache with one owner.
+
+use ravulemis::unsync::Cache;
+use ravulemis::{EvictionPolicy, Expiry, PredicateError, RemovalCause};
+use std::collections::HashMap;
+use std::sync::mpsc::{self, Receiver};
+use std::thread::sleep;
+use std::time::{Duration, Instant};
+
+type Left = Receiver<(u32, String, RemovalCause)>;
+
+/// A cache of texts in order of use, and what leaves it.
+fn watched(max_capacity: u64) -> (Cache<u32, String>, Left) {
+    let (sender, left) = mpsc::channel();
+    let cache = Cache::builder()
+        .max_capacity(max_capacity)
+        .eviction_policy(EvictionPolicy::lru())
+        .eviction_listener(move |key, value, cause| sender.send((*key, value, cause)).unwrap())
+        .build();
+    (cache, left)
+}
+
+#[test]
+fn agrees_with_a_map_where_nothing_leaves() {
+    let (mut cache, mut map) = (Cache::builder().build(), HashMap::new());
+    let mut seed = 1u64;
+    for step in 0..20_000u64 {
+        seed = seed.wrapping_mul(6364136223846793005).wrapping_add(1442695040888963407);
+        let key = (seed >> 33) % 200;
+        match (seed >> 60) % 5 {
+            0 => assert_eq!(cache.remove(&key), map.remove(&key)),
+            1 | 2 => {
+                cache.insert(key, step);
+                map.insert(key, step);
+            }
+            3 => assert_eq!(cache.contains_key(&key), map.contains_key(&key)),
+            _ => assert_eq!(cache.get(&key), map.get(&key).copied()),
+        }
+        if step % 5_000 == 4_999 {
+            cache.invalidate_all();
+            map.clear();
+        }
+    }
+    cache.run_pending_tasks();
+    let entries: HashMap<_, _> = cache.iter().map(|(key, value)| (*key, value)).collect();
+    assert_eq!((cache.entry_count() as usize, entries), (map.len(), map));
+}
+
+#[test]
+fn a_capacity_of_nothing_keeps_nothing() {
+    let (mut cache, left) = watched(0);
+    cache.insert(1, "one".to_string());
+    assert_eq!(
+        (cache.get(&1), cache.remove(&1), cache.contains_key(&1)),
+        (None, None, false)
+    );
+    cache.run_pending_tasks();
+    assert_eq!(cache.entry_count(), 0);
+    assert_eq!(left.try_recv(), Ok((1, "one".to_string(), RemovalCause::Size)));
+}
+
+#[test]
+fn tells_each_value_once_with_its_cause() {
+    let (mut cache, left) = watched(2);
+    for key in 0..4 {
+        cache.insert(key, "old".to_string());
+        cache.run_pending_tasks();
+    }
+    cache.insert(3, "new".to_string());
+    cache.invalidate(&2);
+    cache.run_pending_tasks();
+    let causes: Vec<_> = left.try_iter().map(|(key, _, cause)| (key, cause)).collect();
+    let wanted = [
+        (0, RemovalCause::Size),
+        (1, RemovalCause::Size),
+        (3, RemovalCause::Replaced),
+        (2, RemovalCause::Explicit),
+    ];
+    assert_eq!(causes, wanted);
+    let stats = cache.stats();
+    assert_eq!(
+        (stats.evicted, stats.replaced, stats.explicit, stats.expired),
+        (2, 1, 1, 0)
+    );
+}
+
+#[test]
+fn bounds_by_weight() {
+    let mut cache = Cache::builder()
+        .max_capacity(10)
+        .eviction_policy(EvictionPolicy::lru())
+        .weigher(|_: &u32, text: &String| text.len() as u32)
+        .build();
+    for key in 0..4 {
+        cache.insert(key, "four".to_string());
+    }
+    cache.insert(9, "far too heavy".to_string());
+    cache.run_pending_tasks();
+    assert_eq!(
+        (cache.weighted_size(), cache.entry_count(), cache.get(&9)),
+        (8, 2, None)
+    );
+}
+
+#[test]
+fn lets_entries_expire() {
+    let mut cache = Cache::builder().time_to_live(Duration::from_millis(30)).build();
+    cache.insert(1, 1);
+    assert_eq!(cache.get(&1), Some(1));
+    sleep(Duration::from_millis(40));
+    assert_eq!(
+        (cache.get(&1), cache.remove(&1), cache.contains_key(&1)),
+        (None, None, false)
+    );
+}
+
+#[test]
+fn a_read_keeps_an_entry_from_idling_out() {
+    let mut cache = Cache::builder().time_to_idle(Duration::from_millis(300)).build();
+    cache.insert(1, 1);
+    for _ in 0..4 {
+        sleep(Duration::from_millis(100));
+        assert_eq!(cache.get(&1), Some(1));
+    }
+    sleep(Duration::from_millis(400));
+    assert_eq!(cache.get(&1), None);
+}
+
+/// An entry lasts as many hours as its value says, from when it was written.
+struct Hours;
+
+impl Expiry<u32, u64> for Hours {
+    fn expire_after_create(&self, _: &u32, hours: &u64, created_at: Instant) -> Option<Duration> {
+        assert!(created_at <= Instant::now());
+        Some(Duration::from_secs(3600 * hours))
+    }
+
+    fn expire_after_update(&self, _: &u32, hours: &u64, _: Instant, left: Option<Duration>) -> Option<Duration> {
+        assert!(left <= Some(Duration::from_secs(3600)));
+        Some(Duration::from_secs(3600 * hours))
+    }
+}
+
+#[test]
+fn entries_expire_by_themselves() {
+    let mut cache = Cache::builder().expire_after(Hours).build();
+    cache.insert(1, 1);
+    cache.insert(2, 0);
+    assert_eq!((cache.get(&1), cache.get(&2)), (Some(1), None));
+    cache.insert(1, 0);
+    assert_eq!(cache.get(&1), None);
+    cache.run_pending_tasks();
+    assert_eq!((cache.entry_count(), cache.stats().expired), (0, 2));
+}
+
+#[test]
+fn an_invalidation_hides_what_was_before_it_alone() {
+    let mut cache = Cache::builder().support_invalidation_closures().build();
+    for round in 0..200 {
+        cache.insert(1, round);
+        cache.invalidate_all();
+        assert_eq!(cache.get(&1), None);
+        cache.insert(1, round);
+        assert_eq!(cache.get(&1), Some(round));
+        cache.invalidate_entries_if(|key, _| *key == 1).unwrap();
+        assert_eq!(cache.get(&1), None);
+        cache.insert(1, round);
+        assert_eq!(cache.get(&1), Some(round));
+        cache.run_pending_tasks();
+        assert_eq!(cache.entry_count(), 1);
+    }
+}
+
+#[test]
+fn predicates_are_refused_where_they_are_not_supported() {
+    let mut cache = Cache::<u32, u32>::new(10);
+    let refused = cache.invalidate_entries_if(|_, _| true);
+    assert_eq!(refused, Err(PredicateError::InvalidationClosuresDisabled));
+}
+
+#[test]
+fn counts_loads() {
+    let mut cache = Cache::new(10);
+    assert_eq!(cache.get_with(1, || 1), 1);
+    assert_eq!(cache.try_get_with(2, || Err("no")), Err("no"));
+    assert_eq!(cache.optionally_get_with(1, || None), Some(1));
+    let stats = cache.stats();
+    assert_eq!(
+        (stats.hits, stats.misses, stats.loads, stats.load_failures),
+        (1, 2, 1, 1)
+    );
+}
+
+#[test]
+fn can_be_sent_to_a_thread() {
+    let (mut cache, left) = watched(1);
+    let sent = std::thread::spawn(move || {
+        cache.insert(1, "one".to_string());
+        cache
+    });
+    let mut cache = sent.join().unwrap();
+    assert_eq!(cache.get(&1).as_deref(), Some("one"));
+    drop(cache);
+    assert!(left.try_recv().is_err(), "a cache that is let go tells nobody");
+}
