@@ -23,9 +23,10 @@ struct Stretch {
     is_end: bool,
 }
 
-/// Looks at up to `batch` settled members, none of them twice, and removes those that a registered predicate covers. Where
-/// the end of the order was reached, predicates that cover no record leave. Whether more is left: a member was looked at,
-/// and a predicate is left.
+/// Goes round the order of writing from its cursor, once at most, until it has looked at `batch` settled members, and
+/// removes those that a registered predicate covers. The cursor comes to stand behind the last that was passed. Where the
+/// end of the order was reached, predicates that cover no record leave. Whether more is left: a member was looked at, and
+/// a predicate is left.
 pub(crate) fn scan<K: Eq + Hash, V, S: BuildHasher, L: Listener<K, V>, P>(
     store: &mut Store<K, V, S>,
     notifier: &mut RemovalNotifier<L>,

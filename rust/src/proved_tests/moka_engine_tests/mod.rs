@@ -5,6 +5,10 @@ use crate::support::prelude::*;
 #[cfg(test)]
 mod drops;
 #[cfg(test)]
+mod expiry;
+#[cfg(test)]
 mod keys;
 #[cfg(test)]
 mod sizes;
+#[cfg(test)]
+mod sketch;
