@@ -12,3 +12,7 @@ pub mod IdleRuns
 pub mod KeeperSteps
 pub mod HitSteps
 pub mod Registering
+pub use Rattle.moka_parts.proofs.Copies
+pub use Rattle.moka_parts.proofs.Lookup
+pub use Rattle.moka_parts.proofs.Maps
+pub use Rattle.moka_parts.proofs.Values

@@ -357,7 +357,8 @@ impl<
     ///
     /// # Errors
     /// `NumbersUsedUp` where too few tickets are left, and `OutOfMemory` where memory for the operation or for a new
-    /// record is refused. Key and value come back, and nothing has changed.
+    /// record is refused, and where a new record would need a place of more than 32 bits: fewer than 2^32 records are
+    /// kept. Key and value come back, and nothing has changed.
     #[inline(always)]
     pub fn do_insert_with_hash(
         &mut self,

@@ -1,11 +1,11 @@
 -- A record that a predicate covers is hidden.
 use Rattle.std.proofs.Common.{◌≡◌, refl, ℕ, Bool, true, false, List, [], ◌∷◌, ◌++◌, Some, subst}
-use Rattle.moka_parts.specs.declared.records.Record.{Record}
-use Rattle.moka_parts.specs.declared.records.Registered.{Registered}
-use Rattle.moka_parts.specs.Calls.{ContainsStep}
-use Rattle.moka_parts.specs.Records.{record_of_key}
-use Rattle.moka_parts.specs.State.{State}
-use Rattle.moka_parts.specs.Visibility.{Covers, NoneCovers, IsShown}
+use Rattle.moka_engine.specs.parts.Record.{Record}
+use Rattle.moka_engine.specs.parts.Registered.{Registered}
+use Rattle.moka_engine.specs.Calls.{ContainsStep}
+use Rattle.moka_engine.specs.Records.{record_of_key}
+use Rattle.moka_engine.specs.State.{State}
+use Rattle.moka_engine.specs.Visibility.{Covers, NoneCovers, IsShown}
 
 -- the last predicate covers the record, so not none does
 not_none : {K V P : Type 0} (says : P → K → V → Bool → Type 0) (ps : List (Registered P)) (p : Registered P) (r : Record K V) → Covers says p r → NoneCovers says (ps ++ p ∷ []) r → ⊥

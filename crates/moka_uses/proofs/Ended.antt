@@ -1,15 +1,15 @@
 -- A record that was put into a new cache with an expiry is shown until its time is over.
 use Rattle.std.proofs.Common.{◌≡◌, refl, ℕ, Bool, true, false, ◌||◌, not, [], Option, Some, None, Ok, ap, sym, subst, ◌∙◌, inl, inr, nat_le, nat_lt, arith}
 use Rattle.std.specs.Cmp.{IsEquivalence}
-use Rattle.moka_parts.specs.declared.calls.Ticket.{Ticket}
-use Rattle.moka_parts.specs.declared.policy.Instant.{Instant}
-use Rattle.moka_parts.specs.declared.records.Record.{Record}
-use Rattle.moka_parts.specs.Calls.{InsertsAt, InsertStep, new_record, SendStep, ContainsStep}
-use Rattle.moka_parts.specs.Records.{record_of_key}
-use Rattle.moka_parts.specs.State.{State, Settings, Events, new_state}
-use Rattle.moka_parts.specs.Time.{plus}
-use Rattle.moka_parts.specs.Visibility.{IsShown}
-use Rattle.moka_parts.proofs.Lookup.{record_of_key_empty}
+use Rattle.moka_engine.specs.parts.Ticket.{Ticket}
+use Rattle.moka_engine.specs.parts.Instant.{Instant}
+use Rattle.moka_engine.specs.parts.Record.{Record}
+use Rattle.moka_engine.specs.Calls.{InsertsAt, InsertStep, new_record, SendStep, ContainsStep}
+use Rattle.moka_engine.specs.Records.{record_of_key}
+use Rattle.moka_engine.specs.State.{State, Settings, Events, new_state}
+use Rattle.moka_engine.specs.Time.{plus}
+use Rattle.moka_engine.specs.Visibility.{IsShown}
+use Rattle.moka_engine.proofs.Lookup.{record_of_key_empty}
 use Rattle.moka_uses.proofs.Found.{one_record}
 use Rattle.moka_uses.proofs.Sent.{Sends, sends}
 

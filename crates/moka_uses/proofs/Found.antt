@@ -2,19 +2,19 @@
 use Rattle.std.proofs.Common.{◌≡◌, refl, ℕ, Bool, true, false, List, [], Option, Some, None, Result, Ok, Err, option_map, ap, sym, subst, ◌∙◌, inl, inr, true≢false}
 use Rattle.std.specs.Cmp.{IsEquivalence}
 use Rattle.std.specs.FinMap.{get, insert, empty}
-use Rattle.moka_parts.specs.declared.calls.Entry.{Entry}
-use Rattle.moka_parts.specs.declared.calls.Ticket.{Ticket}
-use Rattle.moka_parts.specs.declared.error.OutOfMemory.{OutOfMemory}
-use Rattle.moka_parts.specs.declared.policy.Instant.{Instant}
-use Rattle.moka_parts.specs.declared.records.Operation.{Operation}
-use Rattle.moka_parts.specs.declared.records.Record.{Record}
-use Rattle.moka_parts.specs.Calls.{InsertsAt, InsertStep, new_record, SendsAt, SendStep, GetsAt, GetStep}
-use Rattle.moka_parts.specs.Copies.{HandsOut, IsCopiedAnswer, IsCopy, IsEntryCopy}
-use Rattle.moka_parts.specs.Maintenance.{Terms, Course}
-use Rattle.moka_parts.specs.Records.{Notice, Records, record_of_key}
-use Rattle.moka_parts.specs.State.{State, Settings, Events, new_state, is_disabled}
-use Rattle.moka_parts.proofs.Lookup.{record_of_key_empty, present_key}
-use Rattle.moka_parts.proofs.Maps.{get_inserted, get_past_insert, nothing_at, same_or_apart}
+use Rattle.moka_engine.specs.parts.Entry.{Entry}
+use Rattle.moka_engine.specs.parts.Ticket.{Ticket}
+use Rattle.moka_engine.specs.parts.OutOfMemory.{OutOfMemory}
+use Rattle.moka_engine.specs.parts.Instant.{Instant}
+use Rattle.moka_engine.specs.parts.Operation.{Operation}
+use Rattle.moka_engine.specs.parts.Record.{Record}
+use Rattle.moka_engine.specs.Calls.{InsertsAt, InsertStep, new_record, SendsAt, SendStep, GetsAt, GetStep}
+use Rattle.moka_engine.specs.Copies.{HandsOut, IsCopiedAnswer, IsCopy, IsEntryCopy}
+use Rattle.moka_engine.specs.Maintenance.{Terms, Course}
+use Rattle.moka_engine.specs.Records.{Notice, Records, record_of_key}
+use Rattle.moka_engine.specs.State.{State, Settings, Events, new_state, is_disabled}
+use Rattle.moka_engine.proofs.Lookup.{record_of_key_empty, present_key}
+use Rattle.moka_engine.proofs.Maps.{get_inserted, get_past_insert, nothing_at, same_or_apart}
 
 -- where a clone is seen as what was cloned is, the value that is handed out is seen as the one that was put
 pub seen_alike : {K V B : Type 0} (seen : V → B) (value : V) (found : Option (Entry K V)) → IsCopy (λ x y. seen y ≡ seen x) (Some value) (option_map (λ x. x.value) found) → option_map (λ x. seen x.value) found ≡ Some (seen value)

@@ -3,3 +3,4 @@ pub mod Sent
 pub mod Told
 pub mod Ended
 pub mod Covered
+pub mod Followed

@@ -1,22 +1,27 @@
 -- What inserts and sends do to the operations that wait, and what they keep.
 use Rattle.std.proofs.Math.Nat.{min-le_left}
-use Rattle.std.proofs.Common.{◌≡◌, refl, ℕ, Bool, false, ◌≤◌, List, Option, Some, None, Ok, ap, sym, subst, ◌∙◌, inl, inr, ◌&&◌, arith}
+use Rattle.std.proofs.Common.{◌≡◌, refl, ℕ, Bool, true, false, ◌≤◌, List, Option, Some, None, Ok, ap, sym, subst, ◌∙◌, inl, inr, ◌&&◌, arith}
 use Rattle.std.specs.FinMap.{get, insert, remove, empty, get-empty}
 use Rattle.std.specs.Ordering.{nat_cmp}
-use Rattle.moka_parts.specs.declared.calls.Ticket.{Ticket}
-use Rattle.moka_parts.specs.declared.policy.Instant.{Instant}
-use Rattle.moka_parts.specs.declared.records.Operation.{Operation}
-use Rattle.moka_parts.specs.declared.records.Record.{Record}
-use Rattle.moka_parts.specs.Calls.{InsertsAt, InsertStep, SendsAt, SendStep, RunStep}
-use Rattle.moka_parts.specs.Listed.{ListedRun}
-use Rattle.moka_parts.specs.Exact.{IsWithin}
-use Rattle.moka_parts.specs.Maintenance.{Terms, after_run, at_end, is_late}
-use Rattle.moka_parts.specs.Settling.{IsWhole}
-use Rattle.moka_parts.specs.Records.{Operations, record_of_key, total_weight}
-use Rattle.moka_parts.specs.State.{State, Events, is_disabled}
-use Rattle.moka_parts.specs.Time.{greatest}
-use Rattle.moka_parts.proofs.Maps.{get_removed, get_past_insert, get_past_remove, same_or_apart}
-use Rattle.moka_parts.proofs.Values.{empty_map}
+use Rattle.moka_engine.specs.parts.Ticket.{Ticket}
+use Rattle.moka_engine.specs.parts.Instant.{Instant}
+use Rattle.moka_engine.specs.parts.Operation.{Operation}
+use Rattle.moka_engine.specs.parts.Record.{Record}
+use Rattle.moka_engine.specs.Calls.{InsertsAt, InsertStep, SendsAt, SendStep, RunStep}
+use Rattle.moka_engine.specs.Listed.{ListedRun}
+use Rattle.moka_engine.specs.Exact.{IsWithin}
+use Rattle.moka_engine.specs.Maintenance.{Terms, after_run, at_end, is_late}
+use Rattle.moka_engine.specs.Settling.{IsWhole}
+use Rattle.moka_engine.specs.Records.{Operations, record_of_key, total_weight}
+use Rattle.moka_engine.specs.State.{State, Events, is_disabled}
+use Rattle.moka_engine.specs.Time.{greatest}
+use Rattle.moka_engine.proofs.Maps.{get_removed, get_past_insert, get_past_remove, same_or_apart}
+use Rattle.moka_engine.proofs.Values.{empty_map}
+
+-- without a limit nothing is cut, whoever listens
+pub and_no : (b : Bool) → (b && false) ≡ false
+and_no true = refl
+and_no false = refl
 
 -- the operations without one that came last
 pub nothing_left : (m : Operations) → m ≡ empty → (a : ℕ) (o : Operation) → remove (insert m a o) a ≡ empty
@@ -73,13 +78,13 @@ module _ {K V X P W : Type 0} where
 
   -- a whole run with all sent reports a weight within the capacity
   pub weight_within : (says : P → K → V → Bool → Type 0) (read : X → K → V → ℕ → Option ℕ → ℕ → Option ℕ) (before after : List ℕ) (s : State K V X P W) (terms : Terms) (answer : Bool) (e : Events K V) (t : State K V X P W) → RunStep (ListedRun says read before after) s terms answer e t
-      → (capacity : ℕ) → s.capacity ≡ Some capacity → is_disabled s.capacity ≡ false → s.settings.listening ≡ false → 1 ≤ terms.batch → s.outstanding ≡ empty → t.weight ≤ capacity
-  weight_within says read before after s terms answer e t run capacity bounded enabled deaf batch sent =
+      → (capacity : ℕ) → s.capacity ≡ Some capacity → is_disabled s.capacity ≡ false → terms.limit ≡ None → 1 ≤ terms.batch → s.outstanding ≡ empty → t.weight ≤ capacity
+  weight_within says read before after s terms answer e t run capacity bounded enabled unlimited batch sent =
       let course = run.0 in
       let ran = rw enabled at (run.1.0) in
       let is : t ≡ after_run s ran.0 = ran.1.1 in
       let c = at_end s ran.0 in
-      let whole : IsWhole s terms course = (ap (λ b. b && is_late terms.limit course.readings) deaf, batch) in
+      let whole : IsWhole s terms course = (ap (λ limit. s.settings.listening && is_late limit course.readings) unlimited ∙ and_no s.settings.listening, batch) in
       let within = subst (λ o. IsWithin o c.access) bounded (subst (λ x. IsWithin x.capacity x.access) is (run.1.1.0.1.within whole sent)) in
       rw (ap (λ x. x.weight) is) (omega (arith, within, min-le_left (total_weight c.access) greatest))
 

@@ -1,16 +1,16 @@
 -- What a listener is notified of where a value is replaced.
 use Rattle.std.proofs.Common.{◌≡◌, refl, ℕ, Bool, true, List, [], ◌∷◌, Option, Some, None, Ok, ap, subst, ◌∙◌}
 use Rattle.std.specs.Cmp.{IsEquivalence}
-use Rattle.moka_parts.specs.declared.calls.Ticket.{Ticket}
-use Rattle.moka_parts.specs.declared.notification.RemovalCause.{RemovalCause}
-use Rattle.moka_parts.specs.declared.policy.Instant.{Instant}
-use Rattle.moka_parts.specs.declared.records.Record.{Record}
-use Rattle.moka_parts.specs.Calls.{InsertsAt, InsertStep, new_record, SendStep}
-use Rattle.moka_parts.specs.Causes.{cause_of_replacement}
-use Rattle.moka_parts.specs.Records.{Notice, record_of_key, when_listening}
-use Rattle.moka_parts.specs.State.{State, Settings, Events, new_state}
-use Rattle.moka_parts.specs.Surroundings.{Heard}
-use Rattle.moka_parts.proofs.Lookup.{record_of_key_empty}
+use Rattle.moka_engine.specs.parts.Ticket.{Ticket}
+use Rattle.moka_engine.specs.parts.RemovalCause.{RemovalCause}
+use Rattle.moka_engine.specs.parts.Instant.{Instant}
+use Rattle.moka_engine.specs.parts.Record.{Record}
+use Rattle.moka_engine.specs.Calls.{InsertsAt, InsertStep, new_record, SendStep}
+use Rattle.moka_engine.specs.Causes.{cause_of_replacement}
+use Rattle.moka_engine.specs.Records.{Notice, record_of_key, when_listening}
+use Rattle.moka_engine.specs.State.{State, Settings, Events, new_state}
+use Rattle.moka_engine.specs.Surroundings.{Heard}
+use Rattle.moka_engine.proofs.Lookup.{record_of_key_empty}
 use Rattle.moka_uses.proofs.Found.{one_record}
 use Rattle.moka_uses.proofs.Sent.{Sends, sends}
 

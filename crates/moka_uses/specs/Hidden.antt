@@ -1,9 +1,9 @@
 -- What a predicate of a caller's hides.
 use Rattle.std.specs.Prelude.{◌≡◌, ℕ, Bool, false, ◌==◌, ◌<◌, ◌≤◌, Some, nat_lt}
-use Rattle.moka_parts.specs.declared.records.Record.{Record}
-use Rattle.moka_parts.specs.Calls.{ContainsStep}
-use Rattle.moka_parts.specs.Records.{record_of_key}
-use Rattle.moka_parts.specs.State.{State}
+use Rattle.moka_engine.specs.parts.Record.{Record}
+use Rattle.moka_engine.specs.Calls.{ContainsStep}
+use Rattle.moka_engine.specs.Records.{record_of_key}
+use Rattle.moka_engine.specs.State.{State}
 use Rattle.moka_uses.specs.declared.invalidated.Below.{Below}
 
 module _ {X W : Type 0} (s : State ℕ ℕ X Below W) (key : ℕ) where

@@ -1,1 +1,3 @@
 pub mod Hidden
+pub mod Ordered
+pub mod Driven

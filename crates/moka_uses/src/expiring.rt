@@ -1,7 +1,7 @@
 //! Sessions that end by themselves.
 ghost use Rattle.std.specs.Prelude.{◌≡◌, nat_lt, IfOk};
 ghost use Rattle.std.specs.Duration.{as_nanos};
-ghost use Rattle.moka_parts.specs.Time.{plus};
+ghost use Rattle.moka_engine.specs.Time.{plus};
 
 use anyhow::Result;
 use moka_engine::{CacheConfig, Engine, Expiry, Instant};

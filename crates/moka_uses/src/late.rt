@@ -1,6 +1,6 @@
 //! A cache whose operations are sent late, and not in the order in which they were handed out.
 ghost use Rattle.std.specs.Prelude.{IfOk};
-ghost use Rattle.moka_parts.specs.Exact.{IsExact};
+ghost use Rattle.moka_engine.specs.Exact.{IsExact};
 
 use anyhow::Result;
 use moka_engine::{CacheConfig, Engine, FixedClock, Instant};

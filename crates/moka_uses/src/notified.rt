@@ -13,7 +13,7 @@ pub struct Counter {
 
 impl<K: Drop, V: Drop> Listener<K, V> for Counter {
     ghost use Rattle.std.specs.Prelude.{◌≡◌, ◌+◌, min};
-    ghost use Rattle.moka_parts.specs.Time.{greatest};
+    ghost use Rattle.moka_engine.specs.Time.{greatest};
 
     ghost tells = { λ before _ _ _ after. after ≡ record { count = min (before.count + 1) greatest } };
 

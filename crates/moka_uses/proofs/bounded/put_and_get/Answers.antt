@@ -1,6 +1,6 @@
 use Rattle.std.proofs.Common.{◌≡◌, rules, ap, Some, None, false}
-use Rattle.moka_parts.specs.Listed.{ListedRun}
-use Rattle.moka_parts.proofs.Copies.{copy-same}
+use Rattle.moka_engine.specs.Listed.{ListedRun}
+use Rattle.moka_engine.proofs.Copies.{copy-same}
 use Rattle.std.specs.Cmp.{nat_eq_equiv}
 use Rattle.moka_uses.proofs.Found.{finds_what_was_put}
 use Rattle.moka_uses.proofs.bounded.put_and_get.Goals as goal

@@ -1,11 +1,11 @@
 use Rattle.std.proofs.Common.{◌≡◌, ◌==◌, ◌<◌, ℕ, true, List, Ok, Err, Result, ap, ◌∙◌, nat_lt, arith}
 use Rattle.std.specs.Prelude.{IfOk, IfErr, OnErr}
-use Rattle.uuid.specs.declared.Uuid.{Uuid}
-use Rattle.moka_parts.specs.declared.error.PredicateRefused.{PredicateRefused}
-use Rattle.moka_parts.specs.declared.policy.Instant.{Instant}
-use Rattle.moka_parts.specs.Calls.{InvalidateStep}
-use Rattle.moka_parts.specs.Records.{record_of_key}
-use Rattle.moka_parts.specs.State.{State}
+use Rattle.moka_engine.specs.parts.Uuid.{Uuid}
+use Rattle.moka_engine.specs.parts.PredicateRefused.{PredicateRefused}
+use Rattle.moka_engine.specs.parts.Instant.{Instant}
+use Rattle.moka_engine.specs.Calls.{InvalidateStep}
+use Rattle.moka_engine.specs.Records.{record_of_key}
+use Rattle.moka_engine.specs.State.{State}
 use Rattle.moka_uses.specs.declared.invalidated.Below.{Below}
 use Rattle.moka_uses.specs.Hidden.{IsBelow, IsNeverShown}
 use Rattle.moka_uses.proofs.Covered.{never_shown}

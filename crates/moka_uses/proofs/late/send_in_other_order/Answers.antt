@@ -1,5 +1,5 @@
 use Rattle.std.proofs.Common.{◌≡◌, ◌==◌, rules, ap, ◌∙◌, None}
-use Rattle.moka_parts.specs.State.{is_disabled}
+use Rattle.moka_engine.specs.State.{is_disabled}
 use Rattle.moka_uses.proofs.Sent.{hands_out, sends, sent_in_other_order}
 use Rattle.moka_uses.proofs.late.send_in_other_order.Goals as goal
 

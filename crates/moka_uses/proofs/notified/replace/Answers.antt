@@ -1,6 +1,6 @@
 use Rattle.std.proofs.Common.{◌≡◌, ◌==◌, ◌+◌, min, rules, ap, ◌∙◌, None}
-use Rattle.moka_parts.specs.State.{is_disabled}
-use Rattle.moka_parts.specs.Time.{greatest}
+use Rattle.moka_engine.specs.State.{is_disabled}
+use Rattle.moka_engine.specs.Time.{greatest}
 use Rattle.std.specs.Cmp.{nat_eq_equiv}
 use Rattle.moka_uses.proofs.Sent.{hands_out, sends}
 use Rattle.moka_uses.proofs.Told.{told_of_the_first, heard_of_the_second}

@@ -1,6 +1,6 @@
 use Rattle.std.proofs.Common.{◌≡◌, rules, ap, None, false}
 use Rattle.std.specs.String.{string_bytes, string_eq_equiv}
-use Rattle.moka_parts.specs.Listed.{ListedRun}
+use Rattle.moka_engine.specs.Listed.{ListedRun}
 use Rattle.moka_uses.proofs.Found.{finds_what_was_put, seen_alike}
 use Rattle.moka_uses.proofs.texts.put_and_get.Goals as goal
 

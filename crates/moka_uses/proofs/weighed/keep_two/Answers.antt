@@ -1,6 +1,6 @@
-use Rattle.std.proofs.Common.{◌≡◌, ◌==◌, min, rules, ap, ◌∙◌, None, false, arith}
+use Rattle.std.proofs.Common.{refl, ◌≡◌, ◌==◌, min, rules, ap, ◌∙◌, None, false, arith}
 use Rattle.std.specs.String.{string_len}
-use Rattle.moka_parts.specs.State.{is_disabled}
+use Rattle.moka_engine.specs.State.{is_disabled}
 use Rattle.moka_uses.proofs.Sent.{hands_out, sends, put_and_sent, alike_then, weight_within}
 use Rattle.moka_uses.proofs.weighed.keep_two.Goals as goal
 
@@ -30,4 +30,4 @@ returns c =
     let none = put_and_sent v x y _ second last (put_and_sent s t v _ put sent (ap (λ x. x.outstanding) start)) in
     let run = c.run_pending_tasks.ensures.step in
     rw c.weighted_size.ensures (weight_within (λ _ _ _ answer. answer ≡ false) (λ _ _ _ _ left _. left) c.send-2.new.self.write_list c.run_pending_tasks.new.self.write_list y (record { now = 0; limit = None; batch = 384 }) c.run_pending_tasks.result run.0 c.run_pending_tasks.new.self.state run.1
-    1000 (alike.capacity ∙ ap (λ x. x.capacity) start ∙ search rules) (ap is_disabled (alike.capacity ∙ ap (λ x. x.capacity) start) ∙ search rules) (ap (λ x. x.listening) (alike.settings ∙ ap (λ x. x.settings) start) ∙ search rules) (omega arith) none)
+    1000 (alike.capacity ∙ ap (λ x. x.capacity) start ∙ search rules) (ap is_disabled (alike.capacity ∙ ap (λ x. x.capacity) start) ∙ search rules) refl (omega arith) none)

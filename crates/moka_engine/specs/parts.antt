@@ -1,0 +1,24 @@
+-- The types of moka_parts as contracts see them, and that of identifiers.
+pub use Rattle.moka_parts.specs.declared.calls.Call
+pub use Rattle.moka_parts.specs.declared.calls.DriveRefused
+pub use Rattle.moka_parts.specs.declared.calls.Entry
+pub use Rattle.moka_parts.specs.declared.calls.KvEntry
+pub use Rattle.moka_parts.specs.declared.calls.Reply
+pub use Rattle.moka_parts.specs.declared.calls.Ticket
+pub use Rattle.moka_parts.specs.declared.error.CapacityError
+pub use Rattle.moka_parts.specs.declared.error.InsertError
+pub use Rattle.moka_parts.specs.declared.error.InsertRefused
+pub use Rattle.moka_parts.specs.declared.error.OutOfMemory
+pub use Rattle.moka_parts.specs.declared.error.PredicateError
+pub use Rattle.moka_parts.specs.declared.error.PredicateRefused
+pub use Rattle.moka_parts.specs.declared.error.SendError
+pub use Rattle.moka_parts.specs.declared.notification.RemovalCause
+pub use Rattle.moka_parts.specs.declared.policy.EvictionPolicy
+pub use Rattle.moka_parts.specs.declared.policy.Instant
+pub use Rattle.moka_parts.specs.declared.records.Member
+pub use Rattle.moka_parts.specs.declared.records.Operation
+pub use Rattle.moka_parts.specs.declared.records.ReadOperation
+pub use Rattle.moka_parts.specs.declared.records.Record
+pub use Rattle.moka_parts.specs.declared.records.Registered
+pub use Rattle.moka_parts.specs.declared.records.Ticketed
+pub use Rattle.uuid.specs.declared.Uuid

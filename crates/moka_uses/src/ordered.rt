@@ -1,0 +1,80 @@
+//! A cache of which nothing is left past its time: its operations wait and are sent in the order of their writing.
+ghost use Rattle.std.specs.Prelude.{◌≡◌, ◌≤◌, ℕ, true, false, Some, IfOk};
+ghost use Rattle.std.specs.FinMap.{empty, get};
+ghost use Rattle.moka_engine.specs.Order.{IsInOrder};
+ghost use Rattle.moka_engine.specs.State.{is_disabled, keeps_write_list};
+ghost use Rattle.moka_engine.specs.Visibility.{is_past_live};
+ghost use Rattle.moka_uses.specs.Ordered.{IsLatest};
+ghost use Rattle.moka_engine.specs.parts.Record.{Record};
+
+use crate::invalidated::CountedIds;
+use moka_engine::laws::{calls_keep_order, runs_age_out};
+use moka_engine::{
+    Engine, FixedClock, InsertRefused, Instant, NoExpiry, NoListener, NoPredicate, NoWeigher,
+    Ticket,
+};
+
+/// Puts a value under a key, and hands out a ticket. Where no record was written later, a cache in the order of writing
+/// stays so (`calls_keep_order`).
+///
+/// # Errors
+/// The insert that was refused, with key and value.
+pub fn put_last(
+    cache: &mut Engine<u64, u64>,
+    key: u64,
+    value: u64,
+    now: Instant,
+) -> Result<(Ticket, Instant), InsertRefused<u64, u64>>
+    requires { is_disabled cache.old.state.capacity ≡ false }
+    ensures { keeps_write_list cache.old.state.settings ≡ true → IsLatest cache.old.state now.0
+        → IsInOrder cache.old.state cache.old.write_list → IsInOrder cache.new.state cache.new.write_list }
+{
+    calls_keep_order::<
+        u64,
+        u64,
+        NoExpiry,
+        NoListener,
+        NoPredicate,
+        NoWeigher,
+        FixedClock,
+        CountedIds,
+    >();
+    cache.invariant_holds();
+    let hash = cache.hash(&key);
+    cache.do_insert_with_hash(key, hash, value, now)
+}
+
+/// Makes a run. If every operation was sent, from a state in the order of writing, no entry is left whose time to live
+/// has passed (`runs_age_out`).
+pub fn age_out(cache: &mut Engine<u64, u64>, now: Instant) -> bool
+    ensures { keeps_write_list cache.old.state.settings ≡ true → cache.old.state.outstanding ≡ empty
+        → IsInOrder cache.old.state cache.old.write_list → (n : ℕ) (r : Record ℕ ℕ)
+        → get cache.new.state.records n ≡ Some r → is_past_live cache.new.state.settings r now.0 ≡ false }
+{
+    runs_age_out::<u64, u64, NoExpiry, NoPredicate, NoWeigher>();
+    cache.invariant_holds();
+    cache.run_pending_tasks(now, &mut FixedClock(now), None, 1, 384)
+}
+
+#[cfg(test)]
+mod tests {
+    use super::*;
+    use anyhow::Result;
+    use moka_engine::CacheConfig;
+    use std::time::Duration;
+
+    #[test]
+    fn leaves_nothing_past_its_time(rt: HostRuntime) -> Result<()> {
+        let config = CacheConfig::default().time_to_live(Duration::from_nanos(10));
+        let mut cache: Engine<u64, u64> = config.build(rt.alloc(), Instant(0))?;
+        for key in 0..4 {
+            if !cache.is_map_disabled() {
+                let (ticket, _) = put_last(&mut cache, key, 10 * key, Instant(key))?;
+                cache.send(ticket)?;
+            }
+        }
+        assert!(rt; !age_out(&mut cache, Instant(11)));
+        assert_eq!(rt; cache.entry_count(), 2);
+        Ok(())
+    }
+}
