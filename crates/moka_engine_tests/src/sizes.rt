@@ -66,6 +66,14 @@ fn has_room_for_millions(rt: HostRuntime) -> Result<(), Fail> {
     Ok(())
 }
 
+/// Room is made for as many as are named: what no table can hold is refused.
+#[test]
+fn has_no_room_for_more_than_places_can_name(rt: HostRuntime) {
+    let config = CacheConfig::default().initial_capacity(1 << 40);
+    let built: Result<TestCache, _> = config.build(rt.alloc(), Instant(0));
+    assert!(rt; built.is_err());
+}
+
 #[test]
 fn has_a_sketch_of_a_million_words(rt: HostRuntime) -> Result<(), Fail> {
     for length in [128, 65_536, 131_072, 1_048_576] {
