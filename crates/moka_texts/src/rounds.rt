@@ -1,0 +1,186 @@
+//! What is done with one text after the other.
+use crate::asks::{ASKS, Answer, Ask, answer_to};
+use crate::report::Report;
+use anyhow::{Result, anyhow};
+use moka_engine::{Engine, FixedClock, Instant, KvEntry, NoExpiry, NoPredicate, Ticket};
+use std::alloc::{AllocError, Global};
+use std::io::Write;
+
+/// A cache of texts by texts.
+pub type Texts = Engine<String, String, NoExpiry, Report, NoPredicate>;
+
+/// What a cache tells of itself.
+#[derive(Clone, Copy, Debug, PartialEq, Eq)]
+struct State {
+    entries: u64,
+    predicates: u64,
+    outstanding: u64,
+    oldest: Option<Ticket>,
+    writes: usize,
+    reads: usize,
+    report: Option<Report>,
+}
+
+fn state_of(cache: &Texts) -> State {
+    State {
+        entries: cache.entry_count(),
+        predicates: cache.invalidation_predicate_count(),
+        outstanding: cache.outstanding(),
+        oldest: cache.oldest_unsent(),
+        writes: cache.queued_writes(),
+        reads: cache.queued_reads(),
+        report: cache.listener().copied(),
+    }
+}
+
+/// A text. Where memory for it is refused, it is made again.
+fn text(alloc: Global, word: &str, number: u64) -> Result<String, AllocError> {
+    match format!(in alloc; "{word} {number}") {
+        Ok(text) => Ok(text),
+        Err(_) => format!(in alloc; "{word} {number}"),
+    }
+}
+
+/// Says that a call was refused, and whether the cache is as it was before.
+fn tell_refused<W: Write>(out: &mut W, call: &str, before: State, after: State) -> Result<()> {
+    writeln!(out, "refused: {call}")?;
+    if before != after {
+        writeln!(out, "changed: {before:?} to {after:?}")?;
+    }
+    Ok(())
+}
+
+/// Puts a text in, and sends the operation.
+fn put<W: Write>(
+    out: &mut W,
+    cache: &mut Texts,
+    key: String,
+    value: String,
+    now: Instant,
+) -> Result<()> {
+    if cache.is_map_disabled() {
+        return Err(anyhow!("disabled"));
+    }
+    let before = state_of(cache);
+    match cache.do_insert_with_hash(key, 7, value, now) {
+        Ok((ticket, _)) => cache.send(ticket)?,
+        Err(refused) => {
+            tell_refused(out, "insert", before, state_of(cache))?;
+            put_again(cache, refused.key, refused.value, now)?;
+        }
+    }
+    Ok(())
+}
+
+fn put_again(cache: &mut Texts, key: String, value: String, now: Instant) -> Result<()> {
+    if cache.is_map_disabled() {
+        return Err(anyhow!("disabled"));
+    }
+    let (ticket, _) = cache.do_insert_with_hash(key, 7, value, now)?;
+    cache.send(ticket)?;
+    Ok(())
+}
+
+/// Makes a call about a key, twice if it is refused.
+fn asked<W: Write>(
+    out: &mut W,
+    cache: &mut Texts,
+    call: Ask,
+    key: &String,
+    now: Instant,
+) -> Result<Answer> {
+    let before = state_of(cache);
+    match answer_to(cache, call, key, now) {
+        Ok(answer) => Ok(answer),
+        Err(_) => {
+            tell_refused(out, call.name(), before, state_of(cache))?;
+            Ok(answer_to(cache, call, key, now)?)
+        }
+    }
+}
+
+/// Whether an answer to a call is right.
+fn is_right(call: Ask, answer: &Answer, key: &String, value: &String, state: State) -> bool {
+    let has_key = answer.key.as_ref() == Some(key);
+    let has_value = answer.value.as_ref() == Some(value);
+    let has_neither = answer.key.is_none() && answer.value.is_none();
+    match call {
+        Ask::Get | Ask::Peek | Ask::Scan => answer.key.is_none() && has_value,
+        Ask::GetWithKey | Ask::GetUnless => has_key && has_value,
+        Ask::Ignore => has_neither,
+        Ask::Keys => answer.count > 0,
+        Ask::Register => answer.count == state.predicates,
+    }
+}
+
+fn ask_all<W: Write>(
+    out: &mut W,
+    cache: &mut Texts,
+    key: &String,
+    value: &String,
+    now: Instant,
+) -> Result<()> {
+    for call in ASKS {
+        let answer = asked(out, cache, call, key, now)?;
+        if !is_right(call, &answer, key, value, state_of(cache)) {
+            writeln!(out, "wrong: {call:?} {answer:?}")?;
+        }
+    }
+    Ok(())
+}
+
+/// Tells the listener of what was removed, twice if that is refused.
+fn tell_removed<W: Write>(
+    out: &mut W,
+    cache: &mut Texts,
+    entry: &KvEntry<String, String>,
+    now: Instant,
+) -> Result<()> {
+    let before = state_of(cache);
+    if cache.notify_invalidate(entry, now).is_err() {
+        tell_refused(out, "notify", before, state_of(cache))?;
+        cache.notify_invalidate(entry, now)?;
+    }
+    Ok(())
+}
+
+fn take_out<W: Write>(out: &mut W, cache: &mut Texts, key: &String, now: Instant) -> Result<()> {
+    if let Some((entry, ticket)) = cache.remove_entry(key, 7) {
+        tell_removed(out, cache, &entry, now)?;
+        cache.send(ticket)?;
+    }
+    Ok(())
+}
+
+/// Puts a text in, asks for it, replaces it, and takes each third one out again; then a run is made.
+pub fn round<W: Write>(alloc: Global, out: &mut W, cache: &mut Texts, number: u64) -> Result<()> {
+    let now = Instant(number);
+    let key = text(alloc, "key", number)?;
+    let value = text(alloc, "value", number)?;
+    put(
+        out,
+        cache,
+        text(alloc, "key", number)?,
+        text(alloc, "first", number)?,
+        now,
+    )?;
+    put(
+        out,
+        cache,
+        text(alloc, "key", number)?,
+        text(alloc, "value", number)?,
+        now,
+    )?;
+    ask_all(out, cache, &key, &value, now)?;
+    if number % 3 == 2 {
+        take_out(out, cache, &key, now)?;
+    }
+    let is_more = cache.run_pending_tasks(now, &mut FixedClock(now), None, 4, 384);
+    let state = state_of(cache);
+    writeln!(
+        out,
+        "{number}: {} entries, more {is_more}, {:?}",
+        state.entries, state.report
+    )?;
+    Ok(())
+}
