@@ -17,10 +17,10 @@ use Rattle.moka_parts.proofs.Values.{remove_absent, values_inserted, values_remo
 use Rattle.moka_store.specs.Store.{Kept, with_timer}
 use Rattle.moka_store.proofs.Gets.{after_remove, get-past_insert, get-past_remove}
 use Rattle.moka_maintenance.specs.declared.sweep.Tests.{Tests}
-use Rattle.moka_maintenance.specs.Steps.{Stock, Told, after_step, after_steps, left_by_step, stock_in, MayStep, MayAll, MayLeave}
-use Rattle.moka_maintenance.specs.Sweeps.{tests_in, MayExpire, ExpiresDue}
+use Rattle.moka_maintenance.specs.Steps.{Stock, Told, after_step, after_steps, left_by_step, stock_in, MayLeave}
+use Rattle.moka_maintenance.specs.Sweeps.{MayExpire, ExpiresDue}
 use Rattle.moka_maintenance.specs.Timers.{IsReset, KeepsTimers}
-use Rattle.moka_maintenance.proofs.Stepped.{may-also, removed-on, shrinks, step_leaves, stepped-none, stepped-one, stepped-on}
+use Rattle.moka_maintenance.proofs.Stepped.{may-also, removed-on, shrinks, stepped-none, stepped-one, stepped-on}
 use Rattle.moka_maintenance.proofs.Timing.{member-was, set-own}
 
 -- ---- how many timers are due
@@ -115,9 +115,9 @@ module _ {K V L : Type 0} (tells : L → K → V → RemovalCause → L → Type
   unfolding stepped-none
   expires-none c l = record { by = stepped-none tells (MayExpire q) c l; count = refl }
 
-  pub expires-one : (a b : Stock K V) (l m : Option L) (n : ℕ) → MayStep (tests_in q) a (Removes n Expired) → b ≡ after_step a (Removes n Expired) → Told tells l (left_by_step a (Removes n Expired)) m → ExpiresDue tells q a b l m 1
+  pub expires-one : (a b : Stock K V) (l m : Option L) (n : ℕ) → MayExpire q a (Removes n Expired) → b ≡ after_step a (Removes n Expired) → Told tells l (left_by_step a (Removes n Expired)) m → ExpiresDue tells q a b l m 1
   unfolding stepped-one
-  expires-one a b l m n may led told = record { by = stepped-one tells (MayExpire q) a b l m (Removes n Expired) (may, refl) led told; count = refl }
+  expires-one a b l m n may led told = record { by = stepped-one tells (MayExpire q) a b l m (Removes n Expired) may led told; count = refl }
 
   pub expires-on : (a b c : Stock K V) (l m k : Option L) (r s : ℕ) → ExpiresDue tells q a b l m r → ExpiresDue tells q b c m k s → ExpiresDue tells q a c l k (r + s)
   unfolding stepped-on
@@ -126,15 +126,14 @@ module _ {K V L : Type 0} (tells : L → K → V → RemovalCause → L → Type
     count = (let e = h.count in let f = j.count in let both = removed-on h.by.steps j.by.steps in omega arith);
   }
 
-  may_expire : (c : Stock K V) (xs : List Choice) → MayAll (MayExpire q) c xs → MayAll (MayStep (tests_in q)) c xs
-  may_expire c [] may = tt
-  may_expire c (Removes n cause ∷ xs) may = (may.0.0, may_expire (after_step c (Removes n cause)) xs may.1)
-  may_expire c (MovesToBack n ∷ xs) may = absurd may.0
-  may_expire c (Drops i ∷ xs) may = absurd may.0
+  expiry_leaves : (c : Stock K V) (x : Choice) → MayExpire q c x → MayLeave c x
+  expiry_leaves c (Removes n cause) may = (may.0, may.1, may.2)
+  expiry_leaves c (MovesToBack n) may = absurd may
+  expiry_leaves c (Drops i) may = absurd may
 
   -- no more leave than there are members
   pub expires-few : (a b : Stock K V) (l m : Option L) (r : ℕ) → ExpiresDue tells q a b l m r → r ≤ length a.access
-  expires-few a b l m r h = let less = shrinks a h.by.steps (may-also (MayStep (tests_in q)) MayLeave (step_leaves (tests_in q)) a h.by.steps (may_expire a h.by.steps h.by.may)) in let count = h.count in omega arith
+  expires-few a b l m r h = let less = shrinks a h.by.steps (may-also (MayExpire q) MayLeave expiry_leaves a h.by.steps h.by.may) in let count = h.count in omega arith
 
   -- a timer that was due is taken out, and then its member leaves or stays
   module _ {S : Type 0} (old mid new : Kept K V S) (l m : Option L) (n r : ℕ) (taken : mid ≡ record old { timers = remove old.timers n }) (reset : IsReset q.now.0 n mid new) (expired : ExpiresDue tells q (stock_in mid) (stock_in new) l m r) where

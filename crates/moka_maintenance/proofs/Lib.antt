@@ -17,6 +17,7 @@ pub mod Expelling
 pub mod Rows
 pub mod Sweeping
 pub mod Expiring
+pub mod Grounded
 pub mod PassSteps
 pub mod Clocked
 pub mod Passing

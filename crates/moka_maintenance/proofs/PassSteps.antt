@@ -1,5 +1,5 @@
 -- The steps of a pass joined, and passes one after the other.
-use Rattle.std.proofs.Common.{◌≡◌, refl, ℕ, ◌+◌, ◌*◌, ◌<◌, ◌≤◌, ◌⊎◌, Bool, true, false, true≢false, not, ◌&&◌, ◌||◌, List, [], ◌∷◌, ◌++◌, length, Option, Some, None, is_some, inl, inr, ap, sym, subst, ◌∙◌, arith, append_assoc}
+use Rattle.std.proofs.Common.{◌≡◌, refl, ℕ, ◌+◌, ◌*◌, ◌<◌, ◌≤◌, ◌⊎◌, Bool, true, false, true≢false, not, ◌&&◌, ◌||◌, List, [], ◌∷◌, ◌++◌, length, Option, Some, None, is_some, inl, inr, ap, sym, subst, ◌∙◌, arith, append_assoc, if◌then◌else◌}
 use Rattle.std.proofs.lemmas.Bool.{cases_eq}
 use Rattle.std.proofs.lemmas.List.Folds.{list_all-append}
 use Rattle.std.specs.List.{list_all}
@@ -8,8 +8,12 @@ use Rattle.std.specs.Option.{option_map}
 use Rattle.moka_parts.specs.declared.notification.RemovalCause.{RemovalCause}
 use Rattle.moka_parts.specs.Time.{deadline, has_passed, is_before, moment_of}
 use Rattle.moka_parts.specs.declared.policy.Instant.{Instant}
-use Rattle.moka_parts.specs.Maintenance.{Choice, Removes, MovesToBack, Drops, is_over}
+use Rattle.moka_parts.specs.declared.notification.RemovalCause.TheVariants.{Expired, Explicit, Replaced, Size}
+use Rattle.moka_parts.specs.Visibility.{SomeCovers, is_read_before, is_written_before}
+use Rattle.moka_parts.specs.Maintenance.{Choice, Removes, MovesToBack, Drops, is_over, is_past_read, is_past_write}
+use Rattle.moka_parts.specs.Grounds.{ByTimer, ByWrite, ByRead, ByPredicate, BySurplus, FollowsGrounds, grounds_of_pass}
 use Rattle.moka_parts.specs.Bounds.{removed_by}
+use Rattle.moka_parts.specs.declared.records.Record.{Record}
 use Rattle.moka_parts.specs.declared.records.Registered.{Registered}
 use Rattle.moka_parts.specs.Records.{is_member, is_settled}
 use Rattle.moka_store.specs.Store.{Kept}
@@ -19,12 +23,13 @@ use Rattle.moka_maintenance.specs.declared.sweep.Sweep.{Sweep}
 use Rattle.moka_maintenance.specs.declared.sweep.Sweep.TheVariants.{Written, Read, Surplus}
 use Rattle.moka_maintenance.specs.Scanning.{MayScan, AreDropped, IsScanned}
 use Rattle.moka_maintenance.specs.Steps.{Stock, MayLeave, MayRun, MayAll, AreAllMembers, HasNoSettled, HasUnsettled, IsStepped, after_step, after_steps, contents_of, is_timely, makes_room, stock_in}
-use Rattle.moka_maintenance.specs.Sweeps.{tests_in, is_by_moment, IsAtRest, IsDone, AreAllTurns, MayTurn, MayExpire, IsSwept, ExpiresDue}
+use Rattle.moka_maintenance.specs.Sweeps.{tests_in, ground_of, IsAtRest, IsDone, AreAllTurns, MayTurn, MayExpire, IsSwept, ExpiresDue}
 use Rattle.moka_maintenance.specs.Passes.{is_taken, sweeps_reads, sweeps_writes, IsPass}
 use Rattle.moka_maintenance.proofs.Fronts.{within-not_over}
+use Rattle.moka_maintenance.proofs.Grounded.{expiry_takes, grounds-on, grounds-one, scan_takes, take_runs, turn_takes}
 use Rattle.moka_maintenance.proofs.Rounds.{each_unsettled, none_settled, still_there}
 use Rattle.moka_maintenance.proofs.Scanned.{dropped-later}
-use Rattle.moka_maintenance.proofs.Stepped.{length-on, may-also, members-steps, none-steps, removed-on, removed-few, run_leaves, scan_runs, shrinks, step_runs, stepped-none, stepped-on, stepped-also}
+use Rattle.moka_maintenance.proofs.Stepped.{length-on, may-also, members-steps, none-steps, removed-on, removed-few, run_leaves, scan_runs, shrinks, stepped-none, stepped-on, stepped-also}
 
 -- ---- a step that is not taken
 
@@ -82,29 +87,44 @@ not_taken q Surplus c e = within-not_over q.capacity c.access e
 
 -- a turn of a sweep is a step that these tests allow
 turn_allowed : {K V P : Type 0} (says : P → K → V → Bool → Type 0) (ps : List (Registered P)) (q : Tests) (sweep : Sweep) (c : Stock K V) (x : Choice) → MayTurn q sweep c x → MayRun says ps (tests_in q) c x
-turn_allowed says ps q sweep c (Removes n cause) may = step_runs (tests_in q) says ps c (Removes n cause) may.1
-turn_allowed says ps q sweep c (MovesToBack n) may = may.1
-turn_allowed says ps q sweep c (Drops i) may = absurd may
+turn_allowed says ps q sweep c x may = take_runs says ps (tests_in q) (ground_of sweep) c x (turn_takes says ps q sweep c x may)
 
 -- and so is a removal by a timer
 expiry_allowed : {K V P : Type 0} (says : P → K → V → Bool → Type 0) (ps : List (Registered P)) (q : Tests) (c : Stock K V) (x : Choice) → MayExpire q c x → MayRun says ps (tests_in q) c x
-expiry_allowed says ps q c (Removes n cause) may = step_runs (tests_in q) says ps c (Removes n cause) may.0
-expiry_allowed says ps q c (MovesToBack n) may = absurd may
-expiry_allowed says ps q c (Drops i) may = absurd may
+expiry_allowed says ps q c x may = take_runs says ps (tests_in q) ByTimer c x (expiry_takes says ps q c x may)
 
 -- neither makes room
 no_room : (cause : RemovalCause) → is_timely cause ≡ true → not (is_timely cause) ≡ false
 no_room cause e = ap not e
 
+timely_once : (a b : Bool) (cause : RemovalCause) → (if a then Some Expired else (if b then Some Explicit else None)) ≡ Some cause → is_timely cause ≡ true
+timely_once a b Expired e = refl
+timely_once a b Explicit e = refl
+timely_once a b Replaced e = refl
+timely_once true b Size e = cc
+timely_once false true Size e = cc
+timely_once false false Size e = cc
+
+-- the sweep looks at moments
+abbrev is_by_moment : Sweep → Bool
+is_by_moment Written = true
+is_by_moment Read = true
+is_by_moment Surplus = false
+
+timely_turn : {K V : Type 0} (q : Tests) (sweep : Sweep) → is_by_moment sweep ≡ true → (c : Stock K V) (n : ℕ) (cause : RemovalCause) → MayTurn q sweep c (Removes n cause) → is_timely cause ≡ true
+timely_turn q Written timely c n cause may = timely_once (is_past_write (tests_in q) may.1.0) (is_written_before q.valid_after may.1.0) cause may.1.3
+timely_turn q Read timely c n cause may = timely_once (is_past_read (tests_in q) may.1.0) (is_read_before q.valid_after may.1.0) cause may.1.3.1
+timely_turn q Surplus timely c n cause may = absurd (true≢false (sym timely))
+
 none_makes_room : {K V : Type 0} (q : Tests) (sweep : Sweep) → is_by_moment sweep ≡ true → (c : Stock K V) (xs : List Choice) → MayAll (MayTurn q sweep) c xs → list_all makes_room xs ≡ true → xs ≡ []
 none_makes_room q sweep timely c [] may all = refl
-none_makes_room q sweep timely c (Removes n cause ∷ xs) may all = absurd (true≢false (sym all ∙ ap (λ b. b && list_all makes_room xs) (no_room cause (may.0.2 timely))))
+none_makes_room q sweep timely c (Removes n cause ∷ xs) may all = absurd (true≢false (sym all ∙ ap (λ b. b && list_all makes_room xs) (no_room cause (timely_turn q sweep timely c n cause may.0))))
 none_makes_room q sweep timely c (MovesToBack n ∷ xs) may all = absurd (true≢false (sym all))
 none_makes_room q sweep timely c (Drops i ∷ xs) may all = absurd may.0
 
 none_by_timers : {K V : Type 0} (q : Tests) (c : Stock K V) (xs : List Choice) → MayAll (MayExpire q) c xs → list_all makes_room xs ≡ true → xs ≡ []
 none_by_timers q c [] may all = refl
-none_by_timers q c (Removes n cause ∷ xs) may all = absurd (true≢false (sym all ∙ ap (λ b. b && list_all makes_room xs) (ap (λ k. not (is_timely k)) may.0.1)))
+none_by_timers q c (Removes n cause ∷ xs) may all = absurd (true≢false (sym all ∙ ap (λ b. b && list_all makes_room xs) (ap (λ k. not (is_timely k)) may.0.3.1)))
 none_by_timers q c (MovesToBack n ∷ xs) may all = absurd may.0
 none_by_timers q c (Drops i ∷ xs) may all = absurd may.0
 
@@ -316,6 +336,27 @@ module _ {K V L P S : Type 0} (tells : L → K → V → RemovalCause → L → 
   unfolding first moments timely-on timely-swept stepped-on stepped-also
   moments_are = refl
 
+  abbrev Covered : Record K V → Type 0
+  Covered = SomeCovers says ps
+
+  -- the steps one after the other, each with its own causes
+  ordered_moments : FollowsGrounds Covered (tests_in q) (ByTimer ∷ ByWrite ∷ ByRead ∷ []) (contents_of a) moments.by.steps
+  ordered_moments =
+      let timers = grounds-one Covered (tests_in q) (MayExpire q) ByTimer (expiry_takes says ps q) a by_timers.by.steps by_timers.by.may in
+      let writes = grounds-one Covered (tests_in q) (MayTurn q Written) ByWrite (turn_takes says ps q Written) b by_write.by.steps by_write.by.may in
+      let reads = grounds-one Covered (tests_in q) (MayTurn q Read) ByRead (turn_takes says ps q Read) c by_read.by.steps by_read.by.may in
+      let both = grounds-on Covered (tests_in q) (ByTimer ∷ []) (ByWrite ∷ []) a b by_timers.by.steps by_write.by.steps by_timers.by.led timers writes in
+      subst (λ xs. FollowsGrounds Covered (tests_in q) (ByTimer ∷ ByWrite ∷ ByRead ∷ []) (contents_of a) xs) (sym moments_are)
+      (grounds-on Covered (tests_in q) (ByTimer ∷ ByWrite ∷ []) (ByRead ∷ []) a c first.by.steps by_read.by.steps first.by.led (subst (λ xs. FollowsGrounds Covered (tests_in q) (ByTimer ∷ ByWrite ∷ []) (contents_of a) xs) (sym first_are) both) reads)
+
+  ordered : FollowsGrounds Covered (tests_in q) grounds_of_pass (contents_of a) (scanned.by.steps ++ last.steps)
+  unfolding last stepped-also
+  ordered =
+      let scan = grounds-one Covered (tests_in q) (MayScan says ps) ByPredicate (scan_takes says ps (tests_in q)) d by_scan.by.steps by_scan.by.may in
+      let last_of = grounds-one Covered (tests_in q) (MayTurn q Surplus) BySurplus (turn_takes says ps q Surplus) f surplus.by.steps surplus.by.may in
+      let four = grounds-on Covered (tests_in q) (ByTimer ∷ ByWrite ∷ ByRead ∷ []) (ByPredicate ∷ []) a d moments.by.steps by_scan.by.steps moments.by.led ordered_moments scan in
+      grounds-on Covered (tests_in q) (ByTimer ∷ ByWrite ∷ ByRead ∷ ByPredicate ∷ []) (BySurplus ∷ []) a f scanned.by.steps surplus.by.steps scanned.by.led (subst (λ xs. FollowsGrounds Covered (tests_in q) (ByTimer ∷ ByWrite ∷ ByRead ∷ ByPredicate ∷ []) (contents_of a) xs) (sym scanned_are) four) last_of
+
   wrote_steps : length by_write.by.steps ≤ length first.by.steps
   wrote_steps = let both = ap length first_are ∙ length-on by_timers.by.steps by_write.by.steps in omega arith
 
@@ -372,6 +413,7 @@ module _ {K V L P S : Type 0} (tells : L → K → V → RemovalCause → L → 
   pass-five wrote_due read_due over = record {
     by = stepped-on tells (MayRun says ps (tests_in q)) a f e l u p scanned.by last;
     dropped = dropped_after;
+    in_order = ordered;
     count = counts;
     more = some;
     many = many_turns;

@@ -7,7 +7,10 @@ use Rattle.moka_parts.specs.declared.records.Registered.{Registered}
 use Rattle.moka_parts.specs.declared.notification.RemovalCause.{RemovalCause}
 use Rattle.moka_parts.specs.declared.policy.Instant.{Instant}
 use Rattle.moka_parts.specs.Maintenance.{Choice}
+use Rattle.moka_parts.specs.declared.records.Record.{Record}
+use Rattle.moka_parts.specs.Visibility.{SomeCovers}
 use Rattle.moka_parts.specs.Bounds.{removed_by}
+use Rattle.moka_parts.specs.Grounds.{FollowsGrounds, grounds_of, grounds_of_pass}
 use Rattle.moka_maintenance.specs.declared.sweep.Tests.{Tests}
 use Rattle.moka_maintenance.specs.Scanning.{AreDropped}
 use Rattle.moka_maintenance.specs.Steps.{Stock, MayLeave, MayRun, AreAllMembers, HasUnsettled, IsStepped, after_steps, contents_of, makes_room}
@@ -15,6 +18,7 @@ use Rattle.moka_maintenance.specs.declared.sweep.Sweep.{Sweep}
 use Rattle.moka_maintenance.specs.declared.sweep.Sweep.TheVariants.{Written, Read, Surplus}
 use Rattle.moka_maintenance.specs.Sweeps.{tests_in, IsAtRest, IsDone}
 use Rattle.moka_maintenance.specs.Passes.{IsPass, IsRan}
+use Rattle.moka_maintenance.proofs.Grounded.{grounds-also, grounds-next, grounds-on}
 use Rattle.moka_maintenance.proofs.Rounds.{still_there}
 use Rattle.moka_maintenance.proofs.Scanned.{covers_fewer, dropped-later, dropped-none, dropped-on, kept_there, nothing_kept}
 use Rattle.moka_maintenance.proofs.Stepped.{fewer_run, may-also, members-steps, steps-append, length-on, removed-on, run_leaves, shrinks, stepped-also, stepped-none, stepped-on}
@@ -27,6 +31,7 @@ use Rattle.moka_maintenance.proofs.Clocked.{Clocked, IsChecked, clocked_ends}
 pub record IsMoving {K V L P : Type 0} (tells : L → K → V → RemovalCause → L → Type 0) (says : P → K → V → Bool → Type 0) (q : Tests) (batch : ℕ) (ordered : Bool) (ps qs : List (Registered P)) (first now : Stock K V) (l m : Option L) (passes : ℕ) : Type 0 where
   pub by : IsStepped tells (MayRun says ps (tests_in q)) first now l m
   pub dropped : AreDropped says (contents_of now) ps qs
+  pub in_order : FollowsGrounds (SomeCovers says ps) (tests_in q) (grounds_of passes) (contents_of first) by.steps
   pub few : passes ≤ length (removed_by by.steps)
   pub turned : ps ≡ [] → passes * batch ≤ length by.steps
   pub many : length by.steps + length now.access ≤ passes * (batch + batch + batch) + length first.access
@@ -35,7 +40,7 @@ pub record IsMoving {K V L P : Type 0} (tells : L → K → V → RemovalCause �
 
 pub moving-none : {K V L P : Type 0} (tells : L → K → V → RemovalCause → L → Type 0) (says : P → K → V → Bool → Type 0) (q : Tests) (batch : ℕ) (ordered : Bool) (ps : List (Registered P)) (c : Stock K V) (l : Option L) → IsMoving tells says q batch ordered ps ps c c l l 0
 unfolding stepped-none
-moving-none tells says q batch ordered ps c l = record { by = stepped-none tells (MayRun says ps (tests_in q)) c l; dropped = dropped-none says (contents_of c) ps ps refl; few = omega arith; turned = λ _. omega arith; many = omega arith; exact = λ _ _. omega arith; none = λ _. refl }
+moving-none tells says q batch ordered ps c l = record { by = stepped-none tells (MayRun says ps (tests_in q)) c l; dropped = dropped-none says (contents_of c) ps ps refl; in_order = refl; few = omega arith; turned = λ _. omega arith; many = omega arith; exact = λ _ _. omega arith; none = λ _. refl }
 
 shorter : {K V L P : Type 0} (tells : L → K → V → RemovalCause → L → Type 0) (says : P → K → V → Bool → Type 0) (ps : List (Registered P)) (q : Tests) (a b : Stock K V) (l m : Option L) (h : IsStepped tells (MayRun says ps (tests_in q)) a b l m) → length b.access + length (removed_by h.steps) ≤ length a.access
 shorter tells says ps q a b l m h = subst (λ (x : Stock _ _). length x.access + length (removed_by h.steps) ≤ length a.access) (sym h.led) (shrinks a h.steps (may-also (MayRun says ps (tests_in q)) MayLeave (run_leaves (tests_in q) says ps) a h.steps h.may))
@@ -58,12 +63,21 @@ module _ {K V L P : Type 0} (tells : L → K → V → RemovalCause → L → Ty
   fewer : length next.access + removed ≤ length now.access
   fewer = let s = shorter tells says rs q now next m n p.by in let c = p.count in omega arith
 
+  covered_before : (r : Record K V) → SomeCovers says rs r → SomeCovers says ps r
+  covered_before = covers_fewer says ps rs (λ x there. kept_there ps h.dropped.steps x (subst (λ xs. Contains xs x) h.dropped.kept there))
+
   -- by predicates that were registered at the start
   later : IsStepped tells (MayRun says ps (tests_in q)) now next m n
-  later = stepped-also tells (MayRun says rs (tests_in q)) (MayRun says ps (tests_in q)) (fewer_run (tests_in q) says ps rs (covers_fewer says ps rs (λ x there. kept_there ps h.dropped.steps x (subst (λ xs. Contains xs x) h.dropped.kept there)))) now next m n p.by
+  later = stepped-also tells (MayRun says rs (tests_in q)) (MayRun says ps (tests_in q)) (fewer_run (tests_in q) says ps rs covered_before) now next m n p.by
 
   dropped_all : AreDropped says (contents_of next) ps qs
   dropped_all = dropped-on says (contents_of next) ps rs qs (dropped-later says (contents_of now) (contents_of next) (λ k r at. still_there now p.by.steps k r (sym (ap (λ (s : Stock K V). get s.records k) p.by.led) ∙ at)) ps rs h.dropped) p.dropped
+
+  in_order_all : FollowsGrounds (SomeCovers says ps) (tests_in q) (grounds_of (passes + 1)) (contents_of first) (h.by.steps ++ p.by.steps)
+  in_order_all =
+      subst (λ gs. FollowsGrounds (SomeCovers says ps) (tests_in q) gs (contents_of first) (h.by.steps ++ p.by.steps)) (sym (grounds-next passes))
+      (grounds-on (SomeCovers says ps) (tests_in q) (grounds_of passes) grounds_of_pass first now h.by.steps p.by.steps h.by.led h.in_order
+      (grounds-also (SomeCovers says rs) (SomeCovers says ps) covered_before (tests_in q) grounds_of_pass (contents_of now) p.by.steps p.in_order))
 
   -- no predicates are added
   none_yet : ps ≡ [] → rs ≡ []
@@ -97,6 +111,7 @@ module _ {K V L P : Type 0} (tells : L → K → V → RemovalCause → L → Ty
   moving-on some is = record {
     by = stepped-on tells (MayRun says ps (tests_in q)) first now next l m n h.by later;
     dropped = dropped_all;
+    in_order = in_order_all;
     few = (let f = h.few in let c = counted in omega arith);
     turned = λ none. one_more passes batch (length h.by.steps) (length p.by.steps) (length (h.by.steps ++ p.by.steps)) (h.turned none) (p.turned (by_sweeps none is)) (length-on h.by.steps p.by.steps);
     many = many_all;
@@ -147,6 +162,7 @@ module _ {K V L P : Type 0} (tells : L → K → V → RemovalCause → L → Ty
     ran-out k out = record {
       by = stepped-on tells (MayRun says ps (tests_in q)) first now next l m n h.by later;
       dropped = dropped_all;
+      in_order = in_order_all;
       made = omega arith;
       many = many_all;
       few = (let f = h.few in let c = counted in omega arith);
@@ -195,6 +211,7 @@ module _ {K V L P : Type 0} (tells : L → K → V → RemovalCause → L → Ty
     ran-late k is some = record {
       by = stepped-on tells (MayRun says ps (tests_in q)) first now next l m n h.by later;
       dropped = dropped_all;
+      in_order = in_order_all;
       made = omega arith;
       many = many_all;
       few = (let f = h.few in let c = counted in omega arith);

@@ -8,7 +8,9 @@ use Rattle.moka_parts.specs.declared.records.Registered.{Registered}
 use Rattle.moka_parts.specs.Surroundings.{Leads}
 use Rattle.moka_parts.specs.Exact.{IsWithin}
 use Rattle.moka_parts.specs.Maintenance.{Choice, is_over, is_late}
+use Rattle.moka_parts.specs.Visibility.{SomeCovers}
 use Rattle.moka_parts.specs.Bounds.{removed_by}
+use Rattle.moka_parts.specs.Grounds.{FollowsGrounds, grounds_of, grounds_of_pass}
 use Rattle.moka_maintenance.specs.declared.sweep.Tests.{Tests}
 use Rattle.moka_maintenance.specs.declared.sweep.Sweep.{Sweep}
 use Rattle.moka_maintenance.specs.declared.sweep.Sweep.TheVariants.{Written, Read, Surplus}
@@ -47,6 +49,8 @@ module _ {K V L P : Type 0} (tells : L → K → V → RemovalCause → L → Ty
   pub record IsPass (batch : ℕ) (ordered : Bool) (ps qs : List (Registered P)) (before after : Stock K V) (l m : Option L) (removed : ℕ) (left scan : Bool) : Type 0 where
     pub by : IsStepped tells (MayRun says ps (tests_in q)) before after l m
     pub dropped : AreDropped says (contents_of after) ps qs
+    -- timers, the sweep by the last write, the one by the last read, the scan and the sweep of the surplus, each with its own causes
+    pub in_order : FollowsGrounds (SomeCovers says ps) (tests_in q) grounds_of_pass (contents_of before) by.steps
     pub count : removed ≤ length (removed_by by.steps)
     pub more : left ≡ true → 1 ≤ batch → 1 ≤ removed
     -- beside timers and the scan, each of its steps takes at most a batch of turns
@@ -79,6 +83,8 @@ module _ {K V L P : Type 0} (tells : L → K → V → RemovalCause → L → Ty
     pub record IsRan (batch : ℕ) (ordered : Bool) (ps qs : List (Registered P)) (before after : Stock K V) (l m : Option L) (c d : C) (passes : ℕ) (left : Bool) : Type 0 where
       pub by : IsStepped tells (MayRun says ps (tests_in q)) before after l m
       pub dropped : AreDropped says (contents_of after) ps qs
+      -- the steps of each pass have their order and their causes
+      pub in_order : FollowsGrounds (SomeCovers says ps) (tests_in q) (grounds_of passes) (contents_of before) by.steps
       pub made : 1 ≤ passes
       pub few : passes ≤ length (removed_by by.steps) + 1
       pub many : length by.steps + length after.access ≤ passes * (batch + batch + batch) + length before.access

@@ -11,22 +11,23 @@ use Rattle.moka_parts.specs.Visibility.{is_read_before}
 use Rattle.moka_parts.specs.Maintenance as parts
 use Rattle.moka_parts.specs.Maintenance.{Choice, Removes, MovesToBack, Drops, is_front, is_over, is_past_read}
 use Rattle.moka_parts.specs.Bounds.{removed_by}
+use Rattle.moka_parts.specs.Grounds.{Ground, ByTimer, ByWrite, ByRead, BySurplus, LeavesBy, MayTake}
 use Rattle.moka_maintenance.specs.declared.sweep.Tests.{Tests}
 use Rattle.moka_maintenance.specs.declared.sweep.Sweep.{Sweep}
 use Rattle.moka_maintenance.specs.declared.sweep.Sweep.TheVariants.{Written, Read, Surplus}
 use Rattle.moka_maintenance.specs.declared.sweep.Turn.{Turn}
 use Rattle.moka_maintenance.specs.declared.sweep.Turn.TheVariants.{Removed, Passed, Ended}
-use Rattle.moka_maintenance.specs.Steps.{Stock, MayStep, HasUnsettled, HasNoSettled, IsStepped, Told, after_step, left_by_step, is_timely}
+use Rattle.moka_maintenance.specs.Steps.{Stock, MayStep, HasUnsettled, HasNoSettled, IsStepped, Told, after_step, contents_of, left_by_step}
 
 -- the reference cache's tests of these
 abbrev pub tests_in : Tests → parts.Tests
 tests_in q = record { now = q.now.0; time_to_live = option_map as_nanos q.time_to_live; time_to_idle = option_map as_nanos q.time_to_idle; invalid_before = q.valid_after; capacity = q.capacity }
 
--- the sweep looks at moments
-abbrev pub is_by_moment : Sweep → Bool
-is_by_moment Written = true
-is_by_moment Read = true
-is_by_moment Surplus = false
+-- the ground on which the sweep removes records
+abbrev pub ground_of : Sweep → Ground
+ground_of Written = ByWrite
+ground_of Read = ByRead
+ground_of Surplus = BySurplus
 
 module _ {K V : Type 0} (q : Tests) where
   -- the number is that of the front to which the sweep has come
@@ -41,15 +42,19 @@ module _ {K V : Type 0} (q : Tests) where
   IsAtRest Read c = (n : ℕ) (r : Record K V) → is_front n c.access ≡ true → get c.records n ≡ Some r → (is_past_read (tests_in q) r ≡ false) × (is_read_before q.valid_after r ≡ false)
   IsAtRest Surplus c = IsWithin q.capacity c.access
 
+  -- the sweep removes the record, to which it has come, and tells this cause
+  abbrev pub LeavesIn : Sweep → Stock K V → ℕ → Record K V → RemovalCause → Type 0
+  LeavesIn sweep c n r cause = LeavesBy (λ _. ⊥) (tests_in q) (ground_of sweep) (contents_of c) n r cause
+
   -- the step may be a turn of the sweep
   abbrev pub MayTurn : Sweep → Stock K V → Choice → Type 0
-  MayTurn sweep c (Removes n cause) = IsNext sweep c n × MayStep (tests_in q) c (Removes n cause) × (is_by_moment sweep ≡ true → is_timely cause ≡ true)
+  MayTurn sweep c (Removes n cause) = IsNext sweep c n × MayTake (λ _. ⊥) (tests_in q) (ground_of sweep) (contents_of c) (Removes n cause)
   MayTurn sweep c (MovesToBack n) = IsNext sweep c n × MayStep (tests_in q) c (MovesToBack n)
   MayTurn sweep c (Drops i) = ⊥
 
-  -- the step removes a settled member for one of its moments
+  -- the step removes a settled member whose own expiry has come
   abbrev pub MayExpire : Stock K V → Choice → Type 0
-  MayExpire c (Removes n cause) = MayStep (tests_in q) c (Removes n cause) × (cause ≡ Expired)
+  MayExpire c (Removes n cause) = MayTake (λ _. ⊥) (tests_in q) ByTimer (contents_of c) (Removes n cause)
   MayExpire c (MovesToBack n) = ⊥
   MayExpire c (Drops i) = ⊥
 

@@ -6,14 +6,15 @@ ghost use Rattle.std.specs.Prelude.{◌≡◌, ◌≤◌, ◌&&◌, ℕ, true, f
 ghost use Rattle.std.specs.FinMap as finite;
 ghost use Rattle.moka_parts.specs.declared.notification.RemovalCause.{RemovalCause};
 ghost use Rattle.moka_parts.specs.declared.records.Member.{Member};
-ghost use Rattle.moka_parts.specs.Maintenance.{HasGround, is_front, is_over, is_past_read, is_past_write};
+ghost use Rattle.moka_parts.specs.Maintenance.{is_front, is_over, is_past_read, is_past_write};
+ghost use Rattle.moka_parts.specs.Grounds.{cause_by_read, cause_by_write};
 ghost use Rattle.moka_parts.specs.Exact.{IsWithin};
 ghost use Rattle.moka_parts.specs.Visibility.{is_read_before, is_written_before};
 ghost use Rattle.moka_parts.specs.Records.{counted_of, total_weight};
 ghost use Rattle.moka_store.specs.Store.{IsPlaced};
-ghost use Rattle.moka_maintenance.specs.Steps.{Stock, contents_of, stock_in, AddsNoPlace, LeavesNoRow, is_timely};
+ghost use Rattle.moka_maintenance.specs.Steps.{Stock, stock_in, AddsNoPlace, LeavesNoRow};
 ghost use Rattle.moka_maintenance.specs.Timers.{DropsTimers};
-ghost use Rattle.moka_maintenance.specs.Sweeps.{tests_in, is_by_moment, IsNext, IsAtRest, TakesTurn, IsSwept};
+ghost use Rattle.moka_maintenance.specs.Sweeps.{tests_in, LeavesIn, IsNext, IsAtRest, TakesTurn, IsSwept};
 
 use crate::expel::expel;
 use moka_parts::expiry::{is_expired_by_tti, is_expired_by_ttl, is_invalid_entry};
@@ -201,8 +202,7 @@ pub(crate) fn is_over(capacity: Option<u64>, weight: u128) -> bool
 
 // Why a sweep removes a settled record that it has come to, if it does.
 fn cause_of<K, V>(tests: Tests, sweep: Sweep, found: &Record<K, V>) -> Option<RemovalCause>
-    ensures ground { IfSome result (λ cause. (c : Stock K V) (n : ℕ) → IsNext tests sweep c n → HasGround (tests_in tests) (contents_of c) n found.now cause) }
-    ensures timely { IfSome result (λ cause. is_by_moment sweep ≡ true → is_timely cause ≡ true) }
+    ensures leaves { IfSome result (λ cause. (c : Stock K V) (n : ℕ) → IsNext tests sweep c n → LeavesIn tests sweep c n found.now cause) }
     ensures none { IfNone result ((c : Stock K V) (n : ℕ) → finite.get c.records n ≡ Some found.now → IsNext tests sweep c n → IsAtRest tests sweep c) }
 {
     match sweep {
@@ -214,8 +214,7 @@ fn cause_of<K, V>(tests: Tests, sweep: Sweep, found: &Record<K, V>) -> Option<Re
 
 // Why a record leaves by the moment of its last write, if it does.
 fn cause_by_write<K, V>(tests: Tests, found: &Record<K, V>) -> Option<RemovalCause>
-    ensures ground { IfSome result (λ cause. (c : Stock K V) (n : ℕ) → HasGround (tests_in tests) (contents_of c) n found.now cause) }
-    ensures timely { IfSome result (λ cause. is_timely cause ≡ true) }
+    ensures cause { result ≡ cause_by_write (tests_in tests) found.now }
     ensures none { IfNone result ((is_past_write (tests_in tests) found.now ≡ false) × (is_written_before tests.valid_after found.now ≡ false)) }
 {
     if is_expired_by_ttl(tests.time_to_live, found.written, tests.now) {
@@ -229,8 +228,7 @@ fn cause_by_write<K, V>(tests: Tests, found: &Record<K, V>) -> Option<RemovalCau
 
 // Why a record leaves by the moment of its last read, if it does.
 fn cause_by_read<K, V>(tests: Tests, found: &Record<K, V>) -> Option<RemovalCause>
-    ensures ground { IfSome result (λ cause. (c : Stock K V) (n : ℕ) → HasGround (tests_in tests) (contents_of c) n found.now cause) }
-    ensures timely { IfSome result (λ cause. is_timely cause ≡ true) }
+    ensures cause { result ≡ cause_by_read (tests_in tests) found.now }
     ensures none { IfNone result ((is_past_read (tests_in tests) found.now ≡ false) × (is_read_before tests.valid_after found.now ≡ false)) }
 {
     if is_expired_by_tti(tests.time_to_idle, found.read, tests.now) {

@@ -15,6 +15,7 @@ pub mod Reads
 pub mod Candidates
 pub mod Writes
 pub mod Maintenance
+pub mod Grounds
 pub mod Scan
 pub mod Exact
 pub mod Settling

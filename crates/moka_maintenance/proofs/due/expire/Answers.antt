@@ -19,7 +19,7 @@ returns-then-is_expired_by_per_entry_ttl-clause-expired g c =
     let r = c.in-Some.found.now in
     let found = sym (c.in-Some.ensures.found c.requires.placed) in
     expires-one g.L.Listener.tells c.args.tests (stock_in c.args.store.now) (stock_in c.expel.new.store) c.args.notifier.now c.expel.new.notifier n
-    (r, found, settled_member c.args.store.now.records c.args.store.now.access n c.requires.member (sym c.is_settled.ensures ∙ c.if-not-is_settled.false), (let is = sym c.is_expired_by_per_entry_ttl.ensures ∙ c.if-is_expired_by_per_entry_ttl.true in rw is refl))
+    (r, found, settled_member c.args.store.now.records c.args.store.now.access n c.requires.member (sym c.is_settled.ensures ∙ c.if-not-is_settled.false), (sym c.is_expired_by_per_entry_ttl.ensures ∙ c.if-is_expired_by_per_entry_ttl.true, refl))
     c.expel.ensures.step c.expel.ensures.told
 
 pub returns-then-is_expired_by_per_entry_ttl-clause-timers : goal.returns-then-is_expired_by_per_entry_ttl-clause-timers

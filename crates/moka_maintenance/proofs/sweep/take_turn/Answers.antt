@@ -15,8 +15,7 @@ returns-clause-turn g c =
       c.in-Some-cause_of.cause,
       (
         c.in-Some.ensures.next,
-        (r, found, settled_member c.args.store.now.records c.args.store.now.access n c.in-Some.ensures.member (sym c.is_settled.ensures ∙ c.if-not-is_settled.false), c.in-Some-cause_of.ensures.ground (stock_in c.args.store.now) n c.in-Some.ensures.next),
-        c.in-Some-cause_of.ensures.timely,
+        (r, found, settled_member c.args.store.now.records c.args.store.now.access n c.in-Some.ensures.member (sym c.is_settled.ensures ∙ c.if-not-is_settled.false), c.in-Some-cause_of.ensures.leaves (stock_in c.args.store.now) n c.in-Some.ensures.next),
       ),
       c.expel.ensures.step,
       c.expel.ensures.told,

@@ -1,0 +1,75 @@
+-- The grounds on which a pass removes records: the cause that each tells, and their order.
+use Rattle.std.specs.Prelude.{◌≡◌, ℕ, zero, suc, Bool, true, false, ◌&&◌, List, [], ◌∷◌, ◌++◌, Option, Some, None, if◌then◌else◌}
+use Rattle.std.specs.FinMap.{get}
+use Rattle.moka_parts.specs.declared.notification.RemovalCause.{RemovalCause}
+use Rattle.moka_parts.specs.declared.notification.RemovalCause.TheVariants.{Expired, Explicit, Size}
+use Rattle.moka_parts.specs.declared.records.Record.{Record}
+use Rattle.moka_parts.specs.Records.{is_member, is_settled}
+use Rattle.moka_parts.specs.State.{Contents}
+use Rattle.moka_parts.specs.Visibility.{is_expired, is_written_before, is_read_before}
+use Rattle.moka_parts.specs.Maintenance.{Choice, Removes, MovesToBack, Drops, Tests, after_choice, after_choices, is_front, is_over, is_past_read, is_past_write}
+
+-- the step of a pass in which a record leaves
+pub data Ground : Type 0 where
+  -- its timer is due
+  ByTimer : Ground
+  -- by the moment of its last write
+  ByWrite : Ground
+  -- by the moment of its last read
+  ByRead : Ground
+  -- a predicate covers it
+  ByPredicate : Ground
+  -- the capacity is exceeded
+  BySurplus : Ground
+
+-- the steps of a pass, in order
+abbrev pub grounds_of_pass : List Ground
+grounds_of_pass = ByTimer ∷ ByWrite ∷ ByRead ∷ ByPredicate ∷ BySurplus ∷ []
+
+-- those of so many passes
+abbrev pub grounds_of : ℕ → List Ground
+grounds_of zero = []
+grounds_of (suc passes) = grounds_of_pass ++ grounds_of passes
+
+-- the step goes along an order, in which an unsettled front goes to the back
+abbrev pub is_sweep : Ground → Bool
+is_sweep ByTimer = false
+is_sweep ByWrite = true
+is_sweep ByRead = true
+is_sweep ByPredicate = false
+is_sweep BySurplus = true
+
+module _ {K V : Type 0} (q : Tests) where
+  -- why a record leaves by its last write, if it does: that it is past its time to live is told before that it is invalidated
+  abbrev pub cause_by_write : Record K V → Option RemovalCause
+  cause_by_write r = if is_past_write q r then Some Expired else (if is_written_before q.invalid_before r then Some Explicit else None)
+
+  -- why a record leaves by its last read, if it does: that it is past its time to idle is told before that it is invalidated
+  abbrev pub cause_by_read : Record K V → Option RemovalCause
+  cause_by_read r = if is_past_read q r then Some Expired else (if is_read_before q.invalid_before r then Some Explicit else None)
+
+-- `Covered` says which records are covered by a predicate
+module _ {K V : Type 0} (Covered : Record K V → Type 0) (q : Tests) where
+  -- the step removes the record, and tells this cause
+  abbrev pub LeavesBy : Ground → Contents K V → ℕ → Record K V → RemovalCause → Type 0
+  LeavesBy ByTimer c n r cause = (is_expired r q.now ≡ true) × (cause ≡ Expired)
+  LeavesBy ByWrite c n r cause = cause_by_write q r ≡ Some cause
+  LeavesBy ByRead c n r cause = (is_front n c.access ≡ true) × (cause_by_read q r ≡ Some cause)
+  LeavesBy ByPredicate c n r cause = Covered r × (cause ≡ Explicit)
+  LeavesBy BySurplus c n r cause = ((is_front n c.access && is_over q.capacity c.access) ≡ true) × (cause ≡ Size)
+
+  -- a choice that the step may make: a settled member leaves on its ground, or an unsettled one goes to the back
+  abbrev pub MayTake : Ground → Contents K V → Choice → Type 0
+  MayTake ground c (Removes n cause) = (r : Record K V) × (get c.records n ≡ Some r) × (is_member n c.access && is_settled c.records n ≡ true) × LeavesBy ground c n r cause
+  MayTake ground c (MovesToBack n) = (is_sweep ground ≡ true) × (is_member n c.access ≡ true) × (is_settled c.records n ≡ false)
+  MayTake ground c (Drops i) = ⊥
+
+  -- all choices are the step's
+  abbrev pub AreTaken : Ground → Contents K V → List Choice → Type 0
+  AreTaken ground c [] = Unit {0}
+  AreTaken ground c (x ∷ xs) = MayTake ground c x × AreTaken ground (after_choice c x) xs
+
+  -- the choices are those of these steps, one step after the other
+  abbrev pub FollowsGrounds : List Ground → Contents K V → List Choice → Type 0
+  FollowsGrounds [] c xs = xs ≡ []
+  FollowsGrounds (ground ∷ grounds) c xs = (first later : List Choice) × (xs ≡ first ++ later) × AreTaken ground c first × FollowsGrounds grounds (after_choices c first) later
