@@ -4,3 +4,4 @@ pub mod Synchronous
 pub mod Unsent
 pub mod Laws
 pub mod Texts
+pub mod Counters

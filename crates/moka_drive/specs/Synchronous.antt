@@ -17,8 +17,19 @@ use Rattle.moka_parts.specs.Order.{IsOrderly}
 use Rattle.moka_parts.specs.Runs.{Cache, Step, MakesCalls, PromisedRun}
 use Rattle.moka_parts.specs.Listed.{AreListedSteps}
 use Rattle.moka_drive.specs.declared.error.NotTold.{NotTold}
+use Rattle.moka_drive.specs.declared.stats.Stats.{Stats}
+use Rattle.moka_drive.specs.Counters.{no_stats}
 use Rattle.moka_drive.specs.declared.error.GetWithRefused.{GetWithRefused}
 use Rattle.moka_drive.specs.declared.error.GetWithRefused.TheVariants.{Lookup, Insert}
+
+-- a synchronous cache: an engine, and what was counted
+pub record Synchronous (K V S X L P W : Type 0) : Type 0 where
+  pub engine : Cache K V S X L P W
+  pub stats : Stats
+
+-- nothing was counted yet
+abbrev pub fresh : {K V S X L P W : Type 0} → Cache K V S X L P W → Synchronous K V S X L P W
+fresh engine = record { engine = engine; stats = no_stats }
 
 -- ---- what was made
 
@@ -114,6 +125,30 @@ module _ {K V P : Type 0} where
   GetsOrInserts key hash now (Some made) (Ok value) calls replies = GetsThen key hash now (InsertsMade key hash now made (Ok value)) calls replies
   GetsOrInserts key hash now (Some made) (Err (Some refused)) calls replies = GetsThen key hash now (InsertsMade key hash now made (Err refused)) calls replies
 
+  -- the same, where the maker may decline: then the get alone
+  abbrev pub GetsOrInsertsIfMade : K → ℕ → Instant → Option (Option V) → Result (Option V) (Option (InsertRefused K V)) → List (Call K V P) → List (Reply K V P) → Type 0
+  GetsOrInsertsIfMade key hash now None (Ok (Some value)) calls replies = GetsOrInserts key hash now None (Ok value) calls replies
+  GetsOrInsertsIfMade key hash now None (Ok None) calls replies = ⊥
+  GetsOrInsertsIfMade key hash now None (Err refused) calls replies = GetsOrInserts key hash now None (Err refused) calls replies
+  GetsOrInsertsIfMade key hash now (Some None) (Ok None) calls replies = GetsValue key hash now (Ok None) calls replies
+  GetsOrInsertsIfMade key hash now (Some None) (Ok (Some value)) calls replies = ⊥
+  GetsOrInsertsIfMade key hash now (Some None) (Err refused) calls replies = ⊥
+  GetsOrInsertsIfMade key hash now (Some (Some made)) (Ok (Some value)) calls replies = GetsOrInserts key hash now (Some made) (Ok value) calls replies
+  GetsOrInsertsIfMade key hash now (Some (Some made)) (Ok None) calls replies = ⊥
+  GetsOrInsertsIfMade key hash now (Some (Some made)) (Err refused) calls replies = GetsOrInserts key hash now (Some made) (Err refused) calls replies
+
+  -- the same, where the maker may fail: then the get alone, and the maker's error is the answer
+  abbrev pub GetsOrInsertsIfNoError : {E : Type 0} → K → ℕ → Instant → Option (Result V E) → Result (Result V E) (Option (InsertRefused K V)) → List (Call K V P) → List (Reply K V P) → Type 0
+  GetsOrInsertsIfNoError key hash now None (Ok (Ok value)) calls replies = GetsOrInserts key hash now None (Ok value) calls replies
+  GetsOrInsertsIfNoError key hash now None (Ok (Err error)) calls replies = ⊥
+  GetsOrInsertsIfNoError key hash now None (Err refused) calls replies = GetsOrInserts key hash now None (Err refused) calls replies
+  GetsOrInsertsIfNoError key hash now (Some (Err failed)) (Ok (Err error)) calls replies = (error ≡ failed) × GetsValue key hash now (Ok None) calls replies
+  GetsOrInsertsIfNoError key hash now (Some (Err failed)) (Ok (Ok value)) calls replies = ⊥
+  GetsOrInsertsIfNoError key hash now (Some (Err failed)) (Err refused) calls replies = ⊥
+  GetsOrInsertsIfNoError key hash now (Some (Ok made)) (Ok (Ok value)) calls replies = GetsOrInserts key hash now (Some made) (Ok value) calls replies
+  GetsOrInsertsIfNoError key hash now (Some (Ok made)) (Ok (Err error)) calls replies = ⊥
+  GetsOrInsertsIfNoError key hash now (Some (Ok made)) (Err refused) calls replies = GetsOrInserts key hash now (Some made) (Err refused) calls replies
+
 -- ---- what is answered
 
 -- what a removal answers: the value, if there was one, unless it was not told
@@ -134,3 +169,23 @@ HandsOutMade is_clone key (Ok own) (Ok value) = is_clone own value
 HandsOutMade is_clone key (Err None) (Err (Lookup k)) = k ≡ key
 HandsOutMade is_clone key (Err (Some refused)) (Err (Insert r)) = r ≡ refused
 HandsOutMade is_clone key own result = ⊥
+
+-- what an insert of a value that was made hands out: a clone of the value, or what was refused
+abbrev pub HandsOutOwn : {V E : Type 0} → (V → V → Type 0) → Result V E → Result V E → Type 0
+HandsOutOwn is_clone (Ok own) (Ok value) = is_clone own value
+HandsOutOwn is_clone (Err refused) (Err r) = r ≡ refused
+HandsOutOwn is_clone own result = ⊥
+
+-- the same where the maker may decline
+abbrev pub HandsOutIfMade : {K V : Type 0} → (V → V → Type 0) → K → Result (Option V) (Option (InsertRefused K V)) → Result (Option V) (GetWithRefused K V) → Type 0
+HandsOutIfMade is_clone key (Ok (Some own)) (Ok (Some value)) = is_clone own value
+HandsOutIfMade is_clone key (Ok None) (Ok None) = ⊤
+HandsOutIfMade is_clone key (Err refused) (Err r) = HandsOutMade is_clone key (Err refused) (Err r)
+HandsOutIfMade is_clone key own result = ⊥
+
+-- or fail
+abbrev pub HandsOutIfNoError : {K V E : Type 0} → (V → V → Type 0) → K → Result (Result V E) (Option (InsertRefused K V)) → Result (Result V E) (GetWithRefused K V) → Type 0
+HandsOutIfNoError is_clone key (Ok (Ok own)) (Ok (Ok value)) = is_clone own value
+HandsOutIfNoError is_clone key (Ok (Err error)) (Ok (Err e)) = e ≡ error
+HandsOutIfNoError is_clone key (Err refused) (Err r) = HandsOutMade is_clone key (Err refused) (Err r)
+HandsOutIfNoError is_clone key own result = ⊥

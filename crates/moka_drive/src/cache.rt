@@ -1,13 +1,14 @@
 //! The synchronous cache: put, get and remove in one call each. moka: `sync::cache`.
-ghost use Rattle.std.specs.Prelude.{◌≡◌, true, false, Option, Some, None, Result, Ok, Err, IfOk, IfSome, OnErr, IfErr, is_some};
+ghost use Rattle.std.specs.Prelude.{◌≡◌, true, false, Option, Some, None, Result, Ok, Err, IfOk, IfSome, OnErr, IfErr, is_some, option_copied};
 ghost use Rattle.std.specs.FinMap as finite;
 ghost use Rattle.std.specs.List.{fold};
-ghost use Rattle.moka_parts.specs.Calls.{ContainsStep, no_events};
+ghost use Rattle.moka_parts.specs.Calls.{CapacityStep, ContainsStep, InvalidateStep, no_events, only_ids};
 ghost use Rattle.moka_parts.specs.Copies.{IsCopiedAnswer};
 ghost use Rattle.moka_parts.specs.Exact.{IsExact, IsWithin};
 ghost use Rattle.moka_parts.specs.Records.{record_of_key};
 ghost use Rattle.moka_parts.specs.Runs.{Befalls};
-ghost use Rattle.moka_parts.specs.State.{is_disabled};
+ghost use Rattle.moka_parts.specs.State.{Events, is_disabled, limits_of};
+ghost use Rattle.moka_parts.specs.Surroundings.{Leads};
 ghost use Rattle.moka_engine.specs.Config.{new_cache};
 ghost use Rattle.moka_parts.specs.declared.calls.Call.TheVariants as call;
 ghost use Rattle.moka_parts.specs.declared.calls.Reply.TheVariants as reply;
@@ -16,17 +17,20 @@ ghost use Rattle.moka_parts.specs.declared.error.OutOfMemory.{OutOfMemory};
 ghost use Rattle.moka_parts.specs.declared.records.Operation.{Operation};
 ghost use Rattle.moka_parts.specs.declared.records.Record.{Record};
 ghost use Rattle.moka_drive.specs.Unsent.{HoldsUnsent, HidesNoMore, IsThere, ShowsWrites};
-ghost use Rattle.moka_drive.specs.Synchronous.{Makes, meaning_of, hears_clones, Just, own_run, Posts, InsertsEntry, GetsValue, RemovesEntry, GetsOrInserts, HandsOutMade, removed, invalidated};
+ghost use Rattle.moka_drive.specs.Counters.{after_look_up, after_load, after_get_with};
+ghost use Rattle.moka_drive.specs.Synchronous.{fresh, value_found, InsertsMade, HandsOutOwn, HandsOutIfMade, HandsOutIfNoError, GetsOrInsertsIfMade, GetsOrInsertsIfNoError, Makes, meaning_of, hears_clones, Just, own_run, Posts, InsertsEntry, GetsValue, RemovesEntry, GetsOrInserts, HandsOutMade, removed, invalidated};
 
 use crate::error::{GetWithRefused, NotTold};
+use crate::stats::Stats;
 use moka_engine::base_cache::BaseCache;
 use moka_engine::config::{CacheConfig, DefaultHasher};
-use moka_parts::calls::Ticket;
+use moka_parts::calls::{Entry, Ticket};
 use moka_parts::closures::{NoPredicate, NoWeigher, PredicateFn, Weigher};
-use moka_parts::error::{InsertError, InsertRefused, OutOfMemory};
+use moka_parts::error::{CapacityError, InsertError, InsertRefused, OutOfMemory, PredicateRefused};
 use moka_parts::housekeeper::Clock;
+use moka_parts::invalidator::{IdSource, PredicateId};
 use moka_parts::notification::{Listener, NoListener};
-use moka_parts::policy::{Expiry, Instant, NoExpiry};
+use moka_parts::policy::{Expiry, Instant, NoExpiry, Policy};
 use std::alloc::Global;
 use std::hash::{BuildHasher, Hash};
 use std::marker::Model;
@@ -49,6 +53,7 @@ pub struct Cache<
     S: BuildHasher = DefaultHasher,
 > {
     engine: BaseCache<K, V, S, X, L, P, W>,
+    stats: Stats,
 }
 
 impl<
@@ -63,13 +68,13 @@ impl<
     ghost use Rattle.std.specs.Prelude.{◌≡◌};
     ghost use Rattle.std.specs.Coded.{codes, coded_ℕ};
     ghost use Rattle.std.specs.FinMap as finite;
-    ghost use Rattle.moka_parts.specs.Runs as runs;
+    ghost use Rattle.moka_drive.specs.Synchronous.{Synchronous};
 
-    ghost Value = { runs.Cache K V S X L P W };
+    ghost Value = { Synchronous K V S X L P W };
 
     ghost coded = { Prim.hlevel (codes, finite.code, coded_ℕ, K.code, V.code, S.code, X.code, L.code, P.code, W.code) };
 
-    ghost view = { λ c. c.engine };
+    ghost view = { λ c. record { engine = c.engine; stats = c.stats } };
 
     ghost invariant = { λ c. c.engine.state.outstanding ≡ finite.empty };
 }
@@ -85,7 +90,10 @@ impl<
     S: BuildHasher + Drop,
 > Drop for Cache<K, V, X, L, P, W, S> {
     fn drop(self) {
-        let Cache { engine: _ } = self;
+        let Cache {
+            engine: _,
+            stats: _,
+        } = self;
     }
 }
 
@@ -101,9 +109,10 @@ impl<
     /// A cache over an engine all of whose operations were sent.
     pub fn new(engine: BaseCache<K, V, S, X, L, P, W>) -> Self
         requires { engine.state.outstanding ≡ finite.empty }
-        ensures { result ≡ engine }
+        ensures { result ≡ fresh engine }
     {
-        Cache { engine }
+        let stats = Stats::new();
+        Cache { engine, stats }
     }
 
     /// An empty cache made at the moment `now`, with this hasher. It takes its memory from `alloc`.
@@ -124,7 +133,7 @@ impl<
         L: Drop,
         P: Drop,
         W: Drop,
-        ensures { IfOk result (λ c. c ≡ new_cache config hasher now.0) }
+        ensures { IfOk result (λ c. c ≡ fresh (new_cache config hasher now.0)) }
     {
         let engine = config.build_with_hasher(alloc, hasher, now)?;
         Ok(Cache::new(engine))
@@ -132,35 +141,56 @@ impl<
 
     /// No operation waits to be sent. It does nothing when it runs.
     pub fn invariant_holds(&self)
-        ensures { self.now.state.outstanding ≡ finite.empty }
+        ensures { self.now.engine.state.outstanding ≡ finite.empty }
     {
         let _ = &self.engine;
     }
 
     /// The engine below.
     pub fn engine(&self) -> &BaseCache<K, V, S, X, L, P, W>
-        ensures { result.now ≡ self.now }
+        ensures { result.now ≡ self.now.engine }
     {
         &self.engine
     }
 
+    /// Hits, misses and loads since the cache was made.
+    pub fn stats(&self) -> Stats
+        ensures { result ≡ self.now.stats }
+    {
+        self.stats
+    }
+
+    /// The cache's name, if it has one.
+    pub fn name(&self) -> Option<&str>
+        ensures { option_copied result ≡ self.now.engine.name }
+    {
+        self.engine.name()
+    }
+
+    /// Capacity and times, as they were chosen.
+    pub fn policy(&self) -> Policy
+        ensures { result ≡ limits_of self.now.engine.state }
+    {
+        self.engine.policy()
+    }
+
     /// How many entries the last run of maintenance counted.
     pub fn entry_count(&self) -> u64
-        ensures { result ≡ self.now.state.count }
+        ensures { result ≡ self.now.engine.state.count }
     {
         self.engine.entry_count()
     }
 
     /// The weight that the last run of maintenance counted, saturating.
     pub fn weighted_size(&self) -> u64
-        ensures { result ≡ self.now.state.weight }
+        ensures { result ≡ self.now.engine.state.weight }
     {
         self.engine.weighted_size()
     }
 
     /// Whether a key is there and visible at the moment `now`. Nothing is recorded.
     pub fn contains_key(&self, key: &K, now: Instant) -> bool
-        ensures { ContainsStep P.says K.eq self.now.state key.now now.0 result }
+        ensures { ContainsStep P.says K.eq self.now.engine.state key.now now.0 result }
     {
         let hash = self.engine.hash(key);
         self.engine.contains_key_with_hash(key, hash, now)
@@ -182,12 +212,13 @@ impl<
         V: Drop,
         P: Drop,
         ensures made { Makes (meaning_of K.eq L.tells P.says W.weighs C.reads X.created X.read X.updated)
-            (InsertsEntry key (S.Hasher.finish (fold S.Hasher.write (S.build_hasher self.old.hasher) (K.hash_input key))) value now result)
-            self.old clock.old self.new clock.new }
+            (InsertsEntry key (S.Hasher.finish (fold S.Hasher.write (S.build_hasher self.old.engine.hasher) (K.hash_input key))) value now result)
+            self.old.engine clock.old self.new.engine clock.new }
         ensures back { IfErr result (λ refused. (refused.key ≡ key) × (refused.value ≡ value)) }
-        ensures unchanged { OnErr result ((self.new.state ≡ self.old.state) × (clock.new ≡ clock.old)) }
-        ensures kept { IfOk result (λ _. is_disabled self.old.state.capacity ≡ false → IsThere K.eq self.new.state key value now) }
-        ensures shown { IfOk result (λ _. is_disabled self.old.state.capacity ≡ false → ShowsWrites self.old.state now.0 → ContainsStep P.says K.eq self.new.state key now.0 true) }
+        ensures unchanged { OnErr result ((self.new.engine.state ≡ self.old.engine.state) × (clock.new ≡ clock.old)) }
+        ensures kept { IfOk result (λ _. is_disabled self.old.engine.state.capacity ≡ false → IsThere K.eq self.new.engine.state key value now) }
+        ensures shown { IfOk result (λ _. is_disabled self.old.engine.state.capacity ≡ false → ShowsWrites self.old.engine.state now.0 → ContainsStep P.says K.eq self.new.engine.state key now.0 true) }
+        ensures counted { self.new.stats ≡ self.old.stats }
     {
         self.engine.invariant_holds();
         if self.engine.is_map_disabled() {
@@ -219,20 +250,20 @@ impl<
         P: Drop,
         ensures made { (own : Result (Option V) OutOfMemory) × IsCopiedAnswer V.is_clone own result
             × Makes (meaning_of K.eq L.tells P.says W.weighs C.reads X.created X.read X.updated)
-            (GetsValue key.now (S.Hasher.finish (fold S.Hasher.write (S.build_hasher self.old.hasher) (K.hash_input key.now))) now own)
-            self.old clock.old self.new clock.new }
-        ensures value { IfOk result (λ found. IfSome found (λ v. (r : Record K V) × (record_of_key K.eq self.old.state.records key.now ≡ Some r) × V.is_clone r.value v)) }
-        ensures shown { IfOk result (λ found. ContainsStep P.says K.eq self.old.state key.now now.0 (is_some found)) }
-        ensures found { ContainsStep P.says K.eq self.old.state key.now now.0 true → IfOk result (λ found. is_some found ≡ true) }
-        ensures unchanged { OnErr result ((self.new.state ≡ self.old.state) × (clock.new ≡ clock.old)) }
+            (GetsValue key.now (S.Hasher.finish (fold S.Hasher.write (S.build_hasher self.old.engine.hasher) (K.hash_input key.now))) now own)
+            self.old.engine clock.old self.new.engine clock.new }
+        ensures value { IfOk result (λ found. IfSome found (λ v. (r : Record K V) × (record_of_key K.eq self.old.engine.state.records key.now ≡ Some r) × V.is_clone r.value v)) }
+        ensures shown { IfOk result (λ found. ContainsStep P.says K.eq self.old.engine.state key.now now.0 (is_some found)) }
+        ensures found { ContainsStep P.says K.eq self.old.engine.state key.now now.0 true → IfOk result (λ found. is_some found ≡ true) }
+        ensures unchanged { OnErr result ((self.new.engine.state ≡ self.old.engine.state) × (clock.new ≡ clock.old)) }
+        ensures counted { self.new.stats ≡ after_look_up result self.old.stats }
     {
         self.engine.invariant_holds();
         let hash = self.engine.hash(key);
-        match self.engine.get_with_hash(key, hash, false, now, clock) {
-            Ok(Some(entry)) => Ok(Some(entry.into_value())),
-            Ok(None) => Ok(None),
-            Err(refused) => Err(refused),
-        }
+        let entry = self.engine.get_with_hash(key, hash, false, now, clock);
+        let found = value_of(entry);
+        self.stats.count_look_up(&found);
+        found
     }
 
     /// Takes a key out, and hands its value out, expired or not. The listener, if one is set, is told.
@@ -250,10 +281,11 @@ impl<
         K: Clone + Drop,
         V: Clone + Drop,
         P: Drop,
-        ensures { (taken : Option (V × Result (Unit {0}) OutOfMemory)) × (result ≡ removed taken)
+        ensures made { (taken : Option (V × Result (Unit {0}) OutOfMemory)) × (result ≡ removed taken)
             × Makes (meaning_of K.eq (hears_clones K.is_clone V.is_clone L.tells) P.says W.weighs C.reads X.created X.read X.updated)
-            (RemovesEntry key.now (S.Hasher.finish (fold S.Hasher.write (S.build_hasher self.old.hasher) (K.hash_input key.now))) now taken)
-            self.old clock.old self.new clock.new }
+            (RemovesEntry key.now (S.Hasher.finish (fold S.Hasher.write (S.build_hasher self.old.engine.hasher) (K.hash_input key.now))) now taken)
+            self.old.engine clock.old self.new.engine clock.new }
+        ensures counted { self.new.stats ≡ self.old.stats }
     {
         let Some((value, told)) = self.take(key, now, clock) else {
             return Ok(None);
@@ -278,10 +310,11 @@ impl<
         K: Clone + Drop,
         V: Clone + Drop,
         P: Drop,
-        ensures { (taken : Option (V × Result (Unit {0}) OutOfMemory)) × (result ≡ invalidated taken)
+        ensures made { (taken : Option (V × Result (Unit {0}) OutOfMemory)) × (result ≡ invalidated taken)
             × Makes (meaning_of K.eq (hears_clones K.is_clone V.is_clone L.tells) P.says W.weighs C.reads X.created X.read X.updated)
-            (RemovesEntry key.now (S.Hasher.finish (fold S.Hasher.write (S.build_hasher self.old.hasher) (K.hash_input key.now))) now taken)
-            self.old clock.old self.new clock.new }
+            (RemovesEntry key.now (S.Hasher.finish (fold S.Hasher.write (S.build_hasher self.old.engine.hasher) (K.hash_input key.now))) now taken)
+            self.old.engine clock.old self.new.engine clock.new }
+        ensures counted { self.new.stats ≡ self.old.stats }
     {
         let Some((value, told)) = self.take(key, now, clock) else {
             return Ok(());
@@ -303,9 +336,10 @@ impl<
         K: Clone + Drop,
         V: Clone + Drop,
         P: Drop,
-        ensures { Makes (meaning_of K.eq (hears_clones K.is_clone V.is_clone L.tells) P.says W.weighs C.reads X.created X.read X.updated)
-            (RemovesEntry key.now (S.Hasher.finish (fold S.Hasher.write (S.build_hasher self.old.hasher) (K.hash_input key.now))) now result)
-            self.old clock.old self.new clock.new }
+        ensures made { Makes (meaning_of K.eq (hears_clones K.is_clone V.is_clone L.tells) P.says W.weighs C.reads X.created X.read X.updated)
+            (RemovesEntry key.now (S.Hasher.finish (fold S.Hasher.write (S.build_hasher self.old.engine.hasher) (K.hash_input key.now))) now result)
+            self.old.engine clock.old self.new.engine clock.new }
+        ensures counted { self.new.stats ≡ self.old.stats }
     {
         self.engine.invariant_holds();
         let hash = self.engine.hash(key);
@@ -334,34 +368,181 @@ impl<
         K: Clone + Drop,
         V: Clone + Drop,
         P: Drop,
-        requires callable { ContainsStep P.says K.eq self.old.state key now.0 false → F.pre init }
+        requires callable { ContainsStep P.says K.eq self.old.engine.state key now.0 false → F.pre init }
         ensures { (made : Option V) × (own : Result V (Option (InsertRefused K V)))
             × ((value : V) → made ≡ Some value → F.post init value)
             × HandsOutMade V.is_clone key own result
             × Makes (meaning_of K.eq L.tells P.says W.weighs C.reads X.created X.read X.updated)
-            (GetsOrInserts key (S.Hasher.finish (fold S.Hasher.write (S.build_hasher self.old.hasher) (K.hash_input key))) now made own)
-            self.old clock.old self.new clock.new }
+            (GetsOrInserts key (S.Hasher.finish (fold S.Hasher.write (S.build_hasher self.old.engine.hasher) (K.hash_input key))) now made own)
+            self.old.engine clock.old self.new.engine clock.new
+            × (self.new.stats ≡ after_get_with made own self.old.stats) }
     {
         match self.get(&key, now, clock) {
             Ok(Some(value)) => return Ok(value),
             Ok(None) => {}
             Err(_) => return Err(GetWithRefused::Lookup(key)),
         }
+        self.count_load();
         let value = init();
-        let Ok(copy) = value.clone() else {
-            let error = InsertError::OutOfMemory;
-            return Err(GetWithRefused::Insert(InsertRefused { error, key, value }));
-        };
-        match self.insert(key, value, now, clock) {
-            Ok(()) => Ok(copy),
+        match self.insert_made(key, value, now, clock) {
+            Ok(copy) => Ok(copy),
             Err(refused) => Err(GetWithRefused::Insert(refused)),
         }
     }
 
+    /// As `get_with`, for a maker that may decline: then nothing is inserted, and `None` is answered.
+    ///
+    /// # Errors
+    /// As `get_with`.
+    pub fn optionally_get_with<F: FnOnce() -> Option<V>, C: Clock>(
+        &mut self,
+        key: K,
+        init: F,
+        now: Instant,
+        clock: &mut C,
+    ) -> Result<Option<V>, GetWithRefused<K, V>>
+    where
+        K: Clone + Drop,
+        V: Clone + Drop,
+        P: Drop,
+        requires callable { ContainsStep P.says K.eq self.old.engine.state key now.0 false → F.pre init }
+        ensures { (made : Option (Option V)) × (own : Result (Option V) (Option (InsertRefused K V)))
+            × ((answer : Option V) → made ≡ Some answer → F.post init answer)
+            × HandsOutIfMade V.is_clone key own result
+            × Makes (meaning_of K.eq L.tells P.says W.weighs C.reads X.created X.read X.updated)
+            (GetsOrInsertsIfMade key (S.Hasher.finish (fold S.Hasher.write (S.build_hasher self.old.engine.hasher) (K.hash_input key))) now made own)
+            self.old.engine clock.old self.new.engine clock.new
+            × (self.new.stats ≡ after_get_with made own self.old.stats) }
+    {
+        match self.get(&key, now, clock) {
+            Ok(Some(value)) => return Ok(Some(value)),
+            Ok(None) => {}
+            Err(_) => return Err(GetWithRefused::Lookup(key)),
+        }
+        self.count_load();
+        let Some(value) = init() else {
+            return Ok(None);
+        };
+        match self.insert_made(key, value, now, clock) {
+            Ok(copy) => Ok(Some(copy)),
+            Err(refused) => Err(GetWithRefused::Insert(refused)),
+        }
+    }
+
+    /// As `get_with`, for a maker that may fail: then nothing is inserted, and its error is answered.
+    ///
+    /// # Errors
+    /// The outer error as `get_with`; the inner one is the maker's.
+    pub fn try_get_with<E, F: FnOnce() -> Result<V, E>, C: Clock>(
+        &mut self,
+        key: K,
+        init: F,
+        now: Instant,
+        clock: &mut C,
+    ) -> Result<Result<V, E>, GetWithRefused<K, V>>
+    where
+        K: Clone + Drop,
+        V: Clone + Drop,
+        P: Drop,
+        requires callable { ContainsStep P.says K.eq self.old.engine.state key now.0 false → F.pre init }
+        ensures { (made : Option (Result V E)) × (own : Result (Result V E) (Option (InsertRefused K V)))
+            × ((answer : Result V E) → made ≡ Some answer → F.post init answer)
+            × HandsOutIfNoError V.is_clone key own result
+            × Makes (meaning_of K.eq L.tells P.says W.weighs C.reads X.created X.read X.updated)
+            (GetsOrInsertsIfNoError key (S.Hasher.finish (fold S.Hasher.write (S.build_hasher self.old.engine.hasher) (K.hash_input key))) now made own)
+            self.old.engine clock.old self.new.engine clock.new
+            × (self.new.stats ≡ after_get_with made own self.old.stats) }
+    {
+        match self.get(&key, now, clock) {
+            Ok(Some(value)) => return Ok(Ok(value)),
+            Ok(None) => {}
+            Err(_) => return Err(GetWithRefused::Lookup(key)),
+        }
+        self.count_load();
+        let value = match init() {
+            Ok(value) => value,
+            Err(error) => return Ok(Err(error)),
+        };
+        match self.insert_made(key, value, now, clock) {
+            Ok(copy) => Ok(Ok(copy)),
+            Err(refused) => Err(GetWithRefused::Insert(refused)),
+        }
+    }
+
+    // Inserts a value that was made for a key, and hands out a clone of it.
+    fn insert_made<C: Clock>(
+        &mut self,
+        key: K,
+        value: V,
+        now: Instant,
+        clock: &mut C,
+    ) -> Result<V, InsertRefused<K, V>>
+    where
+        K: Drop,
+        V: Clone + Drop,
+        P: Drop,
+        ensures made { (own : Result V (InsertRefused K V)) × HandsOutOwn V.is_clone own result
+            × Makes (meaning_of K.eq L.tells P.says W.weighs C.reads X.created X.read X.updated)
+            (InsertsMade key (S.Hasher.finish (fold S.Hasher.write (S.build_hasher self.old.engine.hasher) (K.hash_input key))) now value own)
+            self.old.engine clock.old self.new.engine clock.new }
+        ensures counted { self.new.stats ≡ self.old.stats }
+    {
+        let Ok(copy) = value.clone() else {
+            let error = InsertError::OutOfMemory;
+            return Err(InsertRefused { error, key, value });
+        };
+        match self.insert(key, value, now, clock) {
+            Ok(()) => Ok(copy),
+            Err(refused) => Err(refused),
+        }
+    }
+
+    // Counts a call of a maker.
+    fn count_load(&mut self)
+        ensures { self.new ≡ record self.old { stats = after_load self.old.stats } }
+    {
+        self.stats.count_load();
+    }
+
+    /// Registers a predicate at the moment `now`, as the engine's call of this name does: what it covers is hidden from
+    /// now on, and runs of maintenance remove it.
+    ///
+    /// # Errors
+    /// As the engine's: the predicate comes back, and nothing has changed.
+    pub fn invalidate_entries_if<I: IdSource>(
+        &mut self,
+        predicate: P,
+        now: Instant,
+        ids: &mut I,
+    ) -> Result<PredicateId, PredicateRefused<P>>
+        ensures made { (e : Events K V)
+            × InvalidateStep self.old.engine.state predicate now result e.ids self.new.engine.state
+            × (e ≡ only_ids e.ids)
+            × Befalls L.tells e self.old.engine self.new.engine
+            × Leads I.gives ids.old e.ids ids.new }
+        ensures counted { self.new.stats ≡ self.old.stats }
+    {
+        self.engine.invalidate_entries_if(predicate, now, ids)
+    }
+
+    /// Sets the greatest total weight that the cache keeps, `None` for no bound. What exceeds a lower capacity is evicted
+    /// by the runs that follow.
+    ///
+    /// # Errors
+    /// `ZeroCapacity` where the present capacity or the new one is 0. Nothing has changed.
+    pub fn set_max_capacity(&mut self, capacity: Option<u64>) -> Result<(), CapacityError>
+        ensures step { CapacityStep self.old.engine.state capacity result self.new.engine.state }
+        ensures events { Befalls L.tells no_events self.old.engine self.new.engine }
+        ensures counted { self.new.stats ≡ self.old.stats }
+    {
+        self.engine.set_max_capacity(capacity)
+    }
+
     /// Invalidates all entries that were written or read before the moment `now`, also where that is earlier than before.
     pub fn invalidate_all(&mut self, now: Instant)
-        ensures step { self.new.state ≡ record self.old.state { invalid_before = Some now } }
-        ensures events { Befalls L.tells no_events self.old self.new }
+        ensures step { self.new.engine.state ≡ record self.old.engine.state { invalid_before = Some now } }
+        ensures events { Befalls L.tells no_events self.old.engine self.new.engine }
+        ensures counted { self.new.stats ≡ self.old.stats }
     {
         self.engine.invalidate_all(now);
     }
@@ -375,9 +556,10 @@ impl<
         V: Drop,
         P: Drop,
         ensures made { Makes (meaning_of K.eq L.tells P.says W.weighs C.reads X.created X.read X.updated)
-            (Just (own_run now) (reply.Run result)) self.old clock.old self.new clock.new }
-        ensures exact { IsExact self.new.state }
-        ensures within { IsWithin self.new.state.capacity self.new.state.access }
+            (Just (own_run now) (reply.Run result)) self.old.engine clock.old self.new.engine clock.new }
+        ensures exact { IsExact self.new.engine.state }
+        ensures within { IsWithin self.new.engine.state.capacity self.new.engine.state.access }
+        ensures counted { self.new.stats ≡ self.old.stats }
     {
         self.engine.run_pending_tasks(now, clock, None, MAX_LOG_SYNC_REPEATS, EVICTION_BATCH_SIZE)
     }
@@ -407,10 +589,23 @@ impl<
         L: Drop,
         P: Drop,
         W: Drop,
-        ensures { IfOk result (λ c. c ≡ new_cache config c.hasher now.0) }
+        ensures { IfOk result (λ c. c ≡ fresh (new_cache config c.engine.hasher now.0)) }
     {
         let engine = config.build(alloc, now)?;
         Ok(Cache::new(engine))
+    }
+}
+
+// The value of the entry that a get found.
+fn value_of<K: Drop, V>(
+    entry: Result<Option<Entry<K, V>>, OutOfMemory>,
+) -> Result<Option<V>, OutOfMemory>
+    ensures { result ≡ value_found entry }
+{
+    match entry {
+        Ok(Some(entry)) => Ok(Some(entry.into_value())),
+        Ok(None) => Ok(None),
+        Err(refused) => Err(refused),
     }
 }
 

@@ -6,6 +6,7 @@ pub mod clock;
 pub mod driver;
 pub mod error;
 pub mod laws;
+pub mod stats;
 #[cfg(test)]
 mod tests;
 pub mod timed;
@@ -14,4 +15,5 @@ pub use cache::Cache;
 pub use clock::{ManualClock, SystemClock};
 pub use driver::drive;
 pub use error::{GetWithRefused, NotTold};
+pub use stats::Stats;
 pub use timed::TimedCache;

@@ -1,6 +1,7 @@
 //! Worked calls of the synchronous cache.
 use crate::cache::Cache;
 use crate::clock::{ManualClock, SystemClock};
+use crate::stats::Stats;
 use crate::timed::TimedCache;
 use moka_engine::{CacheConfig, FixedClock, Instant, Listener, RemovalCause};
 use std::alloc::Global;
@@ -164,5 +165,41 @@ fn reads_the_system_clock(rt: HostRuntime) -> Result<(), Fail> {
     assert!(rt; cache.contains_key(&1));
     assert_eq!(rt; cache.remove(&1).ok(), Some(Some(10)));
     assert!(rt; !cache.contains_key(&1));
+    Ok(())
+}
+
+#[test]
+fn counts_look_ups(rt: HostRuntime) -> Result<(), Fail> {
+    let mut cache = plain(rt.alloc(), None, true)?;
+    let clock = &mut FixedClock(NOW);
+    assert_eq!(rt; cache.get(&1, NOW, clock).ok(), Some(None));
+    assert_eq!(rt; cache.get_with(1, || 10, NOW, clock).ok(), Some(10));
+    assert_eq!(rt; cache.get(&1, NOW, clock).ok(), Some(Some(10)));
+    let counted = Stats {
+        hits: 1,
+        misses: 2,
+        loads: 1,
+    };
+    assert_eq!(rt; cache.stats(), counted);
+    Ok(())
+}
+
+#[test]
+fn asks_makers_that_give_nothing(rt: HostRuntime) -> Result<(), Fail> {
+    let mut cache = plain(rt.alloc(), None, true)?;
+    let clock = &mut FixedClock(NOW);
+    assert_eq!(rt;
+        cache.optionally_get_with(1, || None, NOW, clock).ok(),
+        Some(None)
+    );
+    assert_eq!(rt;
+        cache.try_get_with(1, || Err(7), NOW, clock).ok(),
+        Some(Err(7))
+    );
+    assert!(rt; !cache.contains_key(&1, NOW));
+    let made = cache.try_get_with(1, || Ok::<u64, u64>(10), NOW, clock);
+    assert_eq!(rt; made.ok(), Some(Ok(10)));
+    let found = cache.optionally_get_with(1, || Some(20), NOW, clock);
+    assert_eq!(rt; found.ok(), Some(Some(10)));
     Ok(())
 }

@@ -12,7 +12,7 @@ ghost use Rattle.moka_parts.specs.declared.error.OutOfMemory.{OutOfMemory};
 ghost use Rattle.moka_parts.specs.declared.policy.Instant.{Instant};
 ghost use Rattle.moka_engine.specs.Config.{new_cache};
 ghost use Rattle.moka_drive.specs.Unsent.{IsThere, ShowsWrites};
-ghost use Rattle.moka_drive.specs.Synchronous.{Makes, meaning_of, hears_clones, Just, own_run, InsertsEntry, GetsValue, RemovesEntry, GetsOrInserts, HandsOutMade, removed, invalidated};
+ghost use Rattle.moka_drive.specs.Synchronous.{fresh, Makes, meaning_of, hears_clones, Just, own_run, InsertsEntry, GetsValue, RemovesEntry, GetsOrInserts, HandsOutMade, removed, invalidated};
 
 use crate::cache::Cache;
 use crate::error::{GetWithRefused, NotTold};
@@ -69,7 +69,7 @@ impl<
         L: Drop,
         P: Drop,
         W: Drop,
-        ensures { IfOk result (λ c. (now : Instant) × C.reads clock now c.clock × (c.cache ≡ new_cache config c.cache.hasher now.0)) }
+        ensures { IfOk result (λ c. (now : Instant) × C.reads clock now c.clock × (c.cache ≡ fresh (new_cache config c.cache.engine.hasher now.0))) }
     {
         let now = clock.now();
         let cache = Cache::build(config, alloc, now)?;
@@ -89,14 +89,14 @@ impl<
 > TimedCache<K, V, C, X, L, P, W, S> {
     /// How many entries the last run of maintenance counted.
     pub fn entry_count(&self) -> u64
-        ensures { result ≡ self.now.cache.state.count }
+        ensures { result ≡ self.now.cache.engine.state.count }
     {
         self.cache.entry_count()
     }
 
     /// The weight that the last run of maintenance counted, saturating.
     pub fn weighted_size(&self) -> u64
-        ensures { result ≡ self.now.cache.state.weight }
+        ensures { result ≡ self.now.cache.engine.state.weight }
     {
         self.cache.weighted_size()
     }
@@ -104,7 +104,7 @@ impl<
     /// Whether a key is there and visible. Nothing is recorded.
     pub fn contains_key(&mut self, key: &K) -> bool
         ensures { (now : Instant) × C.reads self.old.clock now self.new.clock
-            × ContainsStep P.says K.eq self.old.cache.state key.now now.0 result × (self.new.cache ≡ self.old.cache) }
+            × ContainsStep P.says K.eq self.old.cache.engine.state key.now now.0 result × (self.new.cache ≡ self.old.cache) }
     {
         let now = self.clock.now();
         self.cache.contains_key(key, now)
@@ -121,12 +121,12 @@ impl<
         P: Drop,
         ensures made { (now : Instant) × (read : C) × C.reads self.old.clock now read
             × Makes (meaning_of K.eq L.tells P.says W.weighs C.reads X.created X.read X.updated)
-            (InsertsEntry key (S.Hasher.finish (fold S.Hasher.write (S.build_hasher self.old.cache.hasher) (K.hash_input key))) value now result)
-            self.old.cache read self.new.cache self.new.clock
-            × IfOk result (λ _. is_disabled self.old.cache.state.capacity ≡ false → IsThere K.eq self.new.cache.state key value now)
-            × IfOk result (λ _. is_disabled self.old.cache.state.capacity ≡ false → ShowsWrites self.old.cache.state now.0 → ContainsStep P.says K.eq self.new.cache.state key now.0 true) }
+            (InsertsEntry key (S.Hasher.finish (fold S.Hasher.write (S.build_hasher self.old.cache.engine.hasher) (K.hash_input key))) value now result)
+            self.old.cache.engine read self.new.cache.engine self.new.clock
+            × IfOk result (λ _. is_disabled self.old.cache.engine.state.capacity ≡ false → IsThere K.eq self.new.cache.engine.state key value now)
+            × IfOk result (λ _. is_disabled self.old.cache.engine.state.capacity ≡ false → ShowsWrites self.old.cache.engine.state now.0 → ContainsStep P.says K.eq self.new.cache.engine.state key now.0 true) }
         ensures back { IfErr result (λ refused. (refused.key ≡ key) × (refused.value ≡ value)) }
-        ensures unchanged { OnErr result (self.new.cache.state ≡ self.old.cache.state) }
+        ensures unchanged { OnErr result (self.new.cache.engine.state ≡ self.old.cache.engine.state) }
     {
         let now = self.clock.now();
         self.cache.insert(key, value, now, &mut self.clock)
@@ -144,10 +144,10 @@ impl<
         ensures made { (now : Instant) × (read : C) × C.reads self.old.clock now read
             × ((own : Result (Option V) OutOfMemory) × IsCopiedAnswer V.is_clone own result
             × Makes (meaning_of K.eq L.tells P.says W.weighs C.reads X.created X.read X.updated)
-            (GetsValue key.now (S.Hasher.finish (fold S.Hasher.write (S.build_hasher self.old.cache.hasher) (K.hash_input key.now))) now own)
-            self.old.cache read self.new.cache self.new.clock)
-            × IfOk result (λ found. ContainsStep P.says K.eq self.old.cache.state key.now now.0 (is_some found)) }
-        ensures unchanged { OnErr result (self.new.cache.state ≡ self.old.cache.state) }
+            (GetsValue key.now (S.Hasher.finish (fold S.Hasher.write (S.build_hasher self.old.cache.engine.hasher) (K.hash_input key.now))) now own)
+            self.old.cache.engine read self.new.cache.engine self.new.clock)
+            × IfOk result (λ found. ContainsStep P.says K.eq self.old.cache.engine.state key.now now.0 (is_some found)) }
+        ensures unchanged { OnErr result (self.new.cache.engine.state ≡ self.old.cache.engine.state) }
     {
         let now = self.clock.now();
         self.cache.get(key, now, &mut self.clock)
@@ -165,8 +165,8 @@ impl<
         ensures { (now : Instant) × (read : C) × C.reads self.old.clock now read
             × ((taken : Option (V × Result (Unit {0}) OutOfMemory)) × (result ≡ removed taken)
             × Makes (meaning_of K.eq (hears_clones K.is_clone V.is_clone L.tells) P.says W.weighs C.reads X.created X.read X.updated)
-            (RemovesEntry key.now (S.Hasher.finish (fold S.Hasher.write (S.build_hasher self.old.cache.hasher) (K.hash_input key.now))) now taken)
-            self.old.cache read self.new.cache self.new.clock) }
+            (RemovesEntry key.now (S.Hasher.finish (fold S.Hasher.write (S.build_hasher self.old.cache.engine.hasher) (K.hash_input key.now))) now taken)
+            self.old.cache.engine read self.new.cache.engine self.new.clock) }
     {
         let now = self.clock.now();
         self.cache.remove(key, now, &mut self.clock)
@@ -184,8 +184,8 @@ impl<
         ensures { (now : Instant) × (read : C) × C.reads self.old.clock now read
             × ((taken : Option (V × Result (Unit {0}) OutOfMemory)) × (result ≡ invalidated taken)
             × Makes (meaning_of K.eq (hears_clones K.is_clone V.is_clone L.tells) P.says W.weighs C.reads X.created X.read X.updated)
-            (RemovesEntry key.now (S.Hasher.finish (fold S.Hasher.write (S.build_hasher self.old.cache.hasher) (K.hash_input key.now))) now taken)
-            self.old.cache read self.new.cache self.new.clock) }
+            (RemovesEntry key.now (S.Hasher.finish (fold S.Hasher.write (S.build_hasher self.old.cache.engine.hasher) (K.hash_input key.now))) now taken)
+            self.old.cache.engine read self.new.cache.engine self.new.clock) }
     {
         let now = self.clock.now();
         self.cache.invalidate(key, now, &mut self.clock)
@@ -201,14 +201,14 @@ impl<
         K: Clone + Drop,
         V: Clone + Drop,
         P: Drop,
-        requires { (now : Instant) → ContainsStep P.says K.eq self.old.cache.state key now.0 false → F.pre init }
+        requires { (now : Instant) → ContainsStep P.says K.eq self.old.cache.engine.state key now.0 false → F.pre init }
         ensures { (now : Instant) × (read : C) × C.reads self.old.clock now read
             × ((made : Option V) × (own : Result V (Option (InsertRefused K V)))
             × ((value : V) → made ≡ Some value → F.post init value)
             × HandsOutMade V.is_clone key own result
             × Makes (meaning_of K.eq L.tells P.says W.weighs C.reads X.created X.read X.updated)
-            (GetsOrInserts key (S.Hasher.finish (fold S.Hasher.write (S.build_hasher self.old.cache.hasher) (K.hash_input key))) now made own)
-            self.old.cache read self.new.cache self.new.clock) }
+            (GetsOrInserts key (S.Hasher.finish (fold S.Hasher.write (S.build_hasher self.old.cache.engine.hasher) (K.hash_input key))) now made own)
+            self.old.cache.engine read self.new.cache.engine self.new.clock) }
     {
         let now = self.clock.now();
         self.cache.get_with(key, init, now, &mut self.clock)
@@ -217,8 +217,8 @@ impl<
     /// Invalidates all entries that were written or read before the clock's moment.
     pub fn invalidate_all(&mut self)
         ensures { (now : Instant) × C.reads self.old.clock now self.new.clock
-            × (self.new.cache.state ≡ record self.old.cache.state { invalid_before = Some now })
-            × Befalls L.tells no_events self.old.cache self.new.cache }
+            × (self.new.cache.engine.state ≡ record self.old.cache.engine.state { invalid_before = Some now })
+            × Befalls L.tells no_events self.old.cache.engine self.new.cache.engine }
     {
         let now = self.clock.now();
         self.cache.invalidate_all(now);
@@ -234,9 +234,9 @@ impl<
         P: Drop,
         ensures made { (now : Instant) × (read : C) × C.reads self.old.clock now read
             × Makes (meaning_of K.eq L.tells P.says W.weighs C.reads X.created X.read X.updated)
-            (Just (own_run now) (reply.Run result)) self.old.cache read self.new.cache self.new.clock }
-        ensures exact { IsExact self.new.cache.state }
-        ensures within { IsWithin self.new.cache.state.capacity self.new.cache.state.access }
+            (Just (own_run now) (reply.Run result)) self.old.cache.engine read self.new.cache.engine self.new.clock }
+        ensures exact { IsExact self.new.cache.engine.state }
+        ensures within { IsWithin self.new.cache.engine.state.capacity self.new.cache.engine.state.access }
     {
         let now = self.clock.now();
         self.cache.run_pending_tasks(now, &mut self.clock)
