@@ -46,13 +46,17 @@ module _ {K V L : Type 0} (tells : L → K → V → RemovalCause → L → Type
 pub befalls-quietly : {K V S X L P W : Type 0} (tells : L → K → V → RemovalCause → L → Type 0) (c : Cache K V S X L P W) (t : State K V X P W) → Befalls tells no_events c (record c { state = t })
 befalls-quietly tells c t = record { kept = refl; heard = nothing_heard tells c.listener; passes = refl; listed = λ none. refl }
 
--- nor where the write list is said anew
-pub befalls-listed : {K V S X L P W : Type 0} (tells : L → K → V → RemovalCause → L → Type 0) (c : Cache K V S X L P W) (t : State K V X P W) (ns : List ℕ) → ns ≡ c.write_list → Befalls tells no_events c (record c { state = t; write_list = ns })
-befalls-listed tells c t ns same = record { kept = refl; heard = nothing_heard tells c.listener; passes = refl; listed = λ none. same }
+-- nor where the write list and the hasher are said anew
+pub befalls-listed : {K V S X L P W : Type 0} (tells : L → K → V → RemovalCause → L → Type 0) (c : Cache K V S X L P W) (t : State K V X P W) (ns : List ℕ) (hasher : S) → ns ≡ c.write_list → hasher ≡ c.hasher → Befalls tells no_events c (record c { hasher = hasher; state = t; write_list = ns })
+befalls-listed {S = S} tells c t ns hasher same kept = record { kept = ap (λ (h : S). record c { hasher = h; state = t; write_list = ns }) kept; heard = nothing_heard tells c.listener; passes = refl; listed = λ none. same }
 
 -- room is nothing that the order of writing has
 pub list-roomier : {K V S : Type 0} (i j : Interior K V S) → without_room j ≡ without_room i → j.kept.written ≡ i.kept.written
 list-roomier {K} {V} i j same = ap (λ (x : Interior K V _). x.kept.written) same
+
+-- nor has the hasher
+pub hasher-roomier : {K V S : Type 0} (i j : Interior K V S) → without_room j ≡ without_room i → j.kept.hasher ≡ i.kept.hasher
+hasher-roomier {K} {V} i j same = ap (λ (x : Interior K V _). x.kept.hasher) same
 
 -- nor have the timers
 pub stocked-room : {K V X W S : Type 0} {read : X → K → V → ℕ → Option ℕ → ℕ → Option ℕ} {settings : Settings X W} (i j : Interior K V S) → without_room j ≡ without_room i → IsStocked read settings i.kept → IsStocked read settings j.kept

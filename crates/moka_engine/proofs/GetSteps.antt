@@ -202,16 +202,18 @@ module _ {K V S X L P W C : Type 0} (says : P → K → V → Bool → Type 0) (
           (mid : Interior K V S) (rest : mid ≡ record i { kept = mid.kept }) (kept : mid.kept ≡ record i.kept { records = insert i.kept.records n (record r { read = at; expires = expires }) }) where
         -- the cache with the record noted as read
         abbrev noted : Cache K V S X L P W
-        noted = record old { state = with_inner old.state mid; write_list = mid.kept.written }
+        noted = record old { hasher = mid.kept.hasher; state = with_inner old.state mid; write_list = mid.kept.written }
 
         touched : noted.state ≡ after_hit read old.state r moment.0
         touched = record_read old.state i inside read n r (number-inside h i inside n r there).0 moment.0 at expires is_renewed t mid rest kept
 
         -- of what is visible, with what recording the read does
-        pub get_hits : i.kept.written ≡ old.write_list → (entry : Entry K V) → entry.value ≡ r.value → entry.key ≡ (if need_key then Some r.key else None) → {new : Cache K V S X L P W} {after : C} → Records at (Hit n r.hash is_renewed) noted new after → Gets now (Ok (Some entry)) new after
-        get_hits listed entry value own {new} {after} made =
+        pub get_hits : i.kept.written ≡ old.write_list → i.kept.hasher ≡ old.hasher → (entry : Entry K V) → entry.value ≡ r.value → entry.key ≡ (if need_key then Some r.key else None) → {new : Cache K V S X L P W} {after : C} → Records at (Hit n r.hash is_renewed) noted new after → Gets now (Ok (Some entry)) new after
+        get_hits listed hashed entry value own {new} {after} made =
             let same : mid.kept.written ≡ old.write_list = ap (λ (k : Kept K V S). k.written) kept ∙ listed in
-            let recorded = subst (λ ns. Records at (Hit n r.hash is_renewed) (record old { state = with_inner old.state mid; write_list = ns }) new after) same made in
+            let hasher : mid.kept.hasher ≡ old.hasher = ap (λ (k : Kept K V S). k.hasher) kept ∙ hashed in
+            let of_hasher = subst (λ (h : S). Records at (Hit n r.hash is_renewed) (record old { hasher = h; state = with_inner old.state mid; write_list = mid.kept.written }) new after) hasher made in
+            let recorded = subst (λ ns. Records at (Hit n r.hash is_renewed) (record old { state = with_inner old.state mid; write_list = ns }) new after) same of_hasher in
             let e = recorded.0 in
             let hit_there : RecordsRead (Runs old.write_list) (after_hit read old.state r moment.0) at.0 (Hit n r.hash is_renewed) e new.state = subst (λ s. RecordsRead (Runs old.write_list) s at.0 (Hit n r.hash is_renewed) e new.state) touched recorded.1 in
             let hit_then : RecordsRead (Runs old.write_list) (after_hit read old.state r moment.0) (hit_at read old.state r moment.0) (Hit n r.hash is_renewed) e new.state =
@@ -223,8 +225,8 @@ module _ {K V S X L P W C : Type 0} (says : P → K → V → Bool → Type 0) (
 
         -- where no run is due the read is only queued
         pub queues_read : is_due old.state.housekeeping (length mid.reads) at.0 ≡ false → (j : Interior K V S) (operation : ReadOperation) → j ≡ record mid { reads = if nat_lt (length mid.reads) queue_length then mid.reads ++ operation ∷ [] else mid.reads }
-            → Records at operation noted (record old { state = with_inner old.state j; write_list = j.kept.written }) clock
-        queues_read due j operation step = (no_events, (noted.state, rw due (refl, refl), reads_queued noted.state mid refl j operation step), befalls-listed tells noted (with_inner old.state j) j.kept.written (ap (λ (x : Interior K V S). x.kept.written) step), refl)
+            → Records at operation noted (record old { hasher = j.kept.hasher; state = with_inner old.state j; write_list = j.kept.written }) clock
+        queues_read due j operation step = (no_events, (noted.state, rw due (refl, refl), reads_queued noted.state mid refl j operation step), befalls-listed tells noted (with_inner old.state j) j.kept.written j.kept.hasher (ap (λ (x : Interior K V S). x.kept.written) step) (ap (λ (x : Interior K V S). x.kept.hasher) step), refl)
 
       -- of what cannot be cloned
       pub get_refused : (err : OutOfMemory) → Gets now (Err err) now clock

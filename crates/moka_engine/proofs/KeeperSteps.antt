@@ -114,12 +114,14 @@ module _ {K V S X L P W C : Type 0} (Runs : List ℕ → State K V X P W → Ter
   abbrev pub RunsBefore : Cache K V S X L P W → Type 0
   RunsBefore mid = (e : Events K V) × RunsIfDue (Runs mid.write_list) old.state (length old.state.reads) now e mid.state × Befalls tells e old mid × Leads reads clock e.readings clock_after
 
-  pub read_follows : {at mid : Cache K V S X L P W} → at ≡ mid → RunsBefore mid → (i j : Interior K V S) → with_inner at.state i ≡ at.state → i.kept.written ≡ at.write_list → (read : ReadOperation) → j ≡ record i { reads = if nat_lt (length i.reads) queue_length then i.reads ++ read ∷ [] else i.reads } →
-      (e : Events K V) × RecordsRead (Runs j.kept.written) old.state now read e (with_inner at.state j) × Befalls tells e old (record at { state = with_inner at.state j; write_list = j.kept.written }) × Leads reads clock e.readings clock_after
-  read_follows {at} is ran i j inside listed read step =
+  pub read_follows : {at mid : Cache K V S X L P W} → at ≡ mid → RunsBefore mid → (i j : Interior K V S) → with_inner at.state i ≡ at.state → i.kept.written ≡ at.write_list → i.kept.hasher ≡ at.hasher → (read : ReadOperation) → j ≡ record i { reads = if nat_lt (length i.reads) queue_length then i.reads ++ read ∷ [] else i.reads } →
+      (e : Events K V) × RecordsRead (Runs j.kept.written) old.state now read e (with_inner at.state j) × Befalls tells e old (record at { hasher = j.kept.hasher; state = with_inner at.state j; write_list = j.kept.written }) × Leads reads clock e.readings clock_after
+  read_follows {at} is ran i j inside listed hashed read step =
       let before : RunsBefore at = subst RunsBefore (sym is) ran in
       let same : j.kept.written ≡ at.write_list = ap (λ (x : Interior K V S). x.kept.written) step ∙ listed in
-      subst (λ ns. (e : Events K V) × RecordsRead (Runs ns) old.state now read e (with_inner at.state j) × Befalls tells e old (record at { state = with_inner at.state j; write_list = ns }) × Leads reads clock e.readings clock_after) (sym same) (
+      let hasher : j.kept.hasher ≡ at.hasher = ap (λ (x : Interior K V S). x.kept.hasher) step ∙ hashed in
+      subst (λ (h : S). (e : Events K V) × RecordsRead (Runs j.kept.written) old.state now read e (with_inner at.state j) × Befalls tells e old (record at { hasher = h; state = with_inner at.state j; write_list = j.kept.written }) × Leads reads clock e.readings clock_after) (sym hasher)
+      (subst (λ ns. (e : Events K V) × RecordsRead (Runs ns) old.state now read e (with_inner at.state j) × Befalls tells e old (record at { state = with_inner at.state j; write_list = ns }) × Leads reads clock e.readings clock_after) (sym same) (
         before.0,
         (at.state, before.1, reads_queued at.state i inside j read step),
         record {
@@ -129,4 +131,4 @@ module _ {K V S X L P W C : Type 0} (Runs : List ℕ → State K V X P W → Ter
           listed = before.2.listed;
         },
         before.3,
-      )
+      ))

@@ -20,8 +20,8 @@ use Rattle.moka_engine.proofs.GetSteps.{record_read}
 module _ {K V S X L P W : Type 0} (says : P → K → V → Bool → Type 0) (read : X → K → V → ℕ → Option ℕ → ℕ → Option ℕ) (tells : L → K → V → RemovalCause → L → Type 0) (eq : K → K → Bool)
     {old now : Cache K V S X L P W} (is : old ≡ now) (key : K) (ignored : Bool) (moment : Instant) where
   -- a look-up that answers so
-  abbrev Peeks : Result (Option V) OutOfMemory → State K V X P W → List ℕ → Cache K V S X L P W → Type 0
-  Peeks a t ns before = PeekStep says read eq before.state key ignored moment.0 a t × Befalls tells no_events before (record old { state = t; write_list = ns })
+  abbrev Peeks : Result (Option V) OutOfMemory → State K V X P W → List ℕ → S → Cache K V S X L P W → Type 0
+  Peeks a t ns hasher before = PeekStep says read eq before.state key ignored moment.0 a t × Befalls tells no_events before (record old { hasher = hasher; state = t; write_list = ns })
 
   -- in a disabled cache
   pub peek_finds_nothing : is_disabled old.state.capacity ≡ true → PeekStep says read eq now.state key ignored moment.0 (Ok None) now.state × Befalls tells no_events now now
@@ -40,11 +40,11 @@ module _ {K V S X L P W : Type 0} (says : P → K → V → Bool → Type 0) (re
     module _ (n : ℕ) (r : Record K V) (there : get i.kept.records n ≡ Some r) (found : record_of_key eq i.kept.records key ≡ Some r) (accepted : ignored ≡ false) (shown : has_lapsed old.state.settings old.state.invalid_before r moment.0 ≡ false) (uncovered : NoneCovers says old.state.predicates r) where
       -- of what is visible
       pub peek_hits : (at : Instant) (expires : Option Instant) (is_renewed : Bool) → Touches read (expirations_of old.state.settings) r moment.0 at.0 expires is_renewed
-          → (j : Interior K V S) → j ≡ record i { kept = j.kept } → j.kept ≡ record i.kept { records = insert i.kept.records n (record r { read = at; expires = expires }) } → i.kept.written ≡ old.write_list → (value : V) → value ≡ r.value → Peeks (Ok (Some value)) (with_inner old.state j) j.kept.written now
-      peek_hits at expires is_renewed t j rest kept listed value same =
+          → (j : Interior K V S) → j ≡ record i { kept = j.kept } → j.kept ≡ record i.kept { records = insert i.kept.records n (record r { read = at; expires = expires }) } → i.kept.written ≡ old.write_list → i.kept.hasher ≡ old.hasher → (value : V) → value ≡ r.value → Peeks (Ok (Some value)) (with_inner old.state j) j.kept.written j.kept.hasher now
+      peek_hits at expires is_renewed t j rest kept listed hashed value same =
           let done : PeekStep says read eq old.state key ignored moment.0 (Ok (Some value)) (after_hit read old.state r moment.0) = rw (enabled, key-inside h i inside key (Some r) found) ((accepted, (shown, uncovered)), same, refl) in
           let touched = record_read old.state i inside read n r (number-inside h i inside n r there).0 moment.0 at expires is_renewed t j rest kept in
-          subst (Peeks (Ok (Some value)) (with_inner old.state j) j.kept.written) is (subst (λ u. PeekStep says read eq old.state key ignored moment.0 (Ok (Some value)) u) (sym touched) done, befalls-listed tells old (with_inner old.state j) j.kept.written (ap (λ (k : Kept K V S). k.written) kept ∙ listed))
+          subst (Peeks (Ok (Some value)) (with_inner old.state j) j.kept.written j.kept.hasher) is (subst (λ u. PeekStep says read eq old.state key ignored moment.0 (Ok (Some value)) u) (sym touched) done, befalls-listed tells old (with_inner old.state j) j.kept.written j.kept.hasher (ap (λ (k : Kept K V S). k.written) kept ∙ listed) (ap (λ (k : Kept K V S). k.hasher) kept ∙ hashed))
 
       -- of what cannot be cloned
       pub peek_refused : (e : OutOfMemory) → PeekStep says read eq now.state key ignored moment.0 (Err e) now.state × Befalls tells no_events now now

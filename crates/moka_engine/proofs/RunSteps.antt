@@ -123,12 +123,15 @@ module _ {K V X L P W C S : Type 0} {tells : L → K → V → RemovalCause → 
         go false unset =
             ap (λ e. has_passed (moment_of e) terms.now) (run_leaves_lasting s simple terms by_state stored.ordered refl applied limited refl sketched ran (h.served.unexpiring (nowhere settings.expiry unset)) k r there)
 
+    abbrev ended : Option (List ℕ) → S → State K V X P W → Cache K V S X L P W
+    ended name hasher u = record { name = name; hasher = hasher; state = u; listener = n; write_list = j.kept.written; passes = passes }
+
     -- the run keeps its promises
-    pub cache_runs : {S : Type 0} (name : Option (List ℕ)) (hasher : S) (passes_before : ℕ) {now : Cache K V S X L P W} →
-        record { name = name; hasher = hasher; state = s; listener = l; write_list = i.kept.written; passes = passes_before } ≡ now →
-        (e : Events K V) × RunStep (ListedRun says read now.write_list j.kept.written) now.state terms left e t × Befalls tells e now (record { name = name; hasher = hasher; state = t; listener = n; write_list = j.kept.written; passes = passes }) × Leads reads clock e.readings clock_after
-    cache_runs name hasher passes_before is =
-        run_returns is j.kept.written (run_promised s simple terms by_state stored.ordered refl applied limited refl sketched ran read lasts h.listens) (ap (λ t. record { name = name; hasher = hasher; state = t; listener = n; write_list = j.kept.written; passes = passes }) ends)
+    pub cache_runs : (name : Option (List ℕ)) (passes_before : ℕ) {now : Cache K V S X L P W} →
+        record { name = name; hasher = i.kept.hasher; state = s; listener = l; write_list = i.kept.written; passes = passes_before } ≡ now →
+        (e : Events K V) × RunStep (ListedRun says read now.write_list j.kept.written) now.state terms left e t × Befalls tells e now (record { name = name; hasher = j.kept.hasher; state = t; listener = n; write_list = j.kept.written; passes = passes }) × Leads reads clock e.readings clock_after
+    cache_runs name passes_before is =
+        run_returns is j.kept.written (run_promised s simple terms by_state stored.ordered refl applied limited refl sketched ran read lasts h.listens) (ap (λ (u : State K V X P W). ended name j.kept.hasher u) ends ∙ ap (λ (h : S). ended name h (with_contents s (contents_with j.sketch j.kept) left_predicates)) keeps.hasher)
 
 -- ---- a disabled cache
 

@@ -12,6 +12,7 @@ ghost use Rattle.moka_parts.specs.Runs.{Befalls};
 ghost use Rattle.moka_parts.specs.Settling.{IsValid};
 ghost use Rattle.moka_parts.specs.State.{Events, is_disabled, keeps_write_list, limits_of, new_state};
 ghost use Rattle.moka_parts.specs.Surroundings.{Leads};
+ghost use Rattle.moka_store.specs.Hashing.{IsKeyHash};
 ghost use Rattle.moka_engine.specs.BaseCache.{IsServed};
 
 use moka_inner::Inner;
@@ -22,7 +23,7 @@ use moka_parts::housekeeper::{Clock, Housekeeper, HousekeeperConfig};
 use moka_parts::invalidator::Invalidator;
 use moka_parts::notification::{Listener, RemovalNotifier};
 use moka_parts::policy::{EvictionPolicy, ExpirationPolicy, Expiry, Instant, Policy};
-use moka_store::Update;
+use moka_store::{KeyHash, Update};
 use std::alloc::Global;
 use std::hash::{BuildHasher, Hash};
 use std::marker::Model;
@@ -38,6 +39,13 @@ mod runs;
 // How many segments the map has.
 const SEGMENTS: usize = 1;
 
+// The hash of a key that a caller hands in, and that under which the map has the key.
+#[derive(Clone, Copy)]
+struct Hashes {
+    hash: u64,
+    own: KeyHash,
+}
+
 /// A cache. moka: `sync::base_cache::BaseCache`.
 pub struct BaseCache<
     K: Eq + Hash,
@@ -50,7 +58,6 @@ pub struct BaseCache<
 > {
     alloc: Global,
     name: Option<String>,
-    build_hasher: S,
     inner: Inner<K, V, S>,
     notifier: RemovalNotifier<L>,
     housekeeper: Housekeeper,
@@ -83,7 +90,6 @@ impl<
         let BaseCache {
             alloc: _,
             name: _,
-            build_hasher: _,
             inner: _,
             notifier: _,
             housekeeper: _,
@@ -123,7 +129,7 @@ impl<
 
     ghost view = { λ c. record {
       name = option_map string_bytes c.name;
-      hasher = c.build_hasher;
+      hasher = c.inner.kept.hasher;
       state = state_of c.inner c.valid_after c.invalidator c.entry_count c.weighted_size c.housekeeper c.max_capacity
           (settings_of c.eviction_policy c.expiration_policy c.weigher c.invalidator_enabled c.housekeeper);
       listener = c.notifier;
@@ -168,8 +174,8 @@ impl<
     ///   with `NumbersUsedUp`.
     ///
     /// # Errors
-    /// `OutOfMemory` where memory for the tables or for a clone of the hasher is refused, and where `initial_capacity` would
-    /// need a place of more than 32 bits.
+    /// `OutOfMemory` where memory for the tables is refused, and where `initial_capacity` would need a place of more than 32
+    /// bits.
     #[allow(clippy::too_many_arguments)]
     pub fn new(
         alloc: Global,
@@ -189,7 +195,7 @@ impl<
     where
         K: Drop,
         V: Drop,
-        S: Clone,
+        S: Drop,
         X: Drop,
         L: Drop,
         P: Drop,
@@ -217,15 +223,12 @@ impl<
           passes = 0;
         }) }
     {
-        let Ok(hasher) = build_hasher.clone() else {
-            return Err(OutOfMemory);
-        };
         let initial_capacity = initial_capacity.unwrap_or(0);
         let ordered = needs_write_list(&expiration_policy, invalidator_enabled);
         let timed = needs_timers(&expiration_policy);
         let Ok(inner) = Inner::new(
             alloc,
-            hasher,
+            build_hasher,
             first_ticket,
             initial_capacity,
             ordered,
@@ -238,7 +241,6 @@ impl<
         Ok(BaseCache {
             alloc,
             name,
-            build_hasher,
             inner,
             notifier,
             housekeeper,
@@ -289,7 +291,7 @@ impl<
     pub fn hash(&self, key: &K) -> u64
         ensures { result ≡ S.Hasher.finish (fold S.Hasher.write (S.build_hasher self.now.hasher) (K.hash_input key.now)) }
     {
-        self.build_hasher.hash_one(key)
+        self.inner.hash(key)
     }
 
     /// Whether the capacity is 0, and so nothing is ever kept.
@@ -373,27 +375,63 @@ impl<
         requires enabled { is_disabled self.old.state.capacity ≡ false }
         ensures { (e : Events K V) × InsertStep X.created X.updated W.weighs K.eq self.old.state key hash value now result e self.new.state × Befalls L.tells e self.old self.new }
     {
+        let own = self.inner.key_hash(&key);
+        self.insert_hashed(key, Hashes { hash, own }, value, now)
+    }
+
+    /// As `do_insert_with_hash` with the key's hash by the cache's own hasher, as `hash` tells it, which is not made again.
+    ///
+    /// # Errors
+    /// As those of `do_insert_with_hash`.
+    #[inline(always)]
+    pub fn do_insert_with_own_hash(
+        &mut self,
+        key: K,
+        hash: u64,
+        value: V,
+        now: Instant,
+    ) -> Result<(Ticket, Instant), InsertRefused<K, V>>
+    where
+        K: Drop,
+        V: Drop,
+        requires enabled { is_disabled self.old.state.capacity ≡ false }
+        requires own { hash ≡ S.Hasher.finish (fold S.Hasher.write (S.build_hasher self.old.hasher) (K.hash_input key)) }
+        ensures { (e : Events K V) × InsertStep X.created X.updated W.weighs K.eq self.old.state key hash value now result e self.new.state × Befalls L.tells e self.old self.new }
+    {
+        let own = KeyHash::of(hash);
+        self.insert_hashed(key, Hashes { hash, own }, value, now)
+    }
+
+    // An insert of a key with both of its hashes.
+    #[inline(always)]
+    fn insert_hashed(
+        &mut self,
+        key: K,
+        hashes: Hashes,
+        value: V,
+        now: Instant,
+    ) -> Result<(Ticket, Instant), InsertRefused<K, V>>
+    where
+        K: Drop,
+        V: Drop,
+        requires enabled { is_disabled self.old.state.capacity ≡ false }
+        requires own { IsKeyHash S.build_hasher S.Hasher.finish S.Hasher.write self.old.hasher (K.hash_input key) hashes.own }
+        ensures { (e : Events K V) × InsertStep X.created X.updated W.weighs K.eq self.old.state key hashes.hash value now result e self.new.state × Befalls L.tells e self.old self.new }
+    {
         let weight = inserts::weigh(&self.weigher, &key, &value);
-        let (handle, found) = match self.inner.find_or_hash(&key) {
-            Ok(found) => found,
-            Err(key_hash) => {
-                let expires = inserts::expires_at_creation(
-                    &self.expiration_policy,
-                    &key,
-                    &value,
-                    now,
-                );
-                if let Err(error) = self.inner.reserve_record() {
-                    return Err(InsertRefused { error, key, value });
-                }
-                let update = Update {
-                    value,
-                    now,
-                    expires,
-                    weight,
-                };
-                return Ok((self.inner.insert(key, key_hash, hash, update), now));
+        let Hashes { hash, own } = hashes;
+        let Some((handle, found)) = self.inner.find(&key, own) else {
+            let expires = inserts::expires_at_creation(&self.expiration_policy, &key, &value, now);
+            if let Err(error) = self.inner.reserve_record() {
+                return Err(InsertRefused { error, key, value });
             }
+            let update = Update {
+                value,
+                now,
+                expires,
+                weight,
+            };
+            return Ok((self.inner.insert(key, own, hash, update), now));
         };
         let (policy, valid_after) = (&self.expiration_policy, self.valid_after);
         let cause = causes::cause_of_replacement(found, policy, valid_after, now);
@@ -434,8 +472,35 @@ impl<
         ensures step { RemoveStep K.eq self.old.state key.now result self.new.state }
         ensures events { Befalls L.tells no_events self.old self.new }
     {
-        let (handle, _) = self.inner.find(key)?;
-        let (record, ticket) = self.inner.remove(handle);
+        let own = self.inner.key_hash(key);
+        self.remove_hashed(key, own)
+    }
+
+    /// As `remove_entry` with the key's hash by the cache's own hasher, as `hash` tells it, which is not made again.
+    pub fn remove_entry_with_own_hash(
+        &mut self,
+        key: &K,
+        hash: u64,
+    ) -> Option<(KvEntry<K, V>, Ticket)>
+    where
+        K: Drop,
+        requires own { hash ≡ S.Hasher.finish (fold S.Hasher.write (S.build_hasher self.old.hasher) (K.hash_input key.now)) }
+        ensures step { RemoveStep K.eq self.old.state key.now result self.new.state }
+        ensures events { Befalls L.tells no_events self.old self.new }
+    {
+        self.remove_hashed(key, KeyHash::of(hash))
+    }
+
+    // A removal of a key with its hash in the map.
+    fn remove_hashed(&mut self, key: &K, own: KeyHash) -> Option<(KvEntry<K, V>, Ticket)>
+    where
+        K: Drop,
+        requires own { IsKeyHash S.build_hasher S.Hasher.finish S.Hasher.write self.old.hasher (K.hash_input key.now) own }
+        ensures step { RemoveStep K.eq self.old.state key.now result self.new.state }
+        ensures events { Befalls L.tells no_events self.old self.new }
+    {
+        let (handle, _) = self.inner.find(key, own)?;
+        let (record, ticket) = self.inner.remove(handle, own);
         let entry = KvEntry {
             key: record.key,
             value: record.value,
@@ -489,16 +554,42 @@ impl<
     pub fn contains_key_with_hash(&self, key: &K, _hash: u64, now: Instant) -> bool
         ensures { ContainsStep P.says K.eq self.now.state key.now now.0 result }
     {
+        let own = self.inner.key_hash(key);
+        self.contains_hashed(key, own, now)
+    }
+
+    /// As `contains_key_with_hash` with the key's hash by the cache's own hasher, as `hash` tells it, which is not made
+    /// again.
+    pub fn contains_key_with_own_hash(&self, key: &K, hash: u64, now: Instant) -> bool
+        requires own { hash ≡ S.Hasher.finish (fold S.Hasher.write (S.build_hasher self.now.hasher) (K.hash_input key.now)) }
+        ensures { ContainsStep P.says K.eq self.now.state key.now now.0 result }
+    {
+        self.contains_hashed(key, KeyHash::of(hash), now)
+    }
+
+    // The same with the key's hash in the map.
+    fn contains_hashed(&self, key: &K, own: KeyHash, now: Instant) -> bool
+        requires own { IsKeyHash S.build_hasher S.Hasher.finish S.Hasher.write self.now.hasher (K.hash_input key.now) own }
+        ensures { ContainsStep P.says K.eq self.now.state key.now now.0 result }
+    {
         let (policy, valid_after) = (&self.expiration_policy, &self.valid_after);
         let invalidator = &self.invalidator;
-        gets::find_shown(&self.inner, policy, valid_after, invalidator, key, now).is_some()
+        gets::find_shown(
+            &self.inner,
+            policy,
+            valid_after,
+            invalidator,
+            (key, own),
+            now,
+        )
+        .is_some()
     }
 
     /// The key that the cache keeps for an equal one, visible or not. Nothing is recorded.
     pub fn get_key_with_hash(&self, key: &K, _hash: u64) -> Option<&K>
         ensures { option_copied result ≡ option_map (λ r. r.key) (record_of_key K.eq self.now.state.records key.now) }
     {
-        match self.inner.find(key) {
+        match self.inner.find(key, self.inner.key_hash(key)) {
             Some((_, found)) => Some(&found.key),
             None => None,
         }
@@ -555,7 +646,36 @@ impl<
             × Befalls L.tells e self.old self.new
             × Leads C.reads clock.old e.readings clock.new }
     {
-        self.do_get_with_hash(key, hash, &mut NoTest, need_key, now, clock)
+        let own = self.inner.key_hash(key);
+        self.get_hashed(key, Hashes { hash, own }, &mut NoTest, need_key, now, clock)
+    }
+
+    /// As `get_with_hash` with the key's hash by the cache's own hasher, as `hash` tells it, which is not made again.
+    ///
+    /// # Errors
+    /// As those of `get_with_hash`.
+    #[inline(always)]
+    pub fn get_with_own_hash<C: Clock>(
+        &mut self,
+        key: &K,
+        hash: u64,
+        need_key: bool,
+        now: Instant,
+        clock: &mut C,
+    ) -> Result<Option<Entry<K, V>>, OutOfMemory>
+    where
+        K: Clone + Drop,
+        V: Clone + Drop,
+        P: Drop,
+        requires own { hash ≡ S.Hasher.finish (fold S.Hasher.write (S.build_hasher self.old.hasher) (K.hash_input key.now)) }
+        ensures { (e : Events K V)
+            × HandsOut (IsEntryCopy K.is_clone V.is_clone)
+            (λ a. GetStep P.says X.read (ListedRun P.says X.read self.old.write_list self.new.write_list) K.eq self.old.state key.now hash need_key false now.0 a e self.new.state) result
+            × Befalls L.tells e self.old self.new
+            × Leads C.reads clock.old e.readings clock.new }
+    {
+        let own = KeyHash::of(hash);
+        self.get_hashed(key, Hashes { hash, own }, &mut NoTest, need_key, now, clock)
     }
 }
 

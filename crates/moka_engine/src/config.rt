@@ -277,8 +277,7 @@ impl<X, L, P, W> CacheConfig<X, L, P, W> {
     /// An empty cache made at the moment `now`, with this hasher. It takes its memory from `alloc`.
     ///
     /// # Errors
-    /// `OutOfMemory` if memory for the tables or for a clone of the hasher is refused, or the initial capacity needs a place
-    /// of more than 32 bits.
+    /// `OutOfMemory` if memory for the tables is refused, or the initial capacity needs a place of more than 32 bits.
     pub fn build_with_hasher<K, V, S>(
         self,
         alloc: Global,
@@ -288,7 +287,7 @@ impl<X, L, P, W> CacheConfig<X, L, P, W> {
     where
         K: Eq + Hash + Drop,
         V: Drop,
-        S: BuildHasher + Clone,
+        S: BuildHasher + Drop,
         X: Expiry<K, V> + Drop,
         L: Listener<K, V> + Drop,
         P: PredicateFn<K, V> + Drop,

@@ -1,7 +1,8 @@
 //! The map, the operations that wait, and both queues.
-ghost use Rattle.std.specs.Prelude.{◌≡◌, ◌+◌, ◌^◌, ◌<◌, ◌≤◌, ◌↔◌, true, [], ◌∷◌, ◌++◌, None, Some, Ok, Err, OnOk, OnErr, IfErr, IfOk, IfSome, if◌then◌else◌, length, nat_lt, option_map, slice_get};
+ghost use Rattle.std.specs.Prelude.{◌≡◌, ◌+◌, ◌^◌, ◌<◌, ◌≤◌, ◌↔◌, true, [], ◌∷◌, ◌++◌, None, Some, Ok, Err, OnOk, OnErr, IfOk, IfSome, if◌then◌else◌, length, nat_lt, option_map, slice_get};
 ghost use Rattle.std.specs.Duration.{as_nanos};
 ghost use Rattle.std.specs.FinMap as finite;
+ghost use Rattle.std.specs.List.{fold};
 ghost use Rattle.moka_parts.specs.Calls.{queue_length};
 ghost use Rattle.moka_parts.specs.Order.{IsListOf};
 ghost use Rattle.moka_parts.specs.Reads.{after_reads};
@@ -118,6 +119,7 @@ impl<K: Eq + Hash, V, S: BuildHasher> Inner<K, V, S> {
         V: Drop,
         S: Drop,
         requires { 1 ≤ first_ticket }
+        ensures hasher { IfOk result (λ i. i.kept.hasher ≡ hasher) }
         ensures empty { IfOk result (λ i. i ≡ nothing_inside ordered timed first_ticket i) }
         ensures room { IfOk result (λ i. initial_capacity ≤ i.kept.room) }
     {
@@ -145,26 +147,32 @@ impl<K: Eq + Hash, V, S: BuildHasher> Inner<K, V, S> {
         self.store.invariant_holds();
     }
 
-    /// The record whose key is equal, with its handle.
+    /// The hash of a key by the store's hasher.
     #[inline(always)]
-    pub fn find(&self, key: &K) -> Option<(Handle, &Record<K, V>)>
+    pub fn hash(&self, key: &K) -> u64
+        ensures { result ≡ S.Hasher.finish (fold S.Hasher.write (S.build_hasher self.now.kept.hasher) (K.hash_input key.now)) }
+    {
+        self.store.hash(key)
+    }
+
+    /// The hash under which the store has a key, or would have it.
+    #[inline(always)]
+    pub fn key_hash(&self, key: &K) -> KeyHash
+        ensures { IsKeyHash S.build_hasher S.Hasher.finish S.Hasher.write self.now.kept.hasher (K.hash_input key.now) result }
+    {
+        KeyHash::of(self.store.hash(key))
+    }
+
+    /// The record whose key is equal, with its handle, under the key's hash.
+    #[inline(always)]
+    pub fn find(&self, key: &K, hash: KeyHash) -> Option<(Handle, &Record<K, V>)>
+        requires hashed { IsKeyHash S.build_hasher S.Hasher.finish S.Hasher.write self.now.kept.hasher (K.hash_input key.now) hash }
         ensures handle { IfSome result (λ f. IsHandle self.now.kept f.0) }
         ensures numbered { IfSome result (λ f. finite.get self.now.kept.records f.0.number ≡ Some f.1.now) }
         ensures found { option_map (λ f. f.1.now) result ≡ record_of_key K.eq self.now.kept.records key.now }
+        ensures hashed { IfSome result (λ f. IsKeyHash S.build_hasher S.Hasher.finish S.Hasher.write self.now.kept.hasher (K.hash_input f.1.now.key) hash) }
     {
-        self.store.find_by_key(key)
-    }
-
-    /// The record whose key is equal, with its handle, or the hash under which a new record of the key comes in.
-    #[inline(always)]
-    pub fn find_or_hash(&self, key: &K) -> Result<(Handle, &Record<K, V>), KeyHash>
-        ensures handle { IfOk result (λ f. IsHandle self.now.kept f.0) }
-        ensures numbered { IfOk result (λ f. finite.get self.now.kept.records f.0.number ≡ Some f.1.now) }
-        ensures known { IfOk result (λ f. record_of_key K.eq self.now.kept.records key.now ≡ Some f.1.now) }
-        ensures unknown { IfErr result (λ _. record_of_key K.eq self.now.kept.records key.now ≡ None) }
-        ensures hashed { IfErr result (λ hash. IsKeyHash S.build_hasher S.Hasher.finish S.Hasher.write self.now.kept.hasher (K.hash_input key.now) hash) }
-    {
-        self.store.find_or_hash(key)
+        self.store.find_by_key(key, hash)
     }
 
     /// Makes room for one more record with its operation and its removal.
@@ -275,12 +283,13 @@ impl<K: Eq + Hash, V, S: BuildHasher> Inner<K, V, S> {
         (old, Ticket(ticket))
     }
 
-    /// Takes the record at this handle out of the map, and hands its removal out under the next ticket. It takes no
-    /// memory. The member stays until the removal is applied.
-    pub fn remove(&mut self, handle: Handle) -> (Record<K, V>, Ticket)
+    /// Takes the record at this handle out of the map, where it is under the hash of its key, and hands its removal out
+    /// under the next ticket. It takes no memory. The member stays until the removal is applied.
+    pub fn remove(&mut self, handle: Handle, hash: KeyHash) -> (Record<K, V>, Ticket)
     where
         K: Drop,
         requires handle { IsHandle self.old.kept handle }
+        requires hashed { (r : Record K V) → finite.get self.old.kept.records handle.number ≡ Some r → IsKeyHash S.build_hasher S.Hasher.finish S.Hasher.write self.old.kept.hasher (K.hash_input r.key) hash }
         ensures ticket { result.1.0 ≡ self.old.next_ticket }
         ensures taken { finite.get self.old.kept.records handle.number ≡ Some result.0 }
         ensures step { self.new ≡ handing_out_inside self.old
@@ -288,7 +297,7 @@ impl<K: Eq + Hash, V, S: BuildHasher> Inner<K, V, S> {
             (Removal handle.number (result.0.generation + 1)) self.new }
     {
         let ticket = self.last_ticket + 1;
-        let record = self.store.take_record(handle);
+        let record = self.store.take_record(handle, hash);
         let Handle { number, place } = handle;
         let operation = Operation::Removal {
             number,
@@ -368,7 +377,7 @@ impl<K: Eq + Hash, V, S: BuildHasher> Inner<K, V, S> {
             hash,
             renewed,
         };
-        match self.store.find_by_key(key) {
+        match self.store.find_by_key(key, self.key_hash(key)) {
             Some((Handle { place, .. }, _)) => self.queue_read(place, read),
             None => self.queue_read(0, read),
         }

@@ -19,7 +19,7 @@ use Rattle.moka_maintenance.specs.Steps.{contents_in, contents_with, Told}
 -- what the comparison moves keeps its timer
 pub keeps-chosen : {K V S : Type 0} (sketch : Option Table) (old mid : Kept K V S) (weight hash victims : ℕ) {preferred : Bool} → Chooses (contents_with sketch old) weight hash mid.access victims preferred → mid ≡ record old { access = mid.access } → KeepsTimers old mid
 keeps-chosen sketch old mid weight hash victims chosen rest =
-    keeps-moved old mid (ap (λ (k : Kept _ _ _). k.ordered) rest) (ap (λ (k : Kept _ _ _). k.timed) rest) (ap (λ (k : Kept _ _ _). k.records) rest)
+    keeps-moved old mid (ap (λ (k : Kept _ _ _). k.ordered) rest) (ap (λ (k : Kept _ _ _). k.timed) rest) (ap (λ (k : Kept _ _ _). k.hasher) rest) (ap (λ (k : Kept _ _ _). k.records) rest)
     (λ k. ap (counted_of k) chosen.order ∙ counted-all_to_back chosen.moved k old.access) (ap (λ (k : Kept _ _ _). k.timers) rest)
 
 module _ {K V S : Type 0} (sketch : Option Table) (old mid : Kept K V S) (number generation weight hash victims : ℕ) {preferred : Bool} (chosen : Chooses (contents_with sketch old) weight hash mid.access victims preferred) (rest : mid ≡ record old { access = mid.access }) where

@@ -27,14 +27,15 @@ module _ {K V S : Type 0} (old mid new : Kept K V S) (n generation weight : ℕ)
   entered-room same = let room = same ∙ ap (λ (m : Kept K V S). m.room) seen in omega arith
 
   -- its timer is set
-  pub entered-timers : (last : Kept K V S) → new.records ≡ mid.records → new.ordered ≡ mid.ordered → new.timed ≡ mid.timed → new.timers ≡ mid.timers → ((k : ℕ) → counted_of k new.access ≡ (if k == n then Some weight else counted_of k mid.access))
+  pub entered-timers : (last : Kept K V S) → new.records ≡ mid.records → new.ordered ≡ mid.ordered → new.timed ≡ mid.timed → new.hasher ≡ mid.hasher → new.timers ≡ mid.timers → ((k : ℕ) → counted_of k new.access ≡ (if k == n then Some weight else counted_of k mid.access))
       → ((p : Record K V) → get new.records n ≡ Some p → last ≡ record new { timers = if new.timed then with_timer new.timers n (moment_of p.expires) else new.timers }) → KeepsTimers old last
-  entered-timers last records ordered timed timers counted set =
+  entered-timers last records ordered timed hasher timers counted set =
       let all : new.records ≡ insert old.records n (record r { applied = generation }) = records ∙ ap (λ (k : Kept K V S). k.records) seen in
       let found = ap (λ m. get m n) all ∙ get-inserted old.records n (record r { applied = generation }) in
       keeps-set old new last n (record r { applied = generation }) found
       (ordered ∙ ap (λ (k : Kept K V S). k.ordered) seen)
       (timed ∙ ap (λ (k : Kept K V S). k.timed) seen)
+      (hasher ∙ ap (λ (k : Kept K V S). k.hasher) seen)
       (timers ∙ ap (λ (k : Kept K V S). k.timers) seen)
       (λ k other. ap (λ m. get m k) all ∙ get-past_insert old.records n (record r { applied = generation }) k other)
       (λ k other. counted k ∙ cond-false (k == n) (Some weight) (counted_of k mid.access) (ne_eqb k n other) ∙ ap (λ (s : Kept K V S). counted_of k s.access) seen)

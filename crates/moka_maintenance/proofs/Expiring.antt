@@ -74,15 +74,17 @@ module _ {K V S : Type 0} (now n : ℕ) (old new : Kept K V S) (untimed : get ol
   reset-waiting waiting = record {
     ordered = refl;
     timed = refl;
+    hasher = refl;
     timers = inl refl;
     own = λ kept r there applied. absurd (true≢false (sym applied ∙ sym (ap (λ o. option_map_or is_applied o false) there) ∙ waiting));
   }
 
   -- its record leaves
-  pub reset-gone : get new.records n ≡ None → new.ordered ≡ old.ordered → new.timed ≡ old.timed → new.timers ≡ remove old.timers n → IsReset now n old new
-  reset-gone gone ordered timed taken = record {
+  pub reset-gone : get new.records n ≡ None → new.ordered ≡ old.ordered → new.timed ≡ old.timed → new.hasher ≡ old.hasher → new.timers ≡ remove old.timers n → IsReset now n old new
+  reset-gone gone ordered timed hasher taken = record {
     ordered = ordered;
     timed = timed;
+    hasher = hasher;
     timers = inl (taken ∙ remove_absent old.timers n untimed);
     own = λ kept r there applied. (let bad : None ≡ Some r = sym gone ∙ there in cc);
   }
@@ -92,6 +94,7 @@ module _ {K V S : Type 0} (now n : ℕ) (old new : Kept K V S) (untimed : get ol
   reset-set r found later step = record {
     ordered = ap (λ (k : Kept K V S). k.ordered) step;
     timed = ap (λ (k : Kept K V S). k.timed) step;
+    hasher = ap (λ (k : Kept K V S). k.hasher) step;
     timers = subst (λ ts. (ts ≡ old.timers) ⊎ ((t : ℕ) × (now < t) × (ts ≡ insert old.timers n t))) (sym (ap (λ (k : Kept K V S). k.timers) step)) (set old.timed (moment_of r.expires) later);
     own = λ kept p there applied.
         (let is : r ≡ p = (let f = sym found ∙ (sym (ap (λ (k : Kept K V S). get k.records n) step) ∙ there) in cc) in
@@ -141,6 +144,7 @@ module _ {K V L : Type 0} (tells : L → K → V → RemovalCause → L → Type
     keeps-due = record {
       ordered = reset.ordered ∙ ap (λ (k : Kept K V S). k.ordered) taken;
       timed = reset.timed ∙ ap (λ (k : Kept K V S). k.timed) taken;
+      hasher = reset.hasher ∙ ap (λ (k : Kept K V S). k.hasher) taken;
       set = λ kept k p there is_in applied. elim (cases_eq k n) [
         | inl same ↦ inr (ap (get new.timers) same ∙ reset.own (ap (λ (k : Kept K V S). k.timed) taken ∙ kept) p (sym (ap (get new.records) same) ∙ there) applied)
         | inr other ↦ inl (

@@ -33,12 +33,13 @@ module _ (timers : FinMap nat_cmp ℕ) (n : ℕ) where
 
 module _ {K V : Type 0} where
   pub keeps-none : {S : Type 0} → (k : Kept K V S) → KeepsTimers k k
-  keeps-none k = record { ordered = refl; timed = refl; set = λ _ n r there is_in applied. inl (there, is_in, refl) }
+  keeps-none k = record { ordered = refl; timed = refl; hasher = refl; set = λ _ n r there is_in applied. inl (there, is_in, refl) }
 
   pub keeps-on : {S : Type 0} → (a b c : Kept K V S) → KeepsTimers a b → KeepsTimers b c → KeepsTimers a c
   keeps-on a b c h j = record {
     ordered = j.ordered ∙ h.ordered;
     timed = j.timed ∙ h.timed;
+    hasher = j.hasher ∙ h.hasher;
     set = λ kept n r there is_in applied. elim (j.set (h.timed ∙ kept) n r there is_in applied) [
       | inl same ↦ elim (h.set kept n r same.0 same.1 applied) [
         | inl before ↦ inl (before.0, before.1, same.2 ∙ before.2)
@@ -58,12 +59,13 @@ module _ {K V : Type 0} where
   pub none-due : {S : Type 0} → (now : ℕ) (a b : Kept K V S) → DropsTimers a b → HasNoneDue now a → HasNoneDue now b
   none-due now a b h none n t there = none n t (h.fewer n t there)
 
-  module _ {S : Type 0} (old new : Kept K V S) (ordered : new.ordered ≡ old.ordered) (timed : new.timed ≡ old.timed) where
+  module _ {S : Type 0} (old new : Kept K V S) (ordered : new.ordered ≡ old.ordered) (timed : new.timed ≡ old.timed) (hasher : new.hasher ≡ old.hasher) where
     -- members move, and all else stays
     pub keeps-moved : new.records ≡ old.records → ((k : ℕ) → counted_of k new.access ≡ counted_of k old.access) → new.timers ≡ old.timers → KeepsTimers old new
     keeps-moved records counted timers = record {
       ordered = ordered;
       timed = timed;
+      hasher = hasher;
       set = λ _ n r there is_in applied. inl (sym (ap (λ m. get m n) records) ∙ there, sym (ap is_some (counted n)) ∙ is_in, ap (λ m. get m n) timers);
     }
 
@@ -75,6 +77,7 @@ module _ {K V : Type 0} where
     keeps-outside n out records members timers = record {
       ordered = ordered;
       timed = timed;
+      hasher = hasher;
       set = λ _ k r there is_in applied.
           (let other : k ≢ n = λ same. true≢false (sym is_in ∙ ap is_some (ap (λ x. counted_of x new.access) same ∙ out)) in
           inl (sym (records k other) ∙ there, members k is_in, timers k other));
@@ -96,19 +99,21 @@ module _ {K V : Type 0} where
   keeps-left old mid new n places left rest =
       keeps-outside old new
       (ap (λ (k : Kept K V _). k.ordered) rest ∙ ap (λ (k : Kept K V _). k.ordered) left)
-      (ap (λ (k : Kept K V _). k.timed) rest ∙ ap (λ (k : Kept K V _). k.timed) left) n
+      (ap (λ (k : Kept K V _). k.timed) rest ∙ ap (λ (k : Kept K V _). k.timed) left)
+      (ap (λ (k : Kept K V _). k.hasher) rest ∙ ap (λ (k : Kept K V _). k.hasher) left) n
       (ap (λ (k : Kept K V _). counted_of n k.access) rest ∙ ap (λ (k : Kept K V _). counted_of n k.access) left ∙ counted_taken_out n old.access)
       (λ k _. ap (λ (s : Kept K V _). get s.records k) rest ∙ ap (λ (s : Kept K V _). get s.records k) left)
       (λ k is_in. member-was n k old.access (sym (ap (λ (s : Kept K V _). is_member k s.access) rest ∙ ap (λ (s : Kept K V _). is_member k s.access) left) ∙ is_in))
       (λ k other. ap (λ (s : Kept K V _). get s.timers k) rest ∙ ap (λ (s : Kept K V _). get s.timers k) left ∙ get-past_remove old.timers n k other)
 
   -- the timer of a number is set to its record's expiry, and other records, members and timers stay
-  pub keeps-set : {S : Type 0} → (old mid new : Kept K V S) (n : ℕ) (r : Record K V) → get mid.records n ≡ Some r → mid.ordered ≡ old.ordered → mid.timed ≡ old.timed → mid.timers ≡ old.timers
+  pub keeps-set : {S : Type 0} → (old mid new : Kept K V S) (n : ℕ) (r : Record K V) → get mid.records n ≡ Some r → mid.ordered ≡ old.ordered → mid.timed ≡ old.timed → mid.hasher ≡ old.hasher → mid.timers ≡ old.timers
       → ((k : ℕ) → k ≢ n → get mid.records k ≡ get old.records k) → ((k : ℕ) → k ≢ n → counted_of k mid.access ≡ counted_of k old.access)
       → new ≡ record mid { timers = if mid.timed then with_timer mid.timers n (moment_of r.expires) else mid.timers } → KeepsTimers old new
-  keeps-set old mid new n r found ordered timed timers records counted step = record {
+  keeps-set old mid new n r found ordered timed hasher timers records counted step = record {
     ordered = ap (λ (k : Kept K V _). k.ordered) step ∙ ordered;
     timed = ap (λ (k : Kept K V _). k.timed) step ∙ timed;
+    hasher = ap (λ (k : Kept K V _). k.hasher) step ∙ hasher;
     set = λ kept k p there is_in applied.
         (let set : new.timers ≡ with_timer mid.timers n (moment_of r.expires) = ap (λ (k : Kept K V _). k.timers) step ∙ ap (λ b. if b then with_timer mid.timers n (moment_of r.expires) else mid.timers) (timed ∙ kept) in
         let there' : get mid.records k ≡ Some p = sym (ap (λ (s : Kept K V _). get s.records k) step) ∙ there in

@@ -61,7 +61,7 @@ module _ {K V : Type 0} where
     members = λ k other there. subst (λ o. is_some o ≡ true) (sym (counted-without n k old.access ∙ cond-false (k == n) None (counted_of k old.access) (ne_eqb k n other))) there;
     listed = λ k other there. elim (same_or_apart k n) [ inl same ↦ absurd (other same) | inr apart ↦ listed_past_taken_out n k old.written apart ∙ there ];
     once = λ o. once_taken_out n old.written o;
-    timers = drops-gone old (without_record n room old) refl refl n refl refl refl;
+    timers = drops-gone old (without_record n room old) refl refl refl n refl refl refl;
     places = places-gone old (without_record n room old) n refl;
     rows = rows-gone old (without_record n room old) n refl refl;
     room = more;

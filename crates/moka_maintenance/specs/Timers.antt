@@ -24,10 +24,11 @@ module _ {K V : Type 0} where
   SetsTimers old new = (n : ℕ) (r : Record K V) → get new.records n ≡ Some r → is_member n new.access ≡ true → is_applied r ≡ true
       → ((get old.records n ≡ Some r) × (is_member n old.access ≡ true) × (get new.timers n ≡ get old.timers n)) ⊎ (get new.timers n ≡ moment_of r.expires)
 
-  -- what orders and timers a store keeps never changes; where timers are kept they stand as before, or anew at their records' expiries
+  -- what orders and timers a store keeps never changes, nor does its hasher; where timers are kept they stand as before, or anew at their records' expiries
   pub record KeepsTimers {S : Type 0} (old new : Kept K V S) : Type 0 where
     pub ordered : new.ordered ≡ old.ordered
     pub timed : new.timed ≡ old.timed
+    pub hasher : new.hasher ≡ old.hasher
     pub set : old.timed ≡ true → SetsTimers old new
 
   -- and no timer is new
@@ -39,5 +40,6 @@ module _ {K V : Type 0} where
   pub record IsReset {S : Type 0} (now n : ℕ) (old new : Kept K V S) : Type 0 where
     pub ordered : new.ordered ≡ old.ordered
     pub timed : new.timed ≡ old.timed
+    pub hasher : new.hasher ≡ old.hasher
     pub timers : (new.timers ≡ old.timers) ⊎ ((t : ℕ) × (now < t) × (new.timers ≡ insert old.timers n t))
     pub own : old.timed ≡ true → (r : Record K V) → get new.records n ≡ Some r → is_applied r ≡ true → get new.timers n ≡ moment_of r.expires

@@ -3,7 +3,7 @@
 //! moka: `sync::base_cache::Inner`, whose maps and deques these are.
 ghost use Rattle.std.specs.Prelude.{◌==◌, if◌then◌else◌, ◌≡◌, ◌≢◌, ◌+◌, ◌^◌, ◌<◌, ◌≤◌, ℕ, [], ◌∷◌, ◌++◌, length, OnOk, IfOk, IfSome, IfNone, true, false, IsOk, IsSome, IsNone, None, Some, slice_get, option_map, option_copied, IsTrue, IfErr, ◌↔◌};
 ghost use Rattle.std.specs.FinMap as finite;
-ghost use Rattle.std.specs.List.{IsDistinct};
+ghost use Rattle.std.specs.List.{IsDistinct, fold};
 ghost use Rattle.moka_store.specs.Store.{member_after, number_after, cursor_past, with_timer, AreKeysOf, ChangesRecord, ExpiresAsBefore, IsOff, IsPlaced, IsHandle, IsOneEach, IsOrdered};
 ghost use Rattle.moka_store.specs.declared.store.Handle.{Handle};
 ghost use Rattle.moka_parts.specs.declared.records.Record.{Record};
@@ -147,32 +147,28 @@ impl<K: Eq + Hash, V, S: BuildHasher> Store<K, V, S> {
         self.timers.reserve(rows)
     }
 
-    /// The record whose key is equal, with its handle.
+    /// The hash of a key by the store's hasher.
     #[inline(always)]
-    pub fn find_by_key(&self, key: &K) -> Option<(Handle, &Record<K, V>)>
+    pub fn hash(&self, key: &K) -> u64
+        ensures { result ≡ S.Hasher.finish (fold S.Hasher.write (S.build_hasher self.now.hasher) (K.hash_input key.now)) }
+    {
+        self.hasher.hash_one(key)
+    }
+
+    /// The record whose key is equal, with its handle, under the key's hash.
+    #[inline(always)]
+    pub fn find_by_key(&self, key: &K, hash: KeyHash) -> Option<(Handle, &Record<K, V>)>
+        requires hashed { IsKeyHash S.build_hasher S.Hasher.finish S.Hasher.write self.now.hasher (K.hash_input key.now) hash }
         ensures handle { IfSome result (λ f. IsHandle self.now f.0) }
         ensures found { IfSome result (λ f. finite.get self.now.records f.0.number ≡ Some f.1.now) }
         ensures value { option_map (λ f. f.1.now) result ≡ record_of_key K.eq self.now.records key.now }
+        ensures hashed { IfSome result (λ f. IsKeyHash S.build_hasher S.Hasher.finish S.Hasher.write self.now.hasher (K.hash_input f.1.now.key) hash) }
         ensures one_each { IsOneEach K.eq self.now.records }
     {
-        self.find_or_hash(key).ok()
-    }
-
-    /// The record whose key is equal, with its handle, or the hash under which a new record of the key comes in.
-    #[inline(always)]
-    pub fn find_or_hash(&self, key: &K) -> Result<(Handle, &Record<K, V>), KeyHash>
-        ensures handle { IfOk result (λ f. IsHandle self.now f.0) }
-        ensures found { IfOk result (λ f. finite.get self.now.records f.0.number ≡ Some f.1.now) }
-        ensures known { IfOk result (λ f. record_of_key K.eq self.now.records key.now ≡ Some f.1.now) }
-        ensures unknown { IfErr result (λ _. record_of_key K.eq self.now.records key.now ≡ None) }
-        ensures hashed { IfErr result (λ hash. IsKeyHash S.build_hasher S.Hasher.finish S.Hasher.write self.now.hasher (K.hash_input key.now) hash) }
-        ensures one_each { IsOneEach K.eq self.now.records }
-    {
-        let hash = hashing::key_hash(&self.hasher, key);
         let table = &self.table;
         let is_match = |place| changes::has_key(table, place, key);
-        let Some(place) = self.index.find(hash, is_match) else {
-            return Err(KeyHash(hash));
+        let Some(place) = self.index.find(hash.0, is_match) else {
+            return None;
         };
         let Some(row) = table.row(place) else {
             unreachable!()
@@ -184,7 +180,7 @@ impl<K: Eq + Hash, V, S: BuildHasher> Store<K, V, S> {
             number: row.number(),
             place,
         };
-        Ok((handle, stored))
+        Some((handle, stored))
     }
 
     /// The record at this handle, if it is still there.
@@ -280,10 +276,23 @@ impl<K: Eq + Hash, V, S: BuildHasher> Store<K, V, S> {
         changes::set_applied(&mut self.table, handle.place, generation);
     }
 
-    /// The record at this handle leaves the map, and its number stays.
+    // The hash under which the store has the record at this handle.
     #[inline(always)]
-    pub fn take_record(&mut self, handle: Handle) -> Record<K, V>
-        requires { IsHandle self.old handle }
+    fn hash_at(&self, handle: Handle) -> KeyHash
+        requires { IsHandle self.now handle }
+        ensures { (r : Record K V) → finite.get self.now.records handle.number ≡ Some r → IsKeyHash S.build_hasher S.Hasher.finish S.Hasher.write self.now.hasher (K.hash_input r.key) result }
+    {
+        let Some(found) = self.find(handle) else {
+            unreachable!()
+        };
+        KeyHash::of(self.hash(&found.key))
+    }
+
+    /// The record at this handle leaves the map, where it is under the hash of its key, and its number stays.
+    #[inline(always)]
+    pub fn take_record(&mut self, handle: Handle, hash: KeyHash) -> Record<K, V>
+        requires handle { IsHandle self.old handle }
+        requires hashed { (r : Record K V) → finite.get self.old.records handle.number ≡ Some r → IsKeyHash S.build_hasher S.Hasher.finish S.Hasher.write self.old.hasher (K.hash_input r.key) hash }
         ensures taken { finite.get self.old.records handle.number ≡ Some result }
         ensures step { self.new ≡ record self.old { records = finite.remove self.old.records handle.number; room = self.new.room } }
         ensures room { self.old.room ≤ self.new.room }
@@ -292,8 +301,7 @@ impl<K: Eq + Hash, V, S: BuildHasher> Store<K, V, S> {
         ensures access { self.new.access ≡ self.old.access }
     {
         let taken = self.table.take(handle.place);
-        let hash = hashing::key_hash(&self.hasher, &taken.key);
-        self.index.remove(hash, handle.place);
+        self.index.remove(hash.0, handle.place);
         taken
     }
 
@@ -644,11 +652,12 @@ impl<K: Eq + Hash, V, S: BuildHasher> Store<K, V, S> {
         ensures counted { (n : ℕ) → counted_of n self.new.access ≡ (if n == handle.number then None else counted_of n self.old.access) }
         ensures places { self.new.places ≡ self.old.places }
     {
+        let hash = self.hash_at(handle);
         if self.is_member(handle) {
             self.leave(handle);
-            return self.take_record(handle);
+            return self.take_record(handle, hash);
         }
-        self.take_record(handle)
+        self.take_record(handle, hash)
     }
 
     /// The number at this handle goes. Its record left the map, and it is no member.

@@ -6,6 +6,7 @@ ghost use Rattle.moka_parts.specs.Expiry.{time_left};
 ghost use Rattle.moka_parts.specs.Records.{record_of_key};
 ghost use Rattle.moka_parts.specs.Surroundings.{IsAskedOnce};
 ghost use Rattle.moka_parts.specs.Time.{moment_of};
+ghost use Rattle.moka_store.specs.Hashing.{IsKeyHash};
 ghost use Rattle.moka_engine.specs.Looks.{Finds, Touches, entry_at, value_of};
 
 use moka_inner::Inner;
@@ -16,11 +17,11 @@ use moka_parts::expiry::{has_lapsed, remaining, renewed};
 use moka_parts::invalidator::Invalidator;
 use moka_parts::policy::{ExpirationPolicy, Expiry, Instant};
 use moka_parts::records::Record;
-use moka_store::Handle;
+use moka_store::{Handle, KeyHash};
 use std::hash::{BuildHasher, Hash};
 use std::time::Duration;
 
-// The record whose key is equal, with its handle, unless the caller's test, which is asked of its value first, ignores
+// The record whose key is equal to the one sought, which comes with its hash in the map, unless the caller's test, which is asked of its value first, ignores
 // it, a test by moments hides it or a predicate covers it.
 #[inline(always)]
 pub(super) fn find_unless<'a, K: Eq + Hash, V, S: BuildHasher, X, P, I: ValueTest<V>>(
@@ -28,18 +29,20 @@ pub(super) fn find_unless<'a, K: Eq + Hash, V, S: BuildHasher, X, P, I: ValueTes
     policy: &ExpirationPolicy<X>,
     valid_after: &Option<Instant>,
     invalidator: &Invalidator<P>,
-    key: &K,
+    sought: (&K, KeyHash),
     test: &mut I,
     now: Instant,
 ) -> Option<(Handle, &'a Record<K, V>)>
 where
     P: PredicateFn<K, V>,
+    requires own { IsKeyHash S.build_hasher S.Hasher.finish S.Hasher.write inner.now.kept.hasher (K.hash_input sought.0.now) sought.1 }
     requires askable { (v : V) → I.can_ask test.old v }
     ensures { (ignored : Bool)
-        × IsAskedOnce I.asks (Some test.old) (value_of (record_of_key K.eq inner.now.kept.records key.now)) ignored (Some test.new)
-        × Finds K.eq inner.now.kept policy.now valid_after.now P.says invalidator.now key.now ignored now.0 (option_map (λ f. (f.0, f.1.now)) result) }
+        × IsAskedOnce I.asks (Some test.old) (value_of (record_of_key K.eq inner.now.kept.records sought.entry.0.now)) ignored (Some test.new)
+        × Finds K.eq inner.now.kept policy.now valid_after.now P.says invalidator.now sought.entry.0.now ignored now.0 (option_map (λ f. (f.0, f.1.now)) result) }
 {
-    let (handle, found) = inner.find(key)?;
+    let (key, own) = sought;
+    let (handle, found) = inner.find(key, own)?;
     if test.ignores(&found.value)
         || has_lapsed(found, policy, *valid_after, now)
         || invalidator.apply_predicates(found)
@@ -56,19 +59,20 @@ pub(super) fn find_shown<'a, K: Eq + Hash, V, S: BuildHasher, X, P>(
     policy: &ExpirationPolicy<X>,
     valid_after: &Option<Instant>,
     invalidator: &Invalidator<P>,
-    key: &K,
+    sought: (&K, KeyHash),
     now: Instant,
 ) -> Option<(Handle, &'a Record<K, V>)>
 where
     P: PredicateFn<K, V>,
-    ensures { Finds K.eq inner.now.kept policy.now valid_after.now P.says invalidator.now key.now false now.0 (option_map (λ f. (f.0, f.1.now)) result) }
+    requires own { IsKeyHash S.build_hasher S.Hasher.finish S.Hasher.write inner.now.kept.hasher (K.hash_input sought.0.now) sought.1 }
+    ensures { Finds K.eq inner.now.kept policy.now valid_after.now P.says invalidator.now sought.entry.0.now false now.0 (option_map (λ f. (f.0, f.1.now)) result) }
 {
     find_unless(
         inner,
         policy,
         valid_after,
         invalidator,
-        key,
+        sought,
         &mut NoTest,
         now,
     )

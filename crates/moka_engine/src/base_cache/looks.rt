@@ -9,9 +9,10 @@ ghost use Rattle.moka_parts.specs.Records.{record_of_key};
 ghost use Rattle.moka_parts.specs.Runs.{Befalls};
 ghost use Rattle.moka_parts.specs.State.{Events};
 ghost use Rattle.moka_parts.specs.Surroundings.{IsAskedOnce, Leads};
+ghost use Rattle.moka_store.specs.Hashing.{IsKeyHash};
 ghost use Rattle.moka_engine.specs.Looks.{value_of};
 
-use super::{BaseCache, gets};
+use super::{BaseCache, Hashes, gets};
 use moka_parts::calls::Entry;
 use moka_parts::closures::{NoTest, PredicateFn, ValueTest, Weigher};
 use moka_parts::error::OutOfMemory;
@@ -59,17 +60,20 @@ impl<
             × Leads C.reads clock.old e.readings clock.new }
     {
         match ignore_if {
-            Some(test) => self.do_get_with_hash(key, hash, test, need_key, now, clock),
+            Some(test) => {
+                let own = self.inner.key_hash(key);
+                self.get_hashed(key, Hashes { hash, own }, test, need_key, now, clock)
+            }
             None => self.get_with_hash(key, hash, need_key, now, clock),
         }
     }
 
     // A look-up that is recorded, where the test does not ignore what it finds.
     #[inline(always)]
-    pub(super) fn do_get_with_hash<I: ValueTest<V>, C: Clock>(
+    pub(super) fn get_hashed<I: ValueTest<V>, C: Clock>(
         &mut self,
         key: &K,
-        hash: u64,
+        hashes: Hashes,
         test: &mut I,
         need_key: bool,
         now: Instant,
@@ -79,11 +83,12 @@ impl<
         K: Clone + Drop,
         V: Clone + Drop,
         P: Drop,
+        requires own { IsKeyHash S.build_hasher S.Hasher.finish S.Hasher.write self.old.hasher (K.hash_input key.now) hashes.own }
         requires askable { (v : V) → I.can_ask test.old v }
         ensures { (ignored : Bool) × (e : Events K V)
             × IsAskedOnce I.asks (Some test.old) (value_of (record_of_key K.eq self.old.state.records key.now)) ignored (Some test.new)
             × HandsOut (IsEntryCopy K.is_clone V.is_clone)
-            (λ a. GetStep P.says X.read (ListedRun P.says X.read self.old.write_list self.new.write_list) K.eq self.old.state key.now hash need_key ignored now.0 a e self.new.state) result
+            (λ a. GetStep P.says X.read (ListedRun P.says X.read self.old.write_list self.new.write_list) K.eq self.old.state key.now hashes.hash need_key ignored now.0 a e self.new.state) result
             × Befalls L.tells e self.old self.new
             × Leads C.reads clock.old e.readings clock.new }
     {
@@ -97,12 +102,12 @@ impl<
             policy,
             valid_after,
             invalidator,
-            key,
+            (key, hashes.own),
             test,
             now,
         );
         let Some((handle, found)) = shown else {
-            self.record_miss(hash, now, clock);
+            self.record_miss(hashes.hash, now, clock);
             return Ok(None);
         };
         let Ok(entry) = gets::entry_of(found, need_key) else {
@@ -172,6 +177,7 @@ impl<
         if self.is_map_disabled() {
             return Ok(None);
         }
+        let own = self.inner.key_hash(key);
         let policy = &self.expiration_policy;
         let (invalidator, valid_after) = (&self.invalidator, &self.valid_after);
         let shown = gets::find_unless(
@@ -179,7 +185,7 @@ impl<
             policy,
             valid_after,
             invalidator,
-            key,
+            (key, own),
             test,
             now,
         );
@@ -207,7 +213,8 @@ impl<
     {
         let (policy, valid_after) = (&self.expiration_policy, &self.valid_after);
         let invalidator = &self.invalidator;
-        let shown = gets::find_shown(&self.inner, policy, valid_after, invalidator, key, now);
+        let sought = (key, self.inner.key_hash(key));
+        let shown = gets::find_shown(&self.inner, policy, valid_after, invalidator, sought, now);
         let Some((_, found)) = shown else {
             return Ok(None);
         };

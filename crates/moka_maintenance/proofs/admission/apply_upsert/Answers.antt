@@ -45,7 +45,7 @@ pub returns-then-is_member-clause-timers : goal.returns-then-is_member-clause-ti
 returns-then-is_member-clause-timers g c =
     let step = c.recount.ensures.step in
     entered-timers c.args.store.now c.set_applied.new.self c.recount.new.self c.args.upsert.handle.number c.args.upsert.generation c.args.upsert.weight c.in-Some.found.now (c.set_applied.ensures.step c.in-Some.found.now (sym (c.in-Some.ensures.found (c.has_row.ensures.placed.0 c.if-not-has_row.false)))) c.set_timer.new.self
-    c.recount.ensures.records (ap (λ (k : Kept g.row.K.Denot g.row.V.Denot g.row.S.Denot). k.ordered) step) (ap (λ (k : Kept g.row.K.Denot g.row.V.Denot g.row.S.Denot). k.timed) step) (ap (λ (k : Kept g.row.K.Denot g.row.V.Denot g.row.S.Denot). k.timers) step) c.recount.ensures.counted c.set_timer.ensures.step
+    c.recount.ensures.records (ap (λ (k : Kept g.row.K.Denot g.row.V.Denot g.row.S.Denot). k.ordered) step) (ap (λ (k : Kept g.row.K.Denot g.row.V.Denot g.row.S.Denot). k.timed) step) (ap (λ (k : Kept g.row.K.Denot g.row.V.Denot g.row.S.Denot). k.hasher) step) (ap (λ (k : Kept g.row.K.Denot g.row.V.Denot g.row.S.Denot). k.timers) step) c.recount.ensures.counted c.set_timer.ensures.step
 
 pub returns-in_default-clause-applied : goal.returns-in_default-clause-applied
 returns-in_default-clause-applied g c =

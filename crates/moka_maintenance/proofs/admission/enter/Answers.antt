@@ -16,7 +16,7 @@ returns-clause-timers g c =
     let found = some_is (finite.get c.args.store.now.records c.args.upsert.handle.number) c.requires.handle.stored in
     let step = c.admit.ensures.step in
     entered-timers c.args.store.now c.set_applied.new.self c.admit.new.self c.args.upsert.handle.number c.args.upsert.generation c.args.upsert.weight found.0 (c.set_applied.ensures.step found.0 found.1) c.set_timer.new.self
-    c.admit.ensures.records (ap (λ (k : Kept g.row.K.Denot g.row.V.Denot g.row.S.Denot). k.ordered) step) (ap (λ (k : Kept g.row.K.Denot g.row.V.Denot g.row.S.Denot). k.timed) step) (ap (λ (k : Kept g.row.K.Denot g.row.V.Denot g.row.S.Denot). k.timers) step) c.admit.ensures.counted c.set_timer.ensures.step
+    c.admit.ensures.records (ap (λ (k : Kept g.row.K.Denot g.row.V.Denot g.row.S.Denot). k.ordered) step) (ap (λ (k : Kept g.row.K.Denot g.row.V.Denot g.row.S.Denot). k.timed) step) (ap (λ (k : Kept g.row.K.Denot g.row.V.Denot g.row.S.Denot). k.hasher) step) (ap (λ (k : Kept g.row.K.Denot g.row.V.Denot g.row.S.Denot). k.timers) step) c.admit.ensures.counted c.set_timer.ensures.step
 
 pub returns-clause-rows : goal.returns-clause-rows
 returns-clause-rows g c =

@@ -15,7 +15,7 @@ returns-then-is_member-clause-timers g c =
     let n = c.args.handle.number in
     let found = some_is (finite.get c.args.store.now.records n) c.requires.stored in
     let there = ap (λ m. finite.get m n) c.move_to_back.ensures.records ∙ found.1 in
-    keeps-set c.args.store.now c.move_to_back.new.self c.set_timer.new.self n found.0 there (ap (λ (k : Kept g.row.K.Denot g.row.V.Denot g.row.S.Denot). k.ordered) step) (ap (λ (k : Kept g.row.K.Denot g.row.V.Denot g.row.S.Denot). k.timed) step) (ap (λ (k : Kept g.row.K.Denot g.row.V.Denot g.row.S.Denot). k.timers) step)
+    keeps-set c.args.store.now c.move_to_back.new.self c.set_timer.new.self n found.0 there (ap (λ (k : Kept g.row.K.Denot g.row.V.Denot g.row.S.Denot). k.ordered) step) (ap (λ (k : Kept g.row.K.Denot g.row.V.Denot g.row.S.Denot). k.timed) step) (ap (λ (k : Kept g.row.K.Denot g.row.V.Denot g.row.S.Denot). k.hasher) step) (ap (λ (k : Kept g.row.K.Denot g.row.V.Denot g.row.S.Denot). k.timers) step)
     (λ k _. ap (λ m. finite.get m k) c.move_to_back.ensures.records) (λ k _. c.move_to_back.ensures.counted k) (c.set_timer.ensures.step found.0 there)
 
 pub returns-else-is_member-clause-timers : goal.returns-else-is_member-clause-timers

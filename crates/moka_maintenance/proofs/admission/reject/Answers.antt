@@ -46,7 +46,7 @@ pub returns-else-present-generation-clause-timers : goal.returns-else-present-ge
 returns-else-present-generation-clause-timers g c =
     let n = c.args.handle.number in
     let step = c.set_applied.ensures.step c.in-Some.present.now (sym (c.in-Some.ensures.found c.requires.handle.placed)) in
-    keeps-outside c.args.store.now c.set_applied.new.self (ap (λ (k : Kept g.row.K.Denot g.row.V.Denot g.row.S.Denot). k.ordered) step) (ap (λ (k : Kept g.row.K.Denot g.row.V.Denot g.row.S.Denot). k.timed) step) n
+    keeps-outside c.args.store.now c.set_applied.new.self (ap (λ (k : Kept g.row.K.Denot g.row.V.Denot g.row.S.Denot). k.ordered) step) (ap (λ (k : Kept g.row.K.Denot g.row.V.Denot g.row.S.Denot). k.timed) step) (ap (λ (k : Kept g.row.K.Denot g.row.V.Denot g.row.S.Denot). k.hasher) step) n
     (ap (λ (k : Kept g.row.K.Denot g.row.V.Denot g.row.S.Denot). counted_of n k.access) step ∙ c.requires.apart)
     (λ k other. ap (λ (s : Kept g.row.K.Denot g.row.V.Denot g.row.S.Denot). finite.get s.records k) step ∙ get-past_insert c.args.store.now.records n (record c.in-Some.present.now { applied = c.args.generation }) k other)
     (λ k is_in. sym (ap (λ (s : Kept g.row.K.Denot g.row.V.Denot g.row.S.Denot). is_member k s.access) step) ∙ is_in)

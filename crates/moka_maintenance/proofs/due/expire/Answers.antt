@@ -27,7 +27,7 @@ returns-then-is_expired_by_per_entry_ttl-clause-timers g c =
     let n = c.args.handle.number in
     reset-gone c.args.tests.now.0 n c.args.store.now c.expel.new.store c.requires.untimed
     (ap (λ (s : Stock g.row.K.Denot g.row.V.Denot). finite.get s.records n) c.expel.ensures.step ∙ get-removed c.args.store.now.records n)
-    c.expel.ensures.timers.keeps.ordered c.expel.ensures.timers.keeps.timed c.expel.ensures.taken
+    c.expel.ensures.timers.keeps.ordered c.expel.ensures.timers.keeps.timed c.expel.ensures.timers.keeps.hasher c.expel.ensures.taken
 
 pub returns-then-is_expired_by_per_entry_ttl-clause-places : goal.returns-then-is_expired_by_per_entry_ttl-clause-places
 returns-then-is_expired_by_per_entry_ttl-clause-places g c = places-gone c.args.store.now c.expel.new.store c.args.handle.number c.expel.ensures.places

@@ -10,6 +10,7 @@ returns-clause-timers g c =
     drops-gone c.args.store.now c.forget.new.self
     (ap (λ (k : Kept g.row.K.Denot g.row.V.Denot g.row.S.Denot). k.ordered) gone ∙ ap (λ (k : Kept g.row.K.Denot g.row.V.Denot g.row.S.Denot). k.ordered) taken)
     (ap (λ (k : Kept g.row.K.Denot g.row.V.Denot g.row.S.Denot). k.timed) gone ∙ ap (λ (k : Kept g.row.K.Denot g.row.V.Denot g.row.S.Denot). k.timed) taken)
+    (ap (λ (k : Kept g.row.K.Denot g.row.V.Denot g.row.S.Denot). k.hasher) gone ∙ ap (λ (k : Kept g.row.K.Denot g.row.V.Denot g.row.S.Denot). k.hasher) taken)
     c.args.handle.number
     (ap (λ (k : Kept g.row.K.Denot g.row.V.Denot g.row.S.Denot). k.records) gone ∙ ap (λ (k : Kept g.row.K.Denot g.row.V.Denot g.row.S.Denot). k.records) taken)
     (ap (λ (k : Kept g.row.K.Denot g.row.V.Denot g.row.S.Denot). k.access) gone ∙ ap (λ (k : Kept g.row.K.Denot g.row.V.Denot g.row.S.Denot). k.access) taken)

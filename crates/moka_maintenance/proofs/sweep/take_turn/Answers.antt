@@ -30,5 +30,5 @@ returns-clause-rows g c = rows-gone c.args.store.now c.expel.new.store c.in-Some
 pub returns-then-not-is_settled-clause-timers : goal.returns-then-not-is_settled-clause-timers
 returns-then-not-is_settled-clause-timers g c =
     let step = c.move_to_back.ensures.step in
-    drops-moved c.args.store.now c.move_to_back.new.self (ap (λ (k : Kept g.row.K.Denot g.row.V.Denot g.row.S.Denot). k.ordered) step) (ap (λ (k : Kept g.row.K.Denot g.row.V.Denot g.row.S.Denot). k.timed) step) c.move_to_back.ensures.records c.move_to_back.ensures.counted
+    drops-moved c.args.store.now c.move_to_back.new.self (ap (λ (k : Kept g.row.K.Denot g.row.V.Denot g.row.S.Denot). k.ordered) step) (ap (λ (k : Kept g.row.K.Denot g.row.V.Denot g.row.S.Denot). k.timed) step) (ap (λ (k : Kept g.row.K.Denot g.row.V.Denot g.row.S.Denot). k.hasher) step) c.move_to_back.ensures.records c.move_to_back.ensures.counted
     (ap (λ (k : Kept g.row.K.Denot g.row.V.Denot g.row.S.Denot). k.timers) step)

@@ -31,4 +31,4 @@ pub returns : goal.returns
 returns g c =
     let ran = c.run_by_housekeeper.ensures.step in
     read_follows (λ (after : List ℕ). ListedRun g.P.PredicateFn.says g.X.Expiry.read c.args.self.now.write_list after) g.L.Listener.tells g.C.Clock.reads c.args.self.now c.args.now.0 c.args.clock.now c.run_by_housekeeper.new.clock c.self.view_is (ran.0, rw c.requires.due ran.1, ran.2, ran.3)
-    c.self.inside.inner c.queue_hit.new.self refl refl (Hit c.args.number c.args.hash c.args.renewed) c.queue_hit.ensures
+    c.self.inside.inner c.queue_hit.new.self refl refl refl (Hit c.args.number c.args.hash c.args.renewed) c.queue_hit.ensures

@@ -14,4 +14,4 @@ invariant_of-self g c = record {
 pub returns : goal.returns
 returns g c =
     read_follows (λ (after : List ℕ). ListedRun g.P.PredicateFn.says g.X.Expiry.read c.args.self.now.write_list after) g.L.Listener.tells g.C.Clock.reads c.args.self.now c.args.now.0 c.args.clock.now c.apply_reads_if_needed.new.clock c.self.view_is c.apply_reads_if_needed.ensures
-    c.self.inside.inner c.queue_read.new.self refl refl (Miss c.args.hash) c.queue_read.ensures
+    c.self.inside.inner c.queue_read.new.self refl refl refl (Miss c.args.hash) c.queue_read.ensures

@@ -40,7 +40,7 @@ returns-clause-step g c =
     (settings_of c.self.inside.eviction_policy c.self.inside.expiration_policy c.self.inside.weigher c.self.inside.invalidator_enabled c.self.inside.housekeeper)
     c.self.invariant.cache enabled c.is_some-has_weigher.ensures c.apply_queues.ensures.prepared c.apply_queues.ensures.rest c.self.invariant.store c.apply_queues.ensures.timers c.make_passes-ran.ensures.timers (record { now = c.args.now.0; limit = option_map as_nanos c.args.limit; batch = c.args.batch }) (rw (c.time_to_live.ensures, c.time_to_idle.ensures) refl) limited c.make_passes-ran.ensures.ran c.make_passes-ran.ensures.rest
     c.member_count.result c.saturated-self-inside.result c.member_count.ensures (c.saturated-self-inside.ensures ∙ ap (λ n. min n greatest) c.total_weight.ensures)
-    c.make_passes-ran.ensures.none (option_map string_bytes c.self.inside.name) c.self.inside.build_hasher c.self.inside.passes c.self.view_is
+    c.make_passes-ran.ensures.none (option_map string_bytes c.self.inside.name) c.self.inside.passes c.self.view_is
 
 pub returns-clause-exact : goal.returns-clause-exact
 returns-clause-exact g c = λ sent.

@@ -13,4 +13,4 @@ invariant_of-self g c = record {
 pub returns-clause-events : goal.returns-clause-events
 returns-clause-events g c =
     let same = send-keeps c.self.invariant.cache c.self.inside.inner c.send.new.self refl c.args.ticket.0 c.send.result c.send.ensures.ok c.send.ensures.err in
-    rw (← c.self.view_is) (befalls-listed g.L.Listener.tells _ _ c.send.new.self.kept.written (ap (λ (k : Kept g.row.K.Denot g.row.V.Denot g.row.S.Denot). k.written) same))
+    rw (← c.self.view_is) (befalls-listed g.L.Listener.tells _ _ c.send.new.self.kept.written c.send.new.self.kept.hasher (ap (λ (k : Kept g.row.K.Denot g.row.V.Denot g.row.S.Denot). k.written) same) (ap (λ (k : Kept g.row.K.Denot g.row.V.Denot g.row.S.Denot). k.hasher) same))

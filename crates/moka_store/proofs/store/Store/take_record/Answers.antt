@@ -11,18 +11,18 @@ use Rattle.moka_store.proofs.store.Store.take_record.Goals as goal
 
 pub take-taken-requires : goal.take-taken-requires
 take-taken-requires g c =
-    let h = handled _ _ _ _ c.self.invariant.tied _ _ (rw (← c.self.view_is) at c.requires.placed) (rw (← c.self.view_is) at c.requires.stored) in
+    let h = handled _ _ _ _ c.self.invariant.tied _ _ (rw (← c.self.view_is) at c.requires.handle.placed) (rw (← c.self.view_is) at c.requires.handle.stored) in
     rw h.stored_at_is refl
 
 pub remove-requires : goal.remove-requires
 remove-requires g c =
-    let h = handled _ _ _ _ c.self.invariant.tied _ _ (rw (← c.self.view_is) at c.requires.placed) (rw (← c.self.view_is) at c.requires.stored) in
-    let same : h.stored ≡ c.take-taken.result = (let x = sym h.stored_at_is ∙ c.take-taken.ensures.taken in cc) in
-    rw (c.key_hash-hash.ensures, ← same) (index-of _ g.met.K.Eq.laws _ _ _ c.self.invariant.tied _ _ h)
+    let h = handled _ _ _ _ c.self.invariant.tied _ _ (rw (← c.self.view_is) at c.requires.handle.placed) (rw (← c.self.view_is) at c.requires.handle.stored) in
+    let hashed = rw (← c.self.view_is) at c.requires.hashed in
+    rw (hashed h.stored h.record_is) (index-of _ g.met.K.Eq.laws _ _ _ c.self.invariant.tied _ _ h)
 
 pub invariant_of-self : goal.invariant_of-self
 invariant_of-self g c =
-    let h = handled _ _ _ _ c.self.invariant.tied _ _ (rw (← c.self.view_is) at c.requires.placed) (rw (← c.self.view_is) at c.requires.stored) in
+    let h = handled _ _ _ _ c.self.invariant.tied _ _ (rw (← c.self.view_is) at c.requires.handle.placed) (rw (← c.self.view_is) at c.requires.handle.stored) in
     let s = taken _ g.met.K.Eq.laws _ _ _ _ _ c.self.invariant.tied h.row h.at_is (c.take-taken.ensures.changes _ h.at_is) in
     let stay = stays-row c.self.inside.table.rows c.take-taken.new.self.rows c.self.inside.written c.self.inside.timers.timers c.self.invariant.written c.self.invariant.timed c.self.invariant.tied.numbered s.tied.numbered _ h.row (record h.row { stored = None }) h.at_is (c.take-taken.ensures.changes _ h.at_is) refl refl refl refl in
     let len = c.take-taken.ensures.len in
@@ -33,19 +33,19 @@ invariant_of-self g c =
 
 pub returns-clause-taken : goal.returns-clause-taken
 returns-clause-taken g c =
-    let h = handled _ _ _ _ c.self.invariant.tied _ _ (rw (← c.self.view_is) at c.requires.placed) (rw (← c.self.view_is) at c.requires.stored) in
+    let h = handled _ _ _ _ c.self.invariant.tied _ _ (rw (← c.self.view_is) at c.requires.handle.placed) (rw (← c.self.view_is) at c.requires.handle.stored) in
     rw (← c.self.view_is) (h.record_is ∙ sym h.stored_at_is ∙ c.take-taken.ensures.taken)
 
 pub returns-clause-step : goal.returns-clause-step
 returns-clause-step g c =
-    let h = handled _ _ _ _ c.self.invariant.tied _ _ (rw (← c.self.view_is) at c.requires.placed) (rw (← c.self.view_is) at c.requires.stored) in
+    let h = handled _ _ _ _ c.self.invariant.tied _ _ (rw (← c.self.view_is) at c.requires.handle.placed) (rw (← c.self.view_is) at c.requires.handle.stored) in
     let s = taken _ g.met.K.Eq.laws _ _ _ _ _ c.self.invariant.tied h.row h.at_is (c.take-taken.ensures.changes _ h.at_is) in
     let stay = stays-row c.self.inside.table.rows c.take-taken.new.self.rows c.self.inside.written c.self.inside.timers.timers c.self.invariant.written c.self.invariant.timed c.self.invariant.tied.numbered s.tied.numbered _ h.row (record h.row { stored = None }) h.at_is (c.take-taken.ensures.changes _ h.at_is) refl refl refl refl in
     rw (s.access, stay.written_is, stay.cursor_is, stay.timers_is, c.take-taken.ensures.records, c.take-taken.ensures.places, h.number_at_is, ← c.self.view_is) refl
 
 pub returns-clause-gone : goal.returns-clause-gone
 returns-clause-gone g c =
-    let h = handled _ _ _ _ c.self.invariant.tied _ _ (rw (← c.self.view_is) at c.requires.placed) (rw (← c.self.view_is) at c.requires.stored) in
+    let h = handled _ _ _ _ c.self.invariant.tied _ _ (rw (← c.self.view_is) at c.requires.handle.placed) (rw (← c.self.view_is) at c.requires.handle.stored) in
     ap (λ m. get m c.args.handle.number) c.take-taken.ensures.records
     ∙ ap (λ n. get (remove (records_of c.self.inside.table.rows) n) c.args.handle.number) h.number_at_is
     ∙ get-removed _ _

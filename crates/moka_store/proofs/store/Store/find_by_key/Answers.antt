@@ -3,16 +3,13 @@ use Rattle.std.specs.FinMap.{get}
 use Rattle.moka_structures.proofs.TableCalls.{get-records, get-places}
 use Rattle.moka_store.specs.StoreRows.{has_key_at}
 use Rattle.moka_store.proofs.Steps.{key-present, record-of-present, record-of-absent, one-each}
-use Rattle.moka_store.proofs.store.Store.find_or_hash.Goals as goal
+use Rattle.moka_store.proofs.store.Store.find_by_key.Goals as goal
 
-pub returns-in_default-clause-unknown : goal.returns-in_default-clause-unknown
-returns-in_default-clause-unknown g c =
-    let hash = c.key_hash-hash.ensures in
-    let none : (p : ℕ) → get c.self.inside.index.entries p ≡ Some c.key_hash-hash.result → has_key_at g.K.PartialEq.eq c.self.inside.table.rows c.args.key.now p ≡ false = λ p h. (let e = c.in_default.ensures.absent p h in search (rules, e)) in
-    rw (← c.self.view_is) (record-of-absent _ _ _ _ c.self.invariant.tied c.args.key.now (λ x e. rw (g.met.K.Hash.respects_eq c.args.key.now x e) refl) (λ p h. none p (h ∙ ap Some (sym hash))))
-
-pub returns-in_default-clause-hashed : goal.returns-in_default-clause-hashed
-returns-in_default-clause-hashed g c = rw (← c.self.view_is) c.key_hash-hash.ensures
+pub returns-in_default-clause-value : goal.returns-in_default-clause-value
+returns-in_default-clause-value g c =
+    let hash = rw (← c.self.view_is) at c.requires.hashed in
+    let none : (p : ℕ) → get c.self.inside.index.entries p ≡ Some c.args.hash.0 → has_key_at g.K.PartialEq.eq c.self.inside.table.rows c.args.key.now p ≡ false = λ p h. (let e = c.in_default.ensures.absent p h in search (rules, e)) in
+    rw (← c.self.view_is) (sym (record-of-absent _ _ _ _ c.self.invariant.tied c.args.key.now (λ x e. rw (g.met.K.Hash.respects_eq c.args.key.now x e) refl) (λ p h. none p (h ∙ ap Some (sym hash)))))
 
 pub returns-in_default-clause-one_each : goal.returns-in_default-clause-one_each
 returns-in_default-clause-one_each g c =
@@ -30,12 +27,20 @@ pub returns-clause-found : goal.returns-clause-found
 returns-clause-found g c =
     rw (c.number.ensures, ← c.self.view_is) (get-records _ c.self.invariant.tied.numbered _ _ (sym c.in-Some-row.ensures) ∙ sym c.in-Some-stored.ensures)
 
-pub returns-clause-known : goal.returns-clause-known
-returns-clause-known g c =
+pub returns-clause-value : goal.returns-clause-value
+returns-clause-value g c =
     let test : has_key_at g.K.PartialEq.eq c.self.inside.table.rows c.args.key.now c.in-Some.place ≡ true = search (rules, c.in-Some.ensures.passes) in
     let w = key-present _ _ _ _ c.self.invariant.tied c.args.key.now c.in-Some.place test in
     let same : Some w.stored ≡ Some c.in-Some-stored.stored.now = (let x = w.at_is in let y = c.in-Some-row.ensures in let z = w.stored_is in let e = c.in-Some-stored.ensures in cc) in
-    rw (← c.self.view_is) (record-of-present _ _ _ _ c.self.invariant.tied g.met.K.Eq.laws _ _ w ∙ same)
+    rw (← c.self.view_is) (sym (record-of-present _ _ _ _ c.self.invariant.tied g.met.K.Eq.laws _ _ w ∙ same))
+
+pub returns-clause-hashed : goal.returns-clause-hashed
+returns-clause-hashed g c =
+    let hash = rw (← c.self.view_is) at c.requires.hashed in
+    let test : has_key_at g.K.PartialEq.eq c.self.inside.table.rows c.args.key.now c.in-Some.place ≡ true = search (rules, c.in-Some.ensures.passes) in
+    let w = key-present _ _ _ _ c.self.invariant.tied c.args.key.now c.in-Some.place test in
+    let same : w.stored ≡ c.in-Some-stored.stored.now = (let x = w.at_is in let y = c.in-Some-row.ensures in let z = w.stored_is in let e = c.in-Some-stored.ensures in cc) in
+    rw (← c.self.view_is, ← same, ← g.met.K.Hash.respects_eq c.args.key.now w.stored.key w.same) hash
 
 pub returns-clause-one_each : goal.returns-clause-one_each
 returns-clause-one_each g c =
