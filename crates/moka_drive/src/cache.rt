@@ -128,7 +128,7 @@ impl<
     where
         K: Drop,
         V: Drop,
-        S: Clone,
+        S: Drop,
         X: Drop,
         L: Drop,
         P: Drop,
@@ -193,7 +193,7 @@ impl<
         ensures { ContainsStep P.says K.eq self.now.engine.state key.now now.0 result }
     {
         let hash = self.engine.hash(key);
-        self.engine.contains_key_with_hash(key, hash, now)
+        self.engine.contains_key_with_own_hash(key, hash, now)
     }
 
     /// Puts a value under a key at the moment `now`. A cache of capacity 0 lets both go.
@@ -225,7 +225,7 @@ impl<
             return Ok(());
         }
         let hash = self.engine.hash(&key);
-        let ticket = match self.engine.do_insert_with_hash(key, hash, value, now) {
+        let ticket = match self.engine.do_insert_with_own_hash(key, hash, value, now) {
             Ok((ticket, _)) => ticket,
             Err(refused) => return Err(refused),
         };
@@ -260,7 +260,7 @@ impl<
     {
         self.engine.invariant_holds();
         let hash = self.engine.hash(key);
-        let entry = self.engine.get_with_hash(key, hash, false, now, clock);
+        let entry = self.engine.get_with_own_hash(key, hash, false, now, clock);
         let found = value_of(entry);
         self.stats.count_look_up(&found);
         found
@@ -343,7 +343,7 @@ impl<
     {
         self.engine.invariant_holds();
         let hash = self.engine.hash(key);
-        let Some((entry, ticket)) = self.engine.remove_entry(key, hash) else {
+        let Some((entry, ticket)) = self.engine.remove_entry_with_own_hash(key, hash) else {
             return None;
         };
         let told = self.engine.notify_invalidate(&entry, now);
