@@ -1,9 +1,9 @@
 """Deletes the contracts from a source in Rattle, and makes ordinary Rust of what is left.
 
-Rattle's sources are Rust's, with clauses and ghost items among them. `deleted` takes these out and changes nothing else;
-`same_code.py` shows that Rattle's compiler makes the same code of the outcome. `erased` does the same, and then what Rust
-has otherwise: bounds and impls of `Drop` go, and paths and a few calls are renamed. A form that no rule knows, or a word
-of Rattle's that is left over, is refused.
+Rattle's sources are Rust's, with clauses and ghost items among them. `deleted` takes these out and changes nothing
+else; `same_code.py` shows that Rattle's compiler makes the same code of the outcome. `erased` does the same, and then
+what Rust has otherwise: bounds and impls of `Drop` go, and paths and a few calls are renamed. A form that no rule
+knows, or a word of Rattle's that is left over, is refused.
 """
 
 import collections
@@ -33,7 +33,8 @@ GHOST_ITEM = re.compile(r"ghost\s+\w+\s*[:=]\s*(?=\{)")
 GHOST_MORE = re.compile(r"\s*(?:by|=)\s*(?=\{)")
 GHOST_END = re.compile(r"\s*[;,]")
 IMPL_DROP = re.compile(
-    r"^impl\b(?:(?!^\}|^impl\b).)*?\bDrop for [^{]*\{\n    fn drop\(self\)\s*\{\s*let \w+ \{([^}]*)\} = self;\s*\}\n\}\n",
+    r"^impl\b(?:(?!^\}|^impl\b).)*?\bDrop for [^{]*\{\n"
+    r"    fn drop\(self\)\s*\{\s*let \w+ \{([^}]*)\} = self;\s*\}\n\}\n",
     re.M | re.S,
 )
 
@@ -156,17 +157,20 @@ def renamed(text):
     text = change("a Formatter of any writer", r"(fn \w+<[^>(]*), W: fmt::Write>", r"\1>", text)
     text = re.sub(r"^impl\b[^{\n]*\bClone for [^{]*\{\n.*?^\}\n", written_clone, text, flags=re.M | re.S)
     text = change("a clone that can fail", r"\.clone\(\)", ".try_clone()", text)
-    text = change("a text of an allocator", r"\bString::from_str\(alloc, ", "crate::support::string::from_str(alloc, ", text)
+    from_str = "crate::support::string::from_str(alloc, "
+    text = change("a text of an allocator", r"\bString::from_str\(alloc, ", from_str, text)
     return change("items of an iterator", r"(?<=\))\.collect\((?=alloc\))", ".collect_in(", text)
 
 
 def renamed_tests(text):
     """What tests name otherwise: they have the runtime at hand, which Rust's do not need."""
     runtime = "a test's runtime"
-    text = change(runtime, r"(#\[test\]\s*fn \w+)\(_?rt: HostRuntime\)([^{]*\{)", r"\1()\2\n    let rt = HostRuntime;", text)
+    head = r"(#\[test\]\s*fn \w+)\(_?rt: HostRuntime\)([^{]*\{)"
+    text = change(runtime, head, r"\1()\2\n    let rt = HostRuntime;", text)
     text = change(runtime, r"\b(assert(?:_eq|_ne)?!)\(\s*rt;", r"\1(", text)
     text = change("a test's text", r"\bformat!\(in [\w.()]+; ", "crate::support::test::text!(", text)
-    text = change("a test's list", r"\bvec!\[in [\w.()]+; ([^;\]]+); ([^\]]+)\]", r"Vec::from_elem(Global, \1, \2)", text)
+    repeated = r"\bvec!\[in [\w.()]+; ([^;\]]+); ([^\]]+)\]"
+    text = change("a test's list", repeated, r"Vec::from_elem(Global, \1, \2)", text)
     text = change("a test's text", r"\bString::new\(alloc\)", "String::new()", text)
     text = change("a test's text", r"\.push\(('[^'\\]')\)\?", r".push(\1)", text)
     names = "|".join(STD_OF_TESTS)
@@ -174,7 +178,7 @@ def renamed_tests(text):
 
 
 def with_paths(text, crate, homes):
-    """Paths to crates and libraries, which are modules of one crate now. `homes` has the module of each crate's module."""
+    """Paths to crates and libraries, which are modules of one crate now. `homes` says where each crate's is."""
     text = change("a path to a crate", r"(?<!\$)\bcrate::(?!support::)", f"crate::{homes[crate]}::{crate}::", text)
     for name, home in homes.items():
         text = change("a path to a crate", r"(?<![\w:`])%s::" % name, f"crate::{home}::{name}::", text)

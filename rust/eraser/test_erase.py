@@ -28,7 +28,8 @@ class Deletes(unittest.TestCase):
         self.assertEqual(made("impl T for A {\n    ghost says = { A } by { B };\n}\n"), "impl T for A {\n\n}\n")
 
     def test_models(self):
-        text = "use std::marker::{Model, PhantomData};\nimpl<K> Model for A<K> {\n    ghost Value = { K };\n}\nstruct B;\n"
+        text = "use std::marker::{Model, PhantomData};\n"
+        text += "impl<K> Model for A<K> {\n    ghost Value = { K };\n}\nstruct B;\n"
         self.assertEqual(made(text), "use std::marker::PhantomData;\nstruct B;\n")
 
     def test_tactics(self):
@@ -39,7 +40,8 @@ class Deletes(unittest.TestCase):
         self.assertEqual(made("#[derive(Clone, Drop)]\nstruct A;\n"), "#[derive(Clone)]\nstruct A;\n")
         self.assertEqual(made("impl<K: Eq + Drop, V: Drop> A<K, V> {}\n"), "impl<K: Eq, V> A<K, V> {}\n")
         self.assertEqual(made("fn f<K>(k: K)\nwhere\n    K: Drop,\n{\n}\n"), "fn f<K>(k: K)\n{\n}\n")
-        text = "impl<K: Drop> Drop for A<K> {\n    fn drop(self) {\n        let A { a: _, b: _ } = self;\n    }\n}\nfn f() {}\n"
+        text = "impl<K: Drop> Drop for A<K> {\n    fn drop(self) {\n"
+        text += "        let A { a: _, b: _ } = self;\n    }\n}\nfn f() {}\n"
         self.assertEqual(made(text), "fn f() {}\n")
 
     def test_leaves_strings_and_comments(self):
@@ -65,8 +67,10 @@ class Renames(unittest.TestCase):
                          "fn fmt(&self, f: &mut fmt::Formatter<'_>) -> fmt::Result {}\n")
 
     def test_clones_that_are_written_out(self):
-        text = "impl Clone for A {\n    fn clone(&self) -> Result<Self, AllocError> {\n        Ok(A(self.0.clone()?))\n    }\n}\n"
-        wanted = "impl Clone for A {\n    fn clone(&self) -> Self {\n        crate::support::clone::unless_refused((|| {\n"
+        text = "impl Clone for A {\n    fn clone(&self) -> Result<Self, AllocError> {\n"
+        text += "        Ok(A(self.0.clone()?))\n    }\n}\n"
+        wanted = "impl Clone for A {\n    fn clone(&self) -> Self {\n"
+        wanted += "        crate::support::clone::unless_refused((|| {\n"
         wanted += "        Ok(A(self.0.try_clone()?))\n    })())\n    }\n}\n"
         self.assertEqual(made(text), wanted)
 

@@ -6,8 +6,8 @@ use std::sync::Arc;
 /// Whether a kept key is the one that is sought. It may be asked by any thread that a cache is sent to.
 pub(crate) type Test<'a, K> = &'a (dyn Fn(&K) -> bool + Sync);
 
-/// A key with its hash. The engine keeps each key once and is asked by that very one, or by a test. So the caller's `Eq`
-/// runs in look-ups that change nothing, and nowhere else.
+/// A key with its hash. The engine keeps each key once and is asked by that very one, or by a test. So the caller's
+/// `Eq` runs in look-ups that change nothing, and nowhere else.
 pub(crate) struct Key<'a, K> {
     hash: u64,
     form: Form<'a, K>,

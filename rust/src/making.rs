@@ -86,8 +86,8 @@ impl<K: Eq + Hash, V: Clone> Makers<K, V> {
         (making, true)
     }
 
-    /// The outcome of `make`, which is called by one of those who ask for the key at a time; the others wait for it. If it
-    /// panics, one of them is the next to make.
+    /// The outcome of `make`, which is called by one of those who ask for the key at a time; the others wait for it. If
+    /// it panics, one of them is the next to make.
     pub fn once(&self, key: Arc<K>, kind: TypeId, make: impl FnOnce() -> Outcome<V>) -> Outcome<V> {
         let key = (key, kind);
         loop {

@@ -54,8 +54,8 @@ impl<K, V> Notices<K, V> {
         locked(&self.waiting).pop_front()
     }
 
-    /// Tells the listener what waits. Where another thread does that it goes on with these; where the listener itself made
-    /// the call, they follow the notice that it is told now.
+    /// Tells the listener what waits. Where another thread does that it goes on with these; where the listener itself
+    /// made the call, they follow the notice that it is told now.
     pub fn deliver(&self) {
         let mut waiting = locked(&self.waiting).len();
         while waiting > 0 {

@@ -7,8 +7,8 @@ use std::time::{Duration, Instant};
 
 /// Decides when each entry expires. moka: `Expiry`.
 ///
-/// Each call answers how long the entry lasts from now on, `None` for always. A time to live or to idle of the cache holds
-/// beside it, and the earliest end counts.
+/// Each call answers how long the entry lasts from now on, `None` for always. A time to live or to idle of the cache
+/// holds beside it, and the earliest end counts.
 ///
 /// ```
 /// use ravulemis::{Expiry, sync::Cache};

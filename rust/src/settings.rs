@@ -112,7 +112,8 @@ macro_rules! setters {
             self
         }
 
-        /// Weighs each entry as it is inserted. It has to give equal weights for equal arguments. By default each weighs 1.
+        /// Weighs each entry as it is inserted. It has to give equal weights for equal arguments. By default each
+        /// weighs 1.
         pub fn weigher(mut self, weigher: impl Fn(&K, &V) -> u32 + Send + Sync + 'static) -> Self {
             self.settings.weigher = Some(Arc::new(weigher));
             self

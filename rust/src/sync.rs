@@ -63,15 +63,15 @@ struct Shared<K: 'static, V, S> {
 
 /// A bounded cache that threads share. A clone is another owner of the same cache. moka: `sync::Cache`.
 ///
-/// Each shard is a cache of its own behind a lock, and has its share of the capacity; the builder says how many there are.
-/// The listener is called by the thread whose call found something to tell, or another's that is telling, after the lock
-/// was released, in the order in which values left the shard. So it may call the cache.
+/// Each shard is a cache of its own behind a lock, and has its share of the capacity; the builder says how many there
+/// are. The listener is called by the thread whose call found something to tell, or another's that is telling, after
+/// the lock was released, in the order in which values left the shard. So it may call the cache.
 ///
 /// # Panics of the caller's own code
-/// If the weigher, the expiry, a predicate or a clone of a value panics in the middle of a call, the shard is **emptied** by
-/// the next call for it: its entries are gone, and the listener is not told of them. The panic goes on to the caller whose
-/// call it was. A panic of `Eq` or `Hash`, of a maker of `get_with`, of a closure of an entry or of the listener changes
-/// nothing; after its first the listener is told no more.
+/// If the weigher, the expiry, a predicate or a clone of a value panics in the middle of a call, the shard is
+/// **emptied** by the next call for it: its entries are gone, and the listener is not told of them. The panic goes on
+/// to the caller whose call it was. A panic of `Eq` or `Hash`, of a maker of `get_with`, of a closure of an entry or of
+/// the listener changes nothing; after its first the listener is told no more.
 pub struct Cache<K: 'static, V, S = RandomState>(Arc<Shared<K, V, S>>);
 
 impl<K, V, S> Clone for Cache<K, V, S> {
@@ -297,12 +297,12 @@ where
         self.with_each(|shard| shard.invalidate_all());
     }
 
-    /// Hides all values that are there and to which the predicate says yes. They leave in later runs of maintenance, and the
-    /// predicate with them. It has to answer equal arguments equally.
+    /// Hides all values that are there and to which the predicate says yes. They leave in later runs of maintenance,
+    /// and the predicate with them. It has to answer equal arguments equally.
     ///
     /// # Errors
-    /// `InvalidationClosuresDisabled` where the builder was not told `support_invalidation_closures`; `OutOfMemory` where a
-    /// shard had no memory for one more predicate: then some shards may have it already.
+    /// `InvalidationClosuresDisabled` where the builder was not told `support_invalidation_closures`; `OutOfMemory` where
+    /// a shard had no memory for one more predicate: then some shards may have it already.
     ///
     /// ```
     /// # use ravulemis::sync::Cache;
@@ -391,8 +391,8 @@ where
         stats
     }
 
-    /// All visible entries, shard by shard. A shard's keys are those at the moment when the iterator comes to it; an entry
-    /// that has gone since is left out. No lock is held between two items, and nothing counts as a read.
+    /// All visible entries, shard by shard. A shard's keys are those at the moment when the iterator comes to it; an
+    /// entry that has gone since is left out. No lock is held between two items, and nothing counts as a read.
     ///
     /// ```
     /// let cache = ravulemis::sync::Cache::new(100);

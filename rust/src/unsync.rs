@@ -27,9 +27,10 @@ pub type PredicateId = String;
 /// The listener is called at the end of the call that found something to tell, in the order in which values left.
 ///
 /// # Panics of the caller's own code
-/// If the weigher, the expiry, a predicate or a clone of a value panics in the middle of a call, the cache is **emptied** by
-/// the next call that changes it: its entries are gone, and the listener is not told of them. A panic of `Eq` or `Hash`, of
-/// a maker of `get_with` or of the listener changes nothing; after its first the listener is told no more.
+/// If the weigher, the expiry, a predicate or a clone of a value panics in the middle of a call, the cache is
+/// **emptied** by the next call that changes it: its entries are gone, and the listener is not told of them. A panic of
+/// `Eq` or `Hash`, of a maker of `get_with` or of the listener changes nothing; after its first the listener is told no
+/// more.
 pub struct Cache<K: 'static, V, S = RandomState> {
     shard: Shard<K, V>,
     notices: Option<Arc<Notices<K, V>>>,
@@ -351,12 +352,12 @@ impl<K: Eq + Hash + Sync + 'static, V: Clone + 'static, S: BuildHasher> Cache<K,
         self.with(|shard| shard.invalidate_all());
     }
 
-    /// Hides all values that are there and to which the predicate says yes. They leave in later runs of maintenance, and the
-    /// predicate with them. It has to answer equal arguments equally.
+    /// Hides all values that are there and to which the predicate says yes. They leave in later runs of maintenance,
+    /// and the predicate with them. It has to answer equal arguments equally.
     ///
     /// # Errors
-    /// `InvalidationClosuresDisabled` where the builder was not told `support_invalidation_closures`; `OutOfMemory` where
-    /// there is no memory for one more predicate.
+    /// `InvalidationClosuresDisabled` where the builder was not told `support_invalidation_closures`; `OutOfMemory`
+    /// where there is no memory for one more predicate.
     ///
     /// ```
     /// # use ravulemis::unsync::Cache;

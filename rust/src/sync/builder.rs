@@ -70,15 +70,15 @@ where
 
     setters!();
 
-    /// Is told key, value and cause of each value that leaves, after the lock of its shard was released. By default nobody
-    /// is told.
+    /// Is told key, value and cause of each value that leaves, after the lock of its shard was released. By default
+    /// nobody is told.
     pub fn eviction_listener(mut self, listener: impl Fn(Arc<K>, V, RemovalCause) + Send + Sync + 'static) -> Self {
         self.settings.listener = Some(Arc::new(listener));
         self
     }
 
-    /// The number of shards, made a power of two, 1 to 65,536. Each has its share of the capacity, so an entry that weighs
-    /// more than a share is not kept, and a shard whose keys come often evicts before the whole is full.
+    /// The number of shards, made a power of two, 1 to 65,536. Each has its share of the capacity, so an entry that
+    /// weighs more than a share is not kept, and a shard whose keys come often evicts before the whole is full.
     ///
     /// By default a cache with a weigher has one shard, another one for each 1,024 entries of its capacity, up to 64.
     pub fn shards(mut self, shards: usize) -> Self {

@@ -240,8 +240,8 @@ macro_rules! calls {
             Ok(always(entry_of((key, is_replaced, outcome))))
         }
 
-        /// Puts the value there that the closure makes of the entry, if there is one. No other call of this kind for the key
-        /// is made meanwhile. The closure may call the cache, but not so for its own key.
+        /// Puts the value there that the closure makes of the entry, if there is one. No other call of this kind for
+        /// the key is made meanwhile. The closure may call the cache, but not so for its own key.
         ///
         /// ```
         /// let cache = ravulemis::sync::Cache::new(100);
@@ -256,8 +256,8 @@ macro_rules! calls {
             always(answer.into_entry())
         }
 
-        /// Puts, removes or leaves the entry as the closure says of what is there. No other call of this kind for the key is
-        /// made meanwhile. The closure may call the cache, but not so for its own key.
+        /// Puts, removes or leaves the entry as the closure says of what is there. No other call of this kind for the
+        /// key is made meanwhile. The closure may call the cache, but not so for its own key.
         ///
         /// ```
         /// use ravulemis::ops::compute::{CompResult, Op};

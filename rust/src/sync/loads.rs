@@ -121,9 +121,9 @@ where
         }
     }
 
-    /// A clone of a key's value, which is made and put there if it is missing. Of all who ask for a key at once one makes
-    /// the value, and the others wait for it. If the maker panics, the panic is its caller's, and one of the others is the
-    /// next to make. A maker may call the cache, but not for its own key.
+    /// A clone of a key's value, which is made and put there if it is missing. Of all who ask for a key at once one
+    /// makes the value, and the others wait for it. If the maker panics, the panic is its caller's, and one of the
+    /// others is the next to make. A maker may call the cache, but not for its own key.
     ///
     /// ```
     /// let cache = ravulemis::sync::Cache::new(100);
@@ -150,8 +150,8 @@ where
         always(value_of(outcome))
     }
 
-    /// As [`get_with`](Self::get_with), by a maker that may give no value: then nothing is put there, and all that waited
-    /// are told `None`.
+    /// As [`get_with`](Self::get_with), by a maker that may give no value: then nothing is put there, and all that
+    /// waited are told `None`.
     ///
     /// ```
     /// let cache = ravulemis::sync::Cache::new(100);

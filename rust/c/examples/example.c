@@ -1,0 +1,72 @@
+/* The cache from C: every call, and every wrong one. */
+#include "ravulemis.h"
+#include <stdio.h>
+#include <string.h>
+
+#define CHECK(it)                                                     \
+  do {                                                                \
+    if (!(it)) return printf("line %d: not %s\n", __LINE__, #it), 1; \
+  } while (0)
+
+static void count_causes(void *context, const void *key, size_t key_length, const void *value, size_t value_length,
+                         int32_t cause) {
+  (void)key, (void)key_length, (void)value, (void)value_length;
+  ((unsigned *)context)[cause]++;
+}
+
+int main(void) {
+  unsigned causes[4] = {0};
+  ravulemis_settings settings;
+  CHECK(ravulemis_settings_default(&settings) == RAVULEMIS_OK);
+  settings.is_bounded = 1;
+  settings.max_capacity = 100;
+  settings.policy = RAVULEMIS_LRU;
+  settings.listener = count_causes;
+  settings.context = causes;
+  ravulemis_cache *cache = NULL;
+  CHECK(ravulemis_create(&settings, &cache) == RAVULEMIS_OK);
+
+  char value[4];
+  size_t length = 0;
+  CHECK(ravulemis_insert(cache, "key", 3, "value", 5) == RAVULEMIS_OK);
+  CHECK(ravulemis_get(cache, "key", 3, value, sizeof value, &length) == RAVULEMIS_TRUNCATED);
+  CHECK(length == 5 && memcmp(value, "valu", 4) == 0);
+  CHECK(ravulemis_get(cache, "other", 5, value, sizeof value, NULL) == RAVULEMIS_NOT_FOUND);
+  CHECK(ravulemis_insert(cache, "empty", 5, NULL, 0) == RAVULEMIS_OK);
+  CHECK(ravulemis_get(cache, "empty", 5, NULL, 0, &length) == RAVULEMIS_OK && length == 0);
+  CHECK(ravulemis_contains(cache, "key", 3) == RAVULEMIS_OK);
+  CHECK(ravulemis_remove(cache, "key", 3, NULL, 0, &length) == RAVULEMIS_TRUNCATED && length == 5);
+  CHECK(ravulemis_contains(cache, "key", 3) == RAVULEMIS_NOT_FOUND);
+  CHECK(ravulemis_invalidate(cache, "key", 3) == RAVULEMIS_OK);
+  CHECK(ravulemis_invalidate_all(cache) == RAVULEMIS_OK);
+  CHECK(ravulemis_contains(cache, "empty", 5) == RAVULEMIS_NOT_FOUND);
+
+  for (uint64_t key = 0; key < 1000; key++)
+    CHECK(ravulemis_insert(cache, &key, sizeof key, &key, sizeof key) == RAVULEMIS_OK);
+  CHECK(ravulemis_run_pending_tasks(cache) == RAVULEMIS_OK);
+  uint64_t count = 0, weight = 0;
+  CHECK(ravulemis_size(cache, &count, &weight) == RAVULEMIS_OK && count == 100 && weight == 100);
+  ravulemis_stats stats;
+  CHECK(ravulemis_count(cache, &stats) == RAVULEMIS_OK && stats.hits == 2 && stats.misses == 1);
+  CHECK(causes[RAVULEMIS_SIZE] == 900 && causes[RAVULEMIS_EXPLICIT] == 2 && stats.evicted == 900);
+
+  CHECK(ravulemis_settings_default(NULL) == RAVULEMIS_BAD_ARGUMENT);
+  CHECK(ravulemis_create(NULL, &cache) == RAVULEMIS_BAD_ARGUMENT);
+  CHECK(ravulemis_create(&settings, NULL) == RAVULEMIS_BAD_ARGUMENT);
+  CHECK(ravulemis_insert(NULL, "key", 3, "value", 5) == RAVULEMIS_BAD_ARGUMENT);
+  CHECK(ravulemis_insert(cache, NULL, 3, "value", 5) == RAVULEMIS_BAD_ARGUMENT);
+  CHECK(ravulemis_insert(cache, "key", 0, "value", 5) == RAVULEMIS_BAD_ARGUMENT);
+  CHECK(ravulemis_insert(cache, "key", 3, NULL, 5) == RAVULEMIS_BAD_ARGUMENT);
+  CHECK(ravulemis_insert(cache, "key", SIZE_MAX, "value", 5) == RAVULEMIS_BAD_ARGUMENT);
+  CHECK(ravulemis_get(cache, "key", 3, NULL, 5, &length) == RAVULEMIS_BAD_ARGUMENT);
+  CHECK(ravulemis_count(cache, NULL) == RAVULEMIS_BAD_ARGUMENT);
+  settings.policy = 2;
+  ravulemis_cache *other = NULL;
+  CHECK(ravulemis_create(&settings, &other) == RAVULEMIS_BAD_ARGUMENT && other == NULL);
+  CHECK(ravulemis_destroy(NULL) == RAVULEMIS_BAD_ARGUMENT);
+  CHECK(ravulemis_destroy(cache) == RAVULEMIS_OK);
+  CHECK(ravulemis_destroy(cache) == RAVULEMIS_DESTROYED);
+  CHECK(ravulemis_insert(cache, "key", 3, "value", 5) == RAVULEMIS_DESTROYED);
+  printf("C: %s\n", ravulemis_message(RAVULEMIS_OK));
+  return 0;
+}

@@ -1,0 +1,132 @@
+/* A bounded in-memory cache of byte strings by byte strings.
+
+   Every function may be called by any thread at any time. A cache that is destroyed while calls for it are on their way
+   goes with the last of them. Keys and values are copied in and out: the caller keeps what it passes, and nothing that a
+   call hands out belongs to the cache, but what the listener is lent for the time of its call. Durations are in
+   nanoseconds, lengths in bytes; a weight is 1 for an entry, or the lengths of its key and value together.
+
+   Every function but `ravulemis_message` answers a code of `enum ravulemis_code`. One below 0 is a wrong call, which
+   has done nothing, or a fault. A pointer that is neither null nor from `ravulemis_create` cannot be told apart. */
+
+#ifndef RAVULEMIS_H
+#define RAVULEMIS_H
+
+#include <stddef.h>
+#include <stdint.h>
+
+#ifdef __cplusplus
+extern "C" {
+#endif
+
+typedef struct ravulemis_cache ravulemis_cache;
+
+enum ravulemis_code {
+  RAVULEMIS_OK = 0,
+  /* There is no value under the key. */
+  RAVULEMIS_NOT_FOUND = 1,
+  /* The buffer is too small. Its first bytes are filled, and the whole length is told. */
+  RAVULEMIS_TRUNCATED = 2,
+  /* A pointer is null that must not be, a key is empty, or a setting is none of those named below. */
+  RAVULEMIS_BAD_ARGUMENT = -1,
+  /* The cache was destroyed. */
+  RAVULEMIS_DESTROYED = -2,
+  /* A fault of the library's own. The shard of the key is emptied by the next call for it. */
+  RAVULEMIS_FAULT = -3
+};
+
+enum ravulemis_policy { RAVULEMIS_TINY_LFU = 0, RAVULEMIS_LRU = 1 };
+
+enum ravulemis_weigher { RAVULEMIS_BY_NUMBER = 0, RAVULEMIS_BY_BYTES = 1 };
+
+enum ravulemis_cause {
+  RAVULEMIS_EXPIRED = 0,
+  RAVULEMIS_EXPLICIT = 1,
+  RAVULEMIS_REPLACED = 2,
+  RAVULEMIS_SIZE = 3
+};
+
+/* Is lent key, value and cause of each value that leaves, until it returns, by the thread whose call found that or by
+   another that is telling already. It may call the cache. It must not throw or jump out. */
+typedef void (*ravulemis_listener)(void *context, const void *key, size_t key_length, const void *value,
+                                   size_t value_length, int32_t cause);
+
+/* What a cache is created with. With all bytes 0 it has no bound, which `ravulemis_settings_default` gives too. */
+typedef struct ravulemis_settings {
+  /* Whether there is a bound, 0 or 1, and the greatest total weight; with 0 nothing is kept. */
+  int32_t is_bounded;
+  /* One of `enum ravulemis_policy`. */
+  int32_t policy;
+  uint64_t max_capacity;
+  /* One of `enum ravulemis_weigher`. */
+  int32_t weigher;
+  /* The number of shards, made a power of two, at most 65536; 0 lets the library choose. */
+  uint32_t shards;
+  /* The number of entries that room is made for at once, at most 2^24. */
+  uint64_t initial_capacity;
+  /* How long an entry stays after it was written, and after it was written or read; 0 for always. */
+  uint64_t time_to_live;
+  uint64_t time_to_idle;
+  /* May be null. The context is the caller's, and has to outlive the cache and the calls for it. */
+  ravulemis_listener listener;
+  void *context;
+} ravulemis_settings;
+
+typedef struct ravulemis_stats {
+  uint64_t hits, misses, expired, explicit_removals, replaced, evicted;
+} ravulemis_stats;
+
+/* Sets all to 0. Errors: RAVULEMIS_BAD_ARGUMENT. */
+int32_t ravulemis_settings_default(ravulemis_settings *settings);
+
+/* Makes an empty cache, which the caller destroys. `settings` is read in the call alone.
+   Errors: RAVULEMIS_BAD_ARGUMENT; RAVULEMIS_FAULT where there is no memory for the initial capacity. */
+int32_t ravulemis_create(const ravulemis_settings *settings, ravulemis_cache **cache);
+
+/* Lets all entries go; the listener is not told of them. A few bytes stay, by which a later call for the cache is told.
+   Errors: RAVULEMIS_BAD_ARGUMENT, and RAVULEMIS_DESTROYED for the second call. */
+int32_t ravulemis_destroy(ravulemis_cache *cache);
+
+/* Puts a copy of a value under a copy of a key of at least one byte. A value of no bytes may have a null pointer.
+   Errors: RAVULEMIS_BAD_ARGUMENT, RAVULEMIS_DESTROYED, RAVULEMIS_FAULT. */
+int32_t ravulemis_insert(ravulemis_cache *cache, const void *key, size_t key_length, const void *value,
+                         size_t value_length);
+
+/* Copies the key's value to a buffer of `room` bytes, as much as fits, and tells its whole length where `value_length`
+   is not null. The buffer may be null where `room` is 0. Answers RAVULEMIS_OK, RAVULEMIS_TRUNCATED or RAVULEMIS_NOT_FOUND.
+   Errors: RAVULEMIS_BAD_ARGUMENT, RAVULEMIS_DESTROYED, RAVULEMIS_FAULT. */
+int32_t ravulemis_get(ravulemis_cache *cache, const void *key, size_t key_length, void *buffer, size_t room,
+                      size_t *value_length);
+
+/* Answers RAVULEMIS_OK or RAVULEMIS_NOT_FOUND; it counts as no read.
+   Errors: RAVULEMIS_BAD_ARGUMENT, RAVULEMIS_DESTROYED, RAVULEMIS_FAULT. */
+int32_t ravulemis_contains(ravulemis_cache *cache, const void *key, size_t key_length);
+
+/* Takes the key's value out, and copies it as `ravulemis_get` does; it is out also with RAVULEMIS_TRUNCATED.
+   Errors: RAVULEMIS_BAD_ARGUMENT, RAVULEMIS_DESTROYED, RAVULEMIS_FAULT. */
+int32_t ravulemis_remove(ravulemis_cache *cache, const void *key, size_t key_length, void *buffer, size_t room,
+                         size_t *value_length);
+
+/* Lets the key's value go, if there is one. Errors: RAVULEMIS_BAD_ARGUMENT, RAVULEMIS_DESTROYED, RAVULEMIS_FAULT. */
+int32_t ravulemis_invalidate(ravulemis_cache *cache, const void *key, size_t key_length);
+
+/* Hides all values that are there. Errors: RAVULEMIS_BAD_ARGUMENT, RAVULEMIS_DESTROYED, RAVULEMIS_FAULT. */
+int32_t ravulemis_invalidate_all(ravulemis_cache *cache);
+
+/* Does what calls left for later: what has expired, was invalidated or exceeds the capacity leaves.
+   Errors: RAVULEMIS_BAD_ARGUMENT, RAVULEMIS_DESTROYED, RAVULEMIS_FAULT. */
+int32_t ravulemis_run_pending_tasks(ravulemis_cache *cache);
+
+/* How many entries, and of which total weight, the last runs of maintenance left. Either pointer may be null.
+   Errors: RAVULEMIS_BAD_ARGUMENT, RAVULEMIS_DESTROYED, RAVULEMIS_FAULT. */
+int32_t ravulemis_size(ravulemis_cache *cache, uint64_t *entry_count, uint64_t *weighted_size);
+
+/* What the cache has counted. Errors: RAVULEMIS_BAD_ARGUMENT, RAVULEMIS_DESTROYED, RAVULEMIS_FAULT. */
+int32_t ravulemis_count(ravulemis_cache *cache, ravulemis_stats *stats);
+
+/* A text for a code, which is never freed. */
+const char *ravulemis_message(int32_t code);
+
+#ifdef __cplusplus
+}
+#endif
+#endif
