@@ -3,14 +3,16 @@
 use crate::support::prelude::*;
 
 use crate::engine::moka_drive::error::{GetWithRefused, NotTold};
+use crate::engine::moka_drive::stats::Stats;
 use crate::engine::moka_engine::base_cache::BaseCache;
 use crate::engine::moka_engine::config::{CacheConfig, DefaultHasher};
-use crate::engine::moka_parts::calls::Ticket;
+use crate::engine::moka_parts::calls::{Entry, Ticket};
 use crate::engine::moka_parts::closures::{NoPredicate, NoWeigher, PredicateFn, Weigher};
-use crate::engine::moka_parts::error::{InsertError, InsertRefused, OutOfMemory};
+use crate::engine::moka_parts::error::{CapacityError, InsertError, InsertRefused, OutOfMemory, PredicateRefused};
 use crate::engine::moka_parts::housekeeper::Clock;
+use crate::engine::moka_parts::invalidator::{IdSource, PredicateId};
 use crate::engine::moka_parts::notification::{Listener, NoListener};
-use crate::engine::moka_parts::policy::{Expiry, Instant, NoExpiry};
+use crate::engine::moka_parts::policy::{Expiry, Instant, NoExpiry, Policy};
 use crate::support::alloc::Global;
 use crate::support::hash::{BuildHasher, Hash};
 
@@ -32,6 +34,7 @@ pub struct Cache<
     S: BuildHasher = DefaultHasher,
 > {
     engine: BaseCache<K, V, S, X, L, P, W>,
+    stats: Stats,
 }
 
 // A cache that is let go notifies nobody.
@@ -48,7 +51,8 @@ impl<
     /// A cache over an engine all of whose operations were sent.
     pub fn new(engine: BaseCache<K, V, S, X, L, P, W>) -> Self
     {
-        Cache { engine }
+        let stats = Stats::new();
+        Cache { engine, stats }
     }
 
     /// An empty cache made at the moment `now`, with this hasher. It takes its memory from `alloc`.
@@ -61,8 +65,6 @@ impl<
         hasher: S,
         now: Instant,
     ) -> Result<Self, OutOfMemory>
-    where
-        S: Clone,
     {
         let engine = config.build_with_hasher(alloc, hasher, now)?;
         Ok(Cache::new(engine))
@@ -78,6 +80,24 @@ impl<
     pub fn engine(&self) -> &BaseCache<K, V, S, X, L, P, W>
     {
         &self.engine
+    }
+
+    /// Hits, misses and loads since the cache was made.
+    pub fn stats(&self) -> Stats
+    {
+        self.stats
+    }
+
+    /// The cache's name, if it has one.
+    pub fn name(&self) -> Option<&str>
+    {
+        self.engine.name()
+    }
+
+    /// Capacity and times, as they were chosen.
+    pub fn policy(&self) -> Policy
+    {
+        self.engine.policy()
     }
 
     /// How many entries the last run of maintenance counted.
@@ -96,7 +116,7 @@ impl<
     pub fn contains_key(&self, key: &K, now: Instant) -> bool
     {
         let hash = self.engine.hash(key);
-        self.engine.contains_key_with_hash(key, hash, now)
+        self.engine.contains_key_with_own_hash(key, hash, now)
     }
 
     /// Puts a value under a key at the moment `now`. A cache of capacity 0 lets both go.
@@ -116,7 +136,7 @@ impl<
             return Ok(());
         }
         let hash = self.engine.hash(&key);
-        let ticket = match self.engine.do_insert_with_hash(key, hash, value, now) {
+        let ticket = match self.engine.do_insert_with_own_hash(key, hash, value, now) {
             Ok((ticket, _)) => ticket,
             Err(refused) => return Err(refused),
         };
@@ -141,11 +161,10 @@ impl<
     {
         self.engine.invariant_holds();
         let hash = self.engine.hash(key);
-        match self.engine.get_with_hash(key, hash, false, now, clock) {
-            Ok(Some(entry)) => Ok(Some(entry.into_value())),
-            Ok(None) => Ok(None),
-            Err(refused) => Err(refused),
-        }
+        let entry = self.engine.get_with_own_hash(key, hash, false, now, clock);
+        let found = value_of(entry);
+        self.stats.count_look_up(&found);
+        found
     }
 
     /// Takes a key out, and hands its value out, expired or not. The listener, if one is set, is told.
@@ -208,7 +227,7 @@ impl<
     {
         self.engine.invariant_holds();
         let hash = self.engine.hash(key);
-        let Some((entry, ticket)) = self.engine.remove_entry(key, hash) else {
+        let Some((entry, ticket)) = self.engine.remove_entry_with_own_hash(key, hash) else {
             return None;
         };
         let told = self.engine.notify_invalidate(&entry, now);
@@ -238,15 +257,125 @@ impl<
             Ok(None) => {}
             Err(_) => return Err(GetWithRefused::Lookup(key)),
         }
+        self.count_load();
         let value = init();
+        match self.insert_made(key, value, now, clock) {
+            Ok(copy) => Ok(copy),
+            Err(refused) => Err(GetWithRefused::Insert(refused)),
+        }
+    }
+
+    /// As `get_with`, for a maker that may decline: then nothing is inserted, and `None` is answered.
+    ///
+    /// # Errors
+    /// As `get_with`.
+    pub fn optionally_get_with<F: FnOnce() -> Option<V>, C: Clock>(
+        &mut self,
+        key: K,
+        init: F,
+        now: Instant,
+        clock: &mut C,
+    ) -> Result<Option<V>, GetWithRefused<K, V>>
+    where
+        K: Clone,
+        V: Clone,
+    {
+        match self.get(&key, now, clock) {
+            Ok(Some(value)) => return Ok(Some(value)),
+            Ok(None) => {}
+            Err(_) => return Err(GetWithRefused::Lookup(key)),
+        }
+        self.count_load();
+        let Some(value) = init() else {
+            return Ok(None);
+        };
+        match self.insert_made(key, value, now, clock) {
+            Ok(copy) => Ok(Some(copy)),
+            Err(refused) => Err(GetWithRefused::Insert(refused)),
+        }
+    }
+
+    /// As `get_with`, for a maker that may fail: then nothing is inserted, and its error is answered.
+    ///
+    /// # Errors
+    /// The outer error as `get_with`; the inner one is the maker's.
+    pub fn try_get_with<E, F: FnOnce() -> Result<V, E>, C: Clock>(
+        &mut self,
+        key: K,
+        init: F,
+        now: Instant,
+        clock: &mut C,
+    ) -> Result<Result<V, E>, GetWithRefused<K, V>>
+    where
+        K: Clone,
+        V: Clone,
+    {
+        match self.get(&key, now, clock) {
+            Ok(Some(value)) => return Ok(Ok(value)),
+            Ok(None) => {}
+            Err(_) => return Err(GetWithRefused::Lookup(key)),
+        }
+        self.count_load();
+        let value = match init() {
+            Ok(value) => value,
+            Err(error) => return Ok(Err(error)),
+        };
+        match self.insert_made(key, value, now, clock) {
+            Ok(copy) => Ok(Ok(copy)),
+            Err(refused) => Err(GetWithRefused::Insert(refused)),
+        }
+    }
+
+    // Inserts a value that was made for a key, and hands out a clone of it.
+    fn insert_made<C: Clock>(
+        &mut self,
+        key: K,
+        value: V,
+        now: Instant,
+        clock: &mut C,
+    ) -> Result<V, InsertRefused<K, V>>
+    where
+        V: Clone,
+    {
         let Ok(copy) = value.try_clone() else {
             let error = InsertError::OutOfMemory;
-            return Err(GetWithRefused::Insert(InsertRefused { error, key, value }));
+            return Err(InsertRefused { error, key, value });
         };
         match self.insert(key, value, now, clock) {
             Ok(()) => Ok(copy),
-            Err(refused) => Err(GetWithRefused::Insert(refused)),
+            Err(refused) => Err(refused),
         }
+    }
+
+    // Counts a call of a maker.
+    fn count_load(&mut self)
+    {
+        self.stats.count_load();
+    }
+
+    /// Registers a predicate at the moment `now`, as the engine's call of this name does: what it covers is hidden from
+    /// now on, and runs of maintenance remove it.
+    ///
+    /// # Errors
+    /// As the engine's: the predicate comes back, and nothing has changed.
+    pub fn invalidate_entries_if<I: IdSource>(
+        &mut self,
+        predicate: P,
+        now: Instant,
+        ids: &mut I,
+    ) -> Result<PredicateId, PredicateRefused<P>>
+    {
+        self.engine.invalidate_entries_if(predicate, now, ids)
+    }
+
+    /// Sets the greatest total weight that the cache keeps, `None` for no bound. What exceeds a lower capacity is evicted
+    /// by the runs that follow.
+    ///
+    /// # Errors
+    /// `ZeroCapacity` where the present capacity or the new one is 0. Nothing has changed.
+    pub fn set_max_capacity(&mut self, capacity: Option<u64>) -> Result<(), CapacityError>
+    {
+        self.engine.set_max_capacity(capacity)
     }
 
     /// Invalidates all entries that were written or read before the moment `now`, also where that is earlier than before.
@@ -284,6 +413,18 @@ impl<
     {
         let engine = config.build(alloc, now)?;
         Ok(Cache::new(engine))
+    }
+}
+
+// The value of the entry that a get found.
+fn value_of<K, V>(
+    entry: Result<Option<Entry<K, V>>, OutOfMemory>,
+) -> Result<Option<V>, OutOfMemory>
+{
+    match entry {
+        Ok(Some(entry)) => Ok(Some(entry.into_value())),
+        Ok(None) => Ok(None),
+        Err(refused) => Err(refused),
     }
 }
 

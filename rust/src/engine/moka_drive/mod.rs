@@ -7,6 +7,7 @@ pub mod clock;
 pub mod driver;
 pub mod error;
 pub mod laws;
+pub mod stats;
 #[cfg(test)]
 mod tests;
 pub mod timed;
@@ -15,4 +16,5 @@ pub use cache::Cache;
 pub use clock::{ManualClock, SystemClock};
 pub use driver::drive;
 pub use error::{GetWithRefused, NotTold};
+pub use stats::Stats;
 pub use timed::TimedCache;

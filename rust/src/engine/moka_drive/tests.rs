@@ -5,6 +5,7 @@ use crate::support::prelude::*;
 use crate::support::test::prelude::*;
 use crate::engine::moka_drive::cache::Cache;
 use crate::engine::moka_drive::clock::{ManualClock, SystemClock};
+use crate::engine::moka_drive::stats::Stats;
 use crate::engine::moka_drive::timed::TimedCache;
 use crate::engine::moka_engine::{CacheConfig, FixedClock, Instant, Listener, RemovalCause};
 use crate::support::alloc::Global;
@@ -172,5 +173,43 @@ fn reads_the_system_clock() -> Result<(), Fail> {
     assert!( cache.contains_key(&1));
     assert_eq!( cache.remove(&1).ok(), Some(Some(10)));
     assert!( !cache.contains_key(&1));
+    Ok(())
+}
+
+#[test]
+fn counts_look_ups() -> Result<(), Fail> {
+    let rt = HostRuntime;
+    let mut cache = plain(rt.alloc(), None, true)?;
+    let clock = &mut FixedClock(NOW);
+    assert_eq!( cache.get(&1, NOW, clock).ok(), Some(None));
+    assert_eq!( cache.get_with(1, || 10, NOW, clock).ok(), Some(10));
+    assert_eq!( cache.get(&1, NOW, clock).ok(), Some(Some(10)));
+    let counted = Stats {
+        hits: 1,
+        misses: 2,
+        loads: 1,
+    };
+    assert_eq!( cache.stats(), counted);
+    Ok(())
+}
+
+#[test]
+fn asks_makers_that_give_nothing() -> Result<(), Fail> {
+    let rt = HostRuntime;
+    let mut cache = plain(rt.alloc(), None, true)?;
+    let clock = &mut FixedClock(NOW);
+    assert_eq!(
+        cache.optionally_get_with(1, || None, NOW, clock).ok(),
+        Some(None)
+    );
+    assert_eq!(
+        cache.try_get_with(1, || Err(7), NOW, clock).ok(),
+        Some(Err(7))
+    );
+    assert!( !cache.contains_key(&1, NOW));
+    let made = cache.try_get_with(1, || Ok::<u64, u64>(10), NOW, clock);
+    assert_eq!( made.ok(), Some(Ok(10)));
+    let found = cache.optionally_get_with(1, || Some(20), NOW, clock);
+    assert_eq!( found.ok(), Some(Some(10)));
     Ok(())
 }

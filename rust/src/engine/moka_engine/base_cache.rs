@@ -10,7 +10,7 @@ use crate::engine::moka_parts::housekeeper::{Clock, Housekeeper, HousekeeperConf
 use crate::engine::moka_parts::invalidator::Invalidator;
 use crate::engine::moka_parts::notification::{Listener, RemovalNotifier};
 use crate::engine::moka_parts::policy::{EvictionPolicy, ExpirationPolicy, Expiry, Instant, Policy};
-use crate::engine::moka_store::Update;
+use crate::engine::moka_store::{KeyHash, Update};
 use crate::support::alloc::Global;
 use crate::support::hash::{BuildHasher, Hash};
 
@@ -25,6 +25,13 @@ mod runs;
 // How many segments the map has.
 const SEGMENTS: usize = 1;
 
+// The hash of a key that a caller hands in, and that under which the map has the key.
+#[derive(Clone, Copy)]
+struct Hashes {
+    hash: u64,
+    own: KeyHash,
+}
+
 /// A cache. moka: `sync::base_cache::BaseCache`.
 pub struct BaseCache<
     K: Eq + Hash,
@@ -37,7 +44,6 @@ pub struct BaseCache<
 > {
     alloc: Global,
     name: Option<String>,
-    build_hasher: S,
     inner: Inner<K, V, S>,
     notifier: RemovalNotifier<L>,
     housekeeper: Housekeeper,
@@ -90,8 +96,8 @@ impl<
     ///   with `NumbersUsedUp`.
     ///
     /// # Errors
-    /// `OutOfMemory` where memory for the tables or for a clone of the hasher is refused, and where `initial_capacity` would
-    /// need a place of more than 32 bits.
+    /// `OutOfMemory` where memory for the tables is refused, and where `initial_capacity` would need a place of more than 32
+    /// bits.
     #[allow(clippy::too_many_arguments)]
     pub fn new(
         alloc: Global,
@@ -108,18 +114,13 @@ impl<
         now: Instant,
         first_ticket: u64,
     ) -> Result<Self, OutOfMemory>
-    where
-        S: Clone,
     {
-        let Ok(hasher) = build_hasher.try_clone() else {
-            return Err(OutOfMemory);
-        };
         let initial_capacity = initial_capacity.unwrap_or(0);
         let ordered = needs_write_list(&expiration_policy, invalidator_enabled);
         let timed = needs_timers(&expiration_policy);
         let Ok(inner) = Inner::new(
             alloc,
-            hasher,
+            build_hasher,
             first_ticket,
             initial_capacity,
             ordered,
@@ -132,7 +133,6 @@ impl<
         Ok(BaseCache {
             alloc,
             name,
-            build_hasher,
             inner,
             notifier,
             housekeeper,
@@ -176,7 +176,7 @@ impl<
     #[inline(always)]
     pub fn hash(&self, key: &K) -> u64
     {
-        self.build_hasher.hash_one(key)
+        self.inner.hash(key)
     }
 
     /// Whether the capacity is 0, and so nothing is ever kept.
@@ -236,7 +236,8 @@ impl<
     ///
     /// # Errors
     /// `NumbersUsedUp` where too few tickets are left, and `OutOfMemory` where memory for the operation or for a new
-    /// record is refused. Key and value come back, and nothing has changed.
+    /// record is refused, and where a new record would need a place of more than 32 bits: fewer than 2^32 records are
+    /// kept. Key and value come back, and nothing has changed.
     #[inline(always)]
     pub fn do_insert_with_hash(
         &mut self,
@@ -246,27 +247,51 @@ impl<
         now: Instant,
     ) -> Result<(Ticket, Instant), InsertRefused<K, V>>
     {
+        let own = self.inner.key_hash(&key);
+        self.insert_hashed(key, Hashes { hash, own }, value, now)
+    }
+
+    /// As `do_insert_with_hash` with the key's hash by the cache's own hasher, as `hash` tells it, which is not made again.
+    ///
+    /// # Errors
+    /// As those of `do_insert_with_hash`.
+    #[inline(always)]
+    pub fn do_insert_with_own_hash(
+        &mut self,
+        key: K,
+        hash: u64,
+        value: V,
+        now: Instant,
+    ) -> Result<(Ticket, Instant), InsertRefused<K, V>>
+    {
+        let own = KeyHash::of(hash);
+        self.insert_hashed(key, Hashes { hash, own }, value, now)
+    }
+
+    // An insert of a key with both of its hashes.
+    #[inline(always)]
+    fn insert_hashed(
+        &mut self,
+        key: K,
+        hashes: Hashes,
+        value: V,
+        now: Instant,
+    ) -> Result<(Ticket, Instant), InsertRefused<K, V>>
+    {
         let weight = inserts::weigh(&self.weigher, &key, &value);
-        let (handle, found) = match self.inner.find_or_hash(&key) {
-            Ok(found) => found,
-            Err(key_hash) => {
-                let expires = inserts::expires_at_creation(
-                    &self.expiration_policy,
-                    &key,
-                    &value,
-                    now,
-                );
-                if let Err(error) = self.inner.reserve_record() {
-                    return Err(InsertRefused { error, key, value });
-                }
-                let update = Update {
-                    value,
-                    now,
-                    expires,
-                    weight,
-                };
-                return Ok((self.inner.insert(key, key_hash, hash, update), now));
+        let Hashes { hash, own } = hashes;
+        let Some((handle, found)) = self.inner.find(&key, own) else {
+            let expires = inserts::expires_at_creation(&self.expiration_policy, &key, &value, now);
+            if let Err(error) = self.inner.reserve_record() {
+                return Err(InsertRefused { error, key, value });
             }
+            let update = Update {
+                value,
+                now,
+                expires,
+                weight,
+            };
+            return Ok((self.inner.insert(key, own, hash, update), now));
         };
         let (policy, valid_after) = (&self.expiration_policy, self.valid_after);
         let cause = causes::cause_of_replacement(found, policy, valid_after, now);
@@ -301,8 +326,25 @@ impl<
     /// `notify_invalidate` does that.
     pub fn remove_entry(&mut self, key: &K, _hash: u64) -> Option<(KvEntry<K, V>, Ticket)>
     {
-        let (handle, _) = self.inner.find(key)?;
-        let (record, ticket) = self.inner.remove(handle);
+        let own = self.inner.key_hash(key);
+        self.remove_hashed(key, own)
+    }
+
+    /// As `remove_entry` with the key's hash by the cache's own hasher, as `hash` tells it, which is not made again.
+    pub fn remove_entry_with_own_hash(
+        &mut self,
+        key: &K,
+        hash: u64,
+    ) -> Option<(KvEntry<K, V>, Ticket)>
+    {
+        self.remove_hashed(key, KeyHash::of(hash))
+    }
+
+    // A removal of a key with its hash in the map.
+    fn remove_hashed(&mut self, key: &K, own: KeyHash) -> Option<(KvEntry<K, V>, Ticket)>
+    {
+        let (handle, _) = self.inner.find(key, own)?;
+        let (record, ticket) = self.inner.remove(handle, own);
         let entry = KvEntry {
             key: record.key,
             value: record.value,
@@ -351,15 +393,37 @@ impl<
     /// Whether a key is there and visible at the moment `now`. Nothing is recorded.
     pub fn contains_key_with_hash(&self, key: &K, _hash: u64, now: Instant) -> bool
     {
+        let own = self.inner.key_hash(key);
+        self.contains_hashed(key, own, now)
+    }
+
+    /// As `contains_key_with_hash` with the key's hash by the cache's own hasher, as `hash` tells it, which is not made
+    /// again.
+    pub fn contains_key_with_own_hash(&self, key: &K, hash: u64, now: Instant) -> bool
+    {
+        self.contains_hashed(key, KeyHash::of(hash), now)
+    }
+
+    // The same with the key's hash in the map.
+    fn contains_hashed(&self, key: &K, own: KeyHash, now: Instant) -> bool
+    {
         let (policy, valid_after) = (&self.expiration_policy, &self.valid_after);
         let invalidator = &self.invalidator;
-        gets::find_shown(&self.inner, policy, valid_after, invalidator, key, now).is_some()
+        gets::find_shown(
+            &self.inner,
+            policy,
+            valid_after,
+            invalidator,
+            (key, own),
+            now,
+        )
+        .is_some()
     }
 
     /// The key that the cache keeps for an equal one, visible or not. Nothing is recorded.
     pub fn get_key_with_hash(&self, key: &K, _hash: u64) -> Option<&K>
     {
-        match self.inner.find(key) {
+        match self.inner.find(key, self.inner.key_hash(key)) {
             Some((_, found)) => Some(&found.key),
             None => None,
         }
@@ -407,7 +471,29 @@ impl<
         K: Clone,
         V: Clone,
     {
-        self.do_get_with_hash(key, hash, &mut NoTest, need_key, now, clock)
+        let own = self.inner.key_hash(key);
+        self.get_hashed(key, Hashes { hash, own }, &mut NoTest, need_key, now, clock)
+    }
+
+    /// As `get_with_hash` with the key's hash by the cache's own hasher, as `hash` tells it, which is not made again.
+    ///
+    /// # Errors
+    /// As those of `get_with_hash`.
+    #[inline(always)]
+    pub fn get_with_own_hash<C: Clock>(
+        &mut self,
+        key: &K,
+        hash: u64,
+        need_key: bool,
+        now: Instant,
+        clock: &mut C,
+    ) -> Result<Option<Entry<K, V>>, OutOfMemory>
+    where
+        K: Clone,
+        V: Clone,
+    {
+        let own = KeyHash::of(hash);
+        self.get_hashed(key, Hashes { hash, own }, &mut NoTest, need_key, now, clock)
     }
 }
 

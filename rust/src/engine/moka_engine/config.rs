@@ -216,8 +216,7 @@ impl<X, L, P, W> CacheConfig<X, L, P, W> {
     /// An empty cache made at the moment `now`, with this hasher. It takes its memory from `alloc`.
     ///
     /// # Errors
-    /// `OutOfMemory` if memory for the tables or for a clone of the hasher is refused, or the initial capacity needs a place
-    /// of more than 32 bits.
+    /// `OutOfMemory` if memory for the tables is refused, or the initial capacity needs a place of more than 32 bits.
     pub fn build_with_hasher<K, V, S>(
         self,
         alloc: Global,
@@ -226,7 +225,7 @@ impl<X, L, P, W> CacheConfig<X, L, P, W> {
     ) -> Result<BaseCache<K, V, S, X, L, P, W>, OutOfMemory>
     where
         K: Eq + Hash,
-        S: BuildHasher + Clone,
+        S: BuildHasher,
         X: Expiry<K, V>,
         L: Listener<K, V>,
         P: PredicateFn<K, V>,

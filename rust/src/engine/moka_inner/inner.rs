@@ -76,18 +76,25 @@ impl<K: Eq + Hash, V, S: BuildHasher> Inner<K, V, S> {
         self.store.invariant_holds();
     }
 
-    /// The record whose key is equal, with its handle.
+    /// The hash of a key by the store's hasher.
     #[inline(always)]
-    pub fn find(&self, key: &K) -> Option<(Handle, &Record<K, V>)>
+    pub fn hash(&self, key: &K) -> u64
     {
-        self.store.find_by_key(key)
+        self.store.hash(key)
     }
 
-    /// The record whose key is equal, with its handle, or the hash under which a new record of the key comes in.
+    /// The hash under which the store has a key, or would have it.
     #[inline(always)]
-    pub fn find_or_hash(&self, key: &K) -> Result<(Handle, &Record<K, V>), KeyHash>
+    pub fn key_hash(&self, key: &K) -> KeyHash
     {
-        self.store.find_or_hash(key)
+        KeyHash::of(self.store.hash(key))
+    }
+
+    /// The record whose key is equal, with its handle, under the key's hash.
+    #[inline(always)]
+    pub fn find(&self, key: &K, hash: KeyHash) -> Option<(Handle, &Record<K, V>)>
+    {
+        self.store.find_by_key(key, hash)
     }
 
     /// Makes room for one more record with its operation and its removal.
@@ -173,12 +180,12 @@ impl<K: Eq + Hash, V, S: BuildHasher> Inner<K, V, S> {
         (old, Ticket(ticket))
     }
 
-    /// Takes the record at this handle out of the map, and hands its removal out under the next ticket. It takes no
-    /// memory. The member stays until the removal is applied.
-    pub fn remove(&mut self, handle: Handle) -> (Record<K, V>, Ticket)
+    /// Takes the record at this handle out of the map, where it is under the hash of its key, and hands its removal out
+    /// under the next ticket. It takes no memory. The member stays until the removal is applied.
+    pub fn remove(&mut self, handle: Handle, hash: KeyHash) -> (Record<K, V>, Ticket)
     {
         let ticket = self.last_ticket + 1;
-        let record = self.store.take_record(handle);
+        let record = self.store.take_record(handle, hash);
         let Handle { number, place } = handle;
         let operation = Operation::Removal {
             number,
@@ -241,7 +248,7 @@ impl<K: Eq + Hash, V, S: BuildHasher> Inner<K, V, S> {
             hash,
             renewed,
         };
-        match self.store.find_by_key(key) {
+        match self.store.find_by_key(key, self.key_hash(key)) {
             Some((Handle { place, .. }, _)) => self.queue_read(place, read),
             None => self.queue_read(0, read),
         }

@@ -83,22 +83,21 @@ impl<K: Eq + Hash, V, S: BuildHasher> Store<K, V, S> {
         self.timers.reserve(rows)
     }
 
-    /// The record whose key is equal, with its handle.
+    /// The hash of a key by the store's hasher.
     #[inline(always)]
-    pub fn find_by_key(&self, key: &K) -> Option<(Handle, &Record<K, V>)>
+    pub fn hash(&self, key: &K) -> u64
     {
-        self.find_or_hash(key).ok()
+        self.hasher.hash_one(key)
     }
 
-    /// The record whose key is equal, with its handle, or the hash under which a new record of the key comes in.
+    /// The record whose key is equal, with its handle, under the key's hash.
     #[inline(always)]
-    pub fn find_or_hash(&self, key: &K) -> Result<(Handle, &Record<K, V>), KeyHash>
+    pub fn find_by_key(&self, key: &K, hash: KeyHash) -> Option<(Handle, &Record<K, V>)>
     {
-        let hash = hashing::key_hash(&self.hasher, key);
         let table = &self.table;
         let is_match = |place| changes::has_key(table, place, key);
-        let Some(place) = self.index.find(hash, is_match) else {
-            return Err(KeyHash(hash));
+        let Some(place) = self.index.find(hash.0, is_match) else {
+            return None;
         };
         let Some(row) = table.row(place) else {
             unreachable!()
@@ -110,7 +109,7 @@ impl<K: Eq + Hash, V, S: BuildHasher> Store<K, V, S> {
             number: row.number(),
             place,
         };
-        Ok((handle, stored))
+        Some((handle, stored))
     }
 
     /// The record at this handle, if it is still there.
@@ -170,13 +169,22 @@ impl<K: Eq + Hash, V, S: BuildHasher> Store<K, V, S> {
         changes::set_applied(&mut self.table, handle.place, generation);
     }
 
-    /// The record at this handle leaves the map, and its number stays.
+    // The hash under which the store has the record at this handle.
     #[inline(always)]
-    pub fn take_record(&mut self, handle: Handle) -> Record<K, V>
+    fn hash_at(&self, handle: Handle) -> KeyHash
+    {
+        let Some(found) = self.find(handle) else {
+            unreachable!()
+        };
+        KeyHash::of(self.hash(&found.key))
+    }
+
+    /// The record at this handle leaves the map, where it is under the hash of its key, and its number stays.
+    #[inline(always)]
+    pub fn take_record(&mut self, handle: Handle, hash: KeyHash) -> Record<K, V>
     {
         let taken = self.table.take(handle.place);
-        let hash = hashing::key_hash(&self.hasher, &taken.key);
-        self.index.remove(hash, handle.place);
+        self.index.remove(hash.0, handle.place);
         taken
     }
 
@@ -417,11 +425,12 @@ impl<K: Eq + Hash, V, S: BuildHasher> Store<K, V, S> {
     #[inline(always)]
     pub fn take_out(&mut self, handle: Handle) -> Record<K, V>
     {
+        let hash = self.hash_at(handle);
         if self.is_member(handle) {
             self.leave(handle);
-            return self.take_record(handle);
+            return self.take_record(handle, hash);
         }
-        self.take_record(handle)
+        self.take_record(handle, hash)
     }
 
     /// The number at this handle goes. Its record left the map, and it is no member.

@@ -72,6 +72,15 @@ fn has_room_for_millions() -> Result<(), Fail> {
     Ok(())
 }
 
+/// Room is made for as many as are named: what no table can hold is refused.
+#[test]
+fn has_no_room_for_more_than_places_can_name() {
+    let rt = HostRuntime;
+    let config = CacheConfig::default().initial_capacity(1 << 40);
+    let built: Result<TestCache, _> = config.build(rt.alloc(), Instant(0));
+    assert!( built.is_err());
+}
+
 #[test]
 fn has_a_sketch_of_a_million_words() -> Result<(), Fail> {
     let rt = HostRuntime;

@@ -34,7 +34,7 @@ impl IdSource for CountedIds {
 pub type Numbers = Engine<u64, u64, NoExpiry, NoListener, Below>;
 
 /// Hides the values below a bound that were written at the moment `now` or before. From then on their keys are not there,
-/// at whatever moment the cache is asked, until they are inserted again (`moka_parts::laws::stays_hidden`).
+/// at whatever moment the cache is asked, until they are inserted again (`moka_engine::laws::stays_hidden`).
 ///
 /// # Errors
 /// The predicate that was refused; the cache is as it was.

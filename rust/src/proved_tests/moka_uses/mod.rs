@@ -2,11 +2,15 @@
 //! Callers of the cache, each proved, to be read and copied.
 use crate::support::prelude::*;
 
+pub mod asked;
 pub mod bounded;
+pub mod driven;
 pub mod expiring;
 pub mod invalidated;
 pub mod late;
 pub mod notified;
+pub mod ordered;
 pub mod refused;
+pub mod resized;
 pub mod texts;
 pub mod weighed;

@@ -2,7 +2,11 @@
 //! A caller that handles each refusal.
 use crate::support::prelude::*;
 
-use crate::engine::moka_engine::{Engine, FixedClock, InsertError, InsertRefused, Instant, SendError};
+use crate::engine::moka_engine::laws::sends_after_run;
+use crate::engine::moka_engine::{
+    Engine, FixedClock, InsertError, InsertRefused, Instant, NoExpiry, NoPredicate, NoWeigher,
+    SendError, Ticket,
+};
 
 /// Puts a value under a key, and sends the operation. A full queue is emptied by a run, and the operation sent again.
 ///
@@ -20,15 +24,30 @@ pub fn put(
         Ok((ticket, _)) => ticket,
         Err(refused) => return Err(refused),
     };
+    // The ticket was handed out just now, so it is known, and its operation is sent.
+    let _sent = send_after_all(cache, ticket, now);
+    Ok(())
+}
+
+/// Sends the operation of a ticket. A full queue is emptied by a run, after which a send of what waits succeeds
+/// (`sends_after_run`).
+///
+/// # Errors
+/// `UnknownTicket` where no operation waits under the ticket, and nothing else.
+pub fn send_after_all(
+    cache: &mut Engine<u64, u64>,
+    ticket: Ticket,
+    now: Instant,
+) -> Result<(), SendError>
+{
+    sends_after_run::<u64, u64, NoExpiry, NoPredicate, NoWeigher>();
     match cache.send(ticket) {
-        // The ticket was handed out just now, so it is known.
-        Ok(()) | Err(SendError::UnknownTicket) => {}
         Err(SendError::QueueFull) => {
             cache.run_pending_tasks(now, &mut FixedClock(now), None, 1, 384);
-            let _sent = cache.send(ticket);
+            cache.send(ticket)
         }
+        sent => sent,
     }
-    Ok(())
 }
 
 /// Whether it helps to put the value again later: memory may be given back, tickets are not.

@@ -10,11 +10,11 @@ use crate::engine::moka_parts::expiry::{has_lapsed, remaining, renewed};
 use crate::engine::moka_parts::invalidator::Invalidator;
 use crate::engine::moka_parts::policy::{ExpirationPolicy, Expiry, Instant};
 use crate::engine::moka_parts::records::Record;
-use crate::engine::moka_store::Handle;
+use crate::engine::moka_store::{Handle, KeyHash};
 use crate::support::hash::{BuildHasher, Hash};
 use crate::support::time::Duration;
 
-// The record whose key is equal, with its handle, unless the caller's test, which is asked of its value first, ignores
+// The record whose key is equal to the one sought, which comes with its hash in the map, unless the caller's test, which is asked of its value first, ignores
 // it, a test by moments hides it or a predicate covers it.
 #[inline(always)]
 pub(super) fn find_unless<'a, K: Eq + Hash, V, S: BuildHasher, X, P, I: ValueTest<V>>(
@@ -22,14 +22,15 @@ pub(super) fn find_unless<'a, K: Eq + Hash, V, S: BuildHasher, X, P, I: ValueTes
     policy: &ExpirationPolicy<X>,
     valid_after: &Option<Instant>,
     invalidator: &Invalidator<P>,
-    key: &K,
+    sought: (&K, KeyHash),
     test: &mut I,
     now: Instant,
 ) -> Option<(Handle, &'a Record<K, V>)>
 where
     P: PredicateFn<K, V>,
 {
-    let (handle, found) = inner.find(key)?;
+    let (key, own) = sought;
+    let (handle, found) = inner.find(key, own)?;
     if test.ignores(&found.value)
         || has_lapsed(found, policy, *valid_after, now)
         || invalidator.apply_predicates(found)
@@ -46,7 +47,7 @@ pub(super) fn find_shown<'a, K: Eq + Hash, V, S: BuildHasher, X, P>(
     policy: &ExpirationPolicy<X>,
     valid_after: &Option<Instant>,
     invalidator: &Invalidator<P>,
-    key: &K,
+    sought: (&K, KeyHash),
     now: Instant,
 ) -> Option<(Handle, &'a Record<K, V>)>
 where
@@ -57,7 +58,7 @@ where
         policy,
         valid_after,
         invalidator,
-        key,
+        sought,
         &mut NoTest,
         now,
     )

@@ -3,7 +3,7 @@
 //! moka: `sync::base_cache::BaseCache`, `common::concurrent::ScanningGet`.
 use crate::support::prelude::*;
 
-use super::{BaseCache, gets};
+use super::{BaseCache, Hashes, gets};
 use crate::engine::moka_parts::calls::Entry;
 use crate::engine::moka_parts::closures::{NoTest, PredicateFn, ValueTest, Weigher};
 use crate::engine::moka_parts::error::OutOfMemory;
@@ -43,17 +43,20 @@ impl<
         V: Clone,
     {
         match ignore_if {
-            Some(test) => self.do_get_with_hash(key, hash, test, need_key, now, clock),
+            Some(test) => {
+                let own = self.inner.key_hash(key);
+                self.get_hashed(key, Hashes { hash, own }, test, need_key, now, clock)
+            }
             None => self.get_with_hash(key, hash, need_key, now, clock),
         }
     }
 
     // A look-up that is recorded, where the test does not ignore what it finds.
     #[inline(always)]
-    pub(super) fn do_get_with_hash<I: ValueTest<V>, C: Clock>(
+    pub(super) fn get_hashed<I: ValueTest<V>, C: Clock>(
         &mut self,
         key: &K,
-        hash: u64,
+        hashes: Hashes,
         test: &mut I,
         need_key: bool,
         now: Instant,
@@ -73,12 +76,12 @@ impl<
             policy,
             valid_after,
             invalidator,
-            key,
+            (key, hashes.own),
             test,
             now,
         );
         let Some((handle, found)) = shown else {
-            self.record_miss(hash, now, clock);
+            self.record_miss(hashes.hash, now, clock);
             return Ok(None);
         };
         let Ok(entry) = gets::entry_of(found, need_key) else {
@@ -138,6 +141,7 @@ impl<
         if self.is_map_disabled() {
             return Ok(None);
         }
+        let own = self.inner.key_hash(key);
         let policy = &self.expiration_policy;
         let (invalidator, valid_after) = (&self.invalidator, &self.valid_after);
         let shown = gets::find_unless(
@@ -145,7 +149,7 @@ impl<
             policy,
             valid_after,
             invalidator,
-            key,
+            (key, own),
             test,
             now,
         );
@@ -172,7 +176,8 @@ impl<
     {
         let (policy, valid_after) = (&self.expiration_policy, &self.valid_after);
         let invalidator = &self.invalidator;
-        let shown = gets::find_shown(&self.inner, policy, valid_after, invalidator, key, now);
+        let sought = (key, self.inner.key_hash(key));
+        let shown = gets::find_shown(&self.inner, policy, valid_after, invalidator, sought, now);
         let Some((_, found)) = shown else {
             return Ok(None);
         };

@@ -36,9 +36,10 @@ impl<
     /// Once every operation was sent, a run leaves count and weight exactly the records', and one that was not cut short,
     /// with a `batch` of at least 1, also the weight within the capacity.
     ///
-    /// If the cache was empty at first, and all calls since were made in the order of time, such a run also leaves no
-    /// record past its time to live, and none written before the last invalidation of all. This applies to caches with
-    /// a time to live or with predicates.
+    /// Where the cache is in the order of writing, such a run also leaves no record past its time to live, and none written
+    /// before the last invalidation of all (`laws::runs_age_out`). This applies to caches with a time to live or with
+    /// support of predicates: an empty one is in that order, and calls in the order of time keep it so
+    /// (`laws::calls_keep_order`), which `drive` promises of a list of calls.
     pub fn run_pending_tasks<C: Clock>(
         &mut self,
         now: Instant,

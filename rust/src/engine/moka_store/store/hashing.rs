@@ -2,8 +2,6 @@
 //! The hash under which a store has a key.
 use crate::support::prelude::*;
 
-use crate::support::hash::{BuildHasher, Hash};
-
 // An odd number whose bits are as those of a random one: 2^64 over the golden ratio.
 const SPREAD: u64 = 0x9E37_79B9_7F4A_7C15;
 
@@ -14,13 +12,15 @@ fn index_hash(hash: u64) -> u32
     (hash.wrapping_mul(SPREAD) >> 32) as u32
 }
 
-/// The hash under which a store has a key, or would have it.
+/// The hash under which a store has a key, or would have it: 32 bits of the hash that its hasher makes of the key.
 #[derive(Clone, Copy, Debug)]
 pub struct KeyHash(pub(crate) u32);
 
-/// The 32 bits of a key's hash under which the index has the key.
-#[inline(always)]
-pub(crate) fn key_hash<K: Hash, S: BuildHasher>(hasher: &S, key: &K) -> u32
-{
-    index_hash(hasher.hash_one(key))
+impl KeyHash {
+    /// What a store keeps of the hash that its hasher makes of a key.
+    #[inline(always)]
+    pub fn of(hash: u64) -> Self
+    {
+        KeyHash(index_hash(hash))
+    }
 }
