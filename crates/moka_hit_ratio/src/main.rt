@@ -1,56 +1,48 @@
-//! `moka-hit-ratio` reads keys through a cache, and prints how often they were there.
+//! `moka-hit-ratio` plays traces through caches, and prints how often their keys were there.
 #![tactic(auto)]
 
-ghost use Rattle.std.specs.Prelude.{◌≤◌, IfOk};
-
+mod arguments;
+mod bench;
+mod fifo;
+mod optimum;
 mod ranks;
 mod read_through;
+mod table;
+mod tally;
+mod trace;
 
-use crate::ranks::Zipf;
-use crate::read_through::ReadThrough;
+use crate::arguments::{Options, named_trace, read_options};
+use crate::bench::{Bench, Row};
+use crate::table::print_table;
+use crate::trace::Trace;
 use anyhow::Result;
-use rand::SeedableRng;
-use rand::rngs::SmallRng;
 use std::alloc::Global;
+use std::env;
+use std::rt::Env;
 
-/// How many keys are read.
-const KEYS: u32 = 1_000_000;
-
-/// How many reads fill the cache.
-const FILLING: u64 = 1_000_000;
-
-/// How many reads are counted then.
-const COUNTED: u64 = 1_500_000;
-
-/// What a ratio of 1 is printed as: its digits behind the point are millionths.
-const WHOLE: u64 = 1_000_000;
-
-/// Prints the hit ratio at each capacity.
+/// Prints a table for each trace that the arguments name.
 fn main(rt: HostRuntime) -> Result<()> {
-    let ranks = Zipf::new(KEYS);
-    for capacity in [10_000, 100_000] {
-        let hits = hits(rt.alloc(), &ranks, capacity)?;
-        let ratio = hits * WHOLE / COUNTED;
-        let (ones, millionths) = (ratio / WHOLE, ratio % WHOLE);
-        println!(rt; "capacity {capacity}: hit ratio {ones}.{millionths:06}")?;
+    let arguments = arguments_of(&rt)?;
+    let options = read_options(rt.alloc(), &arguments)?;
+    for name in arguments.iter().skip(options.traces) {
+        let rows = play(rt.alloc(), &options, name)?;
+        print_table(&rt, name, &rows)?;
     }
     Ok(())
 }
 
-/// How many of the counted reads find their key in a cache that others have filled.
-fn hits(alloc: Global, ranks: &Zipf, capacity: u64) -> Result<u64>
-    ensures { IfOk result (λ hits. hits ≤ COUNTED) }
-{
-    let mut random = SmallRng::seed_from_u64(1);
-    let mut cache = ReadThrough::new(alloc, capacity)?;
-    for _ in 0..FILLING {
-        cache.read(ranks.draw(&mut random))?;
+/// The arguments, the first of which is the program's name.
+fn arguments_of<R: Env + AllocGlobal>(rt: &R) -> Result<Vec<String>> {
+    Ok(env::args(rt)?.collect(rt.alloc())?)
+}
+
+/// What caches of the asked capacities find in a trace.
+fn play(alloc: Global, options: &Options, name: &str) -> Result<Vec<Row>> {
+    let (shape, keys) = named_trace(name)?;
+    let mut trace = Trace::new(shape, keys);
+    let mut bench = Bench::new(alloc, &options.capacities, options.filling)?;
+    for _ in 0..options.filling.saturating_add(options.counted) {
+        bench.read(trace.next_key())?;
     }
-    let mut hits = 0;
-    for _ in 0..COUNTED {
-        if cache.read(ranks.draw(&mut random))? {
-            hits += 1;
-        }
-    }
-    Ok(hits)
+    bench.rows()
 }

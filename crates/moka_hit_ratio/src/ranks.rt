@@ -2,35 +2,36 @@
 use rand::Rng;
 use std::num::saturating_f64_to_u64;
 
-/// The exponent of the law: a key of rank `r`, from 1 on, is read with a frequency in proportion to `r^-0.9`.
-const EXPONENT: f64 = 0.9;
-
 /// 2^-53, by which a number of 53 bits becomes one from 0 to below 1.
 const UNIT: f64 = 1.0 / 9_007_199_254_740_992.0;
 
-/// Draws ranks as benchmarks of caches commonly do, by the method of Gray and others: the first two with the frequencies of
-/// the law, and all others by a power of a random number, which comes near to it.
+/// Draws ranks as benchmarks of caches commonly do, by the method of Gray and others: the first two with the
+/// frequencies of the law, and all others by a power of a random number, which comes near to it.
 #[derive(Clone, Copy)]
 pub struct Zipf {
     /// How many ranks there are.
     count: u32,
-    /// The sum of `r^-0.9` over all ranks.
+    /// A key of rank `r`, from 1 on, is read with a frequency in proportion to `r^-exponent`.
+    exponent: f64,
+    /// The sum of `r^-exponent` over all ranks.
     total: f64,
     /// What makes the law of the ranks behind the second one a whole.
     scale: f64,
 }
 
 impl Zipf {
-    /// So many ranks.
-    pub fn new(count: u32) -> Self {
+    /// So many ranks, with an exponent below 1 in hundredths.
+    pub fn new(count: u32, hundredths: u32) -> Self {
+        let exponent = f64::from(hundredths) / 100.0;
         let mut total = 0.0;
         for rank in 1..=count {
-            total += f64::from(rank).powf(-EXPONENT);
+            total += f64::from(rank).powf(-exponent);
         }
-        let front = 1.0 + share_of_the_second();
-        let behind = 1.0 - (2.0 / f64::from(count)).powf(1.0 - EXPONENT);
+        let front = 1.0 + 0.5f64.powf(exponent);
+        let behind = 1.0 - (2.0 / f64::from(count)).powf(1.0 - exponent);
         Zipf {
             count,
+            exponent,
             total,
             scale: behind / (1.0 - front / total),
         }
@@ -43,16 +44,11 @@ impl Zipf {
         if height < 1.0 {
             return 0;
         }
-        if height < 1.0 + share_of_the_second() {
+        if height < 1.0 + 0.5f64.powf(self.exponent) {
             return 1;
         }
-        let power = (self.scale * drawn - self.scale + 1.0).powf(1.0 / (1.0 - EXPONENT));
+        let power = (self.scale * drawn - self.scale + 1.0).powf(1.0 / (1.0 - self.exponent));
         let rank = saturating_f64_to_u64(f64::from(self.count) * power);
         rank.min(u64::from(self.count.saturating_sub(1)))
     }
-}
-
-/// How often the second rank comes for each time that the first one does.
-fn share_of_the_second() -> f64 {
-    0.5f64.powf(EXPONENT)
 }

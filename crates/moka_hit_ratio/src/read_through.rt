@@ -1,12 +1,12 @@
 //! A cache that is read through.
 use anyhow::Result;
-use moka_engine::{CacheConfig, Engine, FixedClock, Instant, OutOfMemory};
+use moka_engine::{CacheConfig, Engine, EvictionPolicy, FixedClock, Instant, OutOfMemory};
 use std::alloc::Global;
 
 // Nothing expires, so that all is done at one moment.
 const NOW: Instant = Instant(0);
 
-/// A cache that keeps what is read most often, and makes its runs of maintenance by itself.
+/// A cache of this engine, which makes its runs of maintenance by itself.
 #[derive(Drop)]
 pub struct ReadThrough {
     cache: Engine<u64, u64>,
@@ -17,8 +17,14 @@ impl ReadThrough {
     ///
     /// # Errors
     /// `OutOfMemory` where memory for its tables is refused.
-    pub fn new(alloc: Global, capacity: u64) -> Result<ReadThrough, OutOfMemory> {
-        let config = CacheConfig::default().max_capacity(capacity);
+    pub fn new(
+        alloc: Global,
+        capacity: u64,
+        policy: EvictionPolicy,
+    ) -> Result<ReadThrough, OutOfMemory> {
+        let config = CacheConfig::default()
+            .max_capacity(capacity)
+            .eviction_policy(policy);
         Ok(ReadThrough {
             cache: config.build(alloc, NOW)?,
         })
