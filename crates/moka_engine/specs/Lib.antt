@@ -27,6 +27,7 @@ pub use Rattle.moka_parts.specs.Registry
 pub use Rattle.moka_parts.specs.Calls
 pub use Rattle.moka_parts.specs.Copies
 pub use Rattle.moka_parts.specs.Order
+pub use Rattle.moka_parts.specs.Grounds
 pub use Rattle.moka_parts.specs.Bounds
 pub use Rattle.moka_parts.specs.Runs
 pub use Rattle.moka_parts.specs.Listed

@@ -3,18 +3,17 @@ use crate::trace::Shape;
 use anyhow::{Context, Result, bail};
 use std::alloc::Global;
 
+/// Where the names of traces begin among the arguments, behind the program's name and three numbers.
+pub const FIRST_TRACE: usize = 4;
+
 /// What the arguments ask for.
 #[derive(Drop)]
 pub struct Options {
-    /// A picture, and no table.
-    pub is_picture: bool,
     /// How many reads fill the caches first.
     pub filling: u64,
     /// How many reads are counted then.
     pub counted: u64,
     pub capacities: Vec<u64>,
-    /// Where the names of traces begin among the arguments.
-    pub traces: usize,
 }
 
 /// What the arguments ask for, the first of which is the program's name.
@@ -22,24 +21,18 @@ pub struct Options {
 /// # Errors
 /// What cannot be read.
 pub fn read_options(alloc: Global, arguments: &[String]) -> Result<Options> {
-    let is_picture = arguments
-        .get(1)
-        .is_some_and(|first| first.as_str() == "--svg");
-    let skipped = if is_picture { 2 } else { 1 };
-    let mut words = arguments.iter().skip(skipped);
+    let mut words = arguments.iter().skip(1);
     let (Some(filling), Some(counted), Some(capacities)) = (
         words.next(),
         words.next(),
         words.next(),
     ) else {
-        bail!("arguments: [--svg] FILLING COUNTED CAPACITY,.. TRACE..");
+        bail!("arguments: FILLING COUNTED CAPACITY,.. TRACE..");
     };
     Ok(Options {
-        is_picture,
         filling: number(filling)?,
         counted: number(counted)?,
         capacities: numbers(alloc, capacities)?,
-        traces: skipped + 3,
     })
 }
 

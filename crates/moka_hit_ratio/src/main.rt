@@ -11,7 +11,7 @@ mod table;
 mod tally;
 mod trace;
 
-use crate::arguments::{Options, named_trace, read_options};
+use crate::arguments::{FIRST_TRACE, Options, named_trace, read_options};
 use crate::bench::{Bench, Row};
 use crate::table::print_table;
 use crate::trace::Trace;
@@ -24,7 +24,7 @@ use std::rt::Env;
 fn main(rt: HostRuntime) -> Result<()> {
     let arguments = arguments_of(&rt)?;
     let options = read_options(rt.alloc(), &arguments)?;
-    for name in arguments.iter().skip(options.traces) {
+    for name in arguments.iter().skip(FIRST_TRACE) {
         let rows = play(rt.alloc(), &options, name)?;
         print_table(&rt, name, &rows)?;
     }

@@ -60,16 +60,16 @@ module _ {K V : Type 0} (Covered : Record K V → Type 0) (q : Tests) where
 
   -- a choice that the step may make: a settled member leaves on its ground, or an unsettled one goes to the back
   abbrev pub MayTake : Ground → Contents K V → Choice → Type 0
-  MayTake ground c (Removes n cause) = (r : Record K V) × (get c.records n ≡ Some r) × (is_member n c.access && is_settled c.records n ≡ true) × LeavesBy ground c n r cause
-  MayTake ground c (MovesToBack n) = (is_sweep ground ≡ true) × (is_member n c.access ≡ true) × (is_settled c.records n ≡ false)
-  MayTake ground c (Drops i) = ⊥
+  MayTake g c (Removes n cause) = (r : Record K V) × (get c.records n ≡ Some r) × (is_member n c.access && is_settled c.records n ≡ true) × LeavesBy g c n r cause
+  MayTake g c (MovesToBack n) = (is_sweep g ≡ true) × (is_member n c.access ≡ true) × (is_settled c.records n ≡ false)
+  MayTake g c (Drops i) = ⊥
 
   -- all choices are the step's
   abbrev pub AreTaken : Ground → Contents K V → List Choice → Type 0
-  AreTaken ground c [] = Unit {0}
-  AreTaken ground c (x ∷ xs) = MayTake ground c x × AreTaken ground (after_choice c x) xs
+  AreTaken g c [] = Unit {0}
+  AreTaken g c (x ∷ xs) = MayTake g c x × AreTaken g (after_choice c x) xs
 
   -- the choices are those of these steps, one step after the other
   abbrev pub FollowsGrounds : List Ground → Contents K V → List Choice → Type 0
   FollowsGrounds [] c xs = xs ≡ []
-  FollowsGrounds (ground ∷ grounds) c xs = (first later : List Choice) × (xs ≡ first ++ later) × AreTaken ground c first × FollowsGrounds grounds (after_choices c first) later
+  FollowsGrounds (g ∷ gs) c xs = (first later : List Choice) × (xs ≡ first ++ later) × AreTaken g c first × FollowsGrounds gs (after_choices c first) later
