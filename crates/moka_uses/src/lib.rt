@@ -3,6 +3,7 @@
 
 pub mod asked;
 pub mod bounded;
+pub mod cached;
 pub mod driven;
 pub mod expiring;
 pub mod invalidated;

@@ -4,6 +4,7 @@ use crate::support::prelude::*;
 
 pub mod asked;
 pub mod bounded;
+pub mod cached;
 pub mod driven;
 pub mod expiring;
 pub mod invalidated;
