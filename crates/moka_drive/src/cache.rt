@@ -220,11 +220,37 @@ impl<
         ensures shown { IfOk result (λ _. is_disabled self.old.engine.state.capacity ≡ false → ShowsWrites self.old.engine.state now.0 → ContainsStep P.says K.eq self.new.engine.state key now.0 true) }
         ensures counted { self.new.stats ≡ self.old.stats }
     {
+        let hash = self.engine.hash(&key);
+        self.insert_hashed(key, hash, value, now, clock)
+    }
+
+    // An insert of a key with its hash.
+    fn insert_hashed<C: Clock>(
+        &mut self,
+        key: K,
+        hash: u64,
+        value: V,
+        now: Instant,
+        clock: &mut C,
+    ) -> Result<(), InsertRefused<K, V>>
+    where
+        K: Drop,
+        V: Drop,
+        P: Drop,
+        requires own { hash ≡ S.Hasher.finish (fold S.Hasher.write (S.build_hasher self.old.engine.hasher) (K.hash_input key)) }
+        ensures made { Makes (meaning_of K.eq L.tells P.says W.weighs C.reads X.created X.read X.updated)
+            (InsertsEntry key (S.Hasher.finish (fold S.Hasher.write (S.build_hasher self.old.engine.hasher) (K.hash_input key))) value now result)
+            self.old.engine clock.old self.new.engine clock.new }
+        ensures back { IfErr result (λ refused. (refused.key ≡ key) × (refused.value ≡ value)) }
+        ensures unchanged { OnErr result ((self.new.engine.state ≡ self.old.engine.state) × (clock.new ≡ clock.old)) }
+        ensures kept { IfOk result (λ _. is_disabled self.old.engine.state.capacity ≡ false → IsThere K.eq self.new.engine.state key value now) }
+        ensures shown { IfOk result (λ _. is_disabled self.old.engine.state.capacity ≡ false → ShowsWrites self.old.engine.state now.0 → ContainsStep P.says K.eq self.new.engine.state key now.0 true) }
+        ensures counted { self.new.stats ≡ self.old.stats }
+    {
         self.engine.invariant_holds();
         if self.engine.is_map_disabled() {
             return Ok(());
         }
-        let hash = self.engine.hash(&key);
         let ticket = match self.engine.do_insert_with_own_hash(key, hash, value, now) {
             Ok((ticket, _)) => ticket,
             Err(refused) => return Err(refused),
@@ -258,8 +284,35 @@ impl<
         ensures unchanged { OnErr result ((self.new.engine.state ≡ self.old.engine.state) × (clock.new ≡ clock.old)) }
         ensures counted { self.new.stats ≡ after_look_up result self.old.stats }
     {
-        self.engine.invariant_holds();
         let hash = self.engine.hash(key);
+        self.get_hashed(key, hash, now, clock)
+    }
+
+    // A get of a key with its hash.
+    fn get_hashed<C: Clock>(
+        &mut self,
+        key: &K,
+        hash: u64,
+        now: Instant,
+        clock: &mut C,
+    ) -> Result<Option<V>, OutOfMemory>
+    where
+        K: Clone + Drop,
+        V: Clone + Drop,
+        P: Drop,
+        requires own { hash ≡ S.Hasher.finish (fold S.Hasher.write (S.build_hasher self.old.engine.hasher) (K.hash_input key.now)) }
+        ensures made { (own : Result (Option V) OutOfMemory) × IsCopiedAnswer V.is_clone own result
+            × Makes (meaning_of K.eq L.tells P.says W.weighs C.reads X.created X.read X.updated)
+            (GetsValue key.now (S.Hasher.finish (fold S.Hasher.write (S.build_hasher self.old.engine.hasher) (K.hash_input key.now))) now own)
+            self.old.engine clock.old self.new.engine clock.new }
+        ensures value { IfOk result (λ found. IfSome found (λ v. (r : Record K V) × (record_of_key K.eq self.old.engine.state.records key.now ≡ Some r) × V.is_clone r.value v)) }
+        ensures shown { IfOk result (λ found. ContainsStep P.says K.eq self.old.engine.state key.now now.0 (is_some found)) }
+        ensures found { ContainsStep P.says K.eq self.old.engine.state key.now now.0 true → IfOk result (λ found. is_some found ≡ true) }
+        ensures unchanged { OnErr result ((self.new.engine.state ≡ self.old.engine.state) × (clock.new ≡ clock.old)) }
+        ensures counted { self.new.stats ≡ after_look_up result self.old.stats }
+        ensures hasher { self.new.engine.hasher ≡ self.old.engine.hasher }
+    {
+        self.engine.invariant_holds();
         let entry = self.engine.get_with_own_hash(key, hash, false, now, clock);
         let found = value_of(entry);
         self.stats.count_look_up(&found);
@@ -377,14 +430,15 @@ impl<
             self.old.engine clock.old self.new.engine clock.new
             × (self.new.stats ≡ after_get_with made own self.old.stats) }
     {
-        match self.get(&key, now, clock) {
+        let hash = self.engine.hash(&key);
+        match self.get_hashed(&key, hash, now, clock) {
             Ok(Some(value)) => return Ok(value),
             Ok(None) => {}
             Err(_) => return Err(GetWithRefused::Lookup(key)),
         }
         self.count_load();
         let value = init();
-        match self.insert_made(key, value, now, clock) {
+        match self.insert_made(key, hash, value, now, clock) {
             Ok(copy) => Ok(copy),
             Err(refused) => Err(GetWithRefused::Insert(refused)),
         }
@@ -414,7 +468,8 @@ impl<
             self.old.engine clock.old self.new.engine clock.new
             × (self.new.stats ≡ after_get_with made own self.old.stats) }
     {
-        match self.get(&key, now, clock) {
+        let hash = self.engine.hash(&key);
+        match self.get_hashed(&key, hash, now, clock) {
             Ok(Some(value)) => return Ok(Some(value)),
             Ok(None) => {}
             Err(_) => return Err(GetWithRefused::Lookup(key)),
@@ -423,7 +478,7 @@ impl<
         let Some(value) = init() else {
             return Ok(None);
         };
-        match self.insert_made(key, value, now, clock) {
+        match self.insert_made(key, hash, value, now, clock) {
             Ok(copy) => Ok(Some(copy)),
             Err(refused) => Err(GetWithRefused::Insert(refused)),
         }
@@ -453,7 +508,8 @@ impl<
             self.old.engine clock.old self.new.engine clock.new
             × (self.new.stats ≡ after_get_with made own self.old.stats) }
     {
-        match self.get(&key, now, clock) {
+        let hash = self.engine.hash(&key);
+        match self.get_hashed(&key, hash, now, clock) {
             Ok(Some(value)) => return Ok(Ok(value)),
             Ok(None) => {}
             Err(_) => return Err(GetWithRefused::Lookup(key)),
@@ -463,7 +519,7 @@ impl<
             Ok(value) => value,
             Err(error) => return Ok(Err(error)),
         };
-        match self.insert_made(key, value, now, clock) {
+        match self.insert_made(key, hash, value, now, clock) {
             Ok(copy) => Ok(Ok(copy)),
             Err(refused) => Err(GetWithRefused::Insert(refused)),
         }
@@ -473,6 +529,7 @@ impl<
     fn insert_made<C: Clock>(
         &mut self,
         key: K,
+        hash: u64,
         value: V,
         now: Instant,
         clock: &mut C,
@@ -481,6 +538,7 @@ impl<
         K: Drop,
         V: Clone + Drop,
         P: Drop,
+        requires own { hash ≡ S.Hasher.finish (fold S.Hasher.write (S.build_hasher self.old.engine.hasher) (K.hash_input key)) }
         ensures made { (own : Result V (InsertRefused K V)) × HandsOutOwn V.is_clone own result
             × Makes (meaning_of K.eq L.tells P.says W.weighs C.reads X.created X.read X.updated)
             (InsertsMade key (S.Hasher.finish (fold S.Hasher.write (S.build_hasher self.old.engine.hasher) (K.hash_input key))) now value own)
@@ -491,7 +549,7 @@ impl<
             let error = InsertError::OutOfMemory;
             return Err(InsertRefused { error, key, value });
         };
-        match self.insert(key, value, now, clock) {
+        match self.insert_hashed(key, hash, value, now, clock) {
             Ok(()) => Ok(copy),
             Err(refused) => Err(refused),
         }

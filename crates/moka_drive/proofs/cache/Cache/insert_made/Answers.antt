@@ -12,14 +12,14 @@ returns-in_default-clause-made g c =
     let hash : ℕ = g.S.Hasher.Hasher.finish (fold g.S.Hasher.Hasher.write (g.S.BuildHasher.build_hasher c.args.self.now.engine.hasher) (g.K.Hash.hash_input c.args.key)) in
     (Err (record { error = insert_error.OutOfMemory; key = c.args.key; value = c.args.value }), refl, not_cloned g.V.Clone.is_clone m c.args.key hash c.args.now c.args.self.now.engine c.args.self.now.engine c.args.clock.now c.args.clock.now c.args.value)
 
-pub returns-in-Ok-insert-clause-made : goal.returns-in-Ok-insert-clause-made
-returns-in-Ok-insert-clause-made g c =
+pub returns-in-Ok-insert_hashed-clause-made : goal.returns-in-Ok-insert_hashed-clause-made
+returns-in-Ok-insert_hashed-clause-made g c =
     let m : Meaning g.row.K.Denot g.row.V.Denot g.row.X.Denot g.row.L.Denot g.row.P.Denot g.row.W.Denot g.row.C.Denot (Unit {0}) = meaning_of g.K.PartialEq.eq g.L.Listener.tells g.P.PredicateFn.says g.W.Weigher.weighs g.C.Clock.reads g.X.Expiry.created g.X.Expiry.read g.X.Expiry.updated in
     let hash : ℕ = g.S.Hasher.Hasher.finish (fold g.S.Hasher.Hasher.write (g.S.BuildHasher.build_hasher c.args.self.now.engine.hasher) (g.K.Hash.hash_input c.args.key)) in
-    (Ok c.args.value, c.in-Ok.ensures.cases, cloned g.V.Clone.is_clone m c.args.key hash c.args.now c.args.self.now.engine c.insert.new.self.engine c.args.clock.now c.insert.new.clock c.args.value c.in-Ok-insert.ensures.made)
+    (Ok c.args.value, c.in-Ok.ensures.cases, cloned g.V.Clone.is_clone m c.args.key hash c.args.now c.args.self.now.engine c.insert_hashed.new.self.engine c.args.clock.now c.insert_hashed.new.clock c.args.value c.in-Ok-insert_hashed.ensures.made)
 
 pub returns-in-Err-clause-made : goal.returns-in-Err-clause-made
 returns-in-Err-clause-made g c =
     let m : Meaning g.row.K.Denot g.row.V.Denot g.row.X.Denot g.row.L.Denot g.row.P.Denot g.row.W.Denot g.row.C.Denot (Unit {0}) = meaning_of g.K.PartialEq.eq g.L.Listener.tells g.P.PredicateFn.says g.W.Weigher.weighs g.C.Clock.reads g.X.Expiry.created g.X.Expiry.read g.X.Expiry.updated in
     let hash : ℕ = g.S.Hasher.Hasher.finish (fold g.S.Hasher.Hasher.write (g.S.BuildHasher.build_hasher c.args.self.now.engine.hasher) (g.K.Hash.hash_input c.args.key)) in
-    (Err c.in-Err.refused, refl, not_inserted g.V.Clone.is_clone m c.args.key hash c.args.now c.args.self.now.engine c.insert.new.self.engine c.args.clock.now c.insert.new.clock c.args.value c.in-Err.refused c.in-Err.ensures.made)
+    (Err c.in-Err.refused, refl, not_inserted g.V.Clone.is_clone m c.args.key hash c.args.now c.args.self.now.engine c.insert_hashed.new.self.engine c.args.clock.now c.insert_hashed.new.clock c.args.value c.in-Err.refused c.in-Err.ensures.made)
