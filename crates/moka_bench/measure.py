@@ -1,8 +1,9 @@
 #!/usr/bin/env python3
-"""Times the library of this crate: measure.py [WORKLOAD ..] [--reps N] [--memory]
+"""Times the library of this crate: measure.py [WORKLOAD ..] [--reps N] [--synchronous] [--memory]
 
 `rt lib` makes the library first. Each workload is timed in processor time, as the difference of two calls: its set-up
-alone, and its set-up with the timed part. Printed are the median and the least nanoseconds an operation, and the counts.
+alone, and its set-up with the timed part. Printed are the median and the least nanoseconds an operation, and the counts;
+with --synchronous the same of the synchronous cache, in turn with the engine, and the median of the ratios.
 """
 import argparse
 import array
@@ -76,9 +77,9 @@ def workload(name):
     sys.exit("there is no workload " + name)
 
 
-def call(run, capacity, automatic, stream):
+def call(run, capacity, automatic, stream, cache=0):
     """Processor seconds and counts of one call."""
-    config = struct.pack("<16Q", capacity, NONE, NONE, 1, 0, automatic, *[0] * 10)
+    config = struct.pack("<16Q", capacity, NONE, NONE, 1, 0, automatic, *[0] * 4, cache, *[0] * 5)
     counts = ctypes.create_string_buffer(64)
     begun = time.process_time()
     answer = run(config, len(config), stream, len(stream), counts, 64)
@@ -88,16 +89,22 @@ def call(run, capacity, automatic, stream):
     return spent, struct.unpack("<8Q", counts.raw)[:5]
 
 
-def times(run, name, reps):
+def times(run, name, reps, caches):
     capacity, setup, timed, operations = workload(name)
     automatic = 0 if name.startswith("run_") else 1
-    each = []
+    each, found = [[] for _ in caches], [None for _ in caches]
     for _ in range(reps):
-        before, _ = call(run, capacity, automatic, setup)
-        both, counts = call(run, capacity, automatic, setup + timed)
-        each.append((both - before) / operations * 1e9)
-    found = "hits %d, misses %d, inserts %d, sum %d, entries %d" % counts
-    print("%-16s %8.1f [%.1f] ns   %s" % (name, statistics.median(each), min(each), found), flush=True)
+        for cache in caches:
+            before, _ = call(run, capacity, automatic, setup, cache)
+            both, found[cache] = call(run, capacity, automatic, setup + timed, cache)
+            each[cache].append((both - before) / operations * 1e9)
+    for cache in caches:
+        counts = "hits %d, misses %d, inserts %d, sum %d, entries %d" % found[cache]
+        spent = "%8.1f [%.1f] ns" % (statistics.median(each[cache]), min(each[cache]))
+        print("%-16s %-11s %s   %s" % (name, ("engine", "synchronous")[cache], spent, counts), flush=True)
+    if len(caches) > 1:
+        ratio = statistics.median(one / other for other, one in zip(*each))
+        print("%-16s %.2f times the engine's, %.2f of the least" % ("", ratio, min(each[1]) / min(each[0])), flush=True)
 
 
 def resident(which):
@@ -119,6 +126,7 @@ def main():
     ask = argparse.ArgumentParser(description=__doc__, formatter_class=argparse.RawDescriptionHelpFormatter)
     ask.add_argument("workloads", nargs="*", default=["hit-10k", "mix-10k", "mix-100k", "churn-100k", "run_reads-100k", "run_writes-100k"])
     ask.add_argument("--reps", type=int, default=5)
+    ask.add_argument("--synchronous", action="store_true")
     ask.add_argument("--memory", action="store_true")
     given = ask.parse_args()
     with tempfile.TemporaryDirectory() as folder:
@@ -127,7 +135,7 @@ def main():
         if given.memory:
             return memory(run)
         for name in given.workloads:
-            times(run, name, given.reps)
+            times(run, name, given.reps, (0, 1) if given.synchronous else (0,))
 
 
 main()

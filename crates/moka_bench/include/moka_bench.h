@@ -17,7 +17,9 @@
      7  hasher              0: one folded multiplication, 1: SipHash-1-3
      8  strings             0: none; no other is served
      9  step                how far the clock goes on before each operation, in nanoseconds
-     10 to 15               not read
+     10 cache               0: the engine, whose operations the driver sends, 1: the synchronous cache, whose runs have a
+                            batch of 384 whatever the stream says
+     11 to 15               not read
 
    stream: phases, one after the other; each has a header of 4 words (operation, number of words n, argument, any) and n
    words. The clock begins at 0. A put of k inserts k + 1, modulo 2^64, under k, and sends the operation; if the queue is

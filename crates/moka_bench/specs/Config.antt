@@ -13,7 +13,7 @@ abbrev pub word_at : List ℕ → ℕ → ℕ
 word_at bytes index = option_map_or (from_le_bytes w64) (slice_get (first_chunks 8 (length bytes / 8) bytes) index) 0
 
 -- 16 words for the configuration and 8 for the counts; no time to live, no time to idle, the policy LRU, no expiry, one of
--- both hashers, and numbers
+-- both hashers, numbers, and one of both caches
 abbrev pub is_served : List ℕ → ℕ → Bool
 is_served bytes counts = nat_eq (length bytes) 128 && (nat_eq counts 64 && (nat_eq (word_at bytes 1) none && (nat_eq (word_at bytes 2) none && (nat_eq (word_at bytes 3) 1
-    && (nat_eq (word_at bytes 4) 0 && (nat_le (word_at bytes 7) 1 && nat_eq (word_at bytes 8) 0))))))
+    && (nat_eq (word_at bytes 4) 0 && (nat_le (word_at bytes 7) 1 && (nat_eq (word_at bytes 8) 0 && nat_le (word_at bytes 10) 1)))))))

@@ -19,6 +19,8 @@ pub struct Config {
     pub is_automatic: bool,
     /// Whether keys are hashed by SipHash, and else by folding.
     pub is_sip: bool,
+    /// Whether the synchronous cache is driven, and else the engine.
+    pub is_synchronous: bool,
     /// How far the clock goes on before each operation, in nanoseconds.
     pub step: u64,
 }
@@ -34,6 +36,7 @@ impl Config {
             initial_capacity: word(bytes, 6) as usize,
             is_automatic: word(bytes, 5) == 1,
             is_sip: word(bytes, 7) == 1,
+            is_synchronous: word(bytes, 10) == 1,
             step: word(bytes, 9),
         }
     }
@@ -51,6 +54,7 @@ pub fn is_served(bytes: &[u8], counts: usize) -> bool
         && word(bytes, 4) == 0
         && word(bytes, 7) <= 1
         && word(bytes, 8) == 0
+        && word(bytes, 10) <= 1
 }
 
 // The word at an index, 0 past the end.

@@ -9,10 +9,12 @@ ghost use Rattle.moka_bench.specs.declared.driver.Failure.TheVariants.{Malformed
 mod config;
 mod driver;
 mod phases;
+mod subject;
 
 use crate::config::{Config, is_served};
 use crate::driver::{Counts, Driver, Failure};
 use crate::phases::drive;
+use crate::subject::{Subject, Synchronous, Ticketed};
 use std::alloc::Global;
 use std::hash::{BuildHasher, BuildHasherDefault, DefaultHasher, FoldHasher};
 
@@ -65,7 +67,7 @@ pub extern "C" fn moka_bench_run(
 }
 
 // Drives a new cache through the stream.
-fn run<S: BuildHasher + Clone + Drop>(
+fn run<S: BuildHasher + Drop>(
     alloc: Global,
     hasher: S,
     config: Config,
@@ -74,9 +76,25 @@ fn run<S: BuildHasher + Clone + Drop>(
     ensures done { OnOk result (is_well_formed stream.now ≡ true) }
     ensures malformed { result ≡ Err Malformed → is_well_formed stream.now ≡ false }
 {
-    let Ok(mut driver) = Driver::new(alloc, hasher, config) else {
-        return Err(Failure::OutOfMemory);
-    };
+    if config.is_synchronous {
+        match Synchronous::new(alloc, hasher, config) {
+            Ok(cache) => count(cache, config, stream),
+            Err(_) => Err(Failure::OutOfMemory),
+        }
+    } else {
+        match Ticketed::new(alloc, hasher, config) {
+            Ok(engine) => count(engine, config, stream),
+            Err(_) => Err(Failure::OutOfMemory),
+        }
+    }
+}
+
+// Drives a cache through the stream.
+fn count<T: Subject + Drop>(subject: T, config: Config, stream: &[u8]) -> Result<Counts, Failure>
+    ensures done { OnOk result (is_well_formed stream.now ≡ true) }
+    ensures malformed { result ≡ Err Malformed → is_well_formed stream.now ≡ false }
+{
+    let mut driver = Driver::new(subject, config);
     let (words, _) = stream.as_chunks::<8>();
     if !drive(&mut driver, words) {
         return Err(Failure::Malformed);
@@ -108,10 +126,11 @@ mod tests {
         alloc: Global,
         capacity: u64,
         hasher: u64,
+        cache: u64,
         stream: &[u64],
     ) -> Result<(u64, [u64; 5]), AllocError> {
         let config = [
-            capacity, NONE, NONE, 1, 0, 1, 0, hasher, 0, 1, 0, 0, 0, 0, 0, 0,
+            capacity, NONE, NONE, 1, 0, 1, 0, hasher, 0, 1, cache, 0, 0, 0, 0, 0,
         ];
         let config = bytes(alloc, &config)?;
         let stream = bytes(alloc, stream)?;
@@ -131,8 +150,8 @@ mod tests {
         let stream = [
             3, 4, 0, 0, 10, 20, 10, 30, 5, 0, 384, 0, 7, 3, 2, 0, 20, 10, 30, 6, 0, 5, 0,
         ];
-        for hasher in [0, 1] {
-            let (answer, counts) = counted(rt.alloc(), 2, hasher, &stream)?;
+        for (hasher, cache) in [(0, 0), (1, 0), (0, 1), (1, 1)] {
+            let (answer, counts) = counted(rt.alloc(), 2, hasher, cache, &stream)?;
             assert_eq!(rt; answer, 0);
             assert_eq!(rt; counts, [3, 4, 3, 63, 2]);
         }
@@ -144,11 +163,13 @@ mod tests {
         let sevens = u64::from_le_bytes([7; 8]);
         let malformed: [&[u64]; 3] = [&[4, 0, 0, 0], &[1, 2, 0, 0, 5], &[1, 0, 0]];
         for stream in malformed {
-            let (answer, counts) = counted(rt.alloc(), NONE, 0, stream)?;
+            let (answer, counts) = counted(rt.alloc(), NONE, 0, 0, stream)?;
             assert_eq!(rt; (answer, counts), (3, [sevens; 5]));
         }
-        let (answer, counts) = counted(rt.alloc(), NONE, 2, &[])?;
-        assert_eq!(rt; (answer, counts), (1, [sevens; 5]));
+        for (hasher, cache) in [(2, 0), (0, 2)] {
+            let (answer, counts) = counted(rt.alloc(), NONE, hasher, cache, &[])?;
+            assert_eq!(rt; (answer, counts), (1, [sevens; 5]));
+        }
         Ok(())
     }
 
@@ -161,9 +182,11 @@ mod tests {
         for key in 0..1000 {
             stream.push(key)?;
         }
-        let (answer, counts) = counted(rt.alloc(), NONE, 0, &stream)?;
-        assert_eq!(rt; answer, 0);
-        assert_eq!(rt; counts, [0, 0, 1000, 0, 1000]);
+        for cache in [0, 1] {
+            let (answer, counts) = counted(rt.alloc(), NONE, 0, cache, &stream)?;
+            assert_eq!(rt; answer, 0);
+            assert_eq!(rt; counts, [0, 0, 1000, 0, 1000]);
+        }
         Ok(())
     }
 }

@@ -2,14 +2,14 @@
 ghost use Rattle.std.specs.Prelude.{◌≡◌, ◌<◌, length};
 ghost use Rattle.moka_bench.specs.Phases.{is_known, is_stream, number_at};
 
-use crate::driver::{BATCH, Driver};
-use std::hash::BuildHasher;
+use crate::driver::Driver;
+use crate::subject::{BATCH, Subject};
 
 // How many words a phase begins with.
 const HEADER: usize = 4;
 
 /// Drives a cache through the phases of a stream. Whether the stream is well formed.
-pub fn drive<S: BuildHasher>(driver: &mut Driver<S>, stream: &[[u8; 8]]) -> bool
+pub fn drive<T: Subject>(driver: &mut Driver<T>, stream: &[[u8; 8]]) -> bool
     ensures { result ≡ is_stream (length stream.now) stream.now }
 {
     let mut rest = stream;
@@ -42,8 +42,8 @@ fn number(words: &[[u8; 8]], index: usize) -> u64
 }
 
 // Makes the operations of one phase. Whether it is a known one.
-fn make<S: BuildHasher>(
-    driver: &mut Driver<S>,
+fn make<T: Subject>(
+    driver: &mut Driver<T>,
     operation: u64,
     argument: u64,
     words: &[[u8; 8]],
@@ -63,14 +63,14 @@ fn make<S: BuildHasher>(
     true
 }
 
-fn get_all<S: BuildHasher>(driver: &mut Driver<S>, keys: &[[u8; 8]]) {
+fn get_all<T: Subject>(driver: &mut Driver<T>, keys: &[[u8; 8]]) {
     for key in keys {
         driver.step();
         driver.get(u64::from_le_bytes(*key));
     }
 }
 
-fn put_all<S: BuildHasher>(driver: &mut Driver<S>, keys: &[[u8; 8]], may_run: bool) {
+fn put_all<T: Subject>(driver: &mut Driver<T>, keys: &[[u8; 8]], may_run: bool) {
     for key in keys {
         driver.step();
         driver.put(u64::from_le_bytes(*key), may_run);
@@ -78,7 +78,7 @@ fn put_all<S: BuildHasher>(driver: &mut Driver<S>, keys: &[[u8; 8]], may_run: bo
 }
 
 // Gets each key, and puts what is missing at the same moment.
-fn read_through<S: BuildHasher>(driver: &mut Driver<S>, keys: &[[u8; 8]]) {
+fn read_through<T: Subject>(driver: &mut Driver<T>, keys: &[[u8; 8]]) {
     for key in keys {
         driver.step();
         let key = u64::from_le_bytes(*key);
@@ -89,7 +89,7 @@ fn read_through<S: BuildHasher>(driver: &mut Driver<S>, keys: &[[u8; 8]]) {
 }
 
 // Gets all keys, with a run after each `count` of them and at the end.
-fn get_and_run<S: BuildHasher>(driver: &mut Driver<S>, keys: &[[u8; 8]], count: u64) {
+fn get_and_run<T: Subject>(driver: &mut Driver<T>, keys: &[[u8; 8]], count: u64) {
     for some in keys.chunks((count as usize).max(1)) {
         get_all(driver, some);
         driver.run(BATCH);
@@ -98,7 +98,7 @@ fn get_and_run<S: BuildHasher>(driver: &mut Driver<S>, keys: &[[u8; 8]], count: 
 }
 
 // Puts all keys, with a run after each `count` of them and at the end.
-fn put_and_run<S: BuildHasher>(driver: &mut Driver<S>, keys: &[[u8; 8]], count: u64) {
+fn put_and_run<T: Subject>(driver: &mut Driver<T>, keys: &[[u8; 8]], count: u64) {
     for some in keys.chunks((count as usize).max(1)) {
         put_all(driver, some, false);
         driver.run(BATCH);
