@@ -1,27 +1,31 @@
 //! A synchronous cache that owns its clock.
-ghost use Rattle.std.specs.Prelude.{◌≡◌, true, false, Option, Some, Result, IfOk, IfErr, OnErr, is_some};
+ghost use Rattle.std.specs.Prelude.{◌≡◌, true, false, Option, Some, Result, IfOk, IfErr, OnErr, is_some, option_copied};
 ghost use Rattle.std.specs.List.{fold};
-ghost use Rattle.moka_parts.specs.Calls.{ContainsStep, no_events};
+ghost use Rattle.moka_parts.specs.Calls.{CapacityStep, ContainsStep, InvalidateStep, no_events, only_ids};
 ghost use Rattle.moka_parts.specs.Copies.{IsCopiedAnswer};
 ghost use Rattle.moka_parts.specs.Exact.{IsExact, IsWithin};
 ghost use Rattle.moka_parts.specs.Runs.{Befalls};
-ghost use Rattle.moka_parts.specs.State.{is_disabled};
+ghost use Rattle.moka_parts.specs.State.{Events, is_disabled, limits_of};
+ghost use Rattle.moka_parts.specs.Surroundings.{Leads};
 ghost use Rattle.moka_parts.specs.declared.calls.Reply.TheVariants as reply;
 ghost use Rattle.moka_parts.specs.declared.error.InsertRefused.{InsertRefused};
 ghost use Rattle.moka_parts.specs.declared.error.OutOfMemory.{OutOfMemory};
 ghost use Rattle.moka_parts.specs.declared.policy.Instant.{Instant};
 ghost use Rattle.moka_engine.specs.Config.{new_cache};
+ghost use Rattle.moka_drive.specs.Counters.{after_look_up, after_get_with};
 ghost use Rattle.moka_drive.specs.Unsent.{IsThere, ShowsWrites};
-ghost use Rattle.moka_drive.specs.Synchronous.{fresh, Makes, meaning_of, hears_clones, Just, own_run, InsertsEntry, GetsValue, RemovesEntry, GetsOrInserts, HandsOutMade, removed, invalidated};
+ghost use Rattle.moka_drive.specs.Synchronous.{fresh, Makes, meaning_of, hears_clones, Just, own_run, InsertsEntry, GetsValue, RemovesEntry, GetsOrInserts, GetsOrInsertsIfMade, GetsOrInsertsIfNoError, HandsOutMade, HandsOutIfMade, HandsOutIfNoError, removed, invalidated};
 
 use crate::cache::Cache;
 use crate::error::{GetWithRefused, NotTold};
+use crate::stats::Stats;
 use moka_engine::config::{CacheConfig, DefaultHasher};
 use moka_parts::closures::{NoPredicate, NoWeigher, PredicateFn, Weigher};
-use moka_parts::error::{InsertRefused, OutOfMemory};
+use moka_parts::error::{CapacityError, InsertRefused, OutOfMemory, PredicateRefused};
 use moka_parts::housekeeper::Clock;
+use moka_parts::invalidator::{IdSource, PredicateId};
 use moka_parts::notification::{Listener, NoListener};
-use moka_parts::policy::{Expiry, NoExpiry};
+use moka_parts::policy::{Expiry, NoExpiry, Policy};
 use std::alloc::Global;
 use std::hash::{BuildHasher, Hash};
 
@@ -87,6 +91,27 @@ impl<
     W: Weigher<K, V>,
     S: BuildHasher,
 > TimedCache<K, V, C, X, L, P, W, S> {
+    /// Hits, misses and loads since the cache was made.
+    pub fn stats(&self) -> Stats
+        ensures { result ≡ self.now.cache.stats }
+    {
+        self.cache.stats()
+    }
+
+    /// The cache's name, if it has one.
+    pub fn name(&self) -> Option<&str>
+        ensures { option_copied result ≡ self.now.cache.engine.name }
+    {
+        self.cache.name()
+    }
+
+    /// Capacity and times, as they were chosen.
+    pub fn policy(&self) -> Policy
+        ensures { result ≡ limits_of self.now.cache.engine.state }
+    {
+        self.cache.policy()
+    }
+
     /// How many entries the last run of maintenance counted.
     pub fn entry_count(&self) -> u64
         ensures { result ≡ self.now.cache.engine.state.count }
@@ -127,6 +152,7 @@ impl<
             × IfOk result (λ _. is_disabled self.old.cache.engine.state.capacity ≡ false → ShowsWrites self.old.cache.engine.state now.0 → ContainsStep P.says K.eq self.new.cache.engine.state key now.0 true) }
         ensures back { IfErr result (λ refused. (refused.key ≡ key) × (refused.value ≡ value)) }
         ensures unchanged { OnErr result (self.new.cache.engine.state ≡ self.old.cache.engine.state) }
+        ensures counted { self.new.cache.stats ≡ self.old.cache.stats }
     {
         let now = self.clock.now();
         self.cache.insert(key, value, now, &mut self.clock)
@@ -148,6 +174,7 @@ impl<
             self.old.cache.engine read self.new.cache.engine self.new.clock)
             × IfOk result (λ found. ContainsStep P.says K.eq self.old.cache.engine.state key.now now.0 (is_some found)) }
         ensures unchanged { OnErr result (self.new.cache.engine.state ≡ self.old.cache.engine.state) }
+        ensures counted { self.new.cache.stats ≡ after_look_up result self.old.cache.stats }
     {
         let now = self.clock.now();
         self.cache.get(key, now, &mut self.clock)
@@ -162,11 +189,12 @@ impl<
         K: Clone + Drop,
         V: Clone + Drop,
         P: Drop,
-        ensures { (now : Instant) × (read : C) × C.reads self.old.clock now read
+        ensures made { (now : Instant) × (read : C) × C.reads self.old.clock now read
             × ((taken : Option (V × Result (Unit {0}) OutOfMemory)) × (result ≡ removed taken)
             × Makes (meaning_of K.eq (hears_clones K.is_clone V.is_clone L.tells) P.says W.weighs C.reads X.created X.read X.updated)
             (RemovesEntry key.now (S.Hasher.finish (fold S.Hasher.write (S.build_hasher self.old.cache.engine.hasher) (K.hash_input key.now))) now taken)
             self.old.cache.engine read self.new.cache.engine self.new.clock) }
+        ensures counted { self.new.cache.stats ≡ self.old.cache.stats }
     {
         let now = self.clock.now();
         self.cache.remove(key, now, &mut self.clock)
@@ -181,11 +209,12 @@ impl<
         K: Clone + Drop,
         V: Clone + Drop,
         P: Drop,
-        ensures { (now : Instant) × (read : C) × C.reads self.old.clock now read
+        ensures made { (now : Instant) × (read : C) × C.reads self.old.clock now read
             × ((taken : Option (V × Result (Unit {0}) OutOfMemory)) × (result ≡ invalidated taken)
             × Makes (meaning_of K.eq (hears_clones K.is_clone V.is_clone L.tells) P.says W.weighs C.reads X.created X.read X.updated)
             (RemovesEntry key.now (S.Hasher.finish (fold S.Hasher.write (S.build_hasher self.old.cache.engine.hasher) (K.hash_input key.now))) now taken)
             self.old.cache.engine read self.new.cache.engine self.new.clock) }
+        ensures counted { self.new.cache.stats ≡ self.old.cache.stats }
     {
         let now = self.clock.now();
         self.cache.invalidate(key, now, &mut self.clock)
@@ -208,17 +237,110 @@ impl<
             × HandsOutMade V.is_clone key own result
             × Makes (meaning_of K.eq L.tells P.says W.weighs C.reads X.created X.read X.updated)
             (GetsOrInserts key (S.Hasher.finish (fold S.Hasher.write (S.build_hasher self.old.cache.engine.hasher) (K.hash_input key))) now made own)
-            self.old.cache.engine read self.new.cache.engine self.new.clock) }
+            self.old.cache.engine read self.new.cache.engine self.new.clock
+            × (self.new.cache.stats ≡ after_get_with made own self.old.cache.stats)) }
     {
         let now = self.clock.now();
         self.cache.get_with(key, init, now, &mut self.clock)
     }
 
+    /// As `get_with`, for a maker that may decline: then nothing is inserted, and `None` is answered.
+    ///
+    /// # Errors
+    /// As `Cache::get_with`.
+    pub fn optionally_get_with<F: FnOnce() -> Option<V>>(
+        &mut self,
+        key: K,
+        init: F,
+    ) -> Result<Option<V>, GetWithRefused<K, V>>
+    where
+        K: Clone + Drop,
+        V: Clone + Drop,
+        P: Drop,
+        requires { (now : Instant) → ContainsStep P.says K.eq self.old.cache.engine.state key now.0 false → F.pre init }
+        ensures { (now : Instant) × (read : C) × C.reads self.old.clock now read
+            × ((made : Option (Option V)) × (own : Result (Option V) (Option (InsertRefused K V)))
+            × ((answer : Option V) → made ≡ Some answer → F.post init answer)
+            × HandsOutIfMade V.is_clone key own result
+            × Makes (meaning_of K.eq L.tells P.says W.weighs C.reads X.created X.read X.updated)
+            (GetsOrInsertsIfMade key (S.Hasher.finish (fold S.Hasher.write (S.build_hasher self.old.cache.engine.hasher) (K.hash_input key))) now made own)
+            self.old.cache.engine read self.new.cache.engine self.new.clock
+            × (self.new.cache.stats ≡ after_get_with made own self.old.cache.stats)) }
+    {
+        let now = self.clock.now();
+        self.cache
+            .optionally_get_with(key, init, now, &mut self.clock)
+    }
+
+    /// As `get_with`, for a maker that may fail: then nothing is inserted, and its error is answered.
+    ///
+    /// # Errors
+    /// The outer error as `Cache::get_with`; the inner one is the maker's.
+    pub fn try_get_with<E, F: FnOnce() -> Result<V, E>>(
+        &mut self,
+        key: K,
+        init: F,
+    ) -> Result<Result<V, E>, GetWithRefused<K, V>>
+    where
+        K: Clone + Drop,
+        V: Clone + Drop,
+        P: Drop,
+        requires { (now : Instant) → ContainsStep P.says K.eq self.old.cache.engine.state key now.0 false → F.pre init }
+        ensures { (now : Instant) × (read : C) × C.reads self.old.clock now read
+            × ((made : Option (Result V E)) × (own : Result (Result V E) (Option (InsertRefused K V)))
+            × ((answer : Result V E) → made ≡ Some answer → F.post init answer)
+            × HandsOutIfNoError V.is_clone key own result
+            × Makes (meaning_of K.eq L.tells P.says W.weighs C.reads X.created X.read X.updated)
+            (GetsOrInsertsIfNoError key (S.Hasher.finish (fold S.Hasher.write (S.build_hasher self.old.cache.engine.hasher) (K.hash_input key))) now made own)
+            self.old.cache.engine read self.new.cache.engine self.new.clock
+            × (self.new.cache.stats ≡ after_get_with made own self.old.cache.stats)) }
+    {
+        let now = self.clock.now();
+        self.cache.try_get_with(key, init, now, &mut self.clock)
+    }
+
+    /// Registers a predicate at the clock's moment: what it covers is hidden from now on, and runs of maintenance remove
+    /// it.
+    ///
+    /// # Errors
+    /// As `Cache::invalidate_entries_if`.
+    pub fn invalidate_entries_if<I: IdSource>(
+        &mut self,
+        predicate: P,
+        ids: &mut I,
+    ) -> Result<PredicateId, PredicateRefused<P>>
+        ensures made { (now : Instant) × C.reads self.old.clock now self.new.clock
+            × ((e : Events K V)
+            × InvalidateStep self.old.cache.engine.state predicate now result e.ids self.new.cache.engine.state
+            × (e ≡ only_ids e.ids)
+            × Befalls L.tells e self.old.cache.engine self.new.cache.engine
+            × Leads I.gives ids.old e.ids ids.new) }
+        ensures counted { self.new.cache.stats ≡ self.old.cache.stats }
+    {
+        let now = self.clock.now();
+        self.cache.invalidate_entries_if(predicate, now, ids)
+    }
+
+    /// Sets the greatest total weight that the cache keeps, `None` for no bound. What exceeds a lower capacity is evicted
+    /// by the runs that follow.
+    ///
+    /// # Errors
+    /// As `Cache::set_max_capacity`.
+    pub fn set_max_capacity(&mut self, capacity: Option<u64>) -> Result<(), CapacityError>
+        ensures step { CapacityStep self.old.cache.engine.state capacity result self.new.cache.engine.state }
+        ensures events { Befalls L.tells no_events self.old.cache.engine self.new.cache.engine }
+        ensures clock { self.new.clock ≡ self.old.clock }
+        ensures counted { self.new.cache.stats ≡ self.old.cache.stats }
+    {
+        self.cache.set_max_capacity(capacity)
+    }
+
     /// Invalidates all entries that were written or read before the clock's moment.
     pub fn invalidate_all(&mut self)
-        ensures { (now : Instant) × C.reads self.old.clock now self.new.clock
+        ensures made { (now : Instant) × C.reads self.old.clock now self.new.clock
             × (self.new.cache.engine.state ≡ record self.old.cache.engine.state { invalid_before = Some now })
             × Befalls L.tells no_events self.old.cache.engine self.new.cache.engine }
+        ensures counted { self.new.cache.stats ≡ self.old.cache.stats }
     {
         let now = self.clock.now();
         self.cache.invalidate_all(now);
@@ -237,6 +359,7 @@ impl<
             (Just (own_run now) (reply.Run result)) self.old.cache.engine read self.new.cache.engine self.new.clock }
         ensures exact { IsExact self.new.cache.engine.state }
         ensures within { IsWithin self.new.cache.engine.state.capacity self.new.cache.engine.state.access }
+        ensures counted { self.new.cache.stats ≡ self.old.cache.stats }
     {
         let now = self.clock.now();
         self.cache.run_pending_tasks(now, &mut self.clock)
