@@ -8,3 +8,6 @@ pub mod Put
 pub mod Getting
 pub mod Lists
 pub mod Alike
+mod Listing
+mod Counting
+mod Telling

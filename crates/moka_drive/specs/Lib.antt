@@ -5,3 +5,6 @@ pub mod Unsent
 pub mod Laws
 pub mod Texts
 pub mod Counters
+pub mod Visible
+pub mod Counted
+pub mod Removed

@@ -1,5 +1,7 @@
 //! Laws of the calls that a synchronous cache made. None of these functions does anything: the contract of each is a law.
-ghost use Rattle.moka_drive.specs.Synchronous.{meaning_of};
+ghost use Rattle.moka_drive.specs.Removed.{counting, CountsRemovals, PassesOn};
+ghost use Rattle.moka_drive.specs.Synchronous.{meaning_of, hears_clones};
+ghost use Rattle.moka_drive.specs.Counted.{CountsCalls, AddsUp, SumsToLookUps};
 ghost use Rattle.moka_drive.specs.Laws.{GoesOn, KeepsPromises, AgesOut, HearsClones, HearsThemselves};
 
 use moka_parts::closures::{PredicateFn, Weigher};
@@ -75,4 +77,29 @@ pub fn hears_themselves<
     C: Clock,
 >()
     ensures { HearsThemselves S (meaning_of K.eq L.tells P.says W.weighs C.reads X.created X.read X.updated) K.is_clone V.is_clone }
+{}
+
+/// The counters after each call are those before, and the hits, misses and makers of what it stands for. That adds up
+/// from call to call, so hits and misses sum to the look-ups that were answered, until a counter is full.
+pub fn counts_look_ups<K, V: Clone, P, E>()
+    ensures calls { CountsCalls K V P E V.is_clone }
+    ensures adds_up { AddsUp K V P }
+    ensures look_ups { SumsToLookUps K V P }
+{}
+
+/// Over any list of calls of a cache with a `CountingListener`, each counter rises by the removals of its cause in the
+/// run of the reference cache, saturating; and the listener within hears of each.
+pub fn counts_removals<
+    K: Eq + Clone,
+    V: Clone,
+    S,
+    X: Expiry<K, V>,
+    L: Listener<K, V>,
+    P: PredicateFn<K, V>,
+    W: Weigher<K, V>,
+    C: Clock,
+>()
+    ensures themselves { CountsRemovals S (meaning_of K.eq (counting L.tells) P.says W.weighs C.reads X.created X.read X.updated) }
+    ensures clones { CountsRemovals S (meaning_of K.eq (hears_clones K.is_clone V.is_clone (counting L.tells)) P.says W.weighs C.reads X.created X.read X.updated) }
+    ensures passed_on { PassesOn L.tells }
 {}

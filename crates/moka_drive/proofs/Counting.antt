@@ -1,0 +1,199 @@
+-- What is counted is the look-ups among the replies.
+use Rattle.std.proofs.Common.{arith, ◌≡◌, refl, ℕ, ◌+◌, ◌≤◌, min, Bool, true, false, cond, List, [], ◌∷◌, ◌++◌, count_by, sum_by, Option, Some, None, Result, Ok, Err, ap, sym, subst, ◌∙◌, inl, inr}
+use Rattle.std.proofs.lemmas.List.Sums.{sum_by-append}
+use Rattle.moka_parts.specs.declared.policy.Instant.{Instant}
+use Rattle.moka_parts.specs.declared.calls.Entry.{Entry}
+use Rattle.moka_parts.specs.declared.calls.Ticket.{Ticket}
+use Rattle.moka_parts.specs.declared.calls.Call.{Call}
+use Rattle.moka_parts.specs.declared.calls.Call.TheVariants as call
+use Rattle.moka_parts.specs.declared.calls.Reply.{Reply}
+use Rattle.moka_parts.specs.declared.calls.Reply.TheVariants as reply
+use Rattle.moka_parts.specs.declared.error.InsertRefused.{InsertRefused}
+use Rattle.moka_parts.specs.declared.error.OutOfMemory.{OutOfMemory}
+use Rattle.moka_parts.specs.Time.{greatest, plus}
+use Rattle.moka_parts.specs.Copies.{IsCopiedAnswer}
+use Rattle.moka_drive.specs.declared.stats.Stats.{Stats}
+use Rattle.moka_drive.specs.Counters.{no_stats, after_look_up, after_get_with}
+use Rattle.moka_drive.specs.Counted.{is_hit, is_miss, is_look_up, loads_of, AreCounters, IsCounted, CountsCalls, AddsUp, SumsToLookUps}
+use Rattle.moka_drive.specs.Synchronous.{Just, own_run, Posts, GetsValue, GetsThen, InsertsMade, GetsOrInserts, GetsOrInsertsIfMade, GetsOrInsertsIfNoError, InsertsEntry, RemovesEntry, value_found}
+
+-- ---- numbers that saturate
+
+pub no_more : (g n : ℕ) → n ≤ g → n ≡ min (n + 0) g
+no_more g n h = omega (arith, h)
+
+pub more_and_more : (g a n m : ℕ) → min (min (a + n) g + m) g ≡ min (a + (n + m)) g
+more_and_more g a n m = omega arith
+
+pub within : (g n : ℕ) → min n g ≤ g
+within g n = omega arith
+
+from_none : (g n : ℕ) → n ≤ g → min (0 + n) g ≡ n
+from_none g n h = omega (arith, h)
+
+both_parts : (h m n : ℕ) → h + m ≡ n → (h ≤ n) × (m ≤ n)
+both_parts h m n is = (omega (arith, is), omega (arith, is))
+
+trans_le : (a b c : ℕ) → a ≤ b → b ≤ c → a ≤ c
+trans_le a b c h k = omega (arith, h, k)
+
+pub zero_plus : (n : ℕ) → 0 + n ≡ n
+zero_plus n = omega arith
+
+pub count_after : {A : Type 0} (p : A → Bool) (x : A) (xs : List A) → count_by p (x ∷ xs) ≡ cond (p x) 1 0 + count_by p xs
+count_after p x xs = sum_by-append (λ y. cond (p y) 1 0) (x ∷ []) xs ∙ ap (λ n. n + count_by p xs) (zero_plus (cond (p x) 1 0))
+
+-- a clone counts as what was cloned
+clones_count : {V : Type 0} (is_clone : V → V → Type 0) (own answer : Result (Option V) OutOfMemory) (s : Stats) → IsCopiedAnswer is_clone own answer → after_look_up own s ≡ after_look_up answer s
+clones_count is_clone (Err e) answer s copied = ap (λ a. after_look_up a s) (sym copied)
+clones_count {V} is_clone (Ok None) (Ok b) s copied = ap (λ (o : Option V). after_look_up {E = OutOfMemory} (Ok o) s) (sym copied)
+clones_count is_clone (Ok None) (Err e) s copied = absurd copied
+clones_count is_clone (Ok (Some x)) (Ok (Some y)) s copied = refl
+clones_count is_clone (Ok (Some x)) (Ok None) s copied = absurd copied
+clones_count is_clone (Ok (Some x)) (Err e) s copied = absurd copied
+
+module _ {K V P : Type 0} where
+  -- no look-up is among the replies
+  pub record IsQuiet (replies : List (Reply K V P)) : Type 0 where
+    pub no_hits : count_by is_hit replies ≡ 0
+    pub no_misses : count_by is_miss replies ≡ 0
+
+  quiet_after : (r : Reply K V P) (rs : List (Reply K V P)) → is_hit r ≡ false → is_miss r ≡ false → IsQuiet rs → IsQuiet (r ∷ rs)
+  quiet_after r rs no_hit no_miss rest = record {
+    no_hits = count_after is_hit r rs ∙ ap (λ b. cond b 1 0 + count_by is_hit rs) no_hit ∙ zero_plus (count_by is_hit rs) ∙ rest.no_hits;
+    no_misses = count_after is_miss r rs ∙ ap (λ b. cond b 1 0 + count_by is_miss rs) no_miss ∙ zero_plus (count_by is_miss rs) ∙ rest.no_misses;
+  }
+
+  posts_quietly : (now : Instant) (ticket : Ticket) (calls : List (Call K V P)) (replies : List (Reply K V P)) → Posts now ticket calls replies → IsQuiet replies
+  posts_quietly now ticket calls replies (inl (c, r)) = subst IsQuiet (sym r) (record { no_hits = refl; no_misses = refl })
+  posts_quietly now ticket calls replies (inr (more, c, r)) = subst IsQuiet (sym r) (record { no_hits = refl; no_misses = refl })
+
+  inserts_quietly : (key : K) (hash : ℕ) (value : V) (now : Instant) (answer : Result (Unit {0}) (InsertRefused K V)) (calls : List (Call K V P)) (replies : List (Reply K V P)) → InsertsEntry key hash value now answer calls replies → IsQuiet replies
+  inserts_quietly key hash value now (Ok done) calls replies (inl (c, r)) = subst IsQuiet (sym r) (record { no_hits = refl; no_misses = refl })
+  inserts_quietly key hash value now (Ok done) calls replies (inr (ticket, posting, posted, posts, c, r)) =
+      subst IsQuiet (sym r) (quiet_after (reply.Insert (Ok (ticket, now))) posted refl refl (posts_quietly now ticket posting posted posts))
+  inserts_quietly key hash value now (Err refused) calls replies (c, r) = subst IsQuiet (sym r) (record { no_hits = refl; no_misses = refl })
+
+  removes_quietly : (key : K) (hash : ℕ) (now : Instant) (taken : Option (V × Result (Unit {0}) OutOfMemory)) (calls : List (Call K V P)) (replies : List (Reply K V P)) → RemovesEntry key hash now taken calls replies → IsQuiet replies
+  removes_quietly key hash now None calls replies (c, r) = subst IsQuiet (sym r) (record { no_hits = refl; no_misses = refl })
+  removes_quietly key hash now (Some answer) calls replies (k, written, read, ticket, posting, posted, posts, c, r) =
+      subst IsQuiet (sym r) (quiet_after (reply.Remove (Some (record { key = k; value = answer.0; last_modified = written; last_accessed = read }, ticket)) (Some answer.1)) posted refl refl (posts_quietly now ticket posting posted posts))
+
+  makes_quietly : (key : K) (hash : ℕ) (now : Instant) (made : V) (answer : Result V (InsertRefused K V)) (calls : List (Call K V P)) (replies : List (Reply K V P)) → InsertsMade key hash now made answer calls replies → IsQuiet replies
+  makes_quietly key hash now made (Ok value) calls replies (same, inserts) = inserts_quietly key hash made now (Ok tt) calls replies inserts
+  makes_quietly key hash now made (Err refused) calls replies (inl (is, c, r)) = subst IsQuiet (sym r) (record { no_hits = refl; no_misses = refl })
+  makes_quietly key hash now made (Err refused) calls replies (inr inserts) = inserts_quietly key hash made now (Err refused) calls replies inserts
+
+  -- ---- what the counters make of it
+
+  counted_quietly : (s : Stats) (replies : List (Reply K V P)) → AreCounters s → IsQuiet replies → IsCounted replies 0 s s
+  counted_quietly s replies fit quiet = record {
+    hits = no_more greatest s.hits fit.hits_fit ∙ ap (plus s.hits) (sym quiet.no_hits);
+    misses = no_more greatest s.misses fit.misses_fit ∙ ap (plus s.misses) (sym quiet.no_misses);
+    loads = no_more greatest s.loads fit.loads_fit;
+  }
+
+  -- a get alone
+  gets : (s : Stats) (key : K) (hash : ℕ) (now : Instant) (own : Result (Option V) OutOfMemory) (calls : List (Call K V P)) (replies : List (Reply K V P)) → AreCounters s → GetsValue key hash now own calls replies → IsCounted replies 0 s (after_look_up own s)
+  gets s key hash now own calls replies fit (a, is, c, r) = subst (λ rs. IsCounted rs 0 s (after_look_up own s)) (sym r) (subst (λ o. IsCounted {K = K} {V = V} {P = P} (reply.Get a ∷ []) 0 s (after_look_up o s)) (sym is) (at a))
+    where
+      at : (a : Result (Option (Entry K V)) OutOfMemory) → IsCounted {K = K} {V = V} {P = P} (reply.Get a ∷ []) 0 s (after_look_up (value_found a) s)
+      at (Ok (Some entry)) = record { hits = refl; misses = no_more greatest s.misses fit.misses_fit; loads = no_more greatest s.loads fit.loads_fit }
+      at (Ok None) = record { hits = no_more greatest s.hits fit.hits_fit; misses = refl; loads = no_more greatest s.loads fit.loads_fit }
+      at (Err e) = record { hits = no_more greatest s.hits fit.hits_fit; misses = no_more greatest s.misses fit.misses_fit; loads = no_more greatest s.loads fit.loads_fit }
+
+  -- a get that misses, and what looks nothing up
+  misses_then : (s : Stats) (replies answers : List (Reply K V P)) → AreCounters s → replies ≡ reply.Get (Ok None) ∷ answers → IsQuiet answers → IsCounted replies 1 s (record s { misses = plus s.misses 1; loads = plus s.loads 1 })
+  misses_then s replies answers fit is quiet = subst (λ rs. IsCounted rs 1 s (record s { misses = plus s.misses 1; loads = plus s.loads 1 })) (sym is) (record {
+    hits = no_more greatest s.hits fit.hits_fit ∙ ap (plus s.hits) (sym (count_after is_hit (reply.Get (Ok None)) answers ∙ zero_plus (count_by is_hit answers) ∙ quiet.no_hits));
+    misses = ap (plus s.misses) (sym (count_after is_miss (reply.Get (Ok None)) answers ∙ ap (λ n. 1 + n) quiet.no_misses));
+    loads = refl;
+  })
+
+  gets_or_inserts : (s : Stats) (key : K) (hash : ℕ) (now : Instant) (made : Option V) (own : Result V (Option (InsertRefused K V))) (calls : List (Call K V P)) (replies : List (Reply K V P)) → AreCounters s → GetsOrInserts key hash now made own calls replies → IsCounted replies (loads_of made) s (after_get_with made own s)
+  gets_or_inserts s key hash now None (Ok value) calls replies fit h = gets s key hash now (Ok (Some value)) calls replies fit h
+  gets_or_inserts s key hash now None (Err None) calls replies fit (refused, h) = gets s key hash now (Err refused) calls replies fit h
+  gets_or_inserts s key hash now None (Err (Some refused)) calls replies fit h = absurd h
+  gets_or_inserts s key hash now (Some made) (Err None) calls replies fit h = absurd h
+  gets_or_inserts s key hash now (Some made) (Ok value) calls replies fit (later, answers, inserts, c, r) = misses_then s replies answers fit r (makes_quietly key hash now made (Ok value) later answers inserts)
+  gets_or_inserts s key hash now (Some made) (Err (Some refused)) calls replies fit (later, answers, inserts, c, r) = misses_then s replies answers fit r (makes_quietly key hash now made (Err refused) later answers inserts)
+
+  -- a get that misses alone, after which a maker was called
+  misses_only : (s : Stats) (key : K) (hash : ℕ) (now : Instant) (calls : List (Call K V P)) (replies : List (Reply K V P)) → AreCounters s → GetsValue key hash now (Ok None) calls replies → IsCounted replies 1 s (record s { misses = plus s.misses 1; loads = plus s.loads 1 })
+  misses_only s key hash now calls replies fit h = let one = gets s key hash now (Ok None) calls replies fit h in record { hits = one.hits; misses = one.misses; loads = refl }
+
+  pub if_made : (s : Stats) (key : K) (hash : ℕ) (now : Instant) (made : Option (Option V)) (own : Result (Option V) (Option (InsertRefused K V))) (calls : List (Call K V P)) (replies : List (Reply K V P)) → AreCounters s → GetsOrInsertsIfMade key hash now made own calls replies → IsCounted replies (loads_of made) s (after_get_with made own s)
+  if_made s key hash now None (Ok (Some value)) calls replies fit h = gets_or_inserts s key hash now None (Ok value) calls replies fit h
+  if_made s key hash now None (Ok None) calls replies fit h = absurd h
+  if_made s key hash now None (Err refused) calls replies fit h = gets_or_inserts s key hash now None (Err refused) calls replies fit h
+  if_made s key hash now (Some None) (Ok None) calls replies fit h = misses_only s key hash now calls replies fit h
+  if_made s key hash now (Some None) (Ok (Some value)) calls replies fit h = absurd h
+  if_made s key hash now (Some None) (Err refused) calls replies fit h = absurd h
+  if_made s key hash now (Some (Some made)) (Ok (Some value)) calls replies fit h = gets_or_inserts s key hash now (Some made) (Ok value) calls replies fit h
+  if_made s key hash now (Some (Some made)) (Ok None) calls replies fit h = absurd h
+  if_made s key hash now (Some (Some made)) (Err refused) calls replies fit h = gets_or_inserts s key hash now (Some made) (Err refused) calls replies fit h
+
+  pub if_no_error : {E : Type 0} (s : Stats) (key : K) (hash : ℕ) (now : Instant) (made : Option (Result V E)) (own : Result (Result V E) (Option (InsertRefused K V))) (calls : List (Call K V P)) (replies : List (Reply K V P)) → AreCounters s → GetsOrInsertsIfNoError key hash now made own calls replies → IsCounted replies (loads_of made) s (after_get_with made own s)
+  if_no_error s key hash now None (Ok (Ok value)) calls replies fit h = gets_or_inserts s key hash now None (Ok value) calls replies fit h
+  if_no_error s key hash now None (Ok (Err error)) calls replies fit h = absurd h
+  if_no_error s key hash now None (Err refused) calls replies fit h = gets_or_inserts s key hash now None (Err refused) calls replies fit h
+  if_no_error s key hash now (Some (Err failed)) (Ok (Err error)) calls replies fit h = misses_only s key hash now calls replies fit h.1
+  if_no_error s key hash now (Some (Err failed)) (Ok (Ok value)) calls replies fit h = absurd h
+  if_no_error s key hash now (Some (Err failed)) (Err refused) calls replies fit h = absurd h
+  if_no_error s key hash now (Some (Ok made)) (Ok (Ok value)) calls replies fit h = gets_or_inserts s key hash now (Some made) (Ok value) calls replies fit h
+  if_no_error s key hash now (Some (Ok made)) (Ok (Err error)) calls replies fit h = absurd h
+  if_no_error s key hash now (Some (Ok made)) (Err refused) calls replies fit h = gets_or_inserts s key hash now (Some made) (Err refused) calls replies fit h
+
+-- ---- the laws
+
+pub counts_calls : (K V P E : Type 0) (is_clone : V → V → Type 0) → CountsCalls K V P E is_clone
+counts_calls K V P E is_clone = record {
+  get = λ s key hash now own answer calls replies fit copied h. subst (IsCounted replies 0 s) (clones_count is_clone own answer s copied) (gets s key hash now own calls replies fit h);
+  get_with = λ s key hash now made own calls replies fit h. gets_or_inserts s key hash now made own calls replies fit h;
+  optionally_get_with = λ s key hash now made own calls replies fit h. if_made s key hash now made own calls replies fit h;
+  try_get_with = λ s key hash now made own calls replies fit h. if_no_error s key hash now made own calls replies fit h;
+  insert = λ s key hash value now answer calls replies fit h. counted_quietly s replies fit (inserts_quietly key hash value now answer calls replies h);
+  remove = λ s key hash now taken calls replies fit h. counted_quietly s replies fit (removes_quietly key hash now taken calls replies h);
+  run_pending_tasks = λ s now more calls replies fit h. counted_quietly s replies fit (subst IsQuiet (sym h.1) (record { no_hits = refl; no_misses = refl }));
+}
+
+module _ (K V P : Type 0) where
+  pub adds_up : AddsUp K V P
+  adds_up = record {
+    at_first = λ s fit. counted_quietly s [] fit (record { no_hits = refl; no_misses = refl });
+    goes_on = λ replies later m n s t u h k. record {
+      hits = k.hits ∙ ap (λ x. plus x (count_by is_hit later)) h.hits ∙ more_and_more greatest s.hits (count_by is_hit replies) (count_by is_hit later) ∙ ap (plus s.hits) (sym (sum_by-append (λ x. cond (is_hit x) 1 0) replies later));
+      misses = k.misses ∙ ap (λ x. plus x (count_by is_miss later)) h.misses ∙ more_and_more greatest s.misses (count_by is_miss replies) (count_by is_miss later) ∙ ap (plus s.misses) (sym (sum_by-append (λ x. cond (is_miss x) 1 0) replies later));
+      loads = k.loads ∙ ap (λ x. plus x n) h.loads ∙ more_and_more greatest s.loads m n;
+    };
+    fits = λ replies m s t h. record {
+      hits_fit = subst (λ n. n ≤ greatest) (sym h.hits) (within greatest (s.hits + count_by is_hit replies));
+      misses_fit = subst (λ n. n ≤ greatest) (sym h.misses) (within greatest (s.misses + count_by is_miss replies));
+      loads_fit = subst (λ n. n ≤ greatest) (sym h.loads) (within greatest (s.loads + m));
+    };
+  }
+
+  one_of_both : (r : Reply K V P) → cond (is_hit r) 1 0 + cond (is_miss r) 1 0 ≡ cond (is_look_up r) 1 0
+  one_of_both (reply.Get (Ok (Some entry))) = refl
+  one_of_both (reply.Get (Ok None)) = refl
+  one_of_both (reply.Get (Err e)) = refl
+  one_of_both r = refl
+
+  all_of_both : (replies : List (Reply K V P)) → count_by is_hit replies + count_by is_miss replies ≡ count_by is_look_up replies
+  all_of_both [] = refl
+  all_of_both (r ∷ rs) =
+      let h = count_after is_hit r rs in
+      let m = count_after is_miss r rs in
+      let l = count_after is_look_up r rs in
+      sums _ _ _ _ _ _ _ _ _ h m l (one_of_both r) (all_of_both rs)
+    where
+      sums : (a b c d e f x y z : ℕ) → x ≡ a + b → y ≡ c + d → z ≡ e + f → a + c ≡ e → b + d ≡ f → x + y ≡ z
+      sums a b c d e f x y z p q r s t = omega (arith, p, q, r, s, t)
+
+  pub sums_to_look_ups : SumsToLookUps K V P
+  sums_to_look_ups replies makers s h fits =
+      let all = all_of_both replies in
+      let parts = both_parts (count_by is_hit replies) (count_by is_miss replies) (count_by is_look_up replies) all in
+      let hits = h.hits ∙ from_none greatest (count_by is_hit replies) (trans_le _ _ _ parts.0 fits) in
+      let misses = h.misses ∙ from_none greatest (count_by is_miss replies) (trans_le _ _ _ parts.1 fits) in
+      ap (λ n. n + s.misses) hits ∙ ap (λ n. count_by is_hit replies + n) misses ∙ all

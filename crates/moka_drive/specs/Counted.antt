@@ -1,0 +1,72 @@
+-- What the replies of a cache's calls say of its counters.
+use Rattle.std.specs.Prelude.{◌≡◌, ℕ, ◌+◌, ◌≤◌, Bool, true, false, List, [], ◌∷◌, ◌++◌, count_by, Option, Some, None, Result, Ok}
+use Rattle.moka_parts.specs.declared.policy.Instant.{Instant}
+use Rattle.moka_parts.specs.declared.calls.Call.{Call}
+use Rattle.moka_parts.specs.declared.calls.Reply.{Reply}
+use Rattle.moka_parts.specs.declared.calls.Reply.TheVariants as reply
+use Rattle.moka_parts.specs.declared.error.InsertRefused.{InsertRefused}
+use Rattle.moka_parts.specs.declared.error.OutOfMemory.{OutOfMemory}
+use Rattle.moka_parts.specs.Time.{greatest, plus}
+use Rattle.moka_parts.specs.Copies.{IsCopiedAnswer}
+use Rattle.moka_drive.specs.declared.stats.Stats.{Stats}
+use Rattle.moka_drive.specs.Counters.{no_stats, after_look_up, after_get_with}
+use Rattle.moka_drive.specs.Synchronous.{Just, own_run, GetsValue, GetsOrInserts, GetsOrInsertsIfMade, GetsOrInsertsIfNoError, InsertsEntry, RemovesEntry}
+
+module _ {K V P : Type 0} where
+  -- a look-up that found a value
+  abbrev pub is_hit : Reply K V P → Bool
+  is_hit (reply.Get (Ok (Some entry))) = true
+  is_hit r = false
+
+  -- a look-up that found none
+  abbrev pub is_miss : Reply K V P → Bool
+  is_miss (reply.Get (Ok None)) = true
+  is_miss r = false
+
+  -- a look-up that was answered
+  abbrev pub is_look_up : Reply K V P → Bool
+  is_look_up (reply.Get (Ok found)) = true
+  is_look_up r = false
+
+-- how many makers were called
+abbrev pub loads_of : {A : Type 0} → Option A → ℕ
+loads_of None = 0
+loads_of (Some made) = 1
+
+-- the counters are numbers that the program holds
+pub record AreCounters (s : Stats) : Type 0 where
+  pub hits_fit : s.hits ≤ greatest
+  pub misses_fit : s.misses ≤ greatest
+  pub loads_fit : s.loads ≤ greatest
+
+-- the counters rose by the hits and misses among these replies, and by so many calls of makers, saturating
+pub record IsCounted {K V P : Type 0} (replies : List (Reply K V P)) (makers : ℕ) (s t : Stats) : Type 0 where
+  pub hits : t.hits ≡ plus s.hits (count_by is_hit replies)
+  pub misses : t.misses ≡ plus s.misses (count_by is_miss replies)
+  pub loads : t.loads ≡ plus s.loads makers
+
+-- ---- laws
+
+-- each call counts the look-ups among the calls that it stands for, and the maker that it called
+pub record CountsCalls (K V P E : Type 0) (is_clone : V → V → Type 0) : Type 0 where
+  pub get : (s : Stats) (key : K) (hash : ℕ) (now : Instant) (own answer : Result (Option V) OutOfMemory) (calls : List (Call K V P)) (replies : List (Reply K V P)) → AreCounters s → IsCopiedAnswer is_clone own answer → GetsValue key hash now own calls replies →
+      IsCounted replies 0 s (after_look_up answer s)
+  pub get_with : (s : Stats) (key : K) (hash : ℕ) (now : Instant) (made : Option V) (own : Result V (Option (InsertRefused K V))) (calls : List (Call K V P)) (replies : List (Reply K V P)) → AreCounters s → GetsOrInserts key hash now made own calls replies →
+      IsCounted replies (loads_of made) s (after_get_with made own s)
+  pub optionally_get_with : (s : Stats) (key : K) (hash : ℕ) (now : Instant) (made : Option (Option V)) (own : Result (Option V) (Option (InsertRefused K V))) (calls : List (Call K V P)) (replies : List (Reply K V P)) → AreCounters s → GetsOrInsertsIfMade key hash now made own calls replies →
+      IsCounted replies (loads_of made) s (after_get_with made own s)
+  pub try_get_with : (s : Stats) (key : K) (hash : ℕ) (now : Instant) (made : Option (Result V E)) (own : Result (Result V E) (Option (InsertRefused K V))) (calls : List (Call K V P)) (replies : List (Reply K V P)) → AreCounters s → GetsOrInsertsIfNoError key hash now made own calls replies →
+      IsCounted replies (loads_of made) s (after_get_with made own s)
+  pub insert : (s : Stats) (key : K) (hash : ℕ) (value : V) (now : Instant) (answer : Result (Unit {0}) (InsertRefused K V)) (calls : List (Call K V P)) (replies : List (Reply K V P)) → AreCounters s → InsertsEntry key hash value now answer calls replies → IsCounted replies 0 s s
+  pub remove : (s : Stats) (key : K) (hash : ℕ) (now : Instant) (taken : Option (V × Result (Unit {0}) OutOfMemory)) (calls : List (Call K V P)) (replies : List (Reply K V P)) → AreCounters s → RemovesEntry key hash now taken calls replies → IsCounted replies 0 s s
+  pub run_pending_tasks : (s : Stats) (now : Instant) (more : Bool) (calls : List (Call K V P)) (replies : List (Reply K V P)) → AreCounters s → Just (own_run now) (reply.Run more) calls replies → IsCounted replies 0 s s
+
+-- so it is with any list of calls: what is counted adds up from call to call
+pub record AddsUp (K V P : Type 0) : Type 0 where
+  pub at_first : (s : Stats) → AreCounters s → IsCounted {K = K} {V = V} {P = P} [] 0 s s
+  pub goes_on : (replies later : List (Reply K V P)) (m n : ℕ) (s t u : Stats) → IsCounted replies m s t → IsCounted later n t u → IsCounted (replies ++ later) (m + n) s u
+  pub fits : (replies : List (Reply K V P)) (m : ℕ) (s t : Stats) → IsCounted replies m s t → AreCounters t
+
+-- and from the first call on, hits and misses sum to the look-ups that were answered, as long as no counter is full
+abbrev pub SumsToLookUps : (K V P : Type 0) → Type 0
+SumsToLookUps K V P = (replies : List (Reply K V P)) (makers : ℕ) (s : Stats) → IsCounted replies makers no_stats s → count_by is_look_up replies ≤ greatest → s.hits + s.misses ≡ count_by is_look_up replies

@@ -1,0 +1,34 @@
+-- The entries that are visible at a moment, each once.
+use Rattle.std.specs.Prelude.{◌≡◌, ℕ, Bool, List, [], ◌∷◌, map, Option, Some, None, Result, Ok, ◌⊎◌, IsPermutation}
+use Rattle.std.specs.List.{AllZip}
+use Rattle.std.specs.FinMap.{values}
+use Rattle.moka_parts.specs.declared.records.Record.{Record}
+use Rattle.moka_parts.specs.Calls.{ScanStep}
+use Rattle.moka_parts.specs.State.{State}
+use Rattle.moka_parts.specs.Visibility.{IsVisible, IsHidden}
+
+module _ {K V X P W : Type 0} (says : P → K → V → Bool → Type 0) (is_value_clone : V → V → Type 0) (s : State K V X P W) (now : ℕ) where
+  -- of these records the visible ones, in their order: the key, and a clone of the value
+  abbrev pub AreShown : List (Record K V) → List (K × V) → Type 0
+  AreShown [] found = found ≡ []
+  AreShown (r ∷ rs) found = (IsHidden says s r now × AreShown rs found)
+      ⊎ ((copy : V) × (rest : List (K × V)) × IsVisible says s r now × is_value_clone r.value copy
+      × (found ≡ (r.key, copy) ∷ rest) × AreShown rs rest)
+
+  -- exactly the visible entries, each once, in no particular order
+  abbrev pub ListsVisible : List (K × V) → Type 0
+  ListsVisible found = (rs : List (Record K V)) × IsPermutation (values s.records) rs × AreShown rs found
+
+  module _ (eq : K → K → Bool) where
+    -- each of these keys is looked up, in their order: what is visible, with a clone of its value
+    abbrev pub LooksUp : List K → List (K × V) → Type 0
+    LooksUp [] found = found ≡ []
+    LooksUp (key ∷ keys) found = (ScanStep says eq s key now (Ok None) × LooksUp keys found)
+        ⊎ ((own : V) × (copy : V) × (rest : List (K × V)) × ScanStep says eq s key now (Ok (Some own)) × is_value_clone own copy
+        × (found ≡ (key, copy) ∷ rest) × LooksUp keys rest)
+
+    -- clones of the keys of all records, each looked up
+    abbrev pub LooksUpClones : (K → K → Type 0) → List (K × V) → Type 0
+    LooksUpClones is_key_clone found = (own : List K) × (copies : List K)
+        × IsPermutation (map (λ (r : Record K V). r.key) (values s.records)) own
+        × AllZip is_key_clone own copies × LooksUp copies found
