@@ -1,5 +1,5 @@
 //! The calls that answer with a clone, or register a predicate.
-use crate::rounds::Texts;
+use crate::report::Texts;
 use moka_engine::{
     FixedClock, IdSource, Instant, NoPredicate, NoTest, OutOfMemory, PredicateError, PredicateId,
 };
@@ -71,7 +71,7 @@ fn of_count(count: u64) -> Answer {
 
 /// Counts its identifiers up.
 #[derive(Clone, Copy)]
-struct Ids(u128);
+pub struct Ids(pub u128);
 
 impl IdSource for Ids {
     ghost gives = { λ _ _ _. Unit {0} };

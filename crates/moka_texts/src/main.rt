@@ -6,10 +6,15 @@
 mod asks;
 mod report;
 mod rounds;
+mod synchronous;
 
-use crate::rounds::{Texts, round};
+use crate::report::Texts;
+use crate::synchronous::Cached;
 use anyhow::Result;
-use moka_engine::{CacheConfig, EvictionPolicy, Instant, OutOfMemory};
+use moka_drive::Cache;
+use moka_engine::{
+    CacheConfig, EvictionPolicy, Instant, NoExpiry, NoPredicate, NoWeigher, OutOfMemory,
+};
 use report::Report;
 use std::alloc::Global;
 use std::io::Write;
@@ -17,6 +22,9 @@ use std::time::Duration;
 
 /// How many texts are put in.
 const TEXTS: u64 = 12;
+
+/// How the caches are made.
+type Config = CacheConfig<NoExpiry, Report, NoPredicate, NoWeigher>;
 
 fn main(rt: HostRuntime) -> Result<()> {
     let mut out = rt.stdout();
@@ -28,18 +36,35 @@ fn main(rt: HostRuntime) -> Result<()> {
         }
     };
     for number in 0..TEXTS {
-        round(rt.alloc(), &mut out, &mut cache, number)?;
+        rounds::round(rt.alloc(), &mut out, &mut cache, number)?;
+    }
+    let mut cached = match empty_cached(rt.alloc()) {
+        Ok(cached) => cached,
+        Err(_) => {
+            writeln!(out, "refused: Cache::build")?;
+            empty_cached(rt.alloc())?
+        }
+    };
+    for number in 0..TEXTS {
+        synchronous::round(rt.alloc(), &mut out, &mut cached, number)?;
     }
     Ok(())
 }
 
-/// A cache of four texts, with a listener and predicates.
-fn empty(alloc: Global) -> Result<Texts, OutOfMemory> {
+/// Four texts, with a listener and predicates.
+fn config() -> Config {
     CacheConfig::default()
         .max_capacity(4)
         .eviction_policy(EvictionPolicy::lru())
         .time_to_live(Duration::from_secs(1))
         .eviction_listener(Report::default())
         .support_invalidation_closures()
-        .build(alloc, Instant(0))
+}
+
+fn empty(alloc: Global) -> Result<Texts, OutOfMemory> {
+    config().build(alloc, Instant(0))
+}
+
+fn empty_cached(alloc: Global) -> Result<Cached, OutOfMemory> {
+    Cache::build(config(), alloc, Instant(0))
 }

@@ -1,5 +1,9 @@
 //! What a cache tells of itself, and its listener of it.
-use moka_engine::{Listener, RemovalCause};
+use anyhow::Result;
+use moka_engine::{Engine, Listener, NoExpiry, NoPredicate, RemovalCause, Ticket};
+use std::alloc::{AllocError, Global};
+use std::fmt;
+use std::io::Write;
 
 /// Counts the notices, and the bytes of their keys and values.
 #[derive(Clone, Copy, Debug, PartialEq, Eq)]
@@ -24,4 +28,53 @@ impl Listener<String, String> for Report {
         self.notices = self.notices.wrapping_add(1);
         self.bytes = self.bytes.wrapping_add(key.len()).wrapping_add(value.len());
     }
+}
+
+/// A cache of texts by texts.
+pub type Texts = Engine<String, String, NoExpiry, Report, NoPredicate>;
+
+/// What a cache tells of itself.
+#[derive(Clone, Copy, Debug, PartialEq, Eq)]
+pub struct State {
+    pub entries: u64,
+    pub predicates: u64,
+    pub outstanding: u64,
+    pub oldest: Option<Ticket>,
+    pub writes: usize,
+    pub reads: usize,
+    pub report: Option<Report>,
+}
+
+pub fn state_of(cache: &Texts) -> State {
+    State {
+        entries: cache.entry_count(),
+        predicates: cache.invalidation_predicate_count(),
+        outstanding: cache.outstanding(),
+        oldest: cache.oldest_unsent(),
+        writes: cache.queued_writes(),
+        reads: cache.queued_reads(),
+        report: cache.listener().copied(),
+    }
+}
+
+/// A text. Where memory for it is refused, it is made again.
+pub fn text(alloc: Global, word: &str, number: u64) -> Result<String, AllocError> {
+    match format!(in alloc; "{word} {number}") {
+        Ok(text) => Ok(text),
+        Err(_) => format!(in alloc; "{word} {number}"),
+    }
+}
+
+/// Says that a call was refused, and whether the cache tells something else than is expected after it.
+pub fn tell_refused<W: Write, S: fmt::Debug + PartialEq>(
+    out: &mut W,
+    call: &str,
+    expected: &S,
+    after: &S,
+) -> Result<()> {
+    writeln!(out, "refused: {call}")?;
+    if expected != after {
+        writeln!(out, "changed: {expected:?} to {after:?}")?;
+    }
+    Ok(())
 }

@@ -1,54 +1,10 @@
 //! What is done with one text after the other.
 use crate::asks::{ASKS, Answer, Ask, answer_to};
-use crate::report::Report;
+use crate::report::{State, Texts, state_of, tell_refused, text};
 use anyhow::{Result, anyhow};
-use moka_engine::{Engine, FixedClock, Instant, KvEntry, NoExpiry, NoPredicate, Ticket};
-use std::alloc::{AllocError, Global};
+use moka_engine::{FixedClock, Instant, KvEntry};
+use std::alloc::Global;
 use std::io::Write;
-
-/// A cache of texts by texts.
-pub type Texts = Engine<String, String, NoExpiry, Report, NoPredicate>;
-
-/// What a cache tells of itself.
-#[derive(Clone, Copy, Debug, PartialEq, Eq)]
-struct State {
-    entries: u64,
-    predicates: u64,
-    outstanding: u64,
-    oldest: Option<Ticket>,
-    writes: usize,
-    reads: usize,
-    report: Option<Report>,
-}
-
-fn state_of(cache: &Texts) -> State {
-    State {
-        entries: cache.entry_count(),
-        predicates: cache.invalidation_predicate_count(),
-        outstanding: cache.outstanding(),
-        oldest: cache.oldest_unsent(),
-        writes: cache.queued_writes(),
-        reads: cache.queued_reads(),
-        report: cache.listener().copied(),
-    }
-}
-
-/// A text. Where memory for it is refused, it is made again.
-fn text(alloc: Global, word: &str, number: u64) -> Result<String, AllocError> {
-    match format!(in alloc; "{word} {number}") {
-        Ok(text) => Ok(text),
-        Err(_) => format!(in alloc; "{word} {number}"),
-    }
-}
-
-/// Says that a call was refused, and whether the cache is as it was before.
-fn tell_refused<W: Write>(out: &mut W, call: &str, before: State, after: State) -> Result<()> {
-    writeln!(out, "refused: {call}")?;
-    if before != after {
-        writeln!(out, "changed: {before:?} to {after:?}")?;
-    }
-    Ok(())
-}
 
 /// Puts a text in, and sends the operation.
 fn put<W: Write>(
@@ -65,7 +21,7 @@ fn put<W: Write>(
     match cache.do_insert_with_hash(key, 7, value, now) {
         Ok((ticket, _)) => cache.send(ticket)?,
         Err(refused) => {
-            tell_refused(out, "insert", before, state_of(cache))?;
+            tell_refused(out, "insert", &before, &state_of(cache))?;
             put_again(cache, refused.key, refused.value, now)?;
         }
     }
@@ -93,7 +49,7 @@ fn asked<W: Write>(
     match answer_to(cache, call, key, now) {
         Ok(answer) => Ok(answer),
         Err(_) => {
-            tell_refused(out, call.name(), before, state_of(cache))?;
+            tell_refused(out, call.name(), &before, &state_of(cache))?;
             Ok(answer_to(cache, call, key, now)?)
         }
     }
@@ -138,7 +94,7 @@ fn tell_removed<W: Write>(
 ) -> Result<()> {
     let before = state_of(cache);
     if cache.notify_invalidate(entry, now).is_err() {
-        tell_refused(out, "notify", before, state_of(cache))?;
+        tell_refused(out, "notify", &before, &state_of(cache))?;
         cache.notify_invalidate(entry, now)?;
     }
     Ok(())

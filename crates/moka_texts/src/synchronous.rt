@@ -1,0 +1,314 @@
+//! The calls of the synchronous cache, made with one text after the other.
+use crate::asks::Ids;
+use crate::report::{Report, State, state_of, tell_refused, text};
+use anyhow::Result;
+use moka_drive::{Cache, GetWithRefused, NotTold, Stats};
+use moka_engine::{FixedClock, InsertRefused, Instant, NoExpiry, NoPredicate, OutOfMemory};
+use std::alloc::Global;
+use std::io::Write;
+
+/// A synchronous cache of texts by texts.
+pub type Cached = Cache<String, String, NoExpiry, Report, NoPredicate>;
+
+/// What a synchronous cache tells of itself.
+#[derive(Clone, Copy, Debug, PartialEq, Eq)]
+struct Told {
+    state: State,
+    stats: Stats,
+}
+
+fn told_by(cache: &Cached) -> Told {
+    Told {
+        state: state_of(cache.engine()),
+        stats: cache.stats(),
+    }
+}
+
+impl Told {
+    /// After a look-up that missed, and a value that was made and not inserted.
+    fn after_load(self) -> Told {
+        let mut after = self;
+        after.state.reads = self.state.reads.wrapping_add(1);
+        after.stats.misses = self.stats.misses.wrapping_add(1);
+        after.stats.loads = self.stats.loads.wrapping_add(1);
+        after
+    }
+
+    /// After a removal of which the listener was not told.
+    fn after_removal(self) -> Told {
+        let mut after = self;
+        after.state.writes = self.state.writes.wrapping_add(1);
+        after
+    }
+}
+
+/// A get with a maker.
+#[derive(Clone, Copy, Debug, PartialEq, Eq)]
+enum Maker {
+    Makes,
+    MayDecline,
+    MayFail,
+}
+
+const MAKERS: [Maker; 3] = [Maker::Makes, Maker::MayDecline, Maker::MayFail];
+
+impl Maker {
+    fn name(self) -> &'static str {
+        match self {
+            Maker::Makes => "get_with",
+            Maker::MayDecline => "optionally_get_with",
+            Maker::MayFail => "try_get_with",
+        }
+    }
+
+    fn at_look_up(self) -> &'static str {
+        match self {
+            Maker::Makes => "Cache::get_with at the look-up",
+            Maker::MayDecline => "Cache::optionally_get_with at the look-up",
+            Maker::MayFail => "Cache::try_get_with at the look-up",
+        }
+    }
+
+    fn at_insert(self) -> &'static str {
+        match self {
+            Maker::Makes => "Cache::get_with at the insert",
+            Maker::MayDecline => "Cache::optionally_get_with at the insert",
+            Maker::MayFail => "Cache::try_get_with at the insert",
+        }
+    }
+}
+
+/// How a text is taken out.
+#[derive(Clone, Copy, Debug, PartialEq, Eq)]
+enum Removal {
+    Remove,
+    Invalidate,
+}
+
+impl Removal {
+    fn name(self) -> &'static str {
+        match self {
+            Removal::Remove => "Cache::remove",
+            Removal::Invalidate => "Cache::invalidate",
+        }
+    }
+}
+
+/// Puts a text in.
+fn put<W: Write>(
+    out: &mut W,
+    cache: &mut Cached,
+    key: String,
+    value: String,
+    now: Instant,
+) -> Result<()> {
+    let before = told_by(cache);
+    if let Err(refused) = cache.insert(key, value, now, &mut FixedClock(now)) {
+        tell_refused(out, "Cache::insert", &before, &told_by(cache))?;
+        cache.insert(refused.key, refused.value, now, &mut FixedClock(now))?;
+    }
+    Ok(())
+}
+
+/// A text's clone, if it is there.
+fn get<W: Write>(
+    out: &mut W,
+    cache: &mut Cached,
+    key: &String,
+    now: Instant,
+) -> Result<Option<String>> {
+    let before = told_by(cache);
+    match cache.get(key, now, &mut FixedClock(now)) {
+        Ok(found) => Ok(found),
+        Err(_) => {
+            tell_refused(out, "Cache::get", &before, &told_by(cache))?;
+            Ok(cache.get(key, now, &mut FixedClock(now))?)
+        }
+    }
+}
+
+/// The text of a key, or else the one that is made.
+fn get_or_make(
+    cache: &mut Cached,
+    maker: Maker,
+    key: String,
+    made: String,
+    now: Instant,
+) -> Result<Option<String>, GetWithRefused<String, String>> {
+    let clock = &mut FixedClock(now);
+    match maker {
+        Maker::Makes => Ok(Some(cache.get_with(key, || made, now, clock)?)),
+        Maker::MayDecline => cache.optionally_get_with(key, || Some(made), now, clock),
+        Maker::MayFail => {
+            let answer = cache.try_get_with(key, || Ok::<String, OutOfMemory>(made), now, clock)?;
+            Ok(answer.ok())
+        }
+    }
+}
+
+/// Inserts what came back of a get with a maker, and hands a clone of it out.
+fn insert_made(
+    cache: &mut Cached,
+    refused: InsertRefused<String, String>,
+    now: Instant,
+) -> Result<Option<String>> {
+    let copy = refused.value.clone()?;
+    cache.insert(refused.key, refused.value, now, &mut FixedClock(now))?;
+    Ok(Some(copy))
+}
+
+/// The text of the maker's own key, made where it is not there. A look-up that is refused is made again with the key that
+/// came back, and an insert with key and value.
+fn made_by<W: Write>(
+    alloc: Global,
+    out: &mut W,
+    cache: &mut Cached,
+    maker: Maker,
+    number: u64,
+) -> Result<Option<String>> {
+    let now = Instant(number);
+    let key = text(alloc, maker.name(), number)?;
+    let made = text(alloc, "made", number)?;
+    let before = told_by(cache);
+    match get_or_make(cache, maker, key, made, now) {
+        Ok(value) => Ok(value),
+        Err(GetWithRefused::Lookup(key)) => {
+            tell_refused(out, maker.at_look_up(), &before, &told_by(cache))?;
+            let made = text(alloc, "made", number)?;
+            Ok(get_or_make(cache, maker, key, made, now)?)
+        }
+        Err(GetWithRefused::Insert(refused)) => {
+            tell_refused(
+                out,
+                maker.at_insert(),
+                &before.after_load(),
+                &told_by(cache),
+            )?;
+            insert_made(cache, refused, now)
+        }
+    }
+}
+
+/// Whether nothing is answered and nothing inserted where makers decline and fail.
+fn is_nothing_made(alloc: Global, cache: &mut Cached, number: u64) -> Result<bool> {
+    let now = Instant(number);
+    let clock = &mut FixedClock(now);
+    let key = text(alloc, "nothing", number)?;
+    let declined = cache.optionally_get_with(key, || None, now, clock)?;
+    let key = text(alloc, "nothing", number)?;
+    let failed = cache.try_get_with(key, || Err::<String, u64>(7), now, clock)?;
+    let asked = text(alloc, "nothing", number)?;
+    Ok(declined.is_none() && failed == Err(7) && !cache.contains_key(&asked, now))
+}
+
+fn remove_by(
+    cache: &mut Cached,
+    removal: Removal,
+    key: &String,
+    now: Instant,
+) -> Result<(), NotTold<String>> {
+    let clock = &mut FixedClock(now);
+    match removal {
+        Removal::Remove => {
+            cache.remove(key, now, clock)?;
+            Ok(())
+        }
+        Removal::Invalidate => cache.invalidate(key, now, clock),
+    }
+}
+
+/// Takes a text out. If the listener was not told of it, the value that came back is put in and taken out again.
+fn take_out<W: Write>(
+    out: &mut W,
+    cache: &mut Cached,
+    removal: Removal,
+    key: &String,
+    now: Instant,
+) -> Result<()> {
+    let before = told_by(cache);
+    if let Err(refused) = remove_by(cache, removal, key, now) {
+        tell_refused(
+            out,
+            removal.name(),
+            &before.after_removal(),
+            &told_by(cache),
+        )?;
+        cache.insert(key.clone()?, refused.value, now, &mut FixedClock(now))?;
+        remove_by(cache, removal, key, now)?;
+    }
+    Ok(())
+}
+
+/// Registers a predicate that covers nothing.
+fn register<W: Write>(out: &mut W, cache: &mut Cached, now: Instant) -> Result<()> {
+    let before = told_by(cache);
+    let mut ids = Ids(u128::from(before.state.predicates));
+    if let Err(refused) = cache.invalidate_entries_if(NoPredicate, now, &mut ids) {
+        tell_refused(
+            out,
+            "Cache::invalidate_entries_if",
+            &before,
+            &told_by(cache),
+        )?;
+        cache.invalidate_entries_if(refused.predicate, now, &mut ids)?;
+    }
+    Ok(())
+}
+
+/// Asks for a text that is not there, puts it in twice, and asks again.
+fn put_and_get<W: Write>(
+    alloc: Global,
+    out: &mut W,
+    cache: &mut Cached,
+    key: &String,
+    number: u64,
+) -> Result<bool> {
+    let now = Instant(number);
+    let missed = get(out, cache, key, now)?;
+    let (first, value) = (text(alloc, "first", number)?, text(alloc, "value", number)?);
+    put(out, cache, text(alloc, "key", number)?, first, now)?;
+    put(out, cache, text(alloc, "key", number)?, value, now)?;
+    let found = get(out, cache, key, now)?;
+    Ok(missed.is_none() && found == Some(text(alloc, "value", number)?))
+}
+
+/// Asks each maker twice: the first time it makes the text, and the second time the text is there.
+fn ask_makers<W: Write>(
+    alloc: Global,
+    out: &mut W,
+    cache: &mut Cached,
+    number: u64,
+) -> Result<bool> {
+    let expected = Some(text(alloc, "made", number)?);
+    let mut is_right = true;
+    for maker in MAKERS {
+        let made = made_by(alloc, out, cache, maker, number)?;
+        let found = made_by(alloc, out, cache, maker, number)?;
+        is_right = is_right && made == expected && found == expected;
+    }
+    Ok(is_right)
+}
+
+/// Makes each call with texts of this number; then a run is made.
+pub fn round<W: Write>(alloc: Global, out: &mut W, cache: &mut Cached, number: u64) -> Result<()> {
+    let now = Instant(number);
+    let key = text(alloc, "key", number)?;
+    let is_found = put_and_get(alloc, out, cache, &key, number)?;
+    let is_made = ask_makers(alloc, out, cache, number)?;
+    let is_nothing = is_nothing_made(alloc, cache, number)?;
+    match number % 3 {
+        1 => take_out(out, cache, Removal::Remove, &key, now)?,
+        2 => take_out(out, cache, Removal::Invalidate, &key, now)?,
+        _ => {}
+    }
+    register(out, cache, now)?;
+    let is_more = cache.run_pending_tasks(now, &mut FixedClock(now));
+    let told = told_by(cache);
+    let is_right = is_found && is_made && is_nothing;
+    writeln!(
+        out,
+        "{number}: right {is_right}, {} entries, more {is_more}, {:?}, {:?}",
+        told.state.entries, told.state.report, told.stats
+    )?;
+    Ok(())
+}
