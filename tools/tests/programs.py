@@ -3,7 +3,7 @@ import sys
 from pathlib import Path
 
 sys.dont_write_bytecode = True
-CRATES = Path(__file__).resolve().parent.parent / "crates"
+CRATES = Path(__file__).resolve().parents[2] / "crates"
 CRATE = CRATES / "moka_replay"
 
 
