@@ -95,3 +95,33 @@ impl<K, V> CompResult<K, V> {
         }
     }
 }
+
+/// Does what a caller wants done with an entry: `change` puts a value there, or takes the entry out.
+pub(crate) fn computed<K, V: Clone>(
+    key: Arc<K>,
+    op: Op<V>,
+    there: Option<Entry<K, V>>,
+    change: impl FnOnce(Option<V>),
+) -> CompResult<K, V> {
+    match (op, there) {
+        (Op::Nop, Some(entry)) => CompResult::Unchanged(entry),
+        (Op::Nop | Op::Remove, None) => CompResult::StillNone(key),
+        (Op::Remove, Some(entry)) => {
+            change(None);
+            CompResult::Removed(entry)
+        }
+        (Op::Put(value), there) => {
+            change(Some(value.clone()));
+            let entry = Entry {
+                key,
+                value,
+                is_fresh: true,
+                is_old_value_replaced: there.is_some(),
+            };
+            match there {
+                Some(_) => CompResult::ReplacedWith(entry),
+                None => CompResult::Inserted(entry),
+            }
+        }
+    }
+}

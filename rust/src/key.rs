@@ -6,16 +6,26 @@ use std::sync::Arc;
 /// Whether a kept key is the one that is sought. It may be asked by any thread that a cache is sent to.
 pub(crate) type Test<'a, K> = &'a (dyn Fn(&K) -> bool + Sync);
 
-/// A key with its hash. The engine keeps each key once and is asked by that very one, or by a test. So the caller's
-/// `Eq` runs in look-ups that change nothing, and nowhere else.
+/// A key with its hash. The engine keeps each key once, and its calls that change something are asked by that very one.
+/// So the caller's `Eq` runs in look-ups that change nothing, and nowhere else.
 pub(crate) struct Key<'a, K> {
     hash: u64,
     form: Form<'a, K>,
 }
 
 enum Form<'a, K> {
+    /// One that is kept, or is to be.
     Kept(Arc<K>),
-    Sought(Test<'a, K>),
+    /// The address of one that is kept, for look-ups alone: no two keys that are kept have the same one.
+    At(usize),
+    /// One by a test, for look-ups alone.
+    Sought(&'a Test<'a, K>),
+}
+
+/// The address of a key that is kept.
+#[inline]
+pub(crate) fn address<K>(key: &Arc<K>) -> usize {
+    Arc::as_ptr(key).addr()
 }
 
 impl<'a, K> Key<'a, K> {
@@ -25,8 +35,21 @@ impl<'a, K> Key<'a, K> {
         Key { hash, form }
     }
 
+    /// The key that is kept at an address.
     #[inline]
-    pub fn sought(hash: u64, test: Test<'a, K>) -> Self {
+    pub fn at(hash: u64, address: usize) -> Self {
+        let form = Form::At(address);
+        Key { hash, form }
+    }
+
+    /// A key that is not kept.
+    #[inline]
+    pub fn nowhere(hash: u64) -> Self {
+        Key::at(hash, 0)
+    }
+
+    #[inline]
+    pub fn sought(hash: u64, test: &'a Test<'a, K>) -> Self {
         let form = Form::Sought(test);
         Key { hash, form }
     }
@@ -40,14 +63,14 @@ impl<'a, K> Key<'a, K> {
     pub fn shared(&self) -> Option<&Arc<K>> {
         match &self.form {
             Form::Kept(key) => Some(key),
-            Form::Sought(_) => None,
+            Form::At(_) | Form::Sought(_) => None,
         }
     }
 
     pub fn into_shared(self) -> Option<Arc<K>> {
         match self.form {
             Form::Kept(key) => Some(key),
-            Form::Sought(_) => None,
+            Form::At(_) | Form::Sought(_) => None,
         }
     }
 }
@@ -57,7 +80,8 @@ impl<K> Clone for Key<'_, K> {
     fn clone(&self) -> Self {
         let form = match &self.form {
             Form::Kept(key) => Form::Kept(Arc::clone(key)),
-            Form::Sought(test) => Form::Sought(*test),
+            Form::At(address) => Form::At(*address),
+            Form::Sought(test) => Form::Sought(test),
         };
         Key { hash: self.hash, form }
     }
@@ -68,10 +92,12 @@ impl<K> PartialEq for Key<'_, K> {
     fn eq(&self, other: &Self) -> bool {
         match (&self.form, &other.form) {
             (Form::Kept(one), Form::Kept(other)) => Arc::ptr_eq(one, other),
+            (Form::Kept(key), Form::At(at)) | (Form::At(at), Form::Kept(key)) => address(key) == *at,
             (Form::Kept(key), Form::Sought(test)) | (Form::Sought(test), Form::Kept(key)) => {
                 self.hash == other.hash && test(key)
             }
-            (Form::Sought(_), Form::Sought(_)) => false,
+            (Form::At(one), Form::At(other)) => one == other,
+            (Form::Sought(_), _) | (_, Form::Sought(_)) => false,
         }
     }
 }

@@ -6,7 +6,7 @@ use crate::{RemovalCause, Stats};
 use std::cell::Cell;
 use std::collections::VecDeque;
 use std::panic::{AssertUnwindSafe, catch_unwind};
-use std::sync::atomic::{AtomicBool, AtomicU64, Ordering};
+use std::sync::atomic::{AtomicBool, AtomicU64, AtomicUsize, Ordering};
 use std::sync::{Arc, Mutex, MutexGuard, PoisonError, TryLockError};
 
 /// The caller's listener.
@@ -32,6 +32,8 @@ pub(crate) struct Notices<K, V> {
     listener: Told<K, V>,
     // No notice is put here or taken out under the lock of the shard and that of the turn at once.
     waiting: Mutex<VecDeque<Notice<K, V>>>,
+    // How many wait: written under that lock, so a thread that puts one there sees it, or that another took it out.
+    count: AtomicUsize,
     turn: Mutex<()>,
     has_panicked: AtomicBool,
 }
@@ -41,22 +43,35 @@ impl<K, V> Notices<K, V> {
         Notices {
             listener,
             waiting: Mutex::new(VecDeque::new()),
+            count: AtomicUsize::new(0),
             turn: Mutex::new(()),
             has_panicked: AtomicBool::new(false),
         }
     }
 
     fn push(&self, notice: Notice<K, V>) {
-        locked(&self.waiting).push_back(notice);
+        let mut waiting = locked(&self.waiting);
+        waiting.push_back(notice);
+        self.count.store(waiting.len(), Ordering::Relaxed);
     }
 
     fn pop(&self) -> Option<Notice<K, V>> {
-        locked(&self.waiting).pop_front()
+        let mut waiting = locked(&self.waiting);
+        let notice = waiting.pop_front();
+        self.count.store(waiting.len(), Ordering::Relaxed);
+        notice
     }
 
     /// Tells the listener what waits. Where another thread does that it goes on with these; where the listener itself
     /// made the call, they follow the notice that it is told now.
+    #[inline]
     pub fn deliver(&self) {
+        if self.count.load(Ordering::Relaxed) > 0 {
+            self.deliver_waiting();
+        }
+    }
+
+    fn deliver_waiting(&self) {
         let mut waiting = locked(&self.waiting).len();
         while waiting > 0 {
             let is_inner = IS_TELLING.get();

@@ -1,24 +1,33 @@
-//! The engine with a clock, its operations posted at once. This is the one module that calls the engine's methods, and
-//! each where its condition holds.
+//! The generated synchronous cache with a clock. This is the one module that calls it.
+//!
+//! Each call of the front is one of its calls, but for these. A borrowed form of a key: its calls take keys that are
+//! owned, so one that changes something is preceded by a look-up, which changes nothing and may therefore be made with a
+//! key that only borrows; the call itself then goes by the address of the key that was found. Scans: its engine makes
+//! those. And the clock is ours, since where nothing can expire it need not be read in each call.
 
+use crate::engine::moka_drive;
 use crate::engine::moka_engine::{
-    BaseCache, Clock, ExpirationPolicy, HousekeeperConfig, IdSource, Instant, PredicateId, Ticket,
+    BaseCache, Clock, ExpirationPolicy, HousekeeperConfig, IdSource, Instant, PredicateId,
 };
 use crate::engine::moka_parts::error::PredicateError;
-use crate::key::{Carried, Key, Test};
+use crate::key::{Carried, Key, Test, address};
 use crate::notices::{Causes, Notices, Teller};
 use crate::policy::Asked;
 use crate::settings::{Settings, Testing, Tests, Weighing};
 use crate::support::alloc::Global;
 use crate::support::uuid::Uuid;
-use crate::{RemovalCause, Stats};
+use crate::{Entry, RemovalCause, Stats};
+use moka_drive::{GetWithRefused, NotTold};
 use std::hash::Hash;
 use std::sync::Arc;
 
-type Engine<K, V> = BaseCache<Key<'static, K>, V, Carried, Asked<K, V>, Teller<K, V>, Testing<K, V>, Weighing<K, V>>;
+type Cache<K, V> =
+    moka_drive::Cache<Key<'static, K>, V, Asked<K, V>, Teller<K, V>, Testing<K, V>, Weighing<K, V>, Carried>;
 
 // Where no entry can expire the clock is read once in so many calls: a moment then says only when a run is due.
 const CALLS_A_READING: u32 = 64;
+// A run of maintenance asks predicates about so many entries.
+const ENTRIES_A_RUN: u64 = 384;
 
 /// Nanoseconds since the cache was built.
 #[derive(Clone, Copy)]
@@ -42,18 +51,21 @@ impl IdSource for Chosen {
 
 /// A cache with one owner.
 pub(crate) struct Shard<K: 'static, V> {
-    engine: Engine<K, V>,
-    settings: Arc<Settings<K, V>>,
-    capacity: Option<u64>,
-    teller: Teller<K, V>,
+    cache: Cache<K, V>,
     clock: Elapsed,
     // The moment of the last call. It never goes back, and each invalidation has one of its own.
     now: Instant,
     calls_until_reading: u32,
     // Stays set where a caller's own code panicked in the middle of a call.
     is_in_call: bool,
-    hits: u64,
-    misses: u64,
+    is_timed: bool,
+    settings: Arc<Settings<K, V>>,
+    capacity: Option<u64>,
+    teller: Teller<K, V>,
+    // What was counted by caches that a panic ended, and makers of what replaces a value.
+    counted_beside: moka_drive::Stats,
+    // Makers that were called and gave no value.
+    load_failures: u64,
 }
 
 impl<K: Eq + Hash + 'static, V> Shard<K, V> {
@@ -67,38 +79,45 @@ impl<K: Eq + Hash + 'static, V> Shard<K, V> {
     ) -> Self {
         let (clock, teller) = (Elapsed(start), Teller { causes, notices });
         Shard {
-            engine: engine(&settings, capacity, &teller, clock),
-            settings,
-            capacity,
-            teller,
+            cache: cache(&settings, capacity, &teller, clock),
             clock,
             now: Instant(0),
             calls_until_reading: 0,
             is_in_call: false,
-            hits: 0,
-            misses: 0,
+            is_timed: settings.is_timed(),
+            settings,
+            capacity,
+            teller,
+            counted_beside: moka_drive::Stats::new(),
+            load_failures: 0,
         }
     }
 
-    /// Empties the shard if a panic left its engine in the middle of a call.
+    /// Empties the shard if a panic left its cache in the middle of a call.
     #[inline]
     pub fn recover(&mut self) {
         if self.is_in_call {
-            self.engine = engine(&self.settings, self.capacity, &self.teller, self.clock);
-            self.is_in_call = false;
+            self.empty();
         }
     }
 
-    /// Whether a panic left the engine in the middle of a call, so that the next change empties it.
+    #[cold]
+    fn empty(&mut self) {
+        self.counted_beside = self.counted();
+        self.cache = cache(&self.settings, self.capacity, &self.teller, self.clock);
+        self.is_in_call = false;
+    }
+
+    /// Whether a panic left the cache in the middle of a call, so that the next change empties it.
     pub fn is_broken(&self) -> bool {
         self.is_in_call
     }
 
-    // Makes a call that changes the engine. A panic of the caller's own code leaves the mark.
+    // Makes a call that changes the cache. A panic of the caller's own code leaves the mark.
     #[inline]
-    fn change<R>(&mut self, call: impl FnOnce(&mut Engine<K, V>, &mut Elapsed) -> R) -> R {
+    fn change<R>(&mut self, call: impl FnOnce(&mut Cache<K, V>, &mut Elapsed) -> R) -> R {
         self.is_in_call = true;
-        let answer = call(&mut self.engine, &mut self.clock);
+        let answer = call(&mut self.cache, &mut self.clock);
         self.is_in_call = false;
         answer
     }
@@ -106,7 +125,7 @@ impl<K: Eq + Hash + 'static, V> Shard<K, V> {
     // The moment of this call.
     #[inline]
     fn read_clock(&mut self) -> Instant {
-        if self.settings.is_timed() || self.calls_until_reading == 0 {
+        if self.is_timed || self.calls_until_reading == 0 {
             self.now = self.now.max(self.clock.now());
             self.calls_until_reading = CALLS_A_READING;
         }
@@ -123,23 +142,38 @@ impl<K: Eq + Hash + 'static, V> Shard<K, V> {
 
     // A moment for a call that changes nothing.
     fn glance(&self) -> Instant {
+        if !self.is_timed {
+            return self.now;
+        }
         let mut clock = self.clock;
         self.now.max(clock.now())
     }
 
-    // The key that is kept, by a test of the caller's. Nothing changes, so a panic of the test harms nothing.
+    // What is asked of the key that is kept, by a test of the caller's. Nothing changes, so a panic of the test harms
+    // nothing.
     #[inline]
-    fn find(&self, hash: u64, test: Test<'_, K>) -> Option<Arc<K>> {
-        let found = self.engine.get_key_with_hash(&Key::sought(hash, test), hash)?;
-        found.shared().cloned()
+    fn look<R>(&self, hash: u64, test: Test<'_, K>, ask: impl FnOnce(&Arc<K>) -> R) -> Option<R> {
+        let sought = Key::sought(hash, &test);
+        let found = self.cache.engine().get_key_with_hash(&sought, hash)?;
+        found.shared().map(ask)
     }
 
+    // The key that is kept, for one call.
     #[inline]
-    fn find_or_none(&self, hash: u64, test: Test<'_, K>) -> Key<'static, K> {
-        match self.find(hash, test) {
-            Some(key) => Key::kept(hash, key),
-            None => Key::sought(hash, &|_| false),
-        }
+    fn find(&self, hash: u64, test: Test<'_, K>) -> Option<Key<'static, K>> {
+        let address = self.look(hash, test, address)?;
+        Some(Key::at(hash, address))
+    }
+
+    // A look-up of what was found, or of nothing, which counts as a read.
+    #[inline]
+    fn get_found(&mut self, key: &Key<'static, K>) -> Option<V>
+    where
+        V: Clone,
+    {
+        let now = self.read_clock();
+        let found = self.change(|cache, clock| cache.get(key, now, clock));
+        found.ok().flatten()
     }
 
     /// A clone of a key's value, which counts as a read.
@@ -148,23 +182,18 @@ impl<K: Eq + Hash + 'static, V> Shard<K, V> {
     where
         V: Clone,
     {
-        let (_, value) = self.get_entry(hash, test)?;
-        Some(value)
+        let key = self.find(hash, test).unwrap_or(Key::nowhere(hash));
+        self.get_found(&key)
     }
 
     /// The same with the key that is kept.
-    #[inline]
     pub fn get_entry(&mut self, hash: u64, test: Test<'_, K>) -> Option<(Arc<K>, V)>
     where
         V: Clone,
     {
-        let now = self.read_clock();
-        let key = self.find_or_none(hash, test);
-        let found = self.change(|engine, clock| engine.get_with_hash(&key, hash, false, now, clock));
-        let value = found.ok().flatten().map(|entry| entry.into_value());
-        self.hits += u64::from(value.is_some());
-        self.misses += u64::from(value.is_none());
-        Some((key.into_shared()?, value?))
+        let kept = self.look(hash, test, Arc::clone);
+        let value = self.get_found(&Key::at(hash, kept.as_ref().map_or(0, address)))?;
+        Some((kept?, value))
     }
 
     /// A clone of a key's value with the key that is kept; nothing is recorded.
@@ -172,95 +201,169 @@ impl<K: Eq + Hash + 'static, V> Shard<K, V> {
     where
         V: Clone,
     {
-        let key = Key::kept(hash, self.find(hash, test)?);
-        let value = self.engine.scanning_get(&key, self.glance()).ok()??;
-        Some((key.into_shared()?, value))
+        let key = self.look(hash, test, Arc::clone)?;
+        let value = self.scan(hash, &key)?;
+        Some((key, value))
     }
 
     pub fn contains(&self, hash: u64, test: Test<'_, K>) -> bool {
-        let key = Key::sought(hash, test);
-        self.engine.contains_key_with_hash(&key, hash, self.glance())
+        self.cache.contains_key(&Key::sought(hash, &test), self.glance())
     }
 
-    /// Puts a value under a key. One for which there is no room leaves at once, and the listener is told.
+    /// The key that is kept.
+    #[inline]
+    pub fn kept(&self, hash: u64, test: Test<'_, K>) -> Option<Arc<K>> {
+        self.look(hash, test, Arc::clone)
+    }
+
+    // A value for which memory was refused leaves at once.
+    #[cold]
+    fn refuse(&self, key: Key<'static, K>, value: V) {
+        if let Some(key) = key.into_shared() {
+            self.teller.leaves(key, value, RemovalCause::Size);
+        }
+    }
+
+    /// Puts a value under a key. One for which memory is refused leaves at once, and the listener is told.
     #[inline]
     pub fn insert(&mut self, hash: u64, key: Arc<K>, value: V)
     where
         K: Sync,
     {
-        if self.engine.is_map_disabled() {
-            return self.teller.leaves(key, value, RemovalCause::Size);
-        }
-        let now = self.read_clock();
         let sought: &K = &key;
-        let kept = self.find(hash, &|kept| kept == sought).unwrap_or(key);
-        let key = Key::kept(hash, kept);
-        let done = self.change(|engine, _| engine.do_insert_with_hash(key, hash, value, now));
-        match done {
-            Ok((ticket, _)) => self.post(ticket, now),
-            Err(refused) => {
-                if let Some(key) = refused.key.into_shared() {
-                    self.teller.leaves(key, refused.value, RemovalCause::Size);
-                }
-            }
+        let kept = self.kept(hash, &|kept| kept == sought);
+        self.insert_kept(hash, kept.unwrap_or(key), value);
+    }
+
+    /// The same under the key that is kept, if one is.
+    #[inline]
+    pub fn insert_kept(&mut self, hash: u64, key: Arc<K>, value: V) {
+        let (key, now) = (Key::kept(hash, key), self.read_clock());
+        if let Err(refused) = self.change(|cache, clock| cache.insert(key, value, now, clock)) {
+            self.refuse(refused.key, refused.value);
         }
     }
 
-    // Makes the run that is due, and sends the operation, after a run where the queue is full.
-    #[inline]
-    fn post(&mut self, ticket: Ticket, now: Instant) {
-        self.change(|engine, clock| {
-            engine.apply_reads_writes_if_needed(now, clock);
-            if engine.send(ticket).is_err() {
-                run(engine, now, clock);
-                let _sent = engine.send(ticket);
+    /// The entry of a key, the one that is kept if one is, whose value is made where there is none. A maker that panics
+    /// has changed nothing.
+    pub fn try_get_with<E>(
+        &mut self,
+        hash: u64,
+        key: Arc<K>,
+        init: impl FnOnce() -> Result<V, E>,
+    ) -> Result<Entry<K, V>, E>
+    where
+        V: Clone,
+    {
+        let now = self.read_clock();
+        let (is_in_call, load_failures, mut is_fresh) = (&mut self.is_in_call, &mut self.load_failures, false);
+        *is_in_call = true;
+        let make = || {
+            // Meanwhile the cache is whole, and the load has failed until it has not.
+            *is_in_call = false;
+            *load_failures += 1;
+            let value = init()?;
+            *load_failures -= 1;
+            *is_in_call = true;
+            is_fresh = true;
+            Ok(value)
+        };
+        let shared = Key::kept(hash, Arc::clone(&key));
+        let made = self.cache.try_get_with(shared, make, now, &mut self.clock);
+        self.is_in_call = false;
+        let value = match made {
+            Ok(made) => made?,
+            Err(GetWithRefused::Insert(refused)) => {
+                self.refuse(refused.key, refused.value.clone());
+                refused.value
             }
-        });
+            Err(GetWithRefused::Lookup(_)) => unreachable!("no clone of Rust's is refused"),
+        };
+        Ok(Entry {
+            is_fresh,
+            ..Entry::found(key, value)
+        })
     }
 
-    /// Takes a key's entry out, and hands out the value if it was visible. The listener is told.
+    /// Makes a value in the place of that under a key that is kept, which is read.
+    pub fn replace_with(&mut self, hash: u64, key: &Arc<K>, init: impl FnOnce() -> V) -> V
+    where
+        V: Clone,
+    {
+        self.get_found(&Key::at(hash, address(key)));
+        self.counted_beside.loads += 1;
+        self.load_failures += 1;
+        let value = init();
+        self.load_failures -= 1;
+        self.insert_kept(hash, Arc::clone(key), value.clone());
+        value
+    }
+
+    /// Takes a key's entry out, and hands out its value, also one that has expired. The listener is told.
     pub fn remove(&mut self, hash: u64, test: Test<'_, K>) -> Option<V>
     where
         V: Clone,
     {
         let now = self.read_clock();
-        let key = Key::kept(hash, self.find(hash, test)?);
-        let is_visible = self.engine.contains_key_with_hash(&key, hash, now);
-        let (entry, ticket) = self.change(|engine, _| engine.remove_entry(&key, hash))?;
-        if self.teller.notices.is_some() {
-            let _told = self.change(|engine, _| engine.notify_invalidate(&entry, now));
-        } else {
-            let cause = if is_visible {
-                RemovalCause::Explicit
-            } else {
-                RemovalCause::Expired
-            };
-            self.teller.causes.count(cause);
+        let key = self.find(hash, test)?;
+        let removed = self.change(|cache, clock| cache.remove(&key, now, clock));
+        removed.unwrap_or_else(|NotTold { value, .. }| Some(value))
+    }
+
+    /// Takes a key's entry out. The listener is told.
+    pub fn invalidate(&mut self, hash: u64, test: Test<'_, K>)
+    where
+        V: Clone,
+    {
+        if let Some(key) = self.find(hash, test) {
+            self.invalidate_found(&key);
         }
-        self.post(ticket, now);
-        is_visible.then_some(entry.value)
+    }
+
+    /// The same by the key that is kept, if one is.
+    pub fn invalidate_kept(&mut self, hash: u64, key: &Arc<K>)
+    where
+        V: Clone,
+    {
+        self.invalidate_found(&Key::at(hash, address(key)));
+    }
+
+    fn invalidate_found(&mut self, key: &Key<'static, K>)
+    where
+        V: Clone,
+    {
+        let now = self.read_clock();
+        let _told = self.change(|cache, clock| cache.invalidate(key, now, clock));
     }
 
     pub fn invalidate_all(&mut self) {
         let now = self.moment_between();
-        self.change(|engine, _| engine.invalidate_all(now));
+        self.change(|cache, _| cache.invalidate_all(now));
     }
 
     pub fn invalidate_entries_if(&mut self, predicate: Tests<K, V>, id: u128) -> Result<(), PredicateError> {
         let now = self.moment_between();
-        let given = self.change(|engine, _| engine.invalidate_entries_if(Testing(predicate), now, &mut Chosen(id)));
+        let given = self.change(|cache, _| cache.invalidate_entries_if(Testing(predicate), now, &mut Chosen(id)));
         given.map(|_| ()).map_err(|refused| refused.error)
     }
 
     pub fn run_pending_tasks(&mut self) {
         self.calls_until_reading = 0;
         let now = self.read_clock();
-        self.change(|engine, clock| run(engine, now, clock));
+        self.change(|cache, clock| {
+            let mut is_left = cache.run_pending_tasks(now, clock);
+            // So many go round the entries twice: after that no predicate covers one.
+            for _ in 0..2 * (cache.entry_count() / ENTRIES_A_RUN + 1) {
+                if is_left {
+                    is_left = cache.run_pending_tasks(now, clock);
+                }
+            }
+        });
     }
 
     /// The keys that are kept, visible or not, with their hashes.
     pub fn keys(&self) -> Vec<(u64, Arc<K>)> {
-        let Ok(Some(keys)) = self.engine.keys(0) else {
+        let Ok(Some(keys)) = self.cache.engine().keys(0) else {
             return Vec::new();
         };
         let with_hash = |key: Key<'static, K>| Some((key.hash(), key.into_shared()?));
@@ -272,30 +375,43 @@ impl<K: Eq + Hash + 'static, V> Shard<K, V> {
     where
         V: Clone,
     {
-        let key = Key::kept(hash, Arc::clone(key));
-        self.engine.scanning_get(&key, self.glance()).ok()?
+        let key = Key::at(hash, address(key));
+        self.cache.engine().scanning_get(&key, self.glance()).ok()?
     }
 
     pub fn entry_count(&self) -> u64 {
-        self.engine.entry_count()
+        self.cache.entry_count()
     }
 
     pub fn weighted_size(&self) -> u64 {
-        self.engine.weighted_size()
+        self.cache.weighted_size()
+    }
+
+    // What was counted of look-ups, and calls of makers.
+    fn counted(&self) -> moka_drive::Stats {
+        let (before, now) = (self.counted_beside, self.cache.stats());
+        moka_drive::Stats {
+            hits: before.hits + now.hits,
+            misses: before.misses + now.misses,
+            loads: before.loads + now.loads,
+        }
     }
 
     pub fn add_to(&self, stats: &mut Stats) {
-        stats.hits += self.hits;
-        stats.misses += self.misses;
+        let counted = self.counted();
+        stats.hits += counted.hits;
+        stats.misses += counted.misses;
+        stats.loads += counted.loads - self.load_failures;
+        stats.load_failures += self.load_failures;
     }
 }
 
-fn engine<K: 'static, V>(
+fn cache<K: 'static, V>(
     settings: &Settings<K, V>,
     capacity: Option<u64>,
     teller: &Teller<K, V>,
     mut clock: Elapsed,
-) -> Engine<K, V> {
+) -> Cache<K, V> {
     let mut expirations = ExpirationPolicy::default();
     if let Some(duration) = settings.time_to_live {
         expirations.set_time_to_live(duration);
@@ -307,7 +423,7 @@ fn engine<K: 'static, V>(
         let (expiry, start) = (Arc::clone(expiry), clock.0);
         expirations.set_expiry(Asked { expiry, start });
     }
-    let built = BaseCache::new(
+    let engine = BaseCache::new(
         Global,
         None,
         capacity,
@@ -322,10 +438,5 @@ fn engine<K: 'static, V>(
         clock.now(),
         1,
     );
-    built.unwrap_or_else(|_| panic!("no memory for the initial capacity of a cache"))
-}
-
-// A whole run: nothing cuts it short, and no batch bounds its passes.
-fn run<K: 'static, V>(engine: &mut Engine<K, V>, now: Instant, clock: &mut Elapsed) {
-    engine.run_pending_tasks(now, clock, None, 1, u32::MAX);
+    Cache::new(engine.unwrap_or_else(|_| panic!("no memory for the initial capacity of a cache")))
 }

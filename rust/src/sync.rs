@@ -43,7 +43,8 @@ use std::sync::atomic::{AtomicU64, Ordering};
 /// Names a predicate that was registered.
 pub type PredicateId = String;
 
-/// A shard, what is being made for it, and what its listener is still to be told.
+/// A shard, what is being made for it, and what its listener is still to be told. No two shards share a cache line.
+#[repr(align(128))]
 struct Place<K: 'static, V> {
     shard: Mutex<Shard<K, V>>,
     makers: Makers<K, V>,
@@ -252,7 +253,7 @@ where
         self.insert_shared(self.0.hasher.hash_one(&key), Arc::new(key), value);
     }
 
-    /// Takes a key's value out. One that has expired or was invalidated leaves too, and is not handed out.
+    /// Takes a key's value out and hands it out, also one that has expired or was invalidated and has not left yet.
     ///
     /// ```
     /// let cache = ravulemis::sync::Cache::new(100);
@@ -281,7 +282,7 @@ where
         K: Borrow<Q>,
         Q: Eq + Hash + Sync + ?Sized,
     {
-        self.remove(key);
+        self.with_key(key, |shard, hash, test| shard.invalidate(hash, test));
     }
 
     /// Hides all values that are there. They leave in later runs of maintenance.

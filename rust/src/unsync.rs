@@ -8,6 +8,10 @@
 //! assert_eq!(cache.get("a key"), Some(7));
 //! ```
 
+mod entry;
+
+pub use entry::EntrySelector;
+
 use crate::key::Test;
 use crate::notices::{Causes, Notices, locked};
 use crate::settings::{Settings, setters};
@@ -37,8 +41,6 @@ pub struct Cache<K: 'static, V, S = RandomState> {
     hasher: S,
     settings: Arc<Settings<K, V>>,
     causes: Arc<Causes>,
-    loads: u64,
-    load_failures: u64,
     last_predicate: u64,
 }
 
@@ -123,8 +125,6 @@ impl<K: Eq + Hash + Sync + 'static, V: Clone + 'static> CacheBuilder<K, V> {
             hasher,
             settings,
             causes,
-            loads: 0,
-            load_failures: 0,
             last_predicate: 0,
         }
     }
@@ -258,6 +258,16 @@ impl<K: Eq + Hash + Sync + 'static, V: Clone + 'static, S: BuildHasher> Cache<K,
         self.with(|shard| shard.insert(hash, Arc::new(key), value));
     }
 
+    // The key that is kept, if one is.
+    fn kept<Q>(&mut self, hash: u64, key: &Q) -> Option<Arc<K>>
+    where
+        K: Borrow<Q>,
+        Q: Eq + Hash + Sync + ?Sized,
+    {
+        self.shard.recover();
+        self.shard.kept(hash, &|kept| kept.borrow() == key)
+    }
+
     /// A clone of a key's value, which is made and put there if it is missing. A maker that panics has changed nothing.
     ///
     /// ```
@@ -269,6 +279,22 @@ impl<K: Eq + Hash + Sync + 'static, V: Clone + 'static, S: BuildHasher> Cache<K,
         self.entry(key).or_insert_with(init).into_value()
     }
 
+    /// As [`get_with`](Self::get_with), by a borrowed form of the key, of which an owned one is made only if there is
+    /// none.
+    ///
+    /// ```
+    /// let mut cache = ravulemis::unsync::Cache::<String, u32>::new(100);
+    /// assert_eq!(cache.get_with_by_ref("key", || 7), 7);
+    /// assert_eq!(cache.get("key"), Some(7));
+    /// ```
+    pub fn get_with_by_ref<Q>(&mut self, key: &Q, init: impl FnOnce() -> V) -> V
+    where
+        K: Borrow<Q>,
+        Q: Eq + Hash + Sync + ToOwned<Owned = K> + ?Sized,
+    {
+        self.entry_by_ref(key).or_insert_with(init).into_value()
+    }
+
     /// As [`get_with`](Self::get_with), by a maker that may give no value: then nothing is put there.
     ///
     /// ```
@@ -277,7 +303,23 @@ impl<K: Eq + Hash + Sync + 'static, V: Clone + 'static, S: BuildHasher> Cache<K,
     /// assert_eq!(cache.optionally_get_with(1, || Some('a')), Some('a'));
     /// ```
     pub fn optionally_get_with(&mut self, key: K, init: impl FnOnce() -> Option<V>) -> Option<V> {
-        self.try_get_with(key, || init().ok_or(())).ok()
+        let entry = self.entry(key).or_optionally_insert_with(init)?;
+        Some(entry.into_value())
+    }
+
+    /// As [`optionally_get_with`](Self::optionally_get_with), by a borrowed form of the key.
+    ///
+    /// ```
+    /// let mut cache = ravulemis::unsync::Cache::<String, u32>::new(100);
+    /// assert_eq!(cache.optionally_get_with_by_ref("key", || "7".parse().ok()), Some(7));
+    /// ```
+    pub fn optionally_get_with_by_ref<Q>(&mut self, key: &Q, init: impl FnOnce() -> Option<V>) -> Option<V>
+    where
+        K: Borrow<Q>,
+        Q: Eq + Hash + Sync + ToOwned<Owned = K> + ?Sized,
+    {
+        let entry = self.entry_by_ref(key).or_optionally_insert_with(init)?;
+        Some(entry.into_value())
     }
 
     /// As [`get_with`](Self::get_with), by a maker that may fail: then nothing is put there.
@@ -294,6 +336,24 @@ impl<K: Eq + Hash + Sync + 'static, V: Clone + 'static, S: BuildHasher> Cache<K,
         self.entry(key).or_try_insert_with(init).map(Entry::into_value)
     }
 
+    /// As [`try_get_with`](Self::try_get_with), by a borrowed form of the key.
+    ///
+    /// # Errors
+    /// The maker's.
+    ///
+    /// ```
+    /// let mut cache = ravulemis::unsync::Cache::<String, u32>::new(100);
+    /// assert_eq!(cache.try_get_with_by_ref("key", || "7".parse::<u32>()), Ok(7));
+    /// ```
+    pub fn try_get_with_by_ref<E, Q>(&mut self, key: &Q, init: impl FnOnce() -> Result<V, E>) -> Result<V, E>
+    where
+        K: Borrow<Q>,
+        Q: Eq + Hash + Sync + ToOwned<Owned = K> + ?Sized,
+    {
+        let entry = self.entry_by_ref(key).or_try_insert_with(init)?;
+        Ok(entry.into_value())
+    }
+
     /// Selects a key, for one of the calls of the selector.
     ///
     /// ```
@@ -304,10 +364,28 @@ impl<K: Eq + Hash + Sync + 'static, V: Clone + 'static, S: BuildHasher> Cache<K,
     /// ```
     pub fn entry(&mut self, key: K) -> EntrySelector<'_, K, V, S> {
         let hash = self.hasher.hash_one(&key);
-        EntrySelector { cache: self, hash, key }
+        let key = self.kept(hash, &key).unwrap_or_else(|| Arc::new(key));
+        EntrySelector::new(self, hash, key)
     }
 
-    /// Takes a key's value out. One that has expired or was invalidated leaves too, and is not handed out.
+    /// As [`entry`](Self::entry), by a borrowed form of the key, of which an owned one is made only if there is none.
+    ///
+    /// ```
+    /// let mut cache = ravulemis::unsync::Cache::<String, u32>::new(100);
+    /// assert_eq!(cache.entry_by_ref("key").or_insert(7).into_value(), 7);
+    /// assert_eq!(cache.get("key"), Some(7));
+    /// ```
+    pub fn entry_by_ref<Q>(&mut self, key: &Q) -> EntrySelector<'_, K, V, S>
+    where
+        K: Borrow<Q>,
+        Q: Eq + Hash + Sync + ToOwned<Owned = K> + ?Sized,
+    {
+        let hash = self.hasher.hash_one(key);
+        let key = self.kept(hash, key).unwrap_or_else(|| Arc::new(key.to_owned()));
+        EntrySelector::new(self, hash, key)
+    }
+
+    /// Takes a key's value out and hands it out, also one that has expired or was invalidated and has not left yet.
     ///
     /// ```
     /// let mut cache = ravulemis::unsync::Cache::new(100);
@@ -336,7 +414,7 @@ impl<K: Eq + Hash + Sync + 'static, V: Clone + 'static, S: BuildHasher> Cache<K,
         K: Borrow<Q>,
         Q: Eq + Hash + Sync + ?Sized,
     {
-        self.remove(key);
+        self.with_key(key, |shard, hash, test| shard.invalidate(hash, test));
     }
 
     /// Hides all values that are there. They leave in later runs of maintenance.
@@ -435,11 +513,7 @@ impl<K: Eq + Hash + Sync + 'static, V: Clone + 'static, S: BuildHasher> Cache<K,
     /// assert_eq!((cache.stats().hits, cache.stats().misses), (1, 1));
     /// ```
     pub fn stats(&self) -> Stats {
-        let mut stats = Stats {
-            loads: self.loads,
-            load_failures: self.load_failures,
-            ..Stats::default()
-        };
+        let mut stats = Stats::default();
         self.causes.add_to(&mut stats);
         self.shard.add_to(&mut stats);
         stats
@@ -463,91 +537,5 @@ impl<K: Eq + Hash + Sync + 'static, V: Clone + 'static, S: BuildHasher> Cache<K,
             Some((key, value))
         };
         keys.into_iter().filter_map(with_value)
-    }
-}
-
-/// A key of a cache, and what is to be done with its entry: see [`Cache::entry`].
-pub struct EntrySelector<'a, K: 'static, V, S> {
-    cache: &'a mut Cache<K, V, S>,
-    hash: u64,
-    key: K,
-}
-
-impl<K: Eq + Hash + Sync + 'static, V: Clone + 'static, S: BuildHasher> EntrySelector<'_, K, V, S> {
-    /// The entry of the key, into which this value is put where there was none.
-    ///
-    /// ```
-    /// let mut cache = ravulemis::unsync::Cache::new(100);
-    /// assert_eq!(cache.entry(1).or_insert('a').into_value(), 'a');
-    /// ```
-    pub fn or_insert(self, default: V) -> Entry<K, V> {
-        self.or_insert_with(|| default)
-    }
-
-    /// The entry of the key, whose value is made where there was none.
-    ///
-    /// ```
-    /// let mut cache = ravulemis::unsync::Cache::new(100);
-    /// assert!(cache.entry(1).or_insert_with(|| 'a').is_fresh());
-    /// ```
-    pub fn or_insert_with(self, init: impl FnOnce() -> V) -> Entry<K, V> {
-        let Ok(entry) = self.or_try_insert_with(|| Ok::<_, std::convert::Infallible>(init()));
-        entry
-    }
-
-    /// The entry of the key, whose value is made where there was none.
-    ///
-    /// # Errors
-    /// The maker's: then nothing is put there.
-    ///
-    /// ```
-    /// let mut cache = ravulemis::unsync::Cache::<u32, u32>::new(100);
-    /// assert!(cache.entry(1).or_try_insert_with(|| "one".parse::<u32>()).is_err());
-    /// ```
-    pub fn or_try_insert_with<E>(self, init: impl FnOnce() -> Result<V, E>) -> Result<Entry<K, V>, E> {
-        let EntrySelector { cache, hash, key } = self;
-        if let Some((key, value)) = cache.with(|shard| shard.get_entry(hash, &|kept| *kept == key)) {
-            return Ok(Entry::found(key, value));
-        }
-        // Counted as failed until it has not.
-        cache.load_failures += 1;
-        let value = init()?;
-        cache.load_failures -= 1;
-        cache.loads += 1;
-        Ok(put(cache, hash, Arc::new(key), value, false))
-    }
-
-    /// Puts the value there that the closure makes of the entry, if there is one.
-    ///
-    /// ```
-    /// let mut cache = ravulemis::unsync::Cache::new(100);
-    /// for _ in 0..3 {
-    ///     cache.entry("key").and_upsert_with(|old| old.map_or(1, |old| old.into_value() + 1));
-    /// }
-    /// assert_eq!(cache.get("key"), Some(3));
-    /// ```
-    pub fn and_upsert_with(self, f: impl FnOnce(Option<Entry<K, V>>) -> V) -> Entry<K, V> {
-        let EntrySelector { cache, hash, key } = self;
-        let there = cache.with(|shard| shard.peek(hash, &|kept| *kept == key));
-        let is_there = there.is_some();
-        let value = f(there.map(|(key, value)| Entry::found(key, value)));
-        put(cache, hash, Arc::new(key), value, is_there)
-    }
-}
-
-// Puts a value there, and answers the entry.
-fn put<K: Eq + Hash + Sync + 'static, V: Clone + 'static, S: BuildHasher>(
-    cache: &mut Cache<K, V, S>,
-    hash: u64,
-    key: Arc<K>,
-    value: V,
-    is_old_value_replaced: bool,
-) -> Entry<K, V> {
-    cache.with(|shard| shard.insert(hash, Arc::clone(&key), value.clone()));
-    Entry {
-        key,
-        value,
-        is_fresh: true,
-        is_old_value_replaced,
     }
 }

@@ -133,6 +133,31 @@ fn a_maker_that_panics_harms_nobody() {
 }
 
 #[test]
+fn a_maker_that_panics_changes_nothing() {
+    let mut cache = unsync::Cache::new(100);
+    cache.insert(1, 'a');
+    assert!(panics(|| cache.get_with(2, || panic!("a maker that panics"))));
+    assert!(panics(|| cache
+        .entry(1)
+        .or_insert_with_if(|| panic!("a maker that panics"), |_| true)));
+    assert_eq!((cache.get(&1), cache.get(&2)), (Some('a'), None));
+    assert_eq!((cache.stats().loads, cache.stats().load_failures), (0, 2));
+}
+
+#[test]
+fn what_was_counted_outlives_a_panic() {
+    let breaks = Arc::new(AtomicBool::new(false));
+    let mut cache = unsync::Cache::new(100);
+    cache.get_with(1, || Fragile(1, Arc::clone(&breaks)));
+    cache.get(&1);
+    breaks.store(true, Ordering::SeqCst);
+    assert!(panics(|| cache.get(&1)));
+    assert!(cache.get(&1).is_none());
+    let stats = cache.stats();
+    assert_eq!((stats.hits, stats.misses, stats.loads), (1, 2, 1));
+}
+
+#[test]
 fn an_upsert_that_panics_changes_nothing() {
     let cache = sync::Cache::new(100);
     cache.insert(1, 'a');

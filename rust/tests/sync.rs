@@ -45,6 +45,8 @@ fn shards_share_the_capacity() {
         cache.run_pending_tasks();
         assert!(cache.entry_count() <= capacity);
     }
+    let few = Cache::<u32, u32>::builder().max_capacity(3).shards(64).build();
+    assert_eq!(few.policy().num_segments(), 2, "a share is at least 1");
 }
 
 #[test]

@@ -1,5 +1,6 @@
 //! The cache with one owner.
 
+use ravulemis::ops::compute::{CompResult, Op};
 use ravulemis::unsync::Cache;
 use ravulemis::{EvictionPolicy, Expiry, PredicateError, RemovalCause};
 use std::collections::HashMap;
@@ -38,6 +39,7 @@ fn agrees_with_a_map_where_nothing_leaves() {
         }
         if step % 5_000 == 4_999 {
             cache.invalidate_all();
+            cache.run_pending_tasks();
             map.clear();
         }
     }
@@ -54,9 +56,10 @@ fn a_capacity_of_nothing_keeps_nothing() {
         (cache.get(&1), cache.remove(&1), cache.contains_key(&1)),
         (None, None, false)
     );
+    assert_eq!(cache.get_with(1, || "two".to_string()), "two");
     cache.run_pending_tasks();
     assert_eq!(cache.entry_count(), 0);
-    assert_eq!(left.try_recv(), Ok((1, "one".to_string(), RemovalCause::Size)));
+    assert!(left.try_recv().is_err(), "nothing was there that could leave");
 }
 
 #[test]
@@ -108,9 +111,11 @@ fn lets_entries_expire() {
     cache.insert(1, 1);
     assert_eq!(cache.get(&1), Some(1));
     sleep(Duration::from_millis(40));
+    assert_eq!((cache.get(&1), cache.contains_key(&1)), (None, false));
     assert_eq!(
-        (cache.get(&1), cache.remove(&1), cache.contains_key(&1)),
-        (None, None, false)
+        (cache.remove(&1), cache.remove(&1)),
+        (Some(1), None),
+        "it is handed out"
     );
 }
 
@@ -189,6 +194,33 @@ fn counts_loads() {
         (stats.hits, stats.misses, stats.loads, stats.load_failures),
         (1, 2, 1, 1)
     );
+}
+
+#[test]
+fn entries_are_put_replaced_and_taken_out() {
+    let mut cache = Cache::<String, u32>::new(10);
+    let entry = cache.entry_by_ref("key").or_insert(1);
+    assert_eq!((entry.is_fresh(), entry.is_old_value_replaced()), (true, false));
+    let entry = cache.entry("key".to_string()).or_insert_with_if(|| 2, |old| *old == 1);
+    assert_eq!((entry.is_fresh(), entry.is_old_value_replaced()), (true, true));
+    let entry = cache.entry("key".to_string()).or_insert_with_if(|| 3, |old| *old == 1);
+    assert_eq!((entry.is_fresh(), *entry.value()), (false, 2));
+    let put = cache
+        .entry_by_ref("key")
+        .and_compute_with(|old| Op::Put(old.unwrap().into_value() + 1));
+    assert!(matches!(put, CompResult::ReplacedWith(entry) if *entry.value() == 3));
+    let failed = cache.entry_by_ref("key").and_try_compute_with(|_| Err("no"));
+    assert_eq!(failed.map(|_| ()), Err("no"));
+    let taken = cache.entry_by_ref("key").and_compute_with(|_| Op::Remove);
+    assert!(matches!(taken, CompResult::Removed(entry) if *entry.value() == 3));
+    let none = cache.entry_by_ref("key").and_compute_with(|_| Op::Nop);
+    assert!(matches!(none, CompResult::StillNone(key) if *key == "key"));
+    let stats = cache.stats();
+    assert_eq!(
+        (stats.hits, stats.misses, stats.loads, stats.load_failures),
+        (2, 1, 2, 0)
+    );
+    assert_eq!((stats.replaced, stats.explicit), (2, 1));
 }
 
 #[test]

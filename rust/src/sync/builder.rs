@@ -77,7 +77,7 @@ where
         self
     }
 
-    /// The number of shards, made a power of two, 1 to 65,536. Each has its share of the capacity, so an entry that
+    /// The number of shards, made a power of two, from 1 to 65,536 and to the capacity. Each has its share of the capacity, so an entry that
     /// weighs more than a share is not kept, and a shard whose keys come often evicts before the whole is full.
     ///
     /// By default a cache with a weigher has one shard, another one for each 1,024 entries of its capacity, up to 64.
@@ -133,7 +133,9 @@ where
 
     fn count_of_shards(&self) -> usize {
         if let Some(asked) = self.shards {
-            return asked.clamp(1, MOST_ASKED).next_power_of_two();
+            // A share of 0 would keep nothing.
+            let most = self.settings.max_capacity.unwrap_or(u64::MAX).max(1).ilog2();
+            return asked.clamp(1, MOST_ASKED).next_power_of_two().min(1 << most.min(16));
         }
         if self.settings.weigher.is_some() {
             return 1;

@@ -2,7 +2,7 @@
 
 use super::Cache;
 use super::loads::{Always, Optionally, always, made, made_or_failed, made_or_nothing, shared_error};
-use crate::entry::{CompResult, Entry, Op};
+use crate::entry::{CompResult, Entry, Op, computed};
 use crate::making::Outcome;
 use std::any::TypeId;
 use std::borrow::Borrow;
@@ -94,27 +94,11 @@ where
         place.makers.alone(Arc::clone(&key), || {
             let there = self.with(place, |shard| shard.peek(hash, &|kept| *kept == *key));
             let there = there.map(|(key, value)| Entry::found(key, value));
-            Ok(match (decide(there.clone())?, there) {
-                (Op::Nop, Some(entry)) => CompResult::Unchanged(entry),
-                (Op::Nop | Op::Remove, None) => CompResult::StillNone(key),
-                (Op::Remove, Some(entry)) => {
-                    self.with(place, |shard| shard.remove(hash, &|kept| *kept == *key));
-                    CompResult::Removed(entry)
-                }
-                (Op::Put(value), there) => {
-                    self.insert_shared(hash, Arc::clone(&key), value.clone());
-                    let entry = Entry {
-                        key,
-                        value,
-                        is_fresh: true,
-                        is_old_value_replaced: there.is_some(),
-                    };
-                    match there {
-                        Some(_) => CompResult::ReplacedWith(entry),
-                        None => CompResult::Inserted(entry),
-                    }
-                }
-            })
+            let op = decide(there.clone())?;
+            Ok(computed(Arc::clone(&key), op, there, |value| match value {
+                Some(value) => self.insert_shared(hash, key, value),
+                None => self.with(place, |shard| shard.invalidate(hash, &|kept| *kept == *key)),
+            }))
         })
     }
 }

@@ -1,0 +1,168 @@
+//! Calls for one key that look first and then decide.
+
+use super::Cache;
+use crate::Entry;
+use crate::entry::{CompResult, Op, computed};
+use std::convert::Infallible;
+use std::hash::{BuildHasher, Hash};
+use std::sync::Arc;
+
+/// A key of a cache, and what is to be done with its entry: see [`Cache::entry`].
+pub struct EntrySelector<'a, K: 'static, V, S> {
+    cache: &'a mut Cache<K, V, S>,
+    hash: u64,
+    // The key that is kept, if one is.
+    key: Arc<K>,
+}
+
+impl<'a, K: Eq + Hash + Sync + 'static, V: Clone + 'static, S: BuildHasher> EntrySelector<'a, K, V, S> {
+    pub(super) fn new(cache: &'a mut Cache<K, V, S>, hash: u64, key: Arc<K>) -> Self {
+        EntrySelector { cache, hash, key }
+    }
+
+    fn peek(&self) -> Option<V> {
+        self.cache.shard.scan(self.hash, &self.key)
+    }
+
+    /// The entry of the key, into which this value is put where there was none.
+    ///
+    /// ```
+    /// let mut cache = ravulemis::unsync::Cache::new(100);
+    /// assert_eq!(cache.entry(1).or_insert('a').into_value(), 'a');
+    /// ```
+    pub fn or_insert(self, default: V) -> Entry<K, V> {
+        self.or_insert_with(|| default)
+    }
+
+    /// The entry of the key, into which the default value is put where there was none.
+    ///
+    /// ```
+    /// let mut cache = ravulemis::unsync::Cache::<u32, u32>::new(100);
+    /// assert_eq!(cache.entry(1).or_default().into_value(), 0);
+    /// ```
+    pub fn or_default(self) -> Entry<K, V>
+    where
+        V: Default,
+    {
+        self.or_insert_with(V::default)
+    }
+
+    /// The entry of the key, whose value is made where there was none.
+    ///
+    /// ```
+    /// let mut cache = ravulemis::unsync::Cache::new(100);
+    /// assert!(cache.entry(1).or_insert_with(|| 'a').is_fresh());
+    /// assert!(!cache.entry(1).or_insert_with(|| 'b').is_fresh());
+    /// ```
+    pub fn or_insert_with(self, init: impl FnOnce() -> V) -> Entry<K, V> {
+        let Ok(entry) = self.or_try_insert_with(|| Ok::<_, Infallible>(init()));
+        entry
+    }
+
+    /// The entry of the key, whose value is made where there was none, or one that the test says is to be replaced.
+    ///
+    /// ```
+    /// let mut cache = ravulemis::unsync::Cache::new(100);
+    /// cache.insert(1, 'a');
+    /// let entry = cache.entry(1).or_insert_with_if(|| 'b', |old| *old == 'a');
+    /// assert!(entry.is_old_value_replaced());
+    /// ```
+    pub fn or_insert_with_if(self, init: impl FnOnce() -> V, mut replace_if: impl FnMut(&V) -> bool) -> Entry<K, V> {
+        if !self.peek().is_some_and(|old| replace_if(&old)) {
+            return self.or_insert_with(init);
+        }
+        let EntrySelector { cache, hash, key } = self;
+        let value = cache.with(|shard| shard.replace_with(hash, &key, init));
+        Entry {
+            key,
+            value,
+            is_fresh: true,
+            is_old_value_replaced: true,
+        }
+    }
+
+    /// The entry of the key, whose value is made where there was none; `None` where the maker gives none.
+    ///
+    /// ```
+    /// let mut cache = ravulemis::unsync::Cache::new(100);
+    /// assert!(cache.entry(1).or_optionally_insert_with(|| None).is_none());
+    /// assert!(cache.entry(1).or_optionally_insert_with(|| Some('a')).is_some());
+    /// ```
+    pub fn or_optionally_insert_with(self, init: impl FnOnce() -> Option<V>) -> Option<Entry<K, V>> {
+        self.or_try_insert_with(|| init().ok_or(())).ok()
+    }
+
+    /// The entry of the key, whose value is made where there was none.
+    ///
+    /// # Errors
+    /// The maker's: then nothing is put there.
+    ///
+    /// ```
+    /// let mut cache = ravulemis::unsync::Cache::<u32, u32>::new(100);
+    /// assert!(cache.entry(1).or_try_insert_with(|| "one".parse::<u32>()).is_err());
+    /// assert!(cache.entry(1).or_try_insert_with(|| "1".parse::<u32>()).is_ok());
+    /// ```
+    pub fn or_try_insert_with<E>(self, init: impl FnOnce() -> Result<V, E>) -> Result<Entry<K, V>, E> {
+        let EntrySelector { cache, hash, key } = self;
+        cache.with(|shard| shard.try_get_with(hash, key, init))
+    }
+
+    /// Puts the value there that the closure makes of the entry, if there is one.
+    ///
+    /// ```
+    /// let mut cache = ravulemis::unsync::Cache::new(100);
+    /// for _ in 0..3 {
+    ///     cache.entry("key").and_upsert_with(|old| old.map_or(1, |old| old.into_value() + 1));
+    /// }
+    /// assert_eq!(cache.get("key"), Some(3));
+    /// ```
+    pub fn and_upsert_with(self, f: impl FnOnce(Option<Entry<K, V>>) -> V) -> Entry<K, V> {
+        let answer = self.and_compute_with(|there| Op::Put(f(there)));
+        let entry = answer.into_entry();
+        entry.unwrap_or_else(|| unreachable!("an entry was put there"))
+    }
+
+    /// Puts, removes or leaves the entry as the closure says of what is there.
+    ///
+    /// ```
+    /// use ravulemis::ops::compute::{CompResult, Op};
+    /// let mut cache = ravulemis::unsync::Cache::new(100);
+    /// let answer = cache.entry(1).and_compute_with(|there| match there {
+    ///     Some(_) => Op::Remove,
+    ///     None => Op::Put('a'),
+    /// });
+    /// assert!(matches!(answer, CompResult::Inserted(_)));
+    /// ```
+    pub fn and_compute_with(self, f: impl FnOnce(Option<Entry<K, V>>) -> Op<V>) -> CompResult<K, V> {
+        let Ok(answer) = self.and_try_compute_with(|there| Ok::<_, Infallible>(f(there)));
+        answer
+    }
+
+    /// As [`and_compute_with`](Self::and_compute_with), by a closure that may fail: then nothing is done.
+    ///
+    /// # Errors
+    /// The closure's.
+    ///
+    /// ```
+    /// use ravulemis::ops::compute::Op;
+    /// let mut cache = ravulemis::unsync::Cache::<u32, u32>::new(100);
+    /// let answer = cache.entry(1).and_try_compute_with(|_| "one".parse().map(Op::Put));
+    /// assert!(answer.is_err());
+    /// assert!(!cache.contains_key(&1));
+    /// ```
+    pub fn and_try_compute_with<E>(
+        self,
+        f: impl FnOnce(Option<Entry<K, V>>) -> Result<Op<V>, E>,
+    ) -> Result<CompResult<K, V>, E> {
+        let there = self.peek().map(|value| Entry::found(Arc::clone(&self.key), value));
+        let op = f(there.clone())?;
+        let EntrySelector { cache, hash, key } = self;
+        let kept = Arc::clone(&key);
+        Ok(computed(key, op, there, |value| {
+            cache.with(|shard| match value {
+                Some(value) => shard.insert_kept(hash, kept, value),
+                None => shard.invalidate_kept(hash, &kept),
+            })
+        }))
+    }
+}
