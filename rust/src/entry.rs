@@ -32,26 +32,54 @@ impl<K, V> Entry<K, V> {
     }
 
     /// The key.
+    ///
+    /// ```
+    /// let cache = ravulemis::sync::Cache::new(100);
+    /// assert_eq!(cache.entry("key").or_insert(7).key(), &"key");
+    /// ```
     pub fn key(&self) -> &K {
         &self.key
     }
 
     /// The value.
+    ///
+    /// ```
+    /// let cache = ravulemis::sync::Cache::new(100);
+    /// assert_eq!(cache.entry("key").or_insert(7).value(), &7);
+    /// ```
     pub fn value(&self) -> &V {
         &self.value
     }
 
     /// The value, out of the entry.
+    ///
+    /// ```
+    /// let cache = ravulemis::sync::Cache::new(100);
+    /// assert_eq!(cache.entry("key").or_insert(7).into_value(), 7);
+    /// ```
     pub fn into_value(self) -> V {
         self.value
     }
 
     /// Whether the call put the value there.
+    ///
+    /// ```
+    /// let cache = ravulemis::sync::Cache::new(100);
+    /// assert!(cache.entry("key").or_insert(7).is_fresh());
+    /// assert!(!cache.entry("key").or_insert(8).is_fresh());
+    /// ```
     pub fn is_fresh(&self) -> bool {
         self.is_fresh
     }
 
     /// Whether the call put the value there in place of another.
+    ///
+    /// ```
+    /// let cache = ravulemis::sync::Cache::new(100);
+    /// let count = || cache.entry("key").and_upsert_with(|old| old.map_or(1, |old| old.into_value() + 1));
+    /// assert!(!count().is_old_value_replaced());
+    /// assert!(count().is_old_value_replaced());
+    /// ```
     pub fn is_old_value_replaced(&self) -> bool {
         self.is_old_value_replaced
     }
@@ -85,6 +113,14 @@ pub enum CompResult<K, V> {
 
 impl<K, V> CompResult<K, V> {
     /// The entry that is there or was taken out, if there is or was one.
+    ///
+    /// ```
+    /// use ravulemis::ops::compute::Op;
+    /// let cache = ravulemis::sync::Cache::new(100);
+    /// cache.insert(1, 'a');
+    /// let taken = cache.entry(1).and_compute_with(|_| Op::Remove).into_entry();
+    /// assert_eq!(taken.map(|entry| entry.into_value()), Some('a'));
+    /// ```
     pub fn into_entry(self) -> Option<Entry<K, V>> {
         match self {
             CompResult::StillNone(_) => None,
@@ -93,6 +129,21 @@ impl<K, V> CompResult<K, V> {
             | CompResult::Removed(entry)
             | CompResult::Unchanged(entry) => Some(entry),
         }
+    }
+
+    /// The entry that is there or was taken out.
+    ///
+    /// # Panics
+    /// Where there is and was none.
+    ///
+    /// ```
+    /// use ravulemis::ops::compute::Op;
+    /// let cache = ravulemis::sync::Cache::new(100);
+    /// let put = cache.entry(1).and_compute_with(|_| Op::Put('a')).unwrap();
+    /// assert!(put.is_fresh());
+    /// ```
+    pub fn unwrap(self) -> Entry<K, V> {
+        self.into_entry().expect("there is no entry")
     }
 }
 

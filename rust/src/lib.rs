@@ -23,21 +23,26 @@ mod entry;
 mod key;
 mod making;
 mod notices;
-mod policy;
+pub mod policy;
 mod settings;
 mod shard;
 pub mod sync;
 pub mod unsync;
 
-pub use engine::moka_engine::{EvictionPolicy, RemovalCause};
+pub use engine::moka_engine::RemovalCause;
 pub use engine::moka_parts::error::PredicateError;
 pub use entry::Entry;
-pub use policy::{Expiry, Policy, Stats};
+pub use policy::{EvictionPolicy, Expiry, Policy, Stats};
 #[cfg(feature = "replay")]
 #[doc(hidden)]
 pub use support::alloc::Global;
 
-/// What is to be done with an entry, and what was.
+/// What a listener is told. moka: `notification`.
+pub mod notification {
+    pub use crate::RemovalCause;
+}
+
+/// What is to be done with an entry, and what was. moka: `ops`.
 pub mod ops {
     /// For `and_compute_with`.
     pub mod compute {

@@ -1,4 +1,6 @@
-//! What a cache is asked and told of its policy.
+//! What a cache is asked and told of its policy. moka: `policy`.
+
+pub use crate::engine::moka_engine::EvictionPolicy;
 
 use crate::engine::moka_engine as engine;
 use crate::key::Key;
@@ -62,6 +64,17 @@ pub trait Expiry<K, V> {
 }
 
 /// The limits of a cache. moka: `Policy`.
+///
+/// ```
+/// use ravulemis::sync::Cache;
+/// use std::time::Duration;
+///
+/// let builder = Cache::builder().max_capacity(100).shards(4);
+/// let cache: Cache<u32, u32> = builder.time_to_live(Duration::from_secs(60)).build();
+/// let policy = cache.policy();
+/// assert_eq!((policy.max_capacity(), policy.num_segments()), (Some(100), 4));
+/// assert_eq!((policy.time_to_live(), policy.time_to_idle()), (Some(Duration::from_secs(60)), None));
+/// ```
 #[derive(Clone, Debug)]
 pub struct Policy {
     pub(crate) max_capacity: Option<u64>,
@@ -99,7 +112,7 @@ pub struct Stats {
     pub hits: u64,
     /// Look-ups that found none. Hits and misses are all look-ups.
     pub misses: u64,
-    /// Values that were made by `get_with` and its like.
+    /// Values that were made by `get_with` and its like, and put there.
     pub loads: u64,
     /// Makers that gave no value, by an error or a panic.
     pub load_failures: u64,

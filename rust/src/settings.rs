@@ -70,6 +70,12 @@ impl<K, V> engine::PredicateFn<crate::key::Key<'_, K>, V> for Testing<K, V> {
 macro_rules! setters {
     () => {
         /// A name, which the cache only tells. By default there is none.
+        ///
+        /// ```
+        /// # use ravulemis::sync::Cache;
+        /// let cache: Cache<u32, u32> = Cache::builder().name("users").build();
+        /// assert_eq!(cache.name(), Some("users"));
+        /// ```
         pub fn name(mut self, name: &str) -> Self {
             self.settings.name = Some(name.to_string());
             self
@@ -77,36 +83,98 @@ macro_rules! setters {
 
         /// The greatest total weight that is kept; without a weigher each entry weighs 1. A cache of capacity 0 keeps
         /// nothing. By default there is no bound.
+        ///
+        /// ```
+        /// # use ravulemis::sync::Cache;
+        /// let cache = Cache::builder().max_capacity(2).build();
+        /// (0..10).for_each(|key| cache.insert(key, key));
+        /// cache.run_pending_tasks();
+        /// assert_eq!(cache.entry_count(), 2);
+        /// ```
         pub fn max_capacity(mut self, max_capacity: u64) -> Self {
             self.settings.max_capacity = Some(max_capacity);
             self
         }
 
         /// The number of entries that room is made for at once, whatever their weights. It bounds nothing.
+        ///
+        /// ```
+        /// # use ravulemis::sync::Cache;
+        /// let cache = Cache::builder().max_capacity(10_000).initial_capacity(1000).build();
+        /// cache.insert(1, 'a');
+        /// ```
         pub fn initial_capacity(mut self, number_of_entries: usize) -> Self {
             self.settings.initial_capacity = Some(number_of_entries);
             self
         }
 
         /// How a cache that is full chooses what stays. By default it is TinyLFU.
+        ///
+        /// ```
+        /// # use ravulemis::sync::Cache;
+        /// use ravulemis::policy::EvictionPolicy;
+        ///
+        /// let cache = Cache::builder().max_capacity(2).eviction_policy(EvictionPolicy::lru()).build();
+        /// (0..10).for_each(|key| cache.insert(key, key));
+        /// cache.run_pending_tasks();
+        /// assert_eq!((cache.get(&8), cache.get(&9)), (Some(8), Some(9)));
+        /// ```
         pub fn eviction_policy(mut self, policy: EvictionPolicy) -> Self {
             self.settings.eviction_policy = policy;
             self
         }
 
         /// How long an entry stays after it was written, exact to the nanosecond. By default it stays.
+        ///
+        /// ```
+        /// # use ravulemis::sync::Cache;
+        /// use std::time::Duration;
+        ///
+        /// let cache = Cache::builder().time_to_live(Duration::from_millis(1)).build();
+        /// cache.insert(1, 'a');
+        /// std::thread::sleep(Duration::from_millis(2));
+        /// assert_eq!(cache.get(&1), None);
+        /// ```
         pub fn time_to_live(mut self, duration: Duration) -> Self {
             self.settings.time_to_live = Some(duration);
             self
         }
 
         /// How long an entry stays after it was written or read, exact to the nanosecond. By default it stays.
+        ///
+        /// ```
+        /// # use ravulemis::sync::Cache;
+        /// use std::time::Duration;
+        ///
+        /// let cache = Cache::builder().time_to_idle(Duration::from_millis(1)).build();
+        /// cache.insert(1, 'a');
+        /// std::thread::sleep(Duration::from_millis(2));
+        /// assert_eq!(cache.get(&1), None);
+        /// ```
         pub fn time_to_idle(mut self, duration: Duration) -> Self {
             self.settings.time_to_idle = Some(duration);
             self
         }
 
         /// Decides when each entry expires. By default none does by itself.
+        ///
+        /// ```
+        /// # use ravulemis::sync::Cache;
+        /// use std::time::{Duration, Instant};
+        ///
+        /// struct Seconds;
+        ///
+        /// impl ravulemis::Expiry<u32, u64> for Seconds {
+        ///     fn expire_after_create(&self, _: &u32, seconds: &u64, _: Instant) -> Option<Duration> {
+        ///         Some(Duration::from_secs(*seconds))
+        ///     }
+        /// }
+        ///
+        /// let cache = Cache::builder().expire_after(Seconds).build();
+        /// cache.insert(1, 60);
+        /// cache.insert(2, 0);
+        /// assert_eq!((cache.get(&1), cache.get(&2)), (Some(60), None));
+        /// ```
         pub fn expire_after(mut self, expiry: impl Expiry<K, V> + Send + Sync + 'static) -> Self {
             self.settings.expiry = Some(Arc::new(expiry));
             self
@@ -114,12 +182,29 @@ macro_rules! setters {
 
         /// Weighs each entry as it is inserted. It has to give equal weights for equal arguments. By default each
         /// weighs 1.
+        ///
+        /// ```
+        /// # use ravulemis::sync::Cache;
+        /// let weigher = |_: &u32, text: &String| text.len().try_into().unwrap_or(u32::MAX);
+        /// let cache = Cache::builder().max_capacity(10).weigher(weigher).build();
+        /// cache.insert(1, "four".to_string());
+        /// cache.run_pending_tasks();
+        /// assert_eq!(cache.weighted_size(), 4);
+        /// ```
         pub fn weigher(mut self, weigher: impl Fn(&K, &V) -> u32 + Send + Sync + 'static) -> Self {
             self.settings.weigher = Some(Arc::new(weigher));
             self
         }
 
         /// Lets `invalidate_entries_if` take predicates. By default it refuses each.
+        ///
+        /// ```
+        /// # use ravulemis::sync::Cache;
+        /// let cache: Cache<u32, u32> = Cache::builder().support_invalidation_closures().build();
+        /// assert!(cache.invalidate_entries_if(|key, _| key % 2 == 0).is_ok());
+        /// let cache: Cache<u32, u32> = Cache::builder().build();
+        /// assert!(cache.invalidate_entries_if(|key, _| key % 2 == 0).is_err());
+        /// ```
         pub fn support_invalidation_closures(mut self) -> Self {
             self.settings.takes_closures = true;
             self

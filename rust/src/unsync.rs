@@ -75,6 +75,12 @@ impl<K, V> Default for CacheBuilder<K, V> {
 
 impl<K: Eq + Hash + Sync + 'static, V: Clone + 'static> CacheBuilder<K, V> {
     /// A builder of a cache of at most so many entries.
+    ///
+    /// ```
+    /// use ravulemis::unsync::CacheBuilder;
+    /// let mut cache = CacheBuilder::new(100).build();
+    /// cache.insert(1, 'a');
+    /// ```
     pub fn new(max_capacity: u64) -> Self {
         CacheBuilder::default().max_capacity(max_capacity)
     }
@@ -82,6 +88,18 @@ impl<K: Eq + Hash + Sync + 'static, V: Clone + 'static> CacheBuilder<K, V> {
     setters!();
 
     /// Is told key, value and cause of each value that leaves, at the end of the call. By default nobody is told.
+    ///
+    /// ```
+    /// # use ravulemis::unsync::Cache;
+    /// use std::sync::{Arc, mpsc};
+    ///
+    /// let (sender, left) = mpsc::channel();
+    /// let listener = move |key: Arc<u32>, value, _| sender.send((*key, value)).unwrap();
+    /// let mut cache = Cache::builder().eviction_listener(listener).build();
+    /// cache.insert(1, 'a');
+    /// cache.remove(&1);
+    /// assert_eq!(left.recv(), Ok((1, 'a')));
+    /// ```
     pub fn eviction_listener(mut self, listener: impl FnMut(Arc<K>, V, RemovalCause) + Send + 'static) -> Self {
         let listener = Mutex::new(listener);
         self.settings.listener = Some(Arc::new(move |key, value, cause| locked(&listener)(key, value, cause)));
@@ -92,6 +110,11 @@ impl<K: Eq + Hash + Sync + 'static, V: Clone + 'static> CacheBuilder<K, V> {
     ///
     /// # Panics
     /// Where there is no memory for the initial capacity.
+    ///
+    /// ```
+    /// let mut cache = ravulemis::unsync::CacheBuilder::new(100).build();
+    /// cache.insert(1, 'a');
+    /// ```
     pub fn build(self) -> Cache<K, V> {
         self.build_with_hasher(RandomState::new())
     }

@@ -29,6 +29,11 @@ impl<T> Vec<T> {
     }
 
     #[inline]
+    pub fn allocator(&self) -> &Global {
+        &Global
+    }
+
+    #[inline]
     pub fn capacity(&self) -> usize {
         self.0.capacity()
     }

@@ -72,6 +72,19 @@ where
 
     /// Is told key, value and cause of each value that leaves, after the lock of its shard was released. By default
     /// nobody is told.
+    ///
+    /// ```
+    /// # use ravulemis::sync::Cache;
+    /// use ravulemis::notification::RemovalCause;
+    /// use std::sync::{Arc, mpsc};
+    ///
+    /// let (sender, left) = mpsc::channel();
+    /// let listener = move |key: Arc<u32>, value, cause| sender.send((*key, value, cause)).unwrap();
+    /// let cache = Cache::builder().eviction_listener(listener).build();
+    /// cache.insert(1, 'a');
+    /// cache.insert(1, 'b');
+    /// assert_eq!(left.recv(), Ok((1, 'a', RemovalCause::Replaced)));
+    /// ```
     pub fn eviction_listener(mut self, listener: impl Fn(Arc<K>, V, RemovalCause) + Send + Sync + 'static) -> Self {
         self.settings.listener = Some(Arc::new(listener));
         self
@@ -81,6 +94,12 @@ where
     /// weighs more than a share is not kept, and a shard whose keys come often evicts before the whole is full.
     ///
     /// By default a cache with a weigher has one shard, another one for each 1,024 entries of its capacity, up to 64.
+    ///
+    /// ```
+    /// # use ravulemis::sync::Cache;
+    /// let cache: Cache<u32, u32> = Cache::builder().max_capacity(10_000).shards(16).build();
+    /// assert_eq!(cache.policy().num_segments(), 16);
+    /// ```
     pub fn shards(mut self, shards: usize) -> Self {
         self.shards = Some(shards);
         self
@@ -90,6 +109,11 @@ where
     ///
     /// # Panics
     /// Where there is no memory for the initial capacity.
+    ///
+    /// ```
+    /// let cache = ravulemis::sync::CacheBuilder::new(100).build();
+    /// cache.insert(1, 'a');
+    /// ```
     pub fn build(self) -> Cache<K, V> {
         self.build_with_hasher(RandomState::new())
     }
