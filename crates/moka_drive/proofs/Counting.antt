@@ -1,11 +1,10 @@
 -- What is counted is the look-ups among the replies.
-use Rattle.std.proofs.Common.{arith, ◌≡◌, refl, ℕ, ◌+◌, ◌≤◌, min, Bool, true, false, cond, List, [], ◌∷◌, ◌++◌, count_by, sum_by, Option, Some, None, Result, Ok, Err, ap, sym, subst, ◌∙◌, inl, inr}
+use Rattle.std.proofs.Common.{arith, ◌≡◌, refl, ℕ, ◌+◌, ◌≤◌, min, Bool, false, cond, List, [], ◌∷◌, count_by, Option, Some, None, Result, Ok, Err, ap, sym, subst, ◌∙◌, inl, inr}
 use Rattle.std.proofs.lemmas.List.Sums.{sum_by-append}
 use Rattle.moka_parts.specs.declared.policy.Instant.{Instant}
 use Rattle.moka_parts.specs.declared.calls.Entry.{Entry}
 use Rattle.moka_parts.specs.declared.calls.Ticket.{Ticket}
 use Rattle.moka_parts.specs.declared.calls.Call.{Call}
-use Rattle.moka_parts.specs.declared.calls.Call.TheVariants as call
 use Rattle.moka_parts.specs.declared.calls.Reply.{Reply}
 use Rattle.moka_parts.specs.declared.calls.Reply.TheVariants as reply
 use Rattle.moka_parts.specs.declared.error.InsertRefused.{InsertRefused}
@@ -13,9 +12,9 @@ use Rattle.moka_parts.specs.declared.error.OutOfMemory.{OutOfMemory}
 use Rattle.moka_parts.specs.Time.{greatest, plus}
 use Rattle.moka_parts.specs.Copies.{IsCopiedAnswer}
 use Rattle.moka_drive.specs.declared.stats.Stats.{Stats}
-use Rattle.moka_drive.specs.Counters.{no_stats, after_look_up, after_get_with}
+use Rattle.moka_drive.specs.Counters.{after_look_up, after_get_with}
 use Rattle.moka_drive.specs.Counted.{is_hit, is_miss, is_look_up, loads_of, AreCounters, IsCounted, CountsCalls, AddsUp, SumsToLookUps}
-use Rattle.moka_drive.specs.Synchronous.{Just, own_run, Posts, GetsValue, GetsThen, InsertsMade, GetsOrInserts, GetsOrInsertsIfMade, GetsOrInsertsIfNoError, InsertsEntry, RemovesEntry, value_found}
+use Rattle.moka_drive.specs.Synchronous.{Posts, GetsValue, InsertsMade, GetsOrInserts, GetsOrInsertsIfMade, GetsOrInsertsIfNoError, InsertsEntry, RemovesEntry, value_found}
 
 -- ---- numbers that saturate
 

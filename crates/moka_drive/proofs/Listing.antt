@@ -1,17 +1,16 @@
 -- The entries that are visible: key after key, and from keys to records.
-use Rattle.std.proofs.Common.{arith, ◌≡◌, refl, ℕ, ◌<◌, Bool, true, T, cond, List, [], ◌∷◌, ◌++◌, map, length, set, get_or, swap, Option, Some, None, Result, Ok, Err, ap, sym, subst, ◌∙◌, inl, inr, IsPermutation, Contains}
+use Rattle.std.proofs.Common.{◌≡◌, refl, ℕ, ◌<◌, Bool, T, cond, List, [], ◌∷◌, ◌++◌, map, length, set, get_or, swap, Option, Some, None, Ok, Err, ap, sym, subst, ◌∙◌, inl, inr, IsPermutation}
 use Rattle.std.specs.List.{AllZip, AllByRecursion}
 use Rattle.std.specs.Cmp.{IsEquivalence, nat_cmp_total, eq_by_cmp_equiv}
 use Rattle.std.specs.Ordering.{nat_cmp, eq_by_cmp}
-use Rattle.std.specs.FinMap.{get, values, entries, entries_sorted, get-entries, is_sorted}
+use Rattle.std.specs.FinMap.{values, entries, entries_sorted, get-entries, is_sorted}
 use Rattle.std.specs.FinMap as finite
 use Rattle.std.proofs.lemmas.List.{length-map, map-set, get_or-map}
 use Rattle.std.proofs.lemmas.List.Sorted.{IsPermutation-keeps, IsPermutation-refl, IsPermutation-trans, IsPermutation-sym, Contains-permutation}
 use Rattle.moka_parts.specs.declared.records.Record.{Record}
-use Rattle.moka_parts.specs.declared.error.OutOfMemory.{OutOfMemory}
 use Rattle.moka_parts.specs.Calls.{KeysStep, ScanStep, ScansAt}
 use Rattle.moka_parts.specs.Copies.{HandsOut, IsCopy, ClonesAreEqual}
-use Rattle.moka_parts.specs.Records.{Records, record_of_key}
+use Rattle.moka_parts.specs.Records.{record_of_key}
 use Rattle.moka_parts.specs.Settling.{IsValid}
 use Rattle.moka_parts.specs.State.{State}
 use Rattle.moka_parts.proofs.Lookup.{found_behind, left_part, right_part, present_key}

@@ -1,15 +1,15 @@
 -- What a listener counts is the notices of a run.
-use Rattle.std.proofs.Common.{arith, ◌≡◌, refl, ℕ, ◌+◌, ◌≤◌, min, Bool, true, false, cond, List, [], ◌∷◌, count_by, Option, Some, None, ap, sym, subst, ◌∙◌, inl, inr}
+use Rattle.std.proofs.Common.{◌≡◌, refl, ℕ, ◌+◌, ◌≤◌, Bool, cond, List, [], ◌∷◌, count_by, Option, Some, None, ap, sym, subst, ◌∙◌, inl, inr}
 use Rattle.moka_parts.specs.declared.notification.RemovalCause.{RemovalCause}
 use Rattle.moka_parts.specs.declared.notification.RemovalCause.TheVariants.{Expired, Explicit, Replaced, Size}
 use Rattle.moka_parts.specs.Records.{Notice}
-use Rattle.moka_parts.specs.Runs.{Cache, notices_of}
+use Rattle.moka_parts.specs.Runs.{notices_of}
 use Rattle.moka_parts.specs.State.{Meaning}
 use Rattle.moka_parts.specs.Surroundings.{Leads, Heard, NoticeStep}
 use Rattle.moka_parts.specs.Time.{greatest, plus}
 use Rattle.moka_drive.specs.declared.removals.Removals.{Removals}
 use Rattle.moka_drive.specs.declared.removals.CountingListener.{CountingListener}
-use Rattle.moka_drive.specs.Removed.{no_removals, after_removal, counting, removals_of, inner_of, is_of, AreHeld, AreCounted, CountsRemovals, PassesOn}
+use Rattle.moka_drive.specs.Removed.{no_removals, after_removal, counting, removals_of, is_of, AreHeld, AreCounted, CountsRemovals, PassesOn}
 use Rattle.moka_drive.specs.Synchronous.{hears_clones}
 use Rattle.moka_drive.proofs.Counting.{no_more, more_and_more, within, zero_plus, count_after}
 

@@ -1,8 +1,6 @@
 -- What a cache counts of its look-ups.
-use Rattle.std.specs.Prelude.{◌≡◌, ℕ, ◌+◌, ◌≤◌, min, List, [], ◌∷◌, Option, Some, None, Result, Ok, Err}
+use Rattle.std.specs.Prelude.{ℕ, ◌+◌, min, Option, Some, None, Result, Ok, Err}
 use Rattle.moka_parts.specs.Time.{greatest}
-use Rattle.moka_parts.specs.declared.calls.Reply.{Reply}
-use Rattle.moka_parts.specs.declared.calls.Reply.TheVariants as reply
 use Rattle.moka_drive.specs.declared.stats.Stats.{Stats}
 
 -- one more, saturating

@@ -1,5 +1,5 @@
 -- What a listener counts of the removals that it is told of.
-use Rattle.std.specs.Prelude.{◌≡◌, ℕ, ◌≤◌, Bool, true, false, List, count_by, Option, Some, None, option_map}
+use Rattle.std.specs.Prelude.{◌≡◌, ◌≤◌, Bool, true, false, List, count_by, Option, Some, None, option_map}
 use Rattle.moka_parts.specs.declared.calls.Call.{Call}
 use Rattle.moka_parts.specs.declared.calls.Reply.{Reply}
 use Rattle.moka_parts.specs.declared.notification.RemovalCause.{RemovalCause}

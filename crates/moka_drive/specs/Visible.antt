@@ -1,5 +1,5 @@
 -- The entries that are visible at a moment, each once.
-use Rattle.std.specs.Prelude.{◌≡◌, ℕ, Bool, List, [], ◌∷◌, map, Option, Some, None, Result, Ok, ◌⊎◌, IsPermutation}
+use Rattle.std.specs.Prelude.{◌≡◌, ℕ, Bool, List, [], ◌∷◌, map, Some, None, Ok, ◌⊎◌, IsPermutation}
 use Rattle.std.specs.List.{AllZip}
 use Rattle.std.specs.FinMap.{values}
 use Rattle.moka_parts.specs.declared.records.Record.{Record}

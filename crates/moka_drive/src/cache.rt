@@ -438,7 +438,7 @@ impl<
         }
         self.count_load();
         let value = init();
-        match self.insert_made(key, hash, value, now, clock) {
+        match self.insert_made_hashed(key, hash, value, now, clock) {
             Ok(copy) => Ok(copy),
             Err(refused) => Err(GetWithRefused::Insert(refused)),
         }
@@ -478,7 +478,7 @@ impl<
         let Some(value) = init() else {
             return Ok(None);
         };
-        match self.insert_made(key, hash, value, now, clock) {
+        match self.insert_made_hashed(key, hash, value, now, clock) {
             Ok(copy) => Ok(Some(copy)),
             Err(refused) => Err(GetWithRefused::Insert(refused)),
         }
@@ -519,7 +519,7 @@ impl<
             Ok(value) => value,
             Err(error) => return Ok(Err(error)),
         };
-        match self.insert_made(key, hash, value, now, clock) {
+        match self.insert_made_hashed(key, hash, value, now, clock) {
             Ok(copy) => Ok(Ok(copy)),
             Err(refused) => Err(GetWithRefused::Insert(refused)),
         }
@@ -527,6 +527,28 @@ impl<
 
     // Inserts a value that was made for a key, and hands out a clone of it.
     fn insert_made<C: Clock>(
+        &mut self,
+        key: K,
+        value: V,
+        now: Instant,
+        clock: &mut C,
+    ) -> Result<V, InsertRefused<K, V>>
+    where
+        K: Drop,
+        V: Clone + Drop,
+        P: Drop,
+        ensures made { (own : Result V (InsertRefused K V)) × HandsOutOwn V.is_clone own result
+            × Makes (meaning_of K.eq L.tells P.says W.weighs C.reads X.created X.read X.updated)
+            (InsertsMade key (S.Hasher.finish (fold S.Hasher.write (S.build_hasher self.old.engine.hasher) (K.hash_input key))) now value own)
+            self.old.engine clock.old self.new.engine clock.new }
+        ensures counted { self.new.stats ≡ self.old.stats }
+    {
+        let hash = self.engine.hash(&key);
+        self.insert_made_hashed(key, hash, value, now, clock)
+    }
+
+    // The same with the key's hash.
+    fn insert_made_hashed<C: Clock>(
         &mut self,
         key: K,
         hash: u64,

@@ -1,4 +1,4 @@
-use Rattle.std.proofs.Common.{rules, arith, refl, sym, ap, subst, ◌≡◌, ◌∙◌, Some, None, Ok, [], ◌∷◌, ◌++◌, append_assoc, append-nil, length}
+use Rattle.std.proofs.Common.{rules, arith, sym, ap, subst, ◌∙◌, Ok, [], ◌∷◌, ◌++◌, append_assoc, append-nil, length}
 use Rattle.std.specs.Vec.Iter.{into_iter_items}
 use Rattle.moka_parts.specs.Calls.{ScanStep}
 use Rattle.moka_parts.specs.Copies.{HandsOut}

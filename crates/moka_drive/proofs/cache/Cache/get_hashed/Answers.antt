@@ -1,4 +1,4 @@
-use Rattle.std.proofs.Common.{◌≡◌, ◌∙◌, ap, sym, Some, Ok, false}
+use Rattle.std.proofs.Common.{◌∙◌, false}
 use Rattle.moka_parts.specs.Calls.{ContainsStep}
 use Rattle.moka_parts.specs.Listed.{ListedRun}
 use Rattle.moka_parts.specs.State.{Meaning}

@@ -1,6 +1,5 @@
-use Rattle.std.proofs.Common.{◌≡◌, List, Option, Some, Ok, option_map, Vec, Global, sym, subst}
+use Rattle.std.proofs.Common.{List, Option, Some, Ok, option_map, Vec, Global, sym, subst}
 use Rattle.std.specs.List.{AllZip}
-use Rattle.std.specs.Vec.Iter.{into_iter_items}
 use Rattle.moka_parts.specs.Calls.{KeysStep}
 use Rattle.moka_parts.specs.Copies.{IsCopy}
 use Rattle.moka_parts.specs.Runs.{Cache}

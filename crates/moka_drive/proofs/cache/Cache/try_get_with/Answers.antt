@@ -1,4 +1,4 @@
-use Rattle.std.proofs.Common.{◌≡◌, ℕ, refl, subst, Option, Some, None, Result, Ok, Err}
+use Rattle.std.proofs.Common.{◌≡◌, ℕ, refl, subst, Some, None, Ok, Err}
 use Rattle.std.specs.List.{fold}
 use Rattle.moka_parts.specs.State.{Meaning}
 use Rattle.moka_parts.specs.Copies.{IsCopiedAnswer}
@@ -6,7 +6,7 @@ use Rattle.moka_parts.specs.declared.error.OutOfMemory.{OutOfMemory}
 use Rattle.moka_drive.specs.declared.error.GetWithRefused.TheVariants.{Lookup, Insert}
 use Rattle.moka_drive.specs.Synchronous.{meaning_of}
 use Rattle.moka_drive.specs.Counters.{after_look_up}
-use Rattle.moka_drive.proofs.Getting.{got_nothing, got_value, got_refused, got_only, made_and_handed_out, if_made, if_no_error}
+use Rattle.moka_drive.proofs.Getting.{got_nothing, got_value, got_refused, got_only, made_and_handed_out, if_no_error}
 use Rattle.moka_drive.proofs.cache.Cache.try_get_with.Goals as goal
 
 same_some : {A : Type 0} (x y : A) → Some x ≡ Some y → x ≡ y
@@ -43,26 +43,26 @@ returns-in-Err-init g c =
     let only = got_only g.V.Clone.is_clone m c.args.key hash_by c.args.now c.args.self.now c.get_hashed.new.self c.args.clock.now c.get_hashed.new.clock missed counted c.count_load.new.self c.count_load.ensures in
     (Some (Err c.in-Err-init.error), Ok (Err c.in-Err-init.error), (λ answer e. subst (λ v. g.F.FnOnce.post c.args.init tt v) (same_some (Err c.in-Err-init.error) answer e) c.in-Err-init.ensures), refl, (only.0.0, only.0.1, (refl, only.0.2), only.0.3), only.1)
 
-pub returns-in-Ok-insert_made : goal.returns-in-Ok-insert_made
-returns-in-Ok-insert_made g c =
+pub returns-in-Ok-insert_made_hashed : goal.returns-in-Ok-insert_made_hashed
+returns-in-Ok-insert_made_hashed g c =
     let m : Meaning g.row.K.Denot g.row.V.Denot g.row.X.Denot g.row.L.Denot g.row.P.Denot g.row.W.Denot g.row.C.Denot (Unit {0}) = meaning_of g.K.PartialEq.eq g.L.Listener.tells g.P.PredicateFn.says g.W.Weigher.weighs g.C.Clock.reads g.X.Expiry.created g.X.Expiry.read g.X.Expiry.updated in
     let hash_by : g.row.S.Denot → ℕ = λ h. g.S.Hasher.Hasher.finish (fold g.S.Hasher.Hasher.write (g.S.BuildHasher.build_hasher h) (g.K.Hash.hash_input c.args.key)) in
     let got = c.in-Ok-None.ensures.made in
     let copied = subst (λ o. IsCopiedAnswer g.V.Clone.is_clone got.0 (Ok o)) c.in-Ok-None.field-0-is got.1 in
     let missed = got_nothing g.V.Clone.is_clone m c.args.key hash_by c.args.now c.args.self.now c.get_hashed.new.self c.args.clock.now c.get_hashed.new.clock got.0 copied got.2 in
     let counted = subst (λ o. c.get_hashed.new.self.stats ≡ after_look_up {E = OutOfMemory} (Ok o) c.args.self.now.stats) c.in-Ok-None.field-0-is c.in-Ok-None.ensures.counted in
-    let made = made_and_handed_out g.V.Clone.is_clone m c.args.key hash_by c.args.now c.args.self.now c.get_hashed.new.self c.args.clock.now c.get_hashed.new.clock missed counted c.count_load.new.self c.count_load.ensures c.in-Ok.value c.insert_made.new.self c.insert_made.new.clock c.insert_made.ensures.counted (Ok c.in-Ok-insert_made.copy) c.in-Ok-insert_made.ensures.made in
-    let lifted = if_no_error g.V.Clone.is_clone m c.args.key (hash_by c.args.self.now.engine.hasher) c.args.now c.args.self.now.engine c.insert_made.new.self.engine c.args.clock.now c.insert_made.new.clock c.args.self.now.stats c.insert_made.new.self.stats (Some c.in-Ok.value) (Ok c.in-Ok-insert_made.copy) made.0 made.1 made.2 made.3 in
+    let made = made_and_handed_out g.V.Clone.is_clone m c.args.key hash_by c.args.now c.args.self.now c.get_hashed.new.self c.args.clock.now c.get_hashed.new.clock missed counted c.count_load.new.self c.count_load.ensures c.in-Ok.value c.insert_made_hashed.new.self c.insert_made_hashed.new.clock c.insert_made_hashed.ensures.counted (Ok c.in-Ok-insert_made_hashed.copy) c.in-Ok-insert_made_hashed.ensures.made in
+    let lifted = if_no_error g.V.Clone.is_clone m c.args.key (hash_by c.args.self.now.engine.hasher) c.args.now c.args.self.now.engine c.insert_made_hashed.new.self.engine c.args.clock.now c.insert_made_hashed.new.clock c.args.self.now.stats c.insert_made_hashed.new.self.stats (Some c.in-Ok.value) (Ok c.in-Ok-insert_made_hashed.copy) made.0 made.1 made.2 made.3 in
     (Some (Ok c.in-Ok.value), lifted.0, (λ answer e. subst (λ v. g.F.FnOnce.post c.args.init tt v) (same_some (Ok c.in-Ok.value) answer e) c.in-Ok.ensures), lifted.1, lifted.2, lifted.3)
 
-pub returns-in-Err-insert_made : goal.returns-in-Err-insert_made
-returns-in-Err-insert_made g c =
+pub returns-in-Err-insert_made_hashed : goal.returns-in-Err-insert_made_hashed
+returns-in-Err-insert_made_hashed g c =
     let m : Meaning g.row.K.Denot g.row.V.Denot g.row.X.Denot g.row.L.Denot g.row.P.Denot g.row.W.Denot g.row.C.Denot (Unit {0}) = meaning_of g.K.PartialEq.eq g.L.Listener.tells g.P.PredicateFn.says g.W.Weigher.weighs g.C.Clock.reads g.X.Expiry.created g.X.Expiry.read g.X.Expiry.updated in
     let hash_by : g.row.S.Denot → ℕ = λ h. g.S.Hasher.Hasher.finish (fold g.S.Hasher.Hasher.write (g.S.BuildHasher.build_hasher h) (g.K.Hash.hash_input c.args.key)) in
     let got = c.in-Ok-None.ensures.made in
     let copied = subst (λ o. IsCopiedAnswer g.V.Clone.is_clone got.0 (Ok o)) c.in-Ok-None.field-0-is got.1 in
     let missed = got_nothing g.V.Clone.is_clone m c.args.key hash_by c.args.now c.args.self.now c.get_hashed.new.self c.args.clock.now c.get_hashed.new.clock got.0 copied got.2 in
     let counted = subst (λ o. c.get_hashed.new.self.stats ≡ after_look_up {E = OutOfMemory} (Ok o) c.args.self.now.stats) c.in-Ok-None.field-0-is c.in-Ok-None.ensures.counted in
-    let made = made_and_handed_out g.V.Clone.is_clone m c.args.key hash_by c.args.now c.args.self.now c.get_hashed.new.self c.args.clock.now c.get_hashed.new.clock missed counted c.count_load.new.self c.count_load.ensures c.in-Ok.value c.insert_made.new.self c.insert_made.new.clock c.insert_made.ensures.counted (Err c.in-Err-insert_made.refused) c.in-Err-insert_made.ensures.made in
-    let lifted = if_no_error g.V.Clone.is_clone m c.args.key (hash_by c.args.self.now.engine.hasher) c.args.now c.args.self.now.engine c.insert_made.new.self.engine c.args.clock.now c.insert_made.new.clock c.args.self.now.stats c.insert_made.new.self.stats (Some c.in-Ok.value) (Err (Insert c.in-Err-insert_made.refused)) made.0 made.1 made.2 made.3 in
+    let made = made_and_handed_out g.V.Clone.is_clone m c.args.key hash_by c.args.now c.args.self.now c.get_hashed.new.self c.args.clock.now c.get_hashed.new.clock missed counted c.count_load.new.self c.count_load.ensures c.in-Ok.value c.insert_made_hashed.new.self c.insert_made_hashed.new.clock c.insert_made_hashed.ensures.counted (Err c.in-Err-insert_made_hashed.refused) c.in-Err-insert_made_hashed.ensures.made in
+    let lifted = if_no_error g.V.Clone.is_clone m c.args.key (hash_by c.args.self.now.engine.hasher) c.args.now c.args.self.now.engine c.insert_made_hashed.new.self.engine c.args.clock.now c.insert_made_hashed.new.clock c.args.self.now.stats c.insert_made_hashed.new.self.stats (Some c.in-Ok.value) (Err (Insert c.in-Err-insert_made_hashed.refused)) made.0 made.1 made.2 made.3 in
     (Some (Ok c.in-Ok.value), lifted.0, (λ answer e. subst (λ v. g.F.FnOnce.post c.args.init tt v) (same_some (Ok c.in-Ok.value) answer e) c.in-Ok.ensures), lifted.1, lifted.2, lifted.3)

@@ -4,7 +4,7 @@ use Rattle.moka_parts.specs.State.{Meaning}
 use Rattle.moka_parts.specs.declared.error.InsertError.TheVariants as insert_error
 use Rattle.moka_drive.specs.Synchronous.{meaning_of}
 use Rattle.moka_drive.proofs.Getting.{not_cloned, cloned, not_inserted}
-use Rattle.moka_drive.proofs.cache.Cache.insert_made.Goals as goal
+use Rattle.moka_drive.proofs.cache.Cache.insert_made_hashed.Goals as goal
 
 pub returns-in_default-clause-made : goal.returns-in_default-clause-made
 returns-in_default-clause-made g c =
