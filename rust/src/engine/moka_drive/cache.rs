@@ -131,11 +131,24 @@ impl<
         clock: &mut C,
     ) -> Result<(), InsertRefused<K, V>>
     {
+        let hash = self.engine.hash(&key);
+        self.insert_hashed(key, hash, value, now, clock)
+    }
+
+    // An insert of a key with its hash.
+    fn insert_hashed<C: Clock>(
+        &mut self,
+        key: K,
+        hash: u64,
+        value: V,
+        now: Instant,
+        clock: &mut C,
+    ) -> Result<(), InsertRefused<K, V>>
+    {
         self.engine.invariant_holds();
         if self.engine.is_map_disabled() {
             return Ok(());
         }
-        let hash = self.engine.hash(&key);
         let ticket = match self.engine.do_insert_with_own_hash(key, hash, value, now) {
             Ok((ticket, _)) => ticket,
             Err(refused) => return Err(refused),
@@ -159,8 +172,23 @@ impl<
         K: Clone,
         V: Clone,
     {
-        self.engine.invariant_holds();
         let hash = self.engine.hash(key);
+        self.get_hashed(key, hash, now, clock)
+    }
+
+    // A get of a key with its hash.
+    fn get_hashed<C: Clock>(
+        &mut self,
+        key: &K,
+        hash: u64,
+        now: Instant,
+        clock: &mut C,
+    ) -> Result<Option<V>, OutOfMemory>
+    where
+        K: Clone,
+        V: Clone,
+    {
+        self.engine.invariant_holds();
         let entry = self.engine.get_with_own_hash(key, hash, false, now, clock);
         let found = value_of(entry);
         self.stats.count_look_up(&found);
@@ -252,14 +280,15 @@ impl<
         K: Clone,
         V: Clone,
     {
-        match self.get(&key, now, clock) {
+        let hash = self.engine.hash(&key);
+        match self.get_hashed(&key, hash, now, clock) {
             Ok(Some(value)) => return Ok(value),
             Ok(None) => {}
             Err(_) => return Err(GetWithRefused::Lookup(key)),
         }
         self.count_load();
         let value = init();
-        match self.insert_made(key, value, now, clock) {
+        match self.insert_made_hashed(key, hash, value, now, clock) {
             Ok(copy) => Ok(copy),
             Err(refused) => Err(GetWithRefused::Insert(refused)),
         }
@@ -280,7 +309,8 @@ impl<
         K: Clone,
         V: Clone,
     {
-        match self.get(&key, now, clock) {
+        let hash = self.engine.hash(&key);
+        match self.get_hashed(&key, hash, now, clock) {
             Ok(Some(value)) => return Ok(Some(value)),
             Ok(None) => {}
             Err(_) => return Err(GetWithRefused::Lookup(key)),
@@ -289,7 +319,7 @@ impl<
         let Some(value) = init() else {
             return Ok(None);
         };
-        match self.insert_made(key, value, now, clock) {
+        match self.insert_made_hashed(key, hash, value, now, clock) {
             Ok(copy) => Ok(Some(copy)),
             Err(refused) => Err(GetWithRefused::Insert(refused)),
         }
@@ -310,7 +340,8 @@ impl<
         K: Clone,
         V: Clone,
     {
-        match self.get(&key, now, clock) {
+        let hash = self.engine.hash(&key);
+        match self.get_hashed(&key, hash, now, clock) {
             Ok(Some(value)) => return Ok(Ok(value)),
             Ok(None) => {}
             Err(_) => return Err(GetWithRefused::Lookup(key)),
@@ -320,7 +351,7 @@ impl<
             Ok(value) => value,
             Err(error) => return Ok(Err(error)),
         };
-        match self.insert_made(key, value, now, clock) {
+        match self.insert_made_hashed(key, hash, value, now, clock) {
             Ok(copy) => Ok(Ok(copy)),
             Err(refused) => Err(GetWithRefused::Insert(refused)),
         }
@@ -337,11 +368,27 @@ impl<
     where
         V: Clone,
     {
+        let hash = self.engine.hash(&key);
+        self.insert_made_hashed(key, hash, value, now, clock)
+    }
+
+    // The same with the key's hash.
+    fn insert_made_hashed<C: Clock>(
+        &mut self,
+        key: K,
+        hash: u64,
+        value: V,
+        now: Instant,
+        clock: &mut C,
+    ) -> Result<V, InsertRefused<K, V>>
+    where
+        V: Clone,
+    {
         let Ok(copy) = value.try_clone() else {
             let error = InsertError::OutOfMemory;
             return Err(InsertRefused { error, key, value });
         };
-        match self.insert(key, value, now, clock) {
+        match self.insert_hashed(key, hash, value, now, clock) {
             Ok(()) => Ok(copy),
             Err(refused) => Err(refused),
         }

@@ -71,3 +71,22 @@ pub fn hears_themselves<
     C: Clock,
 >()
 {}
+
+/// The counters after each call are those before, and the hits, misses and makers of what it stands for. That adds up
+/// from call to call, so hits and misses sum to the look-ups that were answered, until a counter is full.
+pub fn counts_look_ups<K, V: Clone, P, E>()
+{}
+
+/// Over any list of calls of a cache with a `CountingListener`, each counter rises by the removals of its cause in the
+/// run of the reference cache, saturating; and the listener within hears of each.
+pub fn counts_removals<
+    K: Eq + Clone,
+    V: Clone,
+    S,
+    X: Expiry<K, V>,
+    L: Listener<K, V>,
+    P: PredicateFn<K, V>,
+    W: Weigher<K, V>,
+    C: Clock,
+>()
+{}

@@ -6,7 +6,9 @@ pub mod cache;
 pub mod clock;
 pub mod driver;
 pub mod error;
+pub mod iter;
 pub mod laws;
+pub mod removals;
 pub mod stats;
 #[cfg(test)]
 mod tests;
@@ -16,5 +18,6 @@ pub use cache::Cache;
 pub use clock::{ManualClock, SystemClock};
 pub use driver::drive;
 pub use error::{GetWithRefused, NotTold};
+pub use removals::{CountingListener, Removals};
 pub use stats::Stats;
 pub use timed::TimedCache;

@@ -4,12 +4,14 @@ use crate::support::prelude::*;
 
 use crate::engine::moka_drive::cache::Cache;
 use crate::engine::moka_drive::error::{GetWithRefused, NotTold};
+use crate::engine::moka_drive::stats::Stats;
 use crate::engine::moka_engine::config::{CacheConfig, DefaultHasher};
 use crate::engine::moka_parts::closures::{NoPredicate, NoWeigher, PredicateFn, Weigher};
-use crate::engine::moka_parts::error::{InsertRefused, OutOfMemory};
+use crate::engine::moka_parts::error::{CapacityError, InsertRefused, OutOfMemory, PredicateRefused};
 use crate::engine::moka_parts::housekeeper::Clock;
+use crate::engine::moka_parts::invalidator::{IdSource, PredicateId};
 use crate::engine::moka_parts::notification::{Listener, NoListener};
-use crate::engine::moka_parts::policy::{Expiry, NoExpiry};
+use crate::engine::moka_parts::policy::{Expiry, NoExpiry, Policy};
 use crate::support::alloc::Global;
 use crate::support::hash::{BuildHasher, Hash};
 
@@ -65,6 +67,24 @@ impl<
     W: Weigher<K, V>,
     S: BuildHasher,
 > TimedCache<K, V, C, X, L, P, W, S> {
+    /// Hits, misses and loads since the cache was made.
+    pub fn stats(&self) -> Stats
+    {
+        self.cache.stats()
+    }
+
+    /// The cache's name, if it has one.
+    pub fn name(&self) -> Option<&str>
+    {
+        self.cache.name()
+    }
+
+    /// Capacity and times, as they were chosen.
+    pub fn policy(&self) -> Policy
+    {
+        self.cache.policy()
+    }
+
     /// How many entries the last run of maintenance counted.
     pub fn entry_count(&self) -> u64
     {
@@ -145,6 +165,66 @@ impl<
     {
         let now = self.clock.now();
         self.cache.get_with(key, init, now, &mut self.clock)
+    }
+
+    /// As `get_with`, for a maker that may decline: then nothing is inserted, and `None` is answered.
+    ///
+    /// # Errors
+    /// As `Cache::get_with`.
+    pub fn optionally_get_with<F: FnOnce() -> Option<V>>(
+        &mut self,
+        key: K,
+        init: F,
+    ) -> Result<Option<V>, GetWithRefused<K, V>>
+    where
+        K: Clone,
+        V: Clone,
+    {
+        let now = self.clock.now();
+        self.cache
+            .optionally_get_with(key, init, now, &mut self.clock)
+    }
+
+    /// As `get_with`, for a maker that may fail: then nothing is inserted, and its error is answered.
+    ///
+    /// # Errors
+    /// The outer error as `Cache::get_with`; the inner one is the maker's.
+    pub fn try_get_with<E, F: FnOnce() -> Result<V, E>>(
+        &mut self,
+        key: K,
+        init: F,
+    ) -> Result<Result<V, E>, GetWithRefused<K, V>>
+    where
+        K: Clone,
+        V: Clone,
+    {
+        let now = self.clock.now();
+        self.cache.try_get_with(key, init, now, &mut self.clock)
+    }
+
+    /// Registers a predicate at the clock's moment: what it covers is hidden from now on, and runs of maintenance remove
+    /// it.
+    ///
+    /// # Errors
+    /// As `Cache::invalidate_entries_if`.
+    pub fn invalidate_entries_if<I: IdSource>(
+        &mut self,
+        predicate: P,
+        ids: &mut I,
+    ) -> Result<PredicateId, PredicateRefused<P>>
+    {
+        let now = self.clock.now();
+        self.cache.invalidate_entries_if(predicate, now, ids)
+    }
+
+    /// Sets the greatest total weight that the cache keeps, `None` for no bound. What exceeds a lower capacity is evicted
+    /// by the runs that follow.
+    ///
+    /// # Errors
+    /// As `Cache::set_max_capacity`.
+    pub fn set_max_capacity(&mut self, capacity: Option<u64>) -> Result<(), CapacityError>
+    {
+        self.cache.set_max_capacity(capacity)
     }
 
     /// Invalidates all entries that were written or read before the clock's moment.
