@@ -31,6 +31,15 @@ impl<K, V> Entry<K, V> {
         }
     }
 
+    pub(crate) fn put(key: Arc<K>, value: V, is_old_value_replaced: bool) -> Self {
+        Entry {
+            key,
+            value,
+            is_fresh: true,
+            is_old_value_replaced,
+        }
+    }
+
     /// The key.
     ///
     /// ```
@@ -163,12 +172,7 @@ pub(crate) fn computed<K, V: Clone>(
         }
         (Op::Put(value), there) => {
             change(Some(value.clone()));
-            let entry = Entry {
-                key,
-                value,
-                is_fresh: true,
-                is_old_value_replaced: there.is_some(),
-            };
+            let entry = Entry::put(key, value, there.is_some());
             match there {
                 Some(_) => CompResult::ReplacedWith(entry),
                 None => CompResult::Inserted(entry),

@@ -1,9 +1,14 @@
 //! The generated synchronous cache with a clock. This is the one module that calls it.
 //!
-//! Each call of the front is one of its calls, but for these. A borrowed form of a key: its calls take keys that are
-//! owned, so one that changes something is preceded by a look-up, which changes nothing and may therefore be made with a
-//! key that only borrows; the call itself then goes by the address of the key that was found. Scans: its engine makes
-//! those. And the clock is ours, since where nothing can expire it need not be read in each call.
+//! Each call of the front is one or two of its calls, and what those cannot have:
+//!
+//! - Borrowed forms of keys. Its calls take keys that are owned. So one that changes something is preceded by a look-up,
+//!   which changes nothing and may be asked with a key that only borrows; the call itself then goes by the address of the
+//!   key that was found.
+//! - Makers. Its `get_with` is given one moment, at its start. A caller's maker may take longer than an entry lasts, so
+//!   here the value is put there at a moment after it, by `insert`; nor is a panic of the maker one in mid-call.
+//! - The clock. Where nothing can expire it need not be read in each call, so this is not the cache that owns its clock.
+//! - Scans, which its engine makes.
 
 use crate::engine::moka_drive;
 use crate::engine::moka_engine::{
@@ -17,7 +22,8 @@ use crate::settings::{Settings, Testing, Tests, Weighing};
 use crate::support::alloc::Global;
 use crate::support::uuid::Uuid;
 use crate::{Entry, RemovalCause, Stats};
-use moka_drive::{GetWithRefused, NotTold};
+use moka_drive::NotTold;
+use std::convert::Infallible;
 use std::hash::Hash;
 use std::sync::Arc;
 
@@ -62,9 +68,10 @@ pub(crate) struct Shard<K: 'static, V> {
     settings: Arc<Settings<K, V>>,
     capacity: Option<u64>,
     teller: Teller<K, V>,
-    // What was counted by caches that a panic ended, and makers of what replaces a value.
-    counted_beside: moka_drive::Stats,
-    // Makers that were called and gave no value.
+    // Hits and misses of caches that a panic ended.
+    counted_before: (u64, u64),
+    // Makers that gave a value, and such as gave none.
+    loads: u64,
     load_failures: u64,
 }
 
@@ -88,7 +95,8 @@ impl<K: Eq + Hash + 'static, V> Shard<K, V> {
             settings,
             capacity,
             teller,
-            counted_beside: moka_drive::Stats::new(),
+            counted_before: (0, 0),
+            loads: 0,
             load_failures: 0,
         }
     }
@@ -103,7 +111,7 @@ impl<K: Eq + Hash + 'static, V> Shard<K, V> {
 
     #[cold]
     fn empty(&mut self) {
-        self.counted_beside = self.counted();
+        self.counted_before = self.look_ups();
         self.cache = cache(&self.settings, self.capacity, &self.teller, self.clock);
         self.is_in_call = false;
     }
@@ -255,48 +263,32 @@ impl<K: Eq + Hash + 'static, V> Shard<K, V> {
     where
         V: Clone,
     {
-        let now = self.read_clock();
-        let (is_in_call, load_failures, mut is_fresh) = (&mut self.is_in_call, &mut self.load_failures, false);
-        *is_in_call = true;
-        let make = || {
-            // Meanwhile the cache is whole, and the load has failed until it has not.
-            *is_in_call = false;
-            *load_failures += 1;
-            let value = init()?;
-            *load_failures -= 1;
-            *is_in_call = true;
-            is_fresh = true;
-            Ok(value)
-        };
-        let shared = Key::kept(hash, Arc::clone(&key));
-        let made = self.cache.try_get_with(shared, make, now, &mut self.clock);
-        self.is_in_call = false;
-        let value = match made {
-            Ok(made) => made?,
-            Err(GetWithRefused::Insert(refused)) => {
-                self.refuse(refused.key, refused.value.clone());
-                refused.value
-            }
-            Err(GetWithRefused::Lookup(_)) => unreachable!("no clone of Rust's is refused"),
-        };
-        Ok(Entry {
-            is_fresh,
-            ..Entry::found(key, value)
-        })
+        if let Some(value) = self.get_found(&Key::at(hash, address(&key))) {
+            return Ok(Entry::found(key, value));
+        }
+        let value = self.make(init)?;
+        self.insert_kept(hash, Arc::clone(&key), value.clone());
+        Ok(Entry::put(key, value, false))
     }
 
-    /// Makes a value in the place of that under a key that is kept, which is read.
-    pub fn replace_with(&mut self, hash: u64, key: &Arc<K>, init: impl FnOnce() -> V) -> V
+    /// The entry of a key that is kept, whose value is read, and replaced by one that is made.
+    pub fn replace_with(&mut self, hash: u64, key: Arc<K>, init: impl FnOnce() -> V) -> Entry<K, V>
     where
         V: Clone,
     {
-        self.get_found(&Key::at(hash, address(key)));
-        self.counted_beside.loads += 1;
+        self.get_found(&Key::at(hash, address(&key)));
+        let Ok(value) = self.make(|| Ok::<_, Infallible>(init()));
+        self.insert_kept(hash, Arc::clone(&key), value.clone());
+        Entry::put(key, value, true)
+    }
+
+    // Makes a value. The load has failed until it has not.
+    fn make<E>(&mut self, init: impl FnOnce() -> Result<V, E>) -> Result<V, E> {
         self.load_failures += 1;
-        let value = init();
+        let value = init()?;
         self.load_failures -= 1;
-        self.insert_kept(hash, Arc::clone(key), value.clone());
-        value
+        self.loads += 1;
+        Ok(value)
     }
 
     /// Takes a key's entry out, and hands out its value, also one that has expired. The listener is told.
@@ -387,21 +379,17 @@ impl<K: Eq + Hash + 'static, V> Shard<K, V> {
         self.cache.weighted_size()
     }
 
-    // What was counted of look-ups, and calls of makers.
-    fn counted(&self) -> moka_drive::Stats {
-        let (before, now) = (self.counted_beside, self.cache.stats());
-        moka_drive::Stats {
-            hits: before.hits + now.hits,
-            misses: before.misses + now.misses,
-            loads: before.loads + now.loads,
-        }
+    // How many look-ups found a value, and how many found none.
+    fn look_ups(&self) -> (u64, u64) {
+        let ((hits, misses), now) = (self.counted_before, self.cache.stats());
+        (hits + now.hits, misses + now.misses)
     }
 
     pub fn add_to(&self, stats: &mut Stats) {
-        let counted = self.counted();
-        stats.hits += counted.hits;
-        stats.misses += counted.misses;
-        stats.loads += counted.loads - self.load_failures;
+        let (hits, misses) = self.look_ups();
+        stats.hits += hits;
+        stats.misses += misses;
+        stats.loads += self.loads;
         stats.load_failures += self.load_failures;
     }
 }

@@ -9,8 +9,10 @@
 //! ```
 
 mod entry;
+mod iter;
 
 pub use entry::EntrySelector;
+pub use iter::Iter;
 
 use crate::key::Test;
 use crate::notices::{Causes, Notices, locked};
@@ -549,16 +551,7 @@ impl<K: Eq + Hash + Sync + 'static, V: Clone + 'static, S: BuildHasher> Cache<K,
     /// cache.insert(1, 'a');
     /// assert_eq!(cache.iter().map(|(key, value)| (*key, value)).collect::<Vec<_>>(), [(1, 'a')]);
     /// ```
-    pub fn iter(&self) -> impl Iterator<Item = (Arc<K>, V)> {
-        let keys = if self.shard.is_broken() {
-            Vec::new()
-        } else {
-            self.shard.keys()
-        };
-        let with_value = |(hash, key)| {
-            let value = self.shard.scan(hash, &key)?;
-            Some((key, value))
-        };
-        keys.into_iter().filter_map(with_value)
+    pub fn iter(&self) -> Iter<'_, K, V, S> {
+        Iter::new(self)
     }
 }

@@ -120,6 +120,17 @@ fn lets_entries_expire() {
 }
 
 #[test]
+fn a_slow_maker_takes_nothing_of_the_time_to_live() {
+    let mut cache = Cache::builder().time_to_live(Duration::from_millis(300)).build();
+    let make = || {
+        sleep(Duration::from_millis(400));
+        1
+    };
+    assert_eq!(cache.get_with(1, make), 1);
+    assert_eq!(cache.get(&1), Some(1));
+}
+
+#[test]
 fn a_read_keeps_an_entry_from_idling_out() {
     let mut cache = Cache::builder().time_to_idle(Duration::from_millis(300)).build();
     cache.insert(1, 1);

@@ -72,13 +72,7 @@ impl<'a, K: Eq + Hash + Sync + 'static, V: Clone + 'static, S: BuildHasher> Entr
             return self.or_insert_with(init);
         }
         let EntrySelector { cache, hash, key } = self;
-        let value = cache.with(|shard| shard.replace_with(hash, &key, init));
-        Entry {
-            key,
-            value,
-            is_fresh: true,
-            is_old_value_replaced: true,
-        }
+        cache.with(|shard| shard.replace_with(hash, key, init))
     }
 
     /// The entry of the key, whose value is made where there was none; `None` where the maker gives none.

@@ -1,0 +1,41 @@
+//! The entries of a cache, one after the other.
+
+use super::Cache;
+use std::hash::{BuildHasher, Hash};
+use std::sync::Arc;
+use std::vec;
+
+/// The entries of a cache: see [`Cache::iter`].
+pub struct Iter<'a, K: 'static, V, S> {
+    cache: &'a Cache<K, V, S>,
+    keys: vec::IntoIter<(u64, Arc<K>)>,
+}
+
+impl<'a, K: Eq + Hash + Sync + 'static, V: Clone + 'static, S: BuildHasher> Iter<'a, K, V, S> {
+    pub(super) fn new(cache: &'a Cache<K, V, S>) -> Self {
+        let shard = &cache.shard;
+        let keys = if shard.is_broken() { Vec::new() } else { shard.keys() };
+        let keys = keys.into_iter();
+        Iter { cache, keys }
+    }
+}
+
+impl<K: Eq + Hash + Sync + 'static, V: Clone + 'static, S: BuildHasher> Iterator for Iter<'_, K, V, S> {
+    type Item = (Arc<K>, V);
+
+    fn next(&mut self) -> Option<(Arc<K>, V)> {
+        self.keys.find_map(|(hash, key)| {
+            let value = self.cache.shard.scan(hash, &key)?;
+            Some((key, value))
+        })
+    }
+}
+
+impl<'a, K: Eq + Hash + Sync + 'static, V: Clone + 'static, S: BuildHasher> IntoIterator for &'a Cache<K, V, S> {
+    type Item = (Arc<K>, V);
+    type IntoIter = Iter<'a, K, V, S>;
+
+    fn into_iter(self) -> Self::IntoIter {
+        self.iter()
+    }
+}
