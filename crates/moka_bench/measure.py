@@ -138,4 +138,5 @@ def main():
             times(run, name, given.reps, (0, 1) if given.synchronous else (0,))
 
 
-main()
+if __name__ == "__main__":
+    main()
