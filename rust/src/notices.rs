@@ -1,12 +1,12 @@
-//! What the listener is told, and what is counted.
+//! What the listener is told.
 
+use crate::RemovalCause;
 use crate::engine::moka_engine::Listener;
 use crate::key::Key;
-use crate::{RemovalCause, Stats};
 use std::cell::Cell;
 use std::collections::VecDeque;
 use std::panic::{AssertUnwindSafe, catch_unwind};
-use std::sync::atomic::{AtomicBool, AtomicU64, AtomicUsize, Ordering};
+use std::sync::atomic::{AtomicBool, AtomicUsize, Ordering};
 use std::sync::{Arc, Mutex, MutexGuard, PoisonError, TryLockError};
 
 /// The caller's listener.
@@ -104,55 +104,14 @@ impl<K, V> Notices<K, V> {
     }
 }
 
-/// Values that left, by cause.
-#[derive(Default)]
-pub(crate) struct Causes {
-    expired: AtomicU64,
-    explicit: AtomicU64,
-    replaced: AtomicU64,
-    size: AtomicU64,
-}
-
-impl Causes {
-    pub fn count(&self, cause: RemovalCause) {
-        let counter = match cause {
-            RemovalCause::Expired => &self.expired,
-            RemovalCause::Explicit => &self.explicit,
-            RemovalCause::Replaced => &self.replaced,
-            RemovalCause::Size => &self.size,
-        };
-        counter.fetch_add(1, Ordering::Relaxed);
-    }
-
-    pub fn add_to(&self, stats: &mut Stats) {
-        stats.expired += self.expired.load(Ordering::Relaxed);
-        stats.explicit += self.explicit.load(Ordering::Relaxed);
-        stats.replaced += self.replaced.load(Ordering::Relaxed);
-        stats.evicted += self.size.load(Ordering::Relaxed);
-    }
-}
-
-/// The engine's listener: it counts, and keeps for the caller's.
-pub(crate) struct Teller<K, V> {
-    pub causes: Arc<Causes>,
-    pub notices: Option<Arc<Notices<K, V>>>,
-}
+/// The engine's listener: it keeps what it is told for the caller's, where there is one.
+pub(crate) struct Teller<K, V>(pub Option<Arc<Notices<K, V>>>);
 
 impl<K, V> Teller<K, V> {
-    /// Counts a value that leaves, and keeps it for the listener.
+    /// Keeps a value that leaves for the listener.
     pub fn leaves(&self, key: Arc<K>, value: V, cause: RemovalCause) {
-        self.causes.count(cause);
-        if let Some(notices) = &self.notices {
+        if let Some(notices) = &self.0 {
             notices.push((key, value, cause));
-        }
-    }
-}
-
-impl<K, V> Clone for Teller<K, V> {
-    fn clone(&self) -> Self {
-        Teller {
-            causes: Arc::clone(&self.causes),
-            notices: self.notices.clone(),
         }
     }
 }

@@ -126,6 +126,32 @@ pub struct Stats {
     pub evicted: u64,
 }
 
+impl std::ops::Add for Stats {
+    type Output = Stats;
+
+    /// What two caches have counted.
+    ///
+    /// ```
+    /// let (one, other) = (ravulemis::sync::Cache::new(10), ravulemis::sync::Cache::new(10));
+    /// (one.insert(1, 'a'), other.insert(1, 'a'));
+    /// (one.get(&1), other.get(&2));
+    /// let stats = one.stats() + other.stats();
+    /// assert_eq!((stats.hits, stats.misses), (1, 1));
+    /// ```
+    fn add(self, other: Stats) -> Stats {
+        Stats {
+            hits: self.hits + other.hits,
+            misses: self.misses + other.misses,
+            loads: self.loads + other.loads,
+            load_failures: self.load_failures + other.load_failures,
+            expired: self.expired + other.expired,
+            explicit: self.explicit + other.explicit,
+            replaced: self.replaced + other.replaced,
+            evicted: self.evicted + other.evicted,
+        }
+    }
+}
+
 /// The engine's expiry: the caller's, asked with moments of std.
 pub(crate) struct Asked<K, V> {
     pub expiry: Arc<dyn Expiry<K, V> + Send + Sync>,

@@ -8,7 +8,7 @@
 //! - Makers. Its `get_with` is given one moment, at its start. A caller's maker may take longer than an entry lasts, so
 //!   here the value is put there at a moment after it, by `insert`; nor is a panic of the maker one in mid-call.
 //! - The clock. Where nothing can expire it need not be read in each call, so this is not the cache that owns its clock.
-//! - Scans, which its engine makes.
+//! - Scans. Its `iter` hands out all entries at once; here a lock is held for one at a time, so its engine makes them.
 
 use crate::engine::moka_drive;
 use crate::engine::moka_engine::{
@@ -16,19 +16,21 @@ use crate::engine::moka_engine::{
 };
 use crate::engine::moka_parts::error::PredicateError;
 use crate::key::{Carried, Key, Test, address};
-use crate::notices::{Causes, Notices, Teller};
+use crate::notices::{Notices, Teller};
 use crate::policy::Asked;
 use crate::settings::{Settings, Testing, Tests, Weighing};
 use crate::support::alloc::Global;
 use crate::support::uuid::Uuid;
 use crate::{Entry, RemovalCause, Stats};
-use moka_drive::NotTold;
+use moka_drive::{CountingListener, NotTold};
 use std::convert::Infallible;
 use std::hash::Hash;
 use std::sync::Arc;
 
+// The listener is there always, since it counts.
+type Told<K, V> = CountingListener<Teller<K, V>>;
 type Cache<K, V> =
-    moka_drive::Cache<Key<'static, K>, V, Asked<K, V>, Teller<K, V>, Testing<K, V>, Weighing<K, V>, Carried>;
+    moka_drive::Cache<Key<'static, K>, V, Asked<K, V>, Told<K, V>, Testing<K, V>, Weighing<K, V>, Carried>;
 
 // Where no entry can expire the clock is read once in so many calls: a moment then says only when a run is due.
 const CALLS_A_READING: u32 = 64;
@@ -67,12 +69,9 @@ pub(crate) struct Shard<K: 'static, V> {
     is_timed: bool,
     settings: Arc<Settings<K, V>>,
     capacity: Option<u64>,
-    teller: Teller<K, V>,
-    // Hits and misses of caches that a panic ended.
-    counted_before: (u64, u64),
-    // Makers that gave a value, and such as gave none.
-    loads: u64,
-    load_failures: u64,
+    notices: Option<Arc<Notices<K, V>>>,
+    // What was counted beside the cache: by caches that a panic ended, of makers and of what was refused.
+    counted: Stats,
 }
 
 impl<K: Eq + Hash + 'static, V> Shard<K, V> {
@@ -80,13 +79,12 @@ impl<K: Eq + Hash + 'static, V> Shard<K, V> {
     pub fn new(
         settings: Arc<Settings<K, V>>,
         capacity: Option<u64>,
-        causes: Arc<Causes>,
         notices: Option<Arc<Notices<K, V>>>,
         start: std::time::Instant,
     ) -> Self {
-        let (clock, teller) = (Elapsed(start), Teller { causes, notices });
+        let clock = Elapsed(start);
         Shard {
-            cache: cache(&settings, capacity, &teller, clock),
+            cache: cache(&settings, capacity, Teller(notices.clone()), clock),
             clock,
             now: Instant(0),
             calls_until_reading: 0,
@@ -94,10 +92,8 @@ impl<K: Eq + Hash + 'static, V> Shard<K, V> {
             is_timed: settings.is_timed(),
             settings,
             capacity,
-            teller,
-            counted_before: (0, 0),
-            loads: 0,
-            load_failures: 0,
+            notices,
+            counted: Stats::default(),
         }
     }
 
@@ -111,8 +107,8 @@ impl<K: Eq + Hash + 'static, V> Shard<K, V> {
 
     #[cold]
     fn empty(&mut self) {
-        self.counted_before = self.look_ups();
-        self.cache = cache(&self.settings, self.capacity, &self.teller, self.clock);
+        self.counted = self.stats();
+        self.cache = cache(&self.settings, self.capacity, Teller(self.notices.clone()), self.clock);
         self.is_in_call = false;
     }
 
@@ -226,9 +222,10 @@ impl<K: Eq + Hash + 'static, V> Shard<K, V> {
 
     // A value for which memory was refused leaves at once.
     #[cold]
-    fn refuse(&self, key: Key<'static, K>, value: V) {
+    fn refuse(&mut self, key: Key<'static, K>, value: V) {
         if let Some(key) = key.into_shared() {
-            self.teller.leaves(key, value, RemovalCause::Size);
+            self.counted.evicted += 1;
+            Teller(self.notices.clone()).leaves(key, value, RemovalCause::Size);
         }
     }
 
@@ -284,10 +281,10 @@ impl<K: Eq + Hash + 'static, V> Shard<K, V> {
 
     // Makes a value. The load has failed until it has not.
     fn make<E>(&mut self, init: impl FnOnce() -> Result<V, E>) -> Result<V, E> {
-        self.load_failures += 1;
+        self.counted.load_failures += 1;
         let value = init()?;
-        self.load_failures -= 1;
-        self.loads += 1;
+        self.counted.load_failures -= 1;
+        self.counted.loads += 1;
         Ok(value)
     }
 
@@ -379,25 +376,25 @@ impl<K: Eq + Hash + 'static, V> Shard<K, V> {
         self.cache.weighted_size()
     }
 
-    // How many look-ups found a value, and how many found none.
-    fn look_ups(&self) -> (u64, u64) {
-        let ((hits, misses), now) = (self.counted_before, self.cache.stats());
-        (hits + now.hits, misses + now.misses)
-    }
-
-    pub fn add_to(&self, stats: &mut Stats) {
-        let (hits, misses) = self.look_ups();
-        stats.hits += hits;
-        stats.misses += misses;
-        stats.loads += self.loads;
-        stats.load_failures += self.load_failures;
+    /// What was counted.
+    pub fn stats(&self) -> Stats {
+        let (looks, left) = (self.cache.stats(), self.cache.removals());
+        Stats {
+            hits: looks.hits,
+            misses: looks.misses,
+            expired: left.expired,
+            explicit: left.explicit,
+            replaced: left.replaced,
+            evicted: left.size,
+            ..Stats::default()
+        } + self.counted
     }
 }
 
 fn cache<K: 'static, V>(
     settings: &Settings<K, V>,
     capacity: Option<u64>,
-    teller: &Teller<K, V>,
+    teller: Teller<K, V>,
     mut clock: Elapsed,
 ) -> Cache<K, V> {
     let mut expirations = ExpirationPolicy::default();
@@ -419,7 +416,7 @@ fn cache<K: 'static, V>(
         Carried,
         settings.weigher.clone().map(Weighing),
         settings.eviction_policy,
-        Some(teller.clone()),
+        Some(CountingListener::new(teller)),
         expirations,
         HousekeeperConfig::default(),
         settings.takes_closures,

@@ -29,7 +29,7 @@ pub use iter::Iter;
 
 use crate::key::Test;
 use crate::making::Makers;
-use crate::notices::{Causes, Notices, locked};
+use crate::notices::{Notices, locked};
 use crate::settings::{Settings, Tests};
 use crate::shard::Shard;
 use crate::{Policy, PredicateError, Stats};
@@ -55,7 +55,6 @@ struct Shared<K: 'static, V, S> {
     places: Box<[Place<K, V>]>,
     hasher: S,
     settings: Arc<Settings<K, V>>,
-    causes: Arc<Causes>,
     loads: AtomicU64,
     load_failures: AtomicU64,
     // The identifier of the last predicate.
@@ -387,8 +386,7 @@ where
             load_failures: self.0.load_failures.load(Ordering::Relaxed),
             ..Stats::default()
         };
-        self.0.causes.add_to(&mut stats);
-        self.with_each(|shard| shard.add_to(&mut stats));
+        self.with_each(|shard| stats = stats + shard.stats());
         stats
     }
 

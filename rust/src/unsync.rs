@@ -15,7 +15,7 @@ pub use entry::EntrySelector;
 pub use iter::Iter;
 
 use crate::key::Test;
-use crate::notices::{Causes, Notices, locked};
+use crate::notices::{Notices, locked};
 use crate::settings::{Settings, setters};
 use crate::shard::Shard;
 use crate::{Entry, EvictionPolicy, Expiry, Policy, PredicateError, RemovalCause, Stats};
@@ -42,7 +42,6 @@ pub struct Cache<K: 'static, V, S = RandomState> {
     notices: Option<Arc<Notices<K, V>>>,
     hasher: S,
     settings: Arc<Settings<K, V>>,
-    causes: Arc<Causes>,
     last_predicate: u64,
 }
 
@@ -132,24 +131,17 @@ impl<K: Eq + Hash + Sync + 'static, V: Clone + 'static> CacheBuilder<K, V> {
     /// cache.insert(1, 'a');
     /// ```
     pub fn build_with_hasher<S: BuildHasher>(self, hasher: S) -> Cache<K, V, S> {
-        let (settings, causes) = (Arc::new(self.settings), Arc::new(Causes::default()));
+        let settings = Arc::new(self.settings);
         let notices = settings
             .listener
             .clone()
             .map(|listener| Arc::new(Notices::new(listener)));
         let capacity = settings.max_capacity;
         Cache {
-            shard: Shard::new(
-                settings.clone(),
-                capacity,
-                causes.clone(),
-                notices.clone(),
-                Instant::now(),
-            ),
+            shard: Shard::new(settings.clone(), capacity, notices.clone(), Instant::now()),
             notices,
             hasher,
             settings,
-            causes,
             last_predicate: 0,
         }
     }
@@ -538,10 +530,7 @@ impl<K: Eq + Hash + Sync + 'static, V: Clone + 'static, S: BuildHasher> Cache<K,
     /// assert_eq!((cache.stats().hits, cache.stats().misses), (1, 1));
     /// ```
     pub fn stats(&self) -> Stats {
-        let mut stats = Stats::default();
-        self.causes.add_to(&mut stats);
-        self.shard.add_to(&mut stats);
-        stats
+        self.shard.stats()
     }
 
     /// All visible entries. Nothing counts as a read.

@@ -2,7 +2,7 @@
 
 use super::{Cache, Place, Shared};
 use crate::making::Makers;
-use crate::notices::{Causes, Notices};
+use crate::notices::Notices;
 use crate::settings::{Settings, setters};
 use crate::shard::Shard;
 use crate::{EvictionPolicy, Expiry, RemovalCause};
@@ -132,12 +132,12 @@ where
         let count = self.count_of_shards();
         let mut settings = self.settings;
         settings.initial_capacity = settings.initial_capacity.map(|all| all.div_ceil(count));
-        let (settings, causes, start) = (Arc::new(settings), Arc::new(Causes::default()), Instant::now());
+        let (settings, start) = (Arc::new(settings), Instant::now());
         let places = (0..count).map(|index| {
             let listener = settings.listener.clone();
             let notices = listener.map(|listener| Arc::new(Notices::new(listener)));
             let share = settings.max_capacity.map(|all| share(all, index, count));
-            let shard = Shard::new(settings.clone(), share, causes.clone(), notices.clone(), start);
+            let shard = Shard::new(settings.clone(), share, notices.clone(), start);
             Place {
                 shard: Mutex::new(shard),
                 makers: Makers::default(),
@@ -148,7 +148,6 @@ where
             places: places.collect(),
             hasher,
             settings,
-            causes,
             loads: AtomicU64::new(0),
             load_failures: AtomicU64::new(0),
             last_predicate: AtomicU64::new(0),
