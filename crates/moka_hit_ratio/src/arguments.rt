@@ -1,72 +1,195 @@
 //! The arguments of the program.
+use crate::line::Format;
 use crate::trace::Shape;
 use anyhow::{Context, Result, bail};
 use std::alloc::Global;
 
-/// Where the names of traces begin among the arguments, behind the program's name and three numbers.
-pub const FIRST_TRACE: usize = 4;
+/// What `--help` prints.
+pub const HELP: &str = "\
+usage: moka-hit-ratio [OPTION..] CAPACITY,.. TRACE..
+
+Plays each trace through caches of each capacity, in entries, and prints how often an access found its key: in this
+engine under TinyLFU and under LRU, in plain FIFO, and with --optimum in a cache that knows the accesses to come.
+
+A trace is made, or read from a FILE, where - is standard input:
+  zipf:HUNDREDTHS:KEYS  by a Zipf law of exponent 0.01 to 0.99, in hundredths
+  loop:KEYS             all keys in turn, again and again
+  scan:KEYS             by a Zipf law of exponent 0.9, with a scan of new keys after each three times as many accesses
+  moving:KEYS           a working set that moves on by one key with each eight accesses
+  keys:FILE             one key a line
+  timed:FILE            a time and a key a line
+  arc:FILE              the first key and the count of keys that follow one another; further columns are passed over
+  lirs:FILE             one key a line, and lines of one *, which are passed over
+
+Options:
+  --warm N       the first N accesses of a trace fill the caches and are not counted (0)
+  --accesses N   no more than N accesses are counted (1000000 of a made trace, all of one that is read)
+  --optimum      also the optimum, which keeps the whole trace in memory
+  --svg FILE     also draws a chart of the one trace into a file; - draws it on standard output, without the table
+  --title TEXT   the title of the chart (the name of the trace)
+  --help         prints this";
+
+/// How many accesses of a made trace are counted if the arguments do not say.
+const MADE_ACCESSES: u64 = 1_000_000;
 
 /// What the arguments ask for.
 #[derive(Drop)]
-pub struct Options {
-    /// How many reads fill the caches first.
-    pub filling: u64,
-    /// How many reads are counted then.
-    pub counted: u64,
+pub struct Request {
     pub capacities: Vec<u64>,
+    /// How many accesses fill the caches first.
+    pub warm: u64,
+    /// How many are counted then; `None` if the arguments do not say.
+    pub accesses: Option<u64>,
+    pub has_optimum: bool,
+    /// The file that a chart is drawn into.
+    pub svg: Option<String>,
+    /// The title of the chart.
+    pub title: Option<String>,
+    /// The names of the traces.
+    pub traces: Vec<String>,
+    pub is_help: bool,
 }
 
-/// What the arguments ask for, the first of which is the program's name.
+/// What a word of the arguments is.
+#[derive(Clone, Copy, PartialEq, Eq, Drop)]
+enum Place {
+    /// An option, the capacities or a trace.
+    Any,
+    /// The number behind `--warm`.
+    Warm,
+    /// The number behind `--accesses`.
+    Accesses,
+    /// The file behind `--svg`.
+    Svg,
+    /// The text behind `--title`.
+    Title,
+}
+
+/// Where the keys of a trace come from.
+#[derive(Clone, Copy, Drop)]
+pub enum Origin<'a> {
+    /// It is made, over so many keys.
+    Made(Shape, u32),
+    /// It is read from a file.
+    Read(Format, &'a str),
+}
+
+impl Request {
+    /// What the arguments ask for, the first of which is the program's name.
+    ///
+    /// # Errors
+    /// What cannot be read.
+    pub fn read(alloc: Global, arguments: &[String]) -> Result<Self> {
+        let mut request = Request {
+            capacities: Vec::new(alloc),
+            warm: 0,
+            accesses: None,
+            has_optimum: false,
+            svg: None,
+            title: None,
+            traces: Vec::new(alloc),
+            is_help: false,
+        };
+        let mut place = Place::Any;
+        for word in arguments.iter().skip(1) {
+            place = request.take(alloc, place, word)?;
+        }
+        if request.is_help {
+            return Ok(request);
+        }
+        if place != Place::Any {
+            bail!("the last option is without its value");
+        }
+        request.check()?;
+        Ok(request)
+    }
+
+    /// Takes a word. What the next one is.
+    fn take(&mut self, alloc: Global, place: Place, word: &str) -> Result<Place> {
+        match place {
+            Place::Warm => self.warm = number(word)?,
+            Place::Accesses => self.accesses = Some(number(word)?),
+            Place::Svg => self.svg = Some(String::from_str(alloc, word)?),
+            Place::Title => self.title = Some(String::from_str(alloc, word)?),
+            Place::Any => return self.take_any(alloc, word),
+        }
+        Ok(Place::Any)
+    }
+
+    /// Takes an option, the capacities or a trace.
+    fn take_any(&mut self, alloc: Global, word: &str) -> Result<Place> {
+        match word {
+            "--warm" => return Ok(Place::Warm),
+            "--accesses" => return Ok(Place::Accesses),
+            "--svg" => return Ok(Place::Svg),
+            "--title" => return Ok(Place::Title),
+            "--optimum" => self.has_optimum = true,
+            "--help" => self.is_help = true,
+            _ if word.starts_with("--") => bail!("there is no option {word:?}; --help shows all"),
+            _ if self.capacities.is_empty() => self.capacities = numbers(alloc, word)?,
+            _ => self.traces.push(String::from_str(alloc, word)?)?,
+        }
+        Ok(Place::Any)
+    }
+
+    /// Checks what the words say together, and brings the capacities into order.
+    fn check(&mut self) -> Result<()> {
+        if self.traces.is_empty() {
+            bail!("capacities and a trace are wanted; --help shows how");
+        }
+        if self.svg.is_some() && self.traces.len() > 1 {
+            bail!("a chart shows one trace");
+        }
+        self.capacities.sort()?;
+        Ok(())
+    }
+
+    /// How many accesses are played at most.
+    pub fn most_accesses(&self, origin: Origin<'_>) -> u64 {
+        let counted = match (self.accesses, origin) {
+            (Some(counted), _) => counted,
+            (None, Origin::Made(..)) => MADE_ACCESSES,
+            (None, Origin::Read(..)) => u64::MAX,
+        };
+        self.warm.saturating_add(counted)
+    }
+}
+
+/// Where the keys of a trace come from, by its name, as `loop:5000`, `zipf:90:5000` or `arc:FILE`.
 ///
 /// # Errors
 /// What cannot be read.
-pub fn read_options(alloc: Global, arguments: &[String]) -> Result<Options> {
-    let mut words = arguments.iter().skip(1);
-    let (Some(filling), Some(counted), Some(capacities)) = (
-        words.next(),
-        words.next(),
-        words.next(),
-    ) else {
-        bail!("arguments: FILLING COUNTED CAPACITY,.. TRACE..");
-    };
-    Ok(Options {
-        filling: number(filling)?,
-        counted: number(counted)?,
-        capacities: numbers(alloc, capacities)?,
-    })
-}
-
-/// The shape and the number of keys that a trace's name says, as `loop:5000` or `zipf:90:5000`.
-///
-/// # Errors
-/// What cannot be read.
-pub fn named_trace(name: &str) -> Result<(Shape, u32)> {
+pub fn named_trace(name: &str) -> Result<Origin<'_>> {
     let Some((kind, rest)) = name.split_once(':') else {
-        bail!("no trace has the name {name:?}");
+        bail!("no trace has the name {name:?}; --help shows all");
     };
     match kind {
-        "loop" => Ok((Shape::Loop, keys(rest)?)),
-        "scan" => Ok((Shape::Scan, keys(rest)?)),
-        "moving" => Ok((Shape::Moving, keys(rest)?)),
+        "loop" => Ok(Origin::Made(Shape::Loop, count(rest)?)),
+        "scan" => Ok(Origin::Made(Shape::Scan, count(rest)?)),
+        "moving" => Ok(Origin::Made(Shape::Moving, count(rest)?)),
         "zipf" => zipf(rest),
-        _ => bail!("no trace has the name {name:?}"),
+        "keys" => Ok(Origin::Read(Format::Keys, rest)),
+        "timed" => Ok(Origin::Read(Format::Timed, rest)),
+        "arc" => Ok(Origin::Read(Format::Arc, rest)),
+        "lirs" => Ok(Origin::Read(Format::Lirs, rest)),
+        _ => bail!("no trace has the name {name:?}; --help shows all"),
     }
 }
 
 /// The exponent and the number of keys of a Zipf law.
-fn zipf(text: &str) -> Result<(Shape, u32)> {
-    let Some((exponent, count)) = text.split_once(':') else {
+fn zipf(text: &str) -> Result<Origin<'_>> {
+    let Some((exponent, keys)) = text.split_once(':') else {
         bail!("a trace by a Zipf law is named zipf:HUNDREDTHS:KEYS");
     };
-    let hundredths = keys(exponent)?;
+    let hundredths = count(exponent)?;
     if hundredths >= 100 {
         bail!("an exponent is from 1 to 99 hundredths");
     }
-    Ok((Shape::Zipf(hundredths), keys(count)?))
+    Ok(Origin::Made(Shape::Zipf(hundredths), count(keys)?))
 }
 
 /// A number above 0, of 32 bits.
-fn keys(text: &str) -> Result<u32> {
+fn count(text: &str) -> Result<u32> {
     let count = text
         .parse::<u32>()
         .context(format_args!("reading {text:?}"))?;

@@ -1,21 +1,14 @@
 //! The caches that a trace is played through, and what comes of it.
+ghost use Rattle.std.specs.Prelude.{◌≡◌, length, vec_len, IfOk};
+
 use crate::fifo::Fifo;
 use crate::optimum;
 use crate::read_through::ReadThrough;
+use crate::row::Row;
 use crate::tally::Tally;
 use anyhow::Result;
 use moka_engine::EvictionPolicy;
 use std::alloc::Global;
-
-/// What the caches of a capacity found.
-#[derive(Clone, Copy, Drop)]
-pub struct Row {
-    pub capacity: u64,
-    pub optimum: Tally,
-    pub tiny_lfu: Tally,
-    pub lru: Tally,
-    pub fifo: Tally,
-}
 
 /// The caches of a capacity.
 #[derive(Drop)]
@@ -36,7 +29,7 @@ impl Caches {
             fifo: Fifo::new(alloc, capacity),
             row: Row {
                 capacity,
-                optimum: none,
+                optimum: None,
                 tiny_lfu: none,
                 lru: none,
                 fifo: none,
@@ -63,37 +56,57 @@ impl Caches {
 pub struct Bench {
     alloc: Global,
     caches: Vec<Caches>,
-    keys: Vec<u64>,
-    filling: u64,
+    /// All keys read, if the optimum is asked for.
+    keys: Option<Vec<u64>>,
+    warm: u64,
     reads: u64,
 }
 
 impl Bench {
-    /// Empty caches of these capacities. The first reads fill them and are not counted.
+    /// Empty caches of these capacities. The first accesses, so many as `warm` says, fill them and are not counted.
+    /// The optimum keeps all keys in memory; without it memory is bounded by the capacities.
     ///
     /// # Errors
     /// What memory was refused for.
-    pub fn new(alloc: Global, capacities: &[u64], filling: u64) -> Result<Self> {
+    pub fn new(alloc: Global, capacities: &[u64], warm: u64, has_optimum: bool) -> Result<Self>
+        ensures { IfOk result (λ bench. vec_len bench.caches ≡ length capacities.now) }
+    {
         let mut caches = Vec::new(alloc);
         for capacity in capacities {
             caches.push(Caches::new(alloc, *capacity)?)?;
         }
+        let keys = if has_optimum {
+            Some(Vec::new(alloc))
+        } else {
+            None
+        };
         Ok(Bench {
             alloc,
             caches,
-            keys: Vec::new(alloc),
-            filling,
+            keys,
+            warm,
             reads: 0,
         })
+    }
+
+    /// How many keys were read.
+    pub fn reads(&self) -> u64
+        ensures { result ≡ self.now.reads }
+    {
+        self.reads
     }
 
     /// Reads a key through each cache.
     ///
     /// # Errors
     /// What a cache refused.
-    pub fn read(&mut self, key: u64) -> Result<()> {
-        self.keys.push(key)?;
-        let is_counted = self.reads >= self.filling;
+    pub fn read(&mut self, key: u64) -> Result<()>
+        ensures { vec_len self.new.caches ≡ vec_len self.old.caches }
+    {
+        if let Some(keys) = &mut self.keys {
+            keys.push(key)?;
+        }
+        let is_counted = self.reads >= self.warm;
         self.reads = self.reads.saturating_add(1);
         for caches in self.caches.iter_mut() {
             caches.read(key, is_counted)?;
@@ -101,16 +114,23 @@ impl Bench {
         Ok(())
     }
 
-    /// What the caches found, and what the optimum finds, by capacity.
+    /// What the caches found, and what the optimum finds, in the order of the capacities.
     ///
     /// # Errors
     /// What memory was refused for.
-    pub fn rows(&self) -> Result<Vec<Row>> {
-        let nexts = optimum::next_reads(self.alloc, &self.keys)?;
+    pub fn rows(&self) -> Result<Vec<Row>>
+        ensures { IfOk result (λ rows. vec_len rows ≡ vec_len self.now.caches) }
+    {
+        let nexts = match &self.keys {
+            Some(keys) => Some(optimum::next_reads(self.alloc, keys)?),
+            None => None,
+        };
         let mut rows = Vec::new(self.alloc);
         for caches in &self.caches {
             let mut row = caches.row;
-            row.optimum = optimum::count(self.alloc, &nexts, self.filling, row.capacity)?;
+            if let Some(nexts) = &nexts {
+                row.optimum = Some(optimum::count(self.alloc, nexts, self.warm, row.capacity)?);
+            }
             rows.push(row)?;
         }
         Ok(rows)

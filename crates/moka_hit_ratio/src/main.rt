@@ -3,46 +3,75 @@
 
 mod arguments;
 mod bench;
+mod chart;
+mod escape;
 mod fifo;
+mod line;
 mod optimum;
+mod play;
 mod ranks;
 mod read_through;
+mod row;
+mod scale;
 mod table;
 mod tally;
 mod trace;
 
-use crate::arguments::{FIRST_TRACE, Options, named_trace, read_options};
-use crate::bench::{Bench, Row};
+use crate::arguments::{HELP, Request};
+use crate::chart::draw_chart;
+use crate::play::play;
+use crate::row::Row;
 use crate::table::print_table;
-use crate::trace::Trace;
 use anyhow::Result;
 use std::alloc::Global;
 use std::env;
-use std::rt::Env;
+use std::fs::File;
+use std::io::{self, BufWriter, Write};
+use std::rt::{Env, Files};
 
-/// Prints a table for each trace that the arguments name.
+/// Prints a table for each trace that the arguments name, or draws a chart.
 fn main(rt: HostRuntime) -> Result<()> {
     let arguments = arguments_of(&rt)?;
-    let options = read_options(rt.alloc(), &arguments)?;
-    for name in arguments.iter().skip(FIRST_TRACE) {
-        let rows = play(rt.alloc(), &options, name)?;
-        print_table(&rt, name, &rows)?;
+    let request = Request::read(rt.alloc(), &arguments)?;
+    if request.is_help {
+        println!(rt; "{HELP}")?;
+        return Ok(());
     }
+    for name in &request.traces {
+        let rows = play(&rt, &request, name)?;
+        report(&rt, &request, name, &rows)?;
+    }
+    Ok(())
+}
+
+/// Prints a table of what the caches found in a trace, draws a chart of it into a file, or both.
+fn report<R: Files + Print + AllocGlobal>(
+    rt: &R,
+    request: &Request,
+    name: &str,
+    rows: &[Row],
+) -> Result<()> {
+    let title = request.title.as_deref().unwrap_or(name);
+    match request.svg.as_deref() {
+        None => print_table(rt, name, rows)?,
+        Some("-") => write_chart(rt.alloc(), io::writer(rt), title, rows)?,
+        Some(path) => {
+            print_table(rt, name, rows)?;
+            write_chart(rt.alloc(), File::create(rt, path)?, title, rows)?;
+        }
+    }
+    Ok(())
+}
+
+/// Draws a chart through a buffer.
+fn write_chart<W: Write + Drop>(alloc: Global, out: W, title: &str, rows: &[Row]) -> Result<()> {
+    let mut out = BufWriter::new(alloc, out)?;
+    draw_chart(&mut out, title, rows)?;
+    out.flush()?;
     Ok(())
 }
 
 /// The arguments, the first of which is the program's name.
 fn arguments_of<R: Env + AllocGlobal>(rt: &R) -> Result<Vec<String>> {
     Ok(env::args(rt)?.collect(rt.alloc())?)
-}
-
-/// What caches of the asked capacities find in a trace.
-fn play(alloc: Global, options: &Options, name: &str) -> Result<Vec<Row>> {
-    let (shape, keys) = named_trace(name)?;
-    let mut trace = Trace::new(shape, keys);
-    let mut bench = Bench::new(alloc, &options.capacities, options.filling)?;
-    for _ in 0..options.filling.saturating_add(options.counted) {
-        bench.read(trace.next_key())?;
-    }
-    bench.rows()
 }

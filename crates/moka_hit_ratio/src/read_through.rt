@@ -6,7 +6,12 @@ use std::alloc::Global;
 // Nothing expires, so that all is done at one moment.
 const NOW: Instant = Instant(0);
 
-/// A cache of this engine, which makes its runs of maintenance by itself.
+// No entry is listened to, so that one pass is enough, and a batch of one would do.
+const REPEATS: u32 = 1;
+
+const BATCH: u32 = 500;
+
+/// A cache of this engine. A run of maintenance follows each insert, so that it keeps to its capacity.
 #[derive(Drop)]
 pub struct ReadThrough {
     cache: Engine<u64, u64>,
@@ -42,8 +47,9 @@ impl ReadThrough {
             .get_with_hash(&key, hash, false, NOW, &mut clock)?;
         if found.is_none() && !self.cache.is_map_disabled() {
             let (ticket, _) = self.cache.do_insert_with_hash(key, hash, key, NOW)?;
-            self.cache.apply_reads_writes_if_needed(NOW, &mut clock);
             self.cache.send(ticket)?;
+            self.cache
+                .run_pending_tasks(NOW, &mut clock, None, REPEATS, BATCH);
         }
         Ok(found.is_some())
     }
