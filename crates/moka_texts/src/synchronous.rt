@@ -157,8 +157,8 @@ fn insert_made(
     Ok(Some(copy))
 }
 
-/// The text of the maker's own key, made where it is not there. A look-up that is refused is made again with the key that
-/// came back, and an insert with key and value.
+/// The text of the maker's own key, made where it is not there. A look-up that is refused is made again with the key
+/// that came back, and an insert with key and value.
 fn made_by<W: Write>(
     alloc: Global,
     out: &mut W,
