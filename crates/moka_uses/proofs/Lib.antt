@@ -4,3 +4,6 @@ pub mod Told
 pub mod Ended
 pub mod Covered
 pub mod Followed
+pub mod Replied
+pub mod GotOrMade
+pub mod Idle

@@ -1,0 +1,186 @@
+//! A caller that handles each refusal of the synchronous cache.
+ghost use Rattle.std.specs.Prelude.{◌≡◌, ◌==◌, ◌⊎◌, ◌++◌, ◌∷◌, [], false, true, max, None, Some, IfErr, IfOk, IfSome, OnErr, option_map};
+ghost use Rattle.moka_engine.specs.Calls.{ContainsStep};
+ghost use Rattle.moka_engine.specs.Records.{record_of_key};
+ghost use Rattle.moka_engine.specs.State.{is_disabled};
+ghost use Rattle.moka_drive.specs.Unsent.{IsThere};
+ghost use Rattle.moka_uses.specs.Handled.{IsCloneOfKept};
+
+use moka_drive::{Cache, GetWithRefused};
+use moka_engine::{
+    CapacityError, Clock, IdSource, InsertError, InsertRefused, Instant, Listener, NoExpiry,
+    NoListener, OutOfMemory, PredicateFn, PredicateId,
+};
+
+/// Puts a value under a key. If memory is refused, the insert is made once more, with what came back of the first.
+///
+/// # Errors
+/// The insert that was refused, with key and value; the cache is as it was.
+pub fn put<C: Clock>(
+    cache: &mut Cache<u64, u64>,
+    key: u64,
+    value: u64,
+    now: Instant,
+    clock: &mut C,
+) -> Result<(), InsertRefused<u64, u64>>
+    requires { is_disabled cache.old.engine.state.capacity ≡ false }
+    ensures put { IfOk result (λ _. IsThere (λ a b. a == b) cache.new.engine.state key value now) }
+    ensures back { IfErr result (λ refused. (refused.key ≡ key) × (refused.value ≡ value)) }
+    ensures unchanged { OnErr result (cache.new.engine.state ≡ cache.old.engine.state) }
+{
+    let refused = match cache.insert(key, value, now, clock) {
+        Ok(()) => return Ok(()),
+        Err(refused) => refused,
+    };
+    match refused.error {
+        InsertError::OutOfMemory => cache.insert(refused.key, refused.value, now, clock),
+        // No later insert succeeds either.
+        InsertError::NumbersUsedUp => Err(refused),
+    }
+}
+
+/// Takes a value out, whether the listener could be told of it or not.
+pub fn take<V: Clone + Drop, L: Listener<u64, V>, C: Clock>(
+    cache: &mut Cache<u64, V, NoExpiry, L>,
+    key: u64,
+    now: Instant,
+    clock: &mut C,
+) -> Option<V>
+    ensures { result ≡ option_map (λ r. r.value) (record_of_key (λ a b. a == b) cache.old.engine.state.records key) }
+{
+    match cache.remove(&key, now, clock) {
+        Ok(value) => value,
+        Err(refused) => Some(refused.value),
+    }
+}
+
+/// A clone of the value of a key, or else of the value that is made. A value that was made and could not be kept is
+/// handed out all the same. If the look-up is refused, it is made once more, with the key that came back.
+///
+/// # Errors
+/// `OutOfMemory` where the second look-up is refused too.
+pub fn value_or_made<V: Clone + Drop, F: FnOnce() -> V, C: Clock>(
+    cache: &mut Cache<u64, V>,
+    key: u64,
+    make: F,
+    now: Instant,
+    clock: &mut C,
+) -> Result<V, OutOfMemory>
+    requires callable { ContainsStep (λ _ _ _ answer. answer ≡ false) (λ a b. a == b) cache.old.engine.state key now.0 false → F.pre make }
+    ensures { IfOk result (λ value. IsCloneOfKept (λ a b. a == b) V.is_clone cache.old.engine.state key value
+        ⊎ ((made : V) × F.post make made × ((value ≡ made) ⊎ V.is_clone made value))) }
+{
+    match cache.get_with(key, make, now, clock) {
+        Ok(value) => Ok(value),
+        Err(GetWithRefused::Insert(refused)) => Ok(refused.value),
+        Err(GetWithRefused::Lookup(key)) => match cache.get(&key, now, clock) {
+            Ok(Some(value)) => Ok(value),
+            _ => Err(OutOfMemory),
+        },
+    }
+}
+
+/// Hides what a predicate covers. If the predicate is refused, all entries that were written or read before the moment
+/// `now` are invalidated in its place, and the answer is `None`.
+pub fn hide<P: PredicateFn<u64, u64> + Drop, I: IdSource>(
+    cache: &mut Cache<u64, u64, NoExpiry, NoListener, P>,
+    predicate: P,
+    now: Instant,
+    ids: &mut I,
+) -> Option<PredicateId>
+    ensures hidden { IfSome result (λ id. cache.new.engine.state.predicates ≡ cache.old.engine.state.predicates ++ record { id = id; predicate = predicate; registered = now } ∷ []) }
+    ensures all { result ≡ None → cache.new.engine.state ≡ record cache.old.engine.state { invalid_before = Some now } }
+{
+    match cache.invalidate_entries_if(predicate, now, ids) {
+        Ok(id) => Some(id),
+        Err(_) => {
+            cache.invalidate_all(now);
+            None
+        }
+    }
+}
+
+/// Lets the cache keep as much as `capacity`, and at least 1. The answer is the capacity that holds from now on: that
+/// of a disabled cache stays 0.
+pub fn resize(cache: &mut Cache<u64, u64>, capacity: u64) -> u64
+    ensures resized { is_disabled cache.old.engine.state.capacity ≡ false → result ≡ max capacity 1 }
+    ensures disabled { is_disabled cache.old.engine.state.capacity ≡ true → result ≡ 0 }
+    ensures holds { cache.new.engine.state.capacity ≡ Some result }
+{
+    let at_least_one = capacity.max(1);
+    match cache.set_max_capacity(Some(at_least_one)) {
+        Ok(()) => at_least_one,
+        Err(CapacityError::ZeroCapacity) => 0,
+    }
+}
+
+#[cfg(test)]
+mod tests {
+    use super::*;
+    use crate::invalidated::CountedIds;
+    use crate::notified::Counter;
+    use anyhow::Result;
+    use moka_engine::{CacheConfig, FixedClock, NoPredicate};
+    use std::alloc::AllocError;
+
+    const NOW: Instant = Instant(0);
+
+    /// A value of which no clone can be made.
+    #[derive(Debug, PartialEq, Eq, Drop)]
+    struct Unique(u64);
+
+    impl Clone for Unique {
+        fn clone(&self) -> Result<Self, AllocError> {
+            Err(AllocError)
+        }
+    }
+
+    #[test]
+    fn hands_out_what_cannot_be_cloned(rt: HostRuntime) -> Result<()> {
+        let clock = &mut FixedClock(NOW);
+        let config = CacheConfig::default().eviction_listener(Counter { count: 0 });
+        let mut told: Cache<u64, Unique, NoExpiry, Counter> = Cache::build(
+            config,
+            rt.alloc(),
+            NOW,
+        )?;
+        told.insert(1, Unique(10), NOW, clock)?;
+        assert_eq!(rt; take(&mut told, 1, NOW, clock), Some(Unique(10)));
+        assert_eq!(rt; take(&mut told, 1, NOW, clock), None);
+        assert_eq!(rt; told.engine().listener(), Some(&Counter { count: 0 }));
+
+        let config = CacheConfig::default();
+        let mut cache: Cache<u64, Unique> = Cache::build(config, rt.alloc(), NOW)?;
+        let made = value_or_made(&mut cache, 1, || Unique(10), NOW, clock);
+        assert_eq!(rt; made, Ok(Unique(10)));
+        cache.insert(1, Unique(11), NOW, clock)?;
+        let refused = value_or_made(&mut cache, 1, || Unique(12), NOW, clock);
+        assert_eq!(rt; refused, Err(OutOfMemory));
+        Ok(())
+    }
+
+    #[test]
+    fn does_the_next_best(rt: HostRuntime) -> Result<()> {
+        let clock = &mut FixedClock(NOW);
+        let config = CacheConfig::default()
+            .max_capacity(4)
+            .first_ticket(u64::MAX);
+        let mut cache: Cache<u64, u64> = Cache::build(config, rt.alloc(), NOW)?;
+        if !cache.engine().is_map_disabled() {
+            let refused = put(&mut cache, 1, 10, NOW, clock).err();
+            let back = refused.map(|refused| (refused.error, refused.key, refused.value));
+            assert_eq!(rt; back, Some((InsertError::NumbersUsedUp, 1, 10)));
+        }
+        assert_eq!(rt; (resize(&mut cache, 0), resize(&mut cache, 8)), (1, 8));
+
+        let mut cache: Cache<u64, u64> = Cache::build(CacheConfig::default(), rt.alloc(), NOW)?;
+        cache.insert(1, 10, NOW, clock)?;
+        let hidden = hide(&mut cache, NoPredicate, Instant(1), &mut CountedIds(0));
+        assert!(rt; hidden.is_none() && !cache.contains_key(&1, Instant(1)));
+
+        let config = CacheConfig::default().max_capacity(0);
+        let mut cache: Cache<u64, u64> = Cache::build(config, rt.alloc(), NOW)?;
+        assert_eq!(rt; resize(&mut cache, 8), 0);
+        Ok(())
+    }
+}

@@ -1,0 +1,71 @@
+//! A read-through cache over a source that can fail.
+ghost use Rattle.std.specs.Prelude.{◌≡◌, ◌⊎◌, false, Ok, Err, IfOk, IfErr};
+ghost use Rattle.moka_engine.specs.Calls.{ContainsStep};
+ghost use Rattle.moka_drive.specs.Synchronous.{meaning_of};
+ghost use Rattle.moka_uses.specs.Handled.{IsCloneOfKept};
+ghost use Rattle.moka_uses.specs.ReadThrough.{ComesBack, FindsNothing};
+
+use moka_drive::{Cache, GetWithRefused};
+use moka_engine::{Clock, Expiry, Instant, Listener, PredicateFn, Weigher};
+use std::hash::Hash;
+
+/// The value of a key: a clone of the one that is there, or else what the source gives, which is kept. A failure of the
+/// source is handed on, and nothing is inserted then. The source is asked once, and only if the key is not there.
+///
+/// # Errors
+/// The inner error is the source's. The outer one, as of `Cache::try_get_with`, has the key, and the source's value if
+/// it gave one.
+pub fn look_up<
+    K: Eq + Hash + Clone + Drop,
+    V: Clone + Drop,
+    E,
+    X: Expiry<K, V>,
+    L: Listener<K, V>,
+    P: PredicateFn<K, V> + Drop,
+    W: Weigher<K, V>,
+    F: FnOnce() -> Result<V, E>,
+    C: Clock,
+>(
+    cache: &mut Cache<K, V, X, L, P, W>,
+    key: K,
+    ask: F,
+    now: Instant,
+    clock: &mut C,
+) -> Result<Result<V, E>, GetWithRefused<K, V>>
+    requires callable { ContainsStep P.says K.eq cache.old.engine.state key now.0 false → F.pre ask }
+    ensures given { IfOk result (λ answer. IfOk answer (λ value. IsCloneOfKept K.eq V.is_clone cache.old.engine.state key value ⊎ ((own : V) × F.post ask (Ok own) × V.is_clone own value))) }
+    ensures failed { IfOk result (λ answer. IfErr answer (λ error. F.post ask (Err error)
+        × FindsNothing (meaning_of K.eq L.tells P.says W.weighs C.reads X.created X.read X.updated) key now cache.old.engine clock.old cache.new.engine clock.new)) }
+    ensures back { IfErr result (λ refused. ComesBack (λ value. F.post ask (Ok value)) key refused) }
+{
+    cache.try_get_with(key, ask, now, clock)
+}
+
+#[cfg(test)]
+mod tests {
+    use super::*;
+    use anyhow::Result;
+    use moka_engine::{CacheConfig, FixedClock};
+    use std::cell::Cell;
+
+    #[test]
+    fn asks_the_source_until_it_answers(rt: HostRuntime) -> Result<()> {
+        let now = Instant(0);
+        let mut cache: Cache<u64, u64> = Cache::build(CacheConfig::default(), rt.alloc(), now)?;
+        let asked = Cell::new(0);
+        let rounds: [(Result<u64, u8>, Result<u64, u8>, u64); 3] = [
+            (Err(7), Err(7), 7),
+            (Ok(10), Ok(10), 10),
+            (Ok(20), Ok(10), 10),
+        ];
+        for (answer, expected, last) in rounds {
+            let ask = || {
+                asked.set(answer.unwrap_or(7));
+                answer
+            };
+            let found = look_up(&mut cache, 1, ask, now, &mut FixedClock(now));
+            assert_eq!(rt; (found.ok(), asked.get()), (Some(expected), last));
+        }
+        Ok(())
+    }
+}

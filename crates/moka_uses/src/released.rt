@@ -1,0 +1,90 @@
+//! A cache with a listener that gives back what a value held.
+ghost use Rattle.moka_engine.specs.Copies.{ClonesAreEqual};
+ghost use Rattle.moka_engine.specs.Drives.{Drives};
+ghost use Rattle.std.specs.Prelude.{List};
+ghost use Rattle.moka_engine.specs.parts.Call.{Call};
+ghost use Rattle.moka_engine.specs.parts.Reply.{Reply};
+ghost use Rattle.moka_drive.specs.Synchronous.{meaning_of};
+
+use moka_drive::laws::{hears_themselves, keeps_promises};
+use moka_drive::{Cache, NotTold};
+use moka_engine::{
+    Clock, DefaultHasher, Expiry, Instant, Listener, NoExpiry, PredicateFn, RemovalCause, Weigher,
+};
+use std::hash::Hash;
+
+/// How many places are free in a pool of connections. Each connection that leaves the cache gives its place back.
+#[derive(Clone, Copy, Debug, PartialEq, Eq)]
+pub struct Places {
+    pub free: u64,
+}
+
+impl<K: Drop, V: Drop> Listener<K, V> for Places {
+    ghost use Rattle.std.specs.Prelude.{◌≡◌, ◌+◌, min};
+    ghost use Rattle.moka_engine.specs.Time.{greatest};
+
+    ghost tells = { λ before _ _ _ after. after ≡ record { free = min (before.free + 1) greatest } };
+
+    fn notify(&mut self, _: K, _: V, _: RemovalCause) {
+        self.free = self.free.saturating_add(1);
+    }
+}
+
+/// Users' connections, each by a number.
+pub type Connections = Cache<u64, u64, NoExpiry, Places>;
+
+/// Closes what is kept under a key. This is a run of the reference cache that keeps all that is promised of a list of
+/// calls (`keeps_promises`): if a listener is set, each value that leaves is handed to it exactly once (`told_once`).
+///
+/// # Errors
+/// `NotTold`, with the value, of which the listener was not told: its place is the caller's to give back.
+pub fn close<
+    K: Eq + Hash + Clone + Drop,
+    V: Clone + Drop,
+    X: Expiry<K, V>,
+    L: Listener<K, V>,
+    P: PredicateFn<K, V> + Drop,
+    W: Weigher<K, V>,
+    C: Clock,
+>(
+    cache: &mut Cache<K, V, X, L, P, W>,
+    key: &K,
+    now: Instant,
+    clock: &mut C,
+) -> Result<(), NotTold<V>>
+    requires keys { ClonesAreEqual K.is_clone }
+    requires values { ClonesAreEqual V.is_clone }
+    ensures { (calls : List (Call K V P)) × (replies : List (Reply K V P))
+        × Drives (meaning_of K.eq L.tells P.says W.weighs C.reads X.created X.read X.updated)
+        calls replies cache.old.engine clock.old tt cache.new.engine clock.new tt }
+{
+    hears_themselves::<K, V, DefaultHasher, X, L, P, W, C>();
+    keeps_promises::<K, V, DefaultHasher, X, L, P, W, C>();
+    cache.engine().invariant_holds();
+    cache.invalidate(key, now, clock)
+}
+
+#[cfg(test)]
+mod tests {
+    use super::*;
+    use anyhow::Result;
+    use moka_engine::{CacheConfig, FixedClock};
+
+    #[test]
+    fn gives_each_place_back_once(rt: HostRuntime) -> Result<()> {
+        let now = Instant(0);
+        let clock = &mut FixedClock(now);
+        let config = CacheConfig::default().eviction_listener(Places { free: 0 });
+        let mut connections: Connections = Cache::build(config, rt.alloc(), now)?;
+        connections.insert(1, 10, now, clock)?;
+        connections.insert(2, 20, now, clock)?;
+        // The first connection of user 1 is replaced.
+        connections.insert(1, 11, now, clock)?;
+        assert_eq!(rt; connections.engine().listener(), Some(&Places { free: 1 }));
+        close(&mut connections, &1, now, clock)?;
+        close(&mut connections, &1, now, clock)?;
+        connections.run_pending_tasks(now, clock);
+        assert_eq!(rt; connections.engine().listener(), Some(&Places { free: 2 }));
+        Ok(())
+    }
+}

@@ -1,0 +1,98 @@
+//! Sessions that end when they are not used.
+ghost use Rattle.std.specs.Prelude.{◌≡◌, ◌==◌, false, is_some, Some, IfErr, IfOk, option_map};
+ghost use Rattle.std.specs.Duration.{as_nanos};
+ghost use Rattle.moka_engine.specs.parts.Instant.{Instant};
+ghost use Rattle.moka_engine.specs.Records.{record_of_key};
+ghost use Rattle.moka_engine.specs.State.{is_disabled};
+ghost use Rattle.moka_drive.specs.Unsent.{IsThere};
+ghost use Rattle.moka_uses.specs.Sessions.{IsFoundWithin};
+
+use moka_drive::TimedCache;
+use moka_engine::{CacheConfig, Clock, InsertRefused, OutOfMemory};
+use std::alloc::Global;
+use std::time::Duration;
+
+/// Users' tokens.
+pub type Sessions<C> = TimedCache<u64, u64, C>;
+
+/// No sessions. A session that is not used for the time `idle` ends.
+///
+/// # Errors
+/// `OutOfMemory`
+pub fn start<C: Clock + Drop>(
+    alloc: Global,
+    idle: Duration,
+    clock: C,
+) -> Result<Sessions<C>, OutOfMemory>
+    ensures { IfOk result (λ sessions. sessions.cache.engine.state.settings.time_to_idle ≡ Some (as_nanos idle)) }
+{
+    TimedCache::build(CacheConfig::default().time_to_idle(idle), alloc, clock)
+}
+
+/// Begins a session of a user, used at the clock's moment. One that the user has ends.
+///
+/// # Errors
+/// The insert that was refused, with user and token.
+pub fn log_in<C: Clock>(
+    sessions: &mut Sessions<C>,
+    user: u64,
+    token: u64,
+) -> Result<(), InsertRefused<u64, u64>>
+    requires { is_disabled sessions.old.cache.engine.state.capacity ≡ false }
+    ensures begun { (now : Instant) × (read : C) × C.reads sessions.old.clock now read
+        × IfOk result (λ _. IsThere (λ a b. a == b) sessions.new.cache.engine.state user token now) }
+    ensures back { IfErr result (λ refused. (refused.key ≡ user) × (refused.value ≡ token)) }
+{
+    sessions.insert(user, token)
+}
+
+/// Uses the session of a user: its token, if it was used within the idle time before the clock's moment, and else
+/// `None`.
+///
+/// # Errors
+/// `OutOfMemory`
+pub fn touch<C: Clock>(sessions: &mut Sessions<C>, user: u64) -> Result<Option<u64>, OutOfMemory>
+    ensures { (now : Instant) × (read : C) × C.reads sessions.old.clock now read
+        × IfOk result (λ token. IsFoundWithin sessions.old.cache.engine.state user now.0 (is_some token)) }
+{
+    sessions.get(&user)
+}
+
+/// Ends the session of a user, and hands its token out, also where its time is over.
+pub fn log_out<C: Clock>(sessions: &mut Sessions<C>, user: u64) -> Option<u64>
+    ensures { result ≡ option_map (λ r. r.value) (record_of_key (λ a b. a == b) sessions.old.cache.engine.state.records user) }
+{
+    match sessions.remove(&user) {
+        Ok(token) => token,
+        Err(refused) => Some(refused.value),
+    }
+}
+
+#[cfg(test)]
+mod tests {
+    use super::*;
+    use anyhow::Result;
+    use moka_drive::ManualClock;
+    use moka_engine::Instant;
+
+    #[test]
+    fn lasts_while_it_is_used(rt: HostRuntime) -> Result<()> {
+        let clock = ManualClock { now: Instant(0) };
+        let mut sessions = start(rt.alloc(), Duration::from_nanos(100), clock)?;
+        if sessions.cache.engine().is_map_disabled() {
+            return Ok(());
+        }
+        log_in(&mut sessions, 1, 10)?;
+        for (later, token) in [(99, Some(10)), (99, Some(10)), (100, None)] {
+            sessions.clock.advance(Duration::from_nanos(later));
+            assert_eq!(rt; touch(&mut sessions, 1)?, token);
+        }
+        if sessions.cache.engine().is_map_disabled() {
+            return Ok(());
+        }
+        log_in(&mut sessions, 2, 20)?;
+        assert_eq!(rt; log_out(&mut sessions, 2), Some(20));
+        assert_eq!(rt; touch(&mut sessions, 2)?, None);
+        Ok(())
+    }
+}
