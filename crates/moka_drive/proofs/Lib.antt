@@ -11,3 +11,4 @@ pub mod Alike
 mod Listing
 mod Counting
 mod Telling
+pub mod Entries

@@ -8,3 +8,4 @@ pub mod Counters
 pub mod Visible
 pub mod Counted
 pub mod Removed
+pub mod Entries

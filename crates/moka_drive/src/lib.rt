@@ -4,6 +4,9 @@
 pub mod cache;
 pub mod clock;
 pub mod driver;
+pub mod entry;
+#[cfg(test)]
+mod entry_tests;
 pub mod error;
 pub mod iter;
 pub mod laws;
@@ -16,6 +19,7 @@ pub mod timed;
 pub use cache::Cache;
 pub use clock::{ManualClock, SystemClock};
 pub use driver::drive;
+pub use entry::CacheEntry;
 pub use error::{GetWithRefused, NotTold};
 pub use removals::{CountingListener, Removals};
 pub use stats::Stats;

@@ -1,0 +1,54 @@
+-- Entry calls: what they answer beside the values of the calls that they stand for.
+use Rattle.std.specs.Prelude.{◌≡◌, true, false, Option, Some, None, Result, Ok, Err}
+use Rattle.moka_parts.specs.declared.error.InsertError.TheVariants as insert_error
+use Rattle.moka_parts.specs.declared.error.InsertRefused.{InsertRefused}
+use Rattle.moka_drive.specs.declared.entry.CacheEntry.{CacheEntry}
+use Rattle.moka_drive.specs.declared.stats.Stats.{Stats}
+use Rattle.moka_drive.specs.Counters.{one_more}
+
+-- ---- the values of what is answered
+
+abbrev pub entry_value : {K V E : Type 0} → Result (CacheEntry K V) E → Result V E
+entry_value (Ok e) = Ok e.value
+entry_value (Err refused) = Err refused
+
+abbrev pub entry_value_if_made : {K V E : Type 0} → Result (Option (CacheEntry K V)) E → Result (Option V) E
+entry_value_if_made (Ok (Some e)) = Ok (Some e.value)
+entry_value_if_made (Ok None) = Ok None
+entry_value_if_made (Err refused) = Err refused
+
+abbrev pub entry_value_if_no_error : {K V E F : Type 0} → Result (Result (CacheEntry K V) F) E → Result (Result V F) E
+entry_value_if_no_error (Ok (Ok e)) = Ok (Ok e.value)
+entry_value_if_no_error (Ok (Err failed)) = Ok (Err failed)
+entry_value_if_no_error (Err refused) = Err refused
+
+-- ---- entries
+
+module _ {K V : Type 0} where
+  -- the entry of a value that is there: the caller's own key comes back
+  abbrev pub IsFound : K → CacheEntry K V → Type 0
+  IsFound key e = (e.key ≡ key) × (e.is_fresh ≡ false) × (e.is_old_value_replaced ≡ false)
+
+  -- the entry of a value that was put: the key is a clone, and the caller's own is in the cache
+  abbrev pub IsFresh : (K → K → Type 0) → K → CacheEntry K V → Type 0
+  IsFresh is_key_clone key e = is_key_clone key e.key × (e.is_fresh ≡ true)
+
+  -- the entry is fresh if and only if a value was made, since none was there
+  abbrev pub IsEntryOf : {A : Type 0} → (K → K → Type 0) → K → Option A → CacheEntry K V → Type 0
+  IsEntryOf is_key_clone key None e = IsFound key e
+  IsEntryOf is_key_clone key (Some made) e = IsFresh is_key_clone key e × (e.is_old_value_replaced ≡ false)
+
+-- ---- an insert of a value only if the key is not there
+
+-- what it hands out: a clone of the value, or what was refused, with key and value
+abbrev pub HandsOutPut : {K V : Type 0} → (V → V → Type 0) → K → V → Result V (Option (InsertRefused K V)) → Result V (InsertRefused K V) → Type 0
+HandsOutPut is_clone key value (Ok own) (Ok copy) = is_clone own copy
+HandsOutPut is_clone key value (Err None) (Err r) = r ≡ record { error = insert_error.OutOfMemory; key = key; value = value }
+HandsOutPut is_clone key value (Err (Some refused)) (Err r) = r ≡ refused
+HandsOutPut is_clone key value own result = ⊥
+
+-- what it counts: a hit, a miss after which the value was put, or nothing, if the look-up was refused
+abbrev pub after_get_or_insert : {A B E : Type 0} → Option A → Result B E → Stats → Stats
+after_get_or_insert None (Ok value) s = record s { hits = one_more s.hits }
+after_get_or_insert None (Err refused) s = s
+after_get_or_insert (Some put) answer s = record s { misses = one_more s.misses }

@@ -1,0 +1,250 @@
+//! Entry calls: a look-up and what follows it in one call. moka: `sync::entry_selector`.
+//!
+//! moka's `cache.entry(key).or_insert(value)` is `cache.get_or_insert(key, value, ..)` here, and so on: each call names
+//! moka's.
+ghost use Rattle.std.specs.Prelude.{◌≡◌, true, false, Option, Some, None, Result, Ok, Err, IfOk, IfSome};
+ghost use Rattle.std.specs.List.{fold};
+ghost use Rattle.moka_parts.specs.Calls.{ContainsStep};
+ghost use Rattle.moka_parts.specs.declared.error.InsertRefused.{InsertRefused};
+ghost use Rattle.moka_drive.specs.Counters.{after_get_with};
+ghost use Rattle.moka_drive.specs.Entries.{entry_value, entry_value_if_made, entry_value_if_no_error, IsEntryOf, IsFresh, HandsOutPut, after_get_or_insert};
+ghost use Rattle.moka_drive.specs.Synchronous.{Makes, meaning_of, InsertsMade, HandsOutOwn, HandsOutMade, HandsOutIfMade, HandsOutIfNoError, GetsOrInserts, GetsOrInsertsIfMade, GetsOrInsertsIfNoError};
+
+use crate::cache::Cache;
+use crate::error::GetWithRefused;
+use moka_parts::closures::{PredicateFn, Weigher};
+use moka_parts::error::{InsertError, InsertRefused};
+use moka_parts::housekeeper::Clock;
+use moka_parts::notification::Listener;
+use moka_parts::policy::{Expiry, Instant};
+use std::hash::{BuildHasher, Hash};
+
+/// What an entry call answers. moka: `Entry`.
+#[derive(Debug, Drop)]
+pub struct CacheEntry<K, V> {
+    /// The caller's own key if the value was there, and a clone of it if the call put the value.
+    pub key: K,
+    /// A clone of the value.
+    pub value: V,
+    /// Whether the call put the value.
+    pub is_fresh: bool,
+    /// Whether the value that the call put replaced another that was visible.
+    pub is_old_value_replaced: bool,
+}
+
+impl<
+    K: Eq + Hash,
+    V,
+    X: Expiry<K, V>,
+    L: Listener<K, V>,
+    P: PredicateFn<K, V>,
+    W: Weigher<K, V>,
+    S: BuildHasher,
+> Cache<K, V, X, L, P, W, S> {
+    /// The entry of a key, with a clone of its value, if the key is there and visible at the moment `now`; and else
+    /// `value` is inserted. If the key is there, `value` is let go. No load is counted. moka: `or_insert`.
+    ///
+    /// # Errors
+    /// `OutOfMemory` if memory for a clone or for the insert is refused, and `NumbersUsedUp`; key and value come back,
+    /// and nothing was inserted.
+    pub fn get_or_insert<C: Clock>(
+        &mut self,
+        key: K,
+        value: V,
+        now: Instant,
+        clock: &mut C,
+    ) -> Result<CacheEntry<K, V>, InsertRefused<K, V>>
+    where
+        K: Clone + Drop,
+        V: Clone + Drop,
+        P: Drop,
+        ensures { (put : Option V) × (own : Result V (Option (InsertRefused K V)))
+            × ((v : V) → put ≡ Some v → v ≡ value)
+            × HandsOutPut V.is_clone key value own (entry_value result)
+            × IfOk result (IsEntryOf K.is_clone key put)
+            × Makes (meaning_of K.eq L.tells P.says W.weighs C.reads X.created X.read X.updated)
+            (GetsOrInserts key (S.Hasher.finish (fold S.Hasher.write (S.build_hasher self.old.engine.hasher) (K.hash_input key))) now put own)
+            self.old.engine clock.old self.new.engine clock.new
+            × (self.new.stats ≡ after_get_or_insert put own self.old.stats) }
+    {
+        match self.get(&key, now, clock) {
+            Ok(Some(value)) => return Ok(found(key, value)),
+            Ok(None) => {}
+            Err(_) => {
+                let error = InsertError::OutOfMemory;
+                return Err(InsertRefused { error, key, value });
+            }
+        }
+        self.insert_entry(key, value, false, now, clock)
+    }
+
+    /// The entry of a key, with a clone of its value, if the key is there and visible at the moment `now`; and else the
+    /// value that `init` makes is inserted. `init` is called only if the key is not there. moka: `or_insert_with`.
+    ///
+    /// # Errors
+    /// `Lookup`, with the key, if memory for the clone of a value that is there is refused; and `Insert`, with key and
+    /// the value that was made, if memory for a clone of either or for the insert is refused, or tickets are used up.
+    pub fn get_or_insert_with<F: FnOnce() -> V, C: Clock>(
+        &mut self,
+        key: K,
+        init: F,
+        now: Instant,
+        clock: &mut C,
+    ) -> Result<CacheEntry<K, V>, GetWithRefused<K, V>>
+    where
+        K: Clone + Drop,
+        V: Clone + Drop,
+        P: Drop,
+        requires callable { ContainsStep P.says K.eq self.old.engine.state key now.0 false → F.pre init }
+        ensures { (made : Option V) × (own : Result V (Option (InsertRefused K V)))
+            × ((value : V) → made ≡ Some value → F.post init value)
+            × HandsOutMade V.is_clone key own (entry_value result)
+            × IfOk result (IsEntryOf K.is_clone key made)
+            × Makes (meaning_of K.eq L.tells P.says W.weighs C.reads X.created X.read X.updated)
+            (GetsOrInserts key (S.Hasher.finish (fold S.Hasher.write (S.build_hasher self.old.engine.hasher) (K.hash_input key))) now made own)
+            self.old.engine clock.old self.new.engine clock.new
+            × (self.new.stats ≡ after_get_with made own self.old.stats) }
+    {
+        match self.get(&key, now, clock) {
+            Ok(Some(value)) => return Ok(found(key, value)),
+            Ok(None) => {}
+            Err(_) => return Err(GetWithRefused::Lookup(key)),
+        }
+        self.count_load();
+        let value = init();
+        match self.insert_entry(key, value, false, now, clock) {
+            Ok(entry) => Ok(entry),
+            Err(refused) => Err(GetWithRefused::Insert(refused)),
+        }
+    }
+
+    /// As `get_or_insert_with`, for a maker that may decline: then nothing is inserted, and `None` is answered. moka:
+    /// `or_optionally_insert_with`.
+    ///
+    /// # Errors
+    /// As `get_or_insert_with`.
+    pub fn get_or_optionally_insert_with<F: FnOnce() -> Option<V>, C: Clock>(
+        &mut self,
+        key: K,
+        init: F,
+        now: Instant,
+        clock: &mut C,
+    ) -> Result<Option<CacheEntry<K, V>>, GetWithRefused<K, V>>
+    where
+        K: Clone + Drop,
+        V: Clone + Drop,
+        P: Drop,
+        requires callable { ContainsStep P.says K.eq self.old.engine.state key now.0 false → F.pre init }
+        ensures { (made : Option (Option V)) × (own : Result (Option V) (Option (InsertRefused K V)))
+            × ((answer : Option V) → made ≡ Some answer → F.post init answer)
+            × HandsOutIfMade V.is_clone key own (entry_value_if_made result)
+            × IfOk result (λ found. IfSome found (IsEntryOf K.is_clone key made))
+            × Makes (meaning_of K.eq L.tells P.says W.weighs C.reads X.created X.read X.updated)
+            (GetsOrInsertsIfMade key (S.Hasher.finish (fold S.Hasher.write (S.build_hasher self.old.engine.hasher) (K.hash_input key))) now made own)
+            self.old.engine clock.old self.new.engine clock.new
+            × (self.new.stats ≡ after_get_with made own self.old.stats) }
+    {
+        match self.get(&key, now, clock) {
+            Ok(Some(value)) => return Ok(Some(found(key, value))),
+            Ok(None) => {}
+            Err(_) => return Err(GetWithRefused::Lookup(key)),
+        }
+        self.count_load();
+        let Some(value) = init() else {
+            return Ok(None);
+        };
+        match self.insert_entry(key, value, false, now, clock) {
+            Ok(entry) => Ok(Some(entry)),
+            Err(refused) => Err(GetWithRefused::Insert(refused)),
+        }
+    }
+
+    /// As `get_or_insert_with`, for a maker that may fail: then nothing is inserted, and its error is answered. moka:
+    /// `or_try_insert_with`.
+    ///
+    /// # Errors
+    /// The outer error as `get_or_insert_with`; the inner one is the maker's.
+    pub fn get_or_try_insert_with<E, F: FnOnce() -> Result<V, E>, C: Clock>(
+        &mut self,
+        key: K,
+        init: F,
+        now: Instant,
+        clock: &mut C,
+    ) -> Result<Result<CacheEntry<K, V>, E>, GetWithRefused<K, V>>
+    where
+        K: Clone + Drop,
+        V: Clone + Drop,
+        P: Drop,
+        requires callable { ContainsStep P.says K.eq self.old.engine.state key now.0 false → F.pre init }
+        ensures { (made : Option (Result V E)) × (own : Result (Result V E) (Option (InsertRefused K V)))
+            × ((answer : Result V E) → made ≡ Some answer → F.post init answer)
+            × HandsOutIfNoError V.is_clone key own (entry_value_if_no_error result)
+            × IfOk result (λ found. IfOk found (IsEntryOf K.is_clone key made))
+            × Makes (meaning_of K.eq L.tells P.says W.weighs C.reads X.created X.read X.updated)
+            (GetsOrInsertsIfNoError key (S.Hasher.finish (fold S.Hasher.write (S.build_hasher self.old.engine.hasher) (K.hash_input key))) now made own)
+            self.old.engine clock.old self.new.engine clock.new
+            × (self.new.stats ≡ after_get_with made own self.old.stats) }
+    {
+        match self.get(&key, now, clock) {
+            Ok(Some(value)) => return Ok(Ok(found(key, value))),
+            Ok(None) => {}
+            Err(_) => return Err(GetWithRefused::Lookup(key)),
+        }
+        self.count_load();
+        let value = match init() {
+            Ok(value) => value,
+            Err(error) => return Ok(Err(error)),
+        };
+        match self.insert_entry(key, value, false, now, clock) {
+            Ok(entry) => Ok(Ok(entry)),
+            Err(refused) => Err(GetWithRefused::Insert(refused)),
+        }
+    }
+
+    // Inserts a value for a key, and hands out its entry.
+    pub(crate) fn insert_entry<C: Clock>(
+        &mut self,
+        key: K,
+        value: V,
+        is_old_value_replaced: bool,
+        now: Instant,
+        clock: &mut C,
+    ) -> Result<CacheEntry<K, V>, InsertRefused<K, V>>
+    where
+        K: Clone + Drop,
+        V: Clone + Drop,
+        P: Drop,
+        ensures made { (own : Result V (InsertRefused K V)) × HandsOutOwn V.is_clone own (entry_value result)
+            × Makes (meaning_of K.eq L.tells P.says W.weighs C.reads X.created X.read X.updated)
+            (InsertsMade key (S.Hasher.finish (fold S.Hasher.write (S.build_hasher self.old.engine.hasher) (K.hash_input key))) now value own)
+            self.old.engine clock.old self.new.engine clock.new }
+        ensures entry { IfOk result (λ e. IsFresh K.is_clone key e × (e.is_old_value_replaced ≡ is_old_value_replaced)) }
+        ensures counted { self.new.stats ≡ self.old.stats }
+    {
+        let Ok(own_key) = key.clone() else {
+            let error = InsertError::OutOfMemory;
+            return Err(InsertRefused { error, key, value });
+        };
+        match self.insert_made(key, value, now, clock) {
+            Ok(value) => Ok(CacheEntry {
+                key: own_key,
+                value,
+                is_fresh: true,
+                is_old_value_replaced,
+            }),
+            Err(refused) => Err(refused),
+        }
+    }
+}
+
+// The entry of a value that is there.
+fn found<K, V>(key: K, value: V) -> CacheEntry<K, V>
+    ensures { result ≡ record { key = key; value = value; is_fresh = false; is_old_value_replaced = false } }
+{
+    CacheEntry {
+        key,
+        value,
+        is_fresh: false,
+        is_old_value_replaced: false,
+    }
+}
