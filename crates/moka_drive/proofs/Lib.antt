@@ -12,3 +12,4 @@ mod Listing
 mod Counting
 mod Telling
 pub mod Entries
+pub mod Computing

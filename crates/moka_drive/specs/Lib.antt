@@ -9,3 +9,4 @@ pub mod Visible
 pub mod Counted
 pub mod Removed
 pub mod Entries
+pub mod Computing

@@ -238,7 +238,7 @@ impl<
 }
 
 // The entry of a value that is there.
-fn found<K, V>(key: K, value: V) -> CacheEntry<K, V>
+pub(crate) fn found<K, V>(key: K, value: V) -> CacheEntry<K, V>
     ensures { result ≡ record { key = key; value = value; is_fresh = false; is_old_value_replaced = false } }
 {
     CacheEntry {

@@ -3,6 +3,7 @@
 
 pub mod cache;
 pub mod clock;
+pub mod compute;
 pub mod driver;
 pub mod entry;
 #[cfg(test)]
@@ -18,6 +19,7 @@ pub mod timed;
 
 pub use cache::Cache;
 pub use clock::{ManualClock, SystemClock};
+pub use compute::{CompResult, ComputeRefused, Op};
 pub use driver::drive;
 pub use entry::CacheEntry;
 pub use error::{GetWithRefused, NotTold};

@@ -1,0 +1,234 @@
+//! Entry calls that compute a key's value from the one that is there. moka: `ops::compute`, `sync::entry_selector`.
+ghost use Rattle.std.specs.Prelude.{◌≡◌, true, false, Option, Some, None, Result, Ok, Err, IfOk, option_copied};
+ghost use Rattle.std.specs.List.{fold};
+ghost use Rattle.moka_parts.specs.Copies.{IsCopiedAnswer};
+ghost use Rattle.moka_parts.specs.declared.error.InsertRefused.{InsertRefused};
+ghost use Rattle.moka_parts.specs.declared.error.OutOfMemory.{OutOfMemory};
+ghost use Rattle.moka_drive.specs.Computing.{Computed, Computes, HandsOutComputed, HandsOutComputedPut, HandsOutTaken, HandsOutUpserted, IsComputedBy, IsUpsertOf, Upserts};
+ghost use Rattle.moka_drive.specs.Counters.{after_look_up};
+ghost use Rattle.moka_drive.specs.Synchronous.{InsertsMade, Makes, RemovesEntry, hears_clones, meaning_of};
+
+use crate::cache::Cache;
+use crate::entry::{CacheEntry, found};
+use crate::error::{GetWithRefused, NotTold};
+use moka_parts::closures::{PredicateFn, Weigher};
+use moka_parts::error::{InsertRefused, OutOfMemory};
+use moka_parts::housekeeper::Clock;
+use moka_parts::notification::Listener;
+use moka_parts::policy::{Expiry, Instant};
+use std::error::Error;
+use std::fmt;
+use std::hash::{BuildHasher, Hash};
+
+/// What a closure of `compute_with` answers. moka: `ops::compute::Op`.
+#[derive(Debug, Drop)]
+pub enum Op<V> {
+    /// Leave the cache as it is.
+    Nop,
+    /// Put this value under the key.
+    Put(V),
+    /// Take the key out.
+    Remove,
+}
+
+/// What `compute_with` did. moka: `ops::compute::CompResult`.
+#[derive(Debug, Drop)]
+pub enum CompResult<K, V> {
+    /// The value was put, and none had been visible.
+    Inserted(CacheEntry<K, V>),
+    /// The value was put, and replaced another that was visible.
+    ReplacedWith(CacheEntry<K, V>),
+    /// The key was taken out, with this value.
+    Removed(CacheEntry<K, V>),
+    /// No value was there, and none was put. The key comes back.
+    StillNone(K),
+    /// The value that is there was left.
+    Unchanged(CacheEntry<K, V>),
+}
+
+/// Why `compute_with` did not do what was answered.
+#[derive(Debug, Drop)]
+pub enum ComputeRefused<K, V> {
+    /// Memory for a clone of the value that is there was refused. Nothing has changed, and the key comes back.
+    Lookup(K),
+    /// The value was not put, since memory for a clone of it or of the key, or for the insert, was refused, or tickets
+    /// are used up. The look-up stands, and key and value come back.
+    Insert(InsertRefused<K, V>),
+    /// The key was taken out, and the listener was not told, since memory for a clone was refused. Key and value come
+    /// back.
+    NotTold(K, NotTold<V>),
+}
+
+impl<K, V> fmt::Display for ComputeRefused<K, V> {
+    ghost use Rattle.std.specs.Prelude.{Some};
+    ghost use Rattle.moka_drive.specs.Computing.{compute_text};
+
+    ghost output = { λ refused. Some (compute_text refused) };
+
+    fn fmt<W: fmt::Write>(&self, f: &mut fmt::Formatter<W>) -> fmt::Result {
+        match self {
+            ComputeRefused::Lookup(_) => write!(f, "{OutOfMemory}"),
+            ComputeRefused::Insert(refused) => write!(f, "{refused}"),
+            ComputeRefused::NotTold(_, refused) => write!(f, "{refused}"),
+        }
+    }
+}
+
+impl<K: fmt::Debug + Drop, V: fmt::Debug + Drop> Error for ComputeRefused<K, V> {}
+
+impl<
+    K: Eq + Hash,
+    V,
+    X: Expiry<K, V>,
+    L: Listener<K, V>,
+    P: PredicateFn<K, V>,
+    W: Weigher<K, V>,
+    S: BuildHasher,
+> Cache<K, V, X, L, P, W, S> {
+    /// Puts the value that `f` makes of a clone of the key's value, or of `None` if the key is not there or not visible
+    /// at the moment `now`. No load is counted. moka: `and_upsert_with`.
+    ///
+    /// # Errors
+    /// `Lookup`, with the key, if memory for the clone of the value that is there is refused; `f` was not called. And
+    /// `Insert`, with key and the value that was made, as `get_or_insert_with`; what is there was left.
+    pub fn upsert_with<F: FnOnce(Option<V>) -> V, C: Clock>(
+        &mut self,
+        key: K,
+        f: F,
+        now: Instant,
+        clock: &mut C,
+    ) -> Result<CacheEntry<K, V>, GetWithRefused<K, V>>
+    where
+        K: Clone + Drop,
+        V: Clone + Drop,
+        P: Drop,
+        requires callable { F.IsAlwaysCallable f }
+        ensures { (own : Result (Option V) OutOfMemory) × (got : Result (Option V) OutOfMemory)
+            × IsCopiedAnswer V.is_clone own got
+            × (put : Option (V × Result V (InsertRefused K V)))
+            × IsUpsertOf (F.post f) got put
+            × HandsOutUpserted K.is_clone V.is_clone key got put result
+            × Makes (meaning_of K.eq L.tells P.says W.weighs C.reads X.created X.read X.updated)
+            (Upserts key (S.Hasher.finish (fold S.Hasher.write (S.build_hasher self.old.engine.hasher) (K.hash_input key))) now own put)
+            self.old.engine clock.old self.new.engine clock.new
+            × (self.new.stats ≡ after_look_up got self.old.stats) }
+    {
+        let seen = match self.get(&key, now, clock) {
+            Ok(seen) => seen,
+            Err(_) => return Err(GetWithRefused::Lookup(key)),
+        };
+        let is_there = seen.is_some();
+        let value = f(seen);
+        match self.insert_entry(key, value, is_there, now, clock) {
+            Ok(entry) => Ok(entry),
+            Err(refused) => Err(GetWithRefused::Insert(refused)),
+        }
+    }
+
+    /// Puts a value, takes the key out, or does nothing, as `f` answers, which sees a clone of the key's value, or `None`
+    /// if the key is not there or not visible at the moment `now`. A removal hands its value out, and the listener, if
+    /// one is set, is told. No load is counted. moka: `and_compute_with`.
+    ///
+    /// # Errors
+    /// `Lookup`, with the key, if memory for the clone of the value that is there is refused; `f` was not called. And
+    /// `Insert` and `NotTold`, with key and value.
+    pub fn compute_with<F: FnOnce(Option<&V>) -> Op<V>, C: Clock>(
+        &mut self,
+        key: K,
+        f: F,
+        now: Instant,
+        clock: &mut C,
+    ) -> Result<CompResult<K, V>, ComputeRefused<K, V>>
+    where
+        K: Clone + Drop,
+        V: Clone + Drop,
+        P: Drop,
+        requires callable { F.IsAlwaysCallable f }
+        ensures { (own : Result (Option V) OutOfMemory) × (got : Result (Option V) OutOfMemory)
+            × IsCopiedAnswer V.is_clone own got
+            × (done : Option (Computed K V))
+            × IsComputedBy (λ seen op. (x : _) × (option_copied x ≡ seen) × F.post f x op) got done
+            × HandsOutComputed K.is_clone V.is_clone key got done result
+            × Makes (meaning_of K.eq (hears_clones K.is_clone V.is_clone L.tells) P.says W.weighs C.reads X.created X.read X.updated)
+            (Computes key (S.Hasher.finish (fold S.Hasher.write (S.build_hasher self.old.engine.hasher) (K.hash_input key))) now own done)
+            self.old.engine clock.old self.new.engine clock.new
+            × (self.new.stats ≡ after_look_up got self.old.stats) }
+    {
+        let seen = match self.get(&key, now, clock) {
+            Ok(seen) => seen,
+            Err(_) => return Err(ComputeRefused::Lookup(key)),
+        };
+        let is_there = seen.is_some();
+        match f(seen.as_ref()) {
+            Op::Put(value) => self.put_computed(key, value, is_there, now, clock),
+            Op::Nop => match seen {
+                Some(value) => Ok(CompResult::Unchanged(found(key, value))),
+                None => Ok(CompResult::StillNone(key)),
+            },
+            Op::Remove => {
+                if is_there {
+                    self.remove_computed(key, now, clock)
+                } else {
+                    Ok(CompResult::StillNone(key))
+                }
+            }
+        }
+    }
+
+    // Puts the value that was computed.
+    fn put_computed<C: Clock>(
+        &mut self,
+        key: K,
+        value: V,
+        is_there: bool,
+        now: Instant,
+        clock: &mut C,
+    ) -> Result<CompResult<K, V>, ComputeRefused<K, V>>
+    where
+        K: Clone + Drop,
+        V: Clone + Drop,
+        P: Drop,
+        ensures made { (own : Result V (InsertRefused K V))
+            × HandsOutComputedPut K.is_clone V.is_clone key is_there own result
+            × Makes (meaning_of K.eq L.tells P.says W.weighs C.reads X.created X.read X.updated)
+            (InsertsMade key (S.Hasher.finish (fold S.Hasher.write (S.build_hasher self.old.engine.hasher) (K.hash_input key))) now value own)
+            self.old.engine clock.old self.new.engine clock.new }
+        ensures counted { self.new.stats ≡ self.old.stats }
+    {
+        let entry = match self.insert_entry(key, value, is_there, now, clock) {
+            Ok(entry) => entry,
+            Err(refused) => return Err(ComputeRefused::Insert(refused)),
+        };
+        if is_there {
+            Ok(CompResult::ReplacedWith(entry))
+        } else {
+            Ok(CompResult::Inserted(entry))
+        }
+    }
+
+    // Takes the key out, of which a value was seen.
+    fn remove_computed<C: Clock>(
+        &mut self,
+        key: K,
+        now: Instant,
+        clock: &mut C,
+    ) -> Result<CompResult<K, V>, ComputeRefused<K, V>>
+    where
+        K: Clone + Drop,
+        V: Clone + Drop,
+        P: Drop,
+        ensures made { (taken : Option (V × Result (Unit {0}) OutOfMemory))
+            × HandsOutTaken K.is_clone V.is_clone key taken result
+            × Makes (meaning_of K.eq (hears_clones K.is_clone V.is_clone L.tells) P.says W.weighs C.reads X.created X.read X.updated)
+            (RemovesEntry key (S.Hasher.finish (fold S.Hasher.write (S.build_hasher self.old.engine.hasher) (K.hash_input key))) now taken)
+            self.old.engine clock.old self.new.engine clock.new }
+        ensures counted { self.new.stats ≡ self.old.stats }
+    {
+        match self.remove(&key, now, clock) {
+            Ok(Some(value)) => Ok(CompResult::Removed(found(key, value))),
+            // The run of maintenance that the look-up made had taken it already.
+            Ok(None) => Ok(CompResult::StillNone(key)),
+            Err(refused) => Err(ComputeRefused::NotTold(key, refused)),
+        }
+    }
+}
