@@ -1,5 +1,5 @@
 -- What calls that compute a value make, from a look-up and what follows it.
-use Rattle.std.proofs.Common.{◌≡◌, refl, ℕ, Bool, true, false, List, ◌++◌, Option, Some, None, Result, Ok, Err, IfOk, is_some, ◌∙◌, inl, subst}
+use Rattle.std.proofs.Common.{◌≡◌, refl, ℕ, Bool, true, false, List, ◌++◌, Option, Some, Result, Ok, Err, IfOk, is_some, ◌∙◌, inl}
 use Rattle.moka_parts.specs.declared.policy.Instant.{Instant}
 use Rattle.moka_parts.specs.declared.calls.Call.{Call}
 use Rattle.moka_parts.specs.declared.calls.Reply.{Reply}
@@ -10,7 +10,7 @@ use Rattle.moka_parts.specs.Runs.{Cache}
 use Rattle.moka_drive.specs.declared.entry.CacheEntry.{CacheEntry}
 use Rattle.moka_drive.specs.declared.error.GetWithRefused.{GetWithRefused}
 use Rattle.moka_drive.specs.declared.error.GetWithRefused.TheVariants.{Insert}
-use Rattle.moka_drive.specs.Synchronous.{Made, Makes, hears_clones, InsertsMade, GetsValue, RemovesEntry, HandsOutOwn}
+use Rattle.moka_drive.specs.Synchronous.{Makes, hears_clones, InsertsMade, GetsValue, RemovesEntry, HandsOutOwn}
 use Rattle.moka_drive.specs.Entries.{entry_value, IsFresh}
 use Rattle.moka_drive.specs.declared.compute.CompResult.TheVariants.{Inserted, ReplacedWith}
 use Rattle.moka_drive.specs.declared.compute.ComputeRefused.TheVariants as compute_refused

@@ -1,7 +1,6 @@
 use Rattle.std.proofs.Common.{◌≡◌, false, ◌∙◌, refl, sym, subst, ℕ, Option, Some, None, Ok, Err, is_some}
 use Rattle.std.specs.List.{fold}
 use Rattle.moka_parts.specs.State.{Meaning}
-use Rattle.moka_parts.specs.Copies.{IsCopiedAnswer}
 use Rattle.moka_drive.specs.declared.compute.CompResult.TheVariants.{StillNone, Unchanged}
 use Rattle.moka_drive.specs.Computing.{HandsOutComputedPut, HandsOutLeft, Left, LeftNone, Puts, Takes}
 use Rattle.moka_drive.specs.Synchronous.{GetsValue, meaning_of}

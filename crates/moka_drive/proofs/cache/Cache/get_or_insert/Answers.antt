@@ -1,4 +1,4 @@
-use Rattle.std.proofs.Common.{◌≡◌, ◌∙◌, sym, ℕ, refl, subst, Option, Some, None, Result, Ok, Err}
+use Rattle.std.proofs.Common.{◌≡◌, ◌∙◌, ℕ, refl, subst, Some, None, Ok, Err}
 use Rattle.std.specs.List.{fold}
 use Rattle.moka_parts.specs.State.{Meaning}
 use Rattle.moka_parts.specs.Copies.{IsCopiedAnswer}

@@ -1,4 +1,4 @@
-use Rattle.std.proofs.Common.{◌≡◌, ℕ, refl, subst, Option, Some, None, Result, Ok, Err}
+use Rattle.std.proofs.Common.{◌≡◌, ℕ, refl, subst, Some, None, Ok, Err}
 use Rattle.std.specs.List.{fold}
 use Rattle.moka_parts.specs.State.{Meaning}
 use Rattle.moka_parts.specs.Copies.{IsCopiedAnswer}
@@ -6,7 +6,7 @@ use Rattle.moka_parts.specs.declared.error.OutOfMemory.{OutOfMemory}
 use Rattle.moka_drive.specs.declared.error.GetWithRefused.TheVariants.{Lookup, Insert}
 use Rattle.moka_drive.specs.Synchronous.{meaning_of}
 use Rattle.moka_drive.specs.Counters.{after_look_up}
-use Rattle.moka_drive.proofs.Getting.{got_nothing, got_value, got_refused, got_only, made_and_handed_out, if_made, if_no_error}
+use Rattle.moka_drive.proofs.Getting.{got_nothing, got_value, got_refused, got_only, made_and_handed_out, if_no_error}
 use Rattle.moka_drive.proofs.cache.Cache.get_or_try_insert_with.Goals as goal
 
 same_some : {A : Type 0} (x y : A) → Some x ≡ Some y → x ≡ y
