@@ -8,9 +8,6 @@ pub mod prelude {
     /// Which lanes are equal.
     pub struct Mask(u64);
 
-    // Times this, eight bytes of 0 or 1 become the eight bits of the highest byte, the first byte the lowest bit.
-    const GATHER: u64 = 0x0102_0408_1020_4080;
-
     impl u32x8 {
         #[inline(always)]
         pub fn from_array(lanes: [u32; 8]) -> Self {
@@ -22,11 +19,15 @@ pub mod prelude {
             u32x8([lane; 8])
         }
 
-        // Without branches, so that the compiler may compare the lanes at once.
+        // Each lane that is equal adds three times its bit, so a third of the sum has the bits. The compiler compares
+        // the lanes at once if all add numbers of one form, which their bits alone are not.
         #[inline(always)]
         pub fn simd_eq(self, other: Self) -> Mask {
-            let equal: [u8; 8] = std::array::from_fn(|lane| u8::from(self.0[lane] == other.0[lane]));
-            Mask(u64::from_le_bytes(equal).wrapping_mul(GATHER) >> 56)
+            let mut sum = 0u32;
+            for lane in 0..8 {
+                sum += if self.0[lane] == other.0[lane] { 3 << lane } else { 0 };
+            }
+            Mask(u64::from(sum / 3))
         }
     }
 
@@ -35,6 +36,20 @@ pub mod prelude {
         #[inline(always)]
         pub fn to_bitmask(self) -> u64 {
             self.0
+        }
+    }
+}
+
+#[cfg(test)]
+mod tests {
+    use super::prelude::u32x8;
+
+    #[test]
+    fn has_a_bit_for_each_equal_lane() {
+        for bits in 0..256u32 {
+            let lanes = std::array::from_fn(|lane| 7 + (bits >> lane & 1));
+            let mask = u32x8::from_array(lanes).simd_eq(u32x8::splat(8));
+            assert_eq!(mask.to_bitmask(), u64::from(bits));
         }
     }
 }
