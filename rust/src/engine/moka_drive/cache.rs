@@ -358,7 +358,7 @@ impl<
     }
 
     // Inserts a value that was made for a key, and hands out a clone of it.
-    fn insert_made<C: Clock>(
+    pub(crate) fn insert_made<C: Clock>(
         &mut self,
         key: K,
         value: V,
@@ -395,7 +395,7 @@ impl<
     }
 
     // Counts a call of a maker.
-    fn count_load(&mut self)
+    pub(crate) fn count_load(&mut self)
     {
         self.stats.count_load();
     }

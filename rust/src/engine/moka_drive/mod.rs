@@ -4,7 +4,11 @@ use crate::support::prelude::*;
 
 pub mod cache;
 pub mod clock;
+pub mod compute;
 pub mod driver;
+pub mod entry;
+#[cfg(test)]
+mod entry_tests;
 pub mod error;
 pub mod iter;
 pub mod laws;
@@ -16,7 +20,9 @@ pub mod timed;
 
 pub use cache::Cache;
 pub use clock::{ManualClock, SystemClock};
+pub use compute::{CompResult, ComputeRefused, Op};
 pub use driver::drive;
+pub use entry::CacheEntry;
 pub use error::{GetWithRefused, NotTold};
 pub use removals::{CountingListener, Removals};
 pub use stats::Stats;
