@@ -1,9 +1,13 @@
 //! Worked calls of the synchronous cache.
 use crate::cache::Cache;
 use crate::clock::{ManualClock, SystemClock};
+use crate::removals::{CountingListener, Removals};
 use crate::stats::Stats;
 use crate::timed::TimedCache;
-use moka_engine::{CacheConfig, FixedClock, Instant, Listener, RemovalCause};
+use moka_engine::{
+    CacheConfig, FixedClock, IdSource, Instant, Listener, NoListener, PredicateFn, PredicateId,
+    RemovalCause,
+};
 use std::alloc::Global;
 use std::cell::Cell;
 use std::test::Fail;
@@ -201,5 +205,118 @@ fn asks_makers_that_give_nothing(rt: HostRuntime) -> Result<(), Fail> {
     assert_eq!(rt; made.ok(), Some(Ok(10)));
     let found = cache.optionally_get_with(1, || Some(20), NOW, clock);
     assert_eq!(rt; found.ok(), Some(Some(10)));
+    Ok(())
+}
+
+#[test]
+fn lists_what_is_visible(rt: HostRuntime) -> Result<(), Fail> {
+    let config = CacheConfig::default().time_to_live(Duration::from_secs(5));
+    let clock = ManualClock { now: NOW };
+    let Ok(mut cache) = TimedCache::build(config, rt.alloc(), clock) else {
+        return Err("memory".into());
+    };
+    assert!(rt; cache.insert(1, 10).is_ok());
+    cache.clock.advance(Duration::from_secs(5));
+    assert!(rt; cache.insert(2, 20).is_ok());
+    let Ok(mut listed) = cache.iter() else {
+        return Err("memory".into());
+    };
+    assert_eq!(rt; (listed.next(), listed.next()), (Some((2, 20)), None));
+    Ok(())
+}
+
+#[test]
+fn counts_removals(rt: HostRuntime) -> Result<(), Fail> {
+    let listener = CountingListener::new(NoListener);
+    let config = CacheConfig::default().eviction_listener(listener);
+    let clock = ManualClock { now: NOW };
+    let Ok(mut cache) = TimedCache::build(config, rt.alloc(), clock) else {
+        return Err("memory".into());
+    };
+    assert!(rt; cache.insert(1, 10).is_ok());
+    assert!(rt; cache.insert(1, 11).is_ok());
+    assert_eq!(rt; cache.remove(&1).ok(), Some(Some(11)));
+    let counted = Removals {
+        expired: 0,
+        explicit: 1,
+        replaced: 1,
+        size: 0,
+    };
+    assert_eq!(rt; cache.removals(), counted);
+    Ok(())
+}
+
+#[test]
+fn asks_makers_by_its_own_clock(rt: HostRuntime) -> Result<(), Fail> {
+    let clock = ManualClock { now: NOW };
+    let Ok(mut cache) = TimedCache::build(CacheConfig::default(), rt.alloc(), clock) else {
+        return Err("memory".into());
+    };
+    assert_eq!(rt; cache.optionally_get_with(1, || None).ok(), Some(None));
+    let made = cache.try_get_with(1, || Ok::<u64, u64>(10));
+    assert_eq!(rt; made.ok(), Some(Ok(10)));
+    let counted = Stats {
+        hits: 0,
+        misses: 2,
+        loads: 2,
+    };
+    assert_eq!(rt; cache.stats(), counted);
+    Ok(())
+}
+
+#[test]
+fn takes_another_capacity(rt: HostRuntime) -> Result<(), Fail> {
+    let config = CacheConfig::default();
+    let clock = ManualClock { now: NOW };
+    let cache = TimedCache::<u64, u64, ManualClock>::build(config, rt.alloc(), clock);
+    let Ok(mut cache) = cache else {
+        return Err("memory".into());
+    };
+    assert!(rt; cache.set_max_capacity(Some(20)).is_ok());
+    assert_eq!(rt; cache.policy().max_capacity(), Some(20));
+    assert!(rt; cache.name().is_none());
+    Ok(())
+}
+
+// Says yes to the values below a bound.
+#[derive(Drop)]
+struct Below(u64);
+
+impl PredicateFn<u64, u64> for Below {
+    ghost use Rattle.std.specs.Prelude.{◌≡◌, nat_lt};
+    ghost use Rattle.std.proofs.Common.{sym, ◌∙◌};
+
+    ghost says = { λ below _ value answer. answer ≡ nat_lt value below.0 };
+
+    fn applies(&self, _: &u64, value: &u64) -> bool {
+        *value < self.0
+    }
+
+    ghost one_answer = { λ _ _ _ _ _ first second. first ∙ sym second };
+}
+
+#[derive(Drop)]
+struct OneId;
+
+impl IdSource for OneId {
+    ghost use Rattle.std.specs.Prelude.{⊤};
+
+    ghost gives = { λ _ _ _. ⊤ };
+
+    fn next_id(&mut self) -> PredicateId {
+        PredicateId::from_u128(1)
+    }
+}
+
+#[test]
+fn hides_what_a_predicate_covers(rt: HostRuntime) -> Result<(), Fail> {
+    let config = CacheConfig::default().support_invalidation_closures::<Below>();
+    let clock = ManualClock { now: NOW };
+    let Ok(mut cache) = TimedCache::build(config, rt.alloc(), clock) else {
+        return Err("memory".into());
+    };
+    assert!(rt; cache.insert(1, 9).is_ok());
+    assert!(rt; cache.invalidate_entries_if(Below(10), &mut OneId).is_ok());
+    assert!(rt; !cache.contains_key(&1));
     Ok(())
 }
