@@ -141,8 +141,8 @@ def without_drops(text):
 
 def written_clone(m):
     """A clone that is written out; Rust's has no way to refuse but a panic."""
-    form = r"fn clone\(&self\) -> Result<\w+, AllocError> (\{.*\})\n\}\n\Z"
-    to = r"fn clone(&self) -> Self {\n        crate::support::clone::unless_refused((|| \1)())\n    }\n}\n"
+    form = r"fn clone\(&self\) -> Result<\w+, AllocError> (\{.*\})\n( *)\}\n\Z"
+    to = r"fn clone(&self) -> Self {\n\2        crate::support::clone::unless_refused((|| \1)())\n\2    }\n\2}\n"
     made, count = re.subn(form, to, m.group(), flags=re.S)
     if count != 1:
         raise Refused(f"a clone of another form: {m.group()}")
@@ -155,7 +155,7 @@ def renamed(text):
     text = change("a Formatter of any writer", r"fmt::Formatter<W>", "fmt::Formatter<'_>", text)
     text = change("a Formatter of any writer", r"<W: fmt::Write>", "", text)
     text = change("a Formatter of any writer", r"(fn \w+<[^>(]*), W: fmt::Write>", r"\1>", text)
-    text = re.sub(r"^impl\b[^{\n]*\bClone for [^{]*\{\n.*?^\}\n", written_clone, text, flags=re.M | re.S)
+    text = re.sub(r"^( *)impl\b[^{\n]*\bClone for [^{]*\{\n.*?^\1\}\n", written_clone, text, flags=re.M | re.S)
     text = change("a clone that can fail", r"\.clone\(\)", ".try_clone()", text)
     from_str = "crate::support::string::from_str(alloc, "
     text = change("a text of an allocator", r"\bString::from_str\(alloc, ", from_str, text)

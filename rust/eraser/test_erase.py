@@ -73,6 +73,9 @@ class Renames(unittest.TestCase):
         wanted += "        crate::support::clone::unless_refused((|| {\n"
         wanted += "        Ok(A(self.0.try_clone()?))\n    })())\n    }\n}\n"
         self.assertEqual(made(text), wanted)
+        inner = "mod tests {\n    impl Clone for A {\n        fn clone(&self) -> Result<Self, AllocError> {\n"
+        inner += "            Err(AllocError)\n        }\n    }\n\n    fn f() {}\n}\n"
+        self.assertIn("    impl Clone for A {\n        fn clone(&self) -> Self {\n", made(inner))
 
     def test_tests(self):
         text = "#[test]\nfn f(rt: HostRuntime) -> Result<(), Fail> {\n    assert_eq!(rt; 1, 1);\n}\n"

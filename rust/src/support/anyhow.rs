@@ -6,7 +6,7 @@ use std::fmt;
 /// What went wrong, as a text.
 pub struct AnyError(String);
 
-pub type Result<T> = std::result::Result<T, AnyError>;
+pub type Result<T, E = AnyError> = std::result::Result<T, E>;
 
 impl<E: Error> From<E> for AnyError {
     fn from(error: E) -> Self {

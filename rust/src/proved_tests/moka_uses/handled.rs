@@ -114,8 +114,10 @@ mod tests {
     struct Unique(u64);
 
     impl Clone for Unique {
-        fn clone(&self) -> Result<Self, AllocError> {
+        fn clone(&self) -> Self {
+            crate::support::clone::unless_refused((|| {
             Err(AllocError)
+        })())
         }
     }
 
