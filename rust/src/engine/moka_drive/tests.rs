@@ -5,9 +5,13 @@ use crate::support::prelude::*;
 use crate::support::test::prelude::*;
 use crate::engine::moka_drive::cache::Cache;
 use crate::engine::moka_drive::clock::{ManualClock, SystemClock};
+use crate::engine::moka_drive::removals::{CountingListener, Removals};
 use crate::engine::moka_drive::stats::Stats;
 use crate::engine::moka_drive::timed::TimedCache;
-use crate::engine::moka_engine::{CacheConfig, FixedClock, Instant, Listener, RemovalCause};
+use crate::engine::moka_engine::{
+    CacheConfig, FixedClock, IdSource, Instant, Listener, NoListener, PredicateFn, PredicateId,
+    RemovalCause,
+};
 use crate::support::alloc::Global;
 use std::cell::Cell;
 use crate::support::test::test::Fail;
@@ -211,5 +215,113 @@ fn asks_makers_that_give_nothing() -> Result<(), Fail> {
     assert_eq!( made.ok(), Some(Ok(10)));
     let found = cache.optionally_get_with(1, || Some(20), NOW, clock);
     assert_eq!( found.ok(), Some(Some(10)));
+    Ok(())
+}
+
+#[test]
+fn lists_what_is_visible() -> Result<(), Fail> {
+    let rt = HostRuntime;
+    let config = CacheConfig::default().time_to_live(Duration::from_secs(5));
+    let clock = ManualClock { now: NOW };
+    let Ok(mut cache) = TimedCache::build(config, rt.alloc(), clock) else {
+        return Err("memory".into());
+    };
+    assert!( cache.insert(1, 10).is_ok());
+    cache.clock.advance(Duration::from_secs(5));
+    assert!( cache.insert(2, 20).is_ok());
+    let Ok(mut listed) = cache.iter() else {
+        return Err("memory".into());
+    };
+    assert_eq!( (listed.next(), listed.next()), (Some((2, 20)), None));
+    Ok(())
+}
+
+#[test]
+fn counts_removals() -> Result<(), Fail> {
+    let rt = HostRuntime;
+    let listener = CountingListener::new(NoListener);
+    let config = CacheConfig::default().eviction_listener(listener);
+    let clock = ManualClock { now: NOW };
+    let Ok(mut cache) = TimedCache::build(config, rt.alloc(), clock) else {
+        return Err("memory".into());
+    };
+    assert!( cache.insert(1, 10).is_ok());
+    assert!( cache.insert(1, 11).is_ok());
+    assert_eq!( cache.remove(&1).ok(), Some(Some(11)));
+    let counted = Removals {
+        expired: 0,
+        explicit: 1,
+        replaced: 1,
+        size: 0,
+    };
+    assert_eq!( cache.removals(), counted);
+    Ok(())
+}
+
+#[test]
+fn asks_makers_by_its_own_clock() -> Result<(), Fail> {
+    let rt = HostRuntime;
+    let clock = ManualClock { now: NOW };
+    let Ok(mut cache) = TimedCache::build(CacheConfig::default(), rt.alloc(), clock) else {
+        return Err("memory".into());
+    };
+    assert_eq!( cache.optionally_get_with(1, || None).ok(), Some(None));
+    let made = cache.try_get_with(1, || Ok::<u64, u64>(10));
+    assert_eq!( made.ok(), Some(Ok(10)));
+    let counted = Stats {
+        hits: 0,
+        misses: 2,
+        loads: 2,
+    };
+    assert_eq!( cache.stats(), counted);
+    Ok(())
+}
+
+#[test]
+fn takes_another_capacity() -> Result<(), Fail> {
+    let rt = HostRuntime;
+    let config = CacheConfig::default();
+    let clock = ManualClock { now: NOW };
+    let cache = TimedCache::<u64, u64, ManualClock>::build(config, rt.alloc(), clock);
+    let Ok(mut cache) = cache else {
+        return Err("memory".into());
+    };
+    assert!( cache.set_max_capacity(Some(20)).is_ok());
+    assert_eq!( cache.policy().max_capacity(), Some(20));
+    assert!( cache.name().is_none());
+    Ok(())
+}
+
+// Says yes to the values below a bound.
+struct Below(u64);
+
+impl PredicateFn<u64, u64> for Below {
+
+    fn applies(&self, _: &u64, value: &u64) -> bool {
+        *value < self.0
+    }
+
+}
+
+struct OneId;
+
+impl IdSource for OneId {
+
+    fn next_id(&mut self) -> PredicateId {
+        PredicateId::from_u128(1)
+    }
+}
+
+#[test]
+fn hides_what_a_predicate_covers() -> Result<(), Fail> {
+    let rt = HostRuntime;
+    let config = CacheConfig::default().support_invalidation_closures::<Below>();
+    let clock = ManualClock { now: NOW };
+    let Ok(mut cache) = TimedCache::build(config, rt.alloc(), clock) else {
+        return Err("memory".into());
+    };
+    assert!( cache.insert(1, 9).is_ok());
+    assert!( cache.invalidate_entries_if(Below(10), &mut OneId).is_ok());
+    assert!( !cache.contains_key(&1));
     Ok(())
 }
