@@ -13,3 +13,4 @@ mod Counting
 mod Telling
 pub mod Entries
 pub mod Computing
+pub mod InOrder

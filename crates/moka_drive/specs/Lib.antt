@@ -10,3 +10,4 @@ pub mod Counted
 pub mod Removed
 pub mod Entries
 pub mod Computing
+pub mod Many

@@ -1,5 +1,6 @@
 //! Worked entry calls.
 use crate::cache::Cache;
+use crate::compute::{CompResult, Op};
 use moka_engine::{CacheConfig, FixedClock, Instant};
 use std::alloc::Global;
 use std::test::Fail;
@@ -39,5 +40,37 @@ fn asks_makers_that_give_no_value(rt: HostRuntime) -> Result<(), Fail> {
     let made = cache.get_or_optionally_insert_with(1, || Some(10), NOW, clock);
     assert!(rt; matches!(made, Ok(Some(entry)) if entry.is_fresh));
     assert_eq!(rt; cache.stats().loads, 3);
+    Ok(())
+}
+
+#[test]
+fn computes_of_what_is_there(rt: HostRuntime) -> Result<(), Fail> {
+    let mut cache = empty(rt.alloc())?;
+    let clock = &mut FixedClock(NOW);
+    let one_more = |seen: Option<u64>| seen.unwrap_or(0).saturating_add(1);
+    let first = cache.upsert_with(1, one_more, NOW, clock);
+    assert!(rt; matches!(first, Ok(entry) if !entry.is_old_value_replaced));
+    let second = cache.upsert_with(1, one_more, NOW, clock);
+    assert!(rt; matches!(second, Ok(entry) if entry.is_old_value_replaced && entry.value == 2));
+    let left = cache.compute_with(1, |_| Op::Nop, NOW, clock);
+    assert!(rt; matches!(left, Ok(CompResult::Unchanged(entry)) if entry.value == 2));
+    let put = cache.compute_with(1, |_| Op::Put(3), NOW, clock);
+    assert!(rt; matches!(put, Ok(CompResult::ReplacedWith(entry)) if entry.value == 3));
+    let taken = cache.compute_with(1, |_| Op::Remove, NOW, clock);
+    assert!(rt; matches!(taken, Ok(CompResult::Removed(entry)) if entry.value == 3));
+    assert!(rt; !cache.contains_key(&1, NOW));
+    Ok(())
+}
+
+#[test]
+fn takes_many_at_once(rt: HostRuntime) -> Result<(), Fail> {
+    let alloc = rt.alloc();
+    let mut cache = empty(alloc)?;
+    let clock = &mut FixedClock(NOW);
+    let items = vec![in alloc; (1, 10), (2, 20)]?;
+    assert!(rt; cache.insert_many(items, NOW, clock).is_ok());
+    assert_eq!(rt; cache.get(&2, NOW, clock).ok(), Some(Some(20)));
+    assert!(rt; cache.invalidate_many(&[1, 2], NOW, clock).is_ok());
+    assert!(rt; !cache.contains_key(&1, NOW));
     Ok(())
 }

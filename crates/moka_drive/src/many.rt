@@ -1,0 +1,115 @@
+//! Calls for many keys at once. Each makes the call for one key after the other, in order, and stops at the first that is
+//! refused.
+ghost use Rattle.std.specs.Prelude.{◌≡◌};
+ghost use Rattle.std.specs.List.{fold};
+ghost use Rattle.moka_drive.specs.Many.{InsertsMany, InvalidatesMany};
+ghost use Rattle.moka_drive.specs.Synchronous.{Makes, hears_clones, meaning_of};
+
+use crate::cache::Cache;
+use crate::error::NotTold;
+use moka_parts::closures::{PredicateFn, Weigher};
+use moka_parts::error::InsertRefused;
+use moka_parts::housekeeper::Clock;
+use moka_parts::notification::Listener;
+use moka_parts::policy::{Expiry, Instant};
+use std::hash::{BuildHasher, Hash};
+use std::vec::IntoIter;
+
+/// An insert of many items that stopped at one.
+#[derive(Drop)]
+pub struct InsertManyRefused<K, V> {
+    /// How many items were inserted.
+    pub done: usize,
+    /// The item that was refused, and why.
+    pub refused: InsertRefused<K, V>,
+    /// The items after it, in order.
+    pub rest: IntoIter<(K, V)>,
+}
+
+/// An invalidation of many keys that stopped at one, whose listener was not told.
+#[derive(Debug, Drop)]
+pub struct InvalidateManyRefused<V> {
+    /// How many keys come before this one. They were taken out if they were there, and this one was as well.
+    pub done: usize,
+    /// The value that was taken out, and why it was not told.
+    pub refused: NotTold<V>,
+}
+
+impl<
+    K: Eq + Hash,
+    V,
+    X: Expiry<K, V>,
+    L: Listener<K, V>,
+    P: PredicateFn<K, V>,
+    W: Weigher<K, V>,
+    S: BuildHasher,
+> Cache<K, V, X, L, P, W, S> {
+    /// Inserts each item at the moment `now`, in order, as `insert`.
+    ///
+    /// # Errors
+    /// As `insert`, at the first item that is refused: it comes back with the items after it.
+    pub fn insert_many<C: Clock>(
+        &mut self,
+        items: Vec<(K, V)>,
+        now: Instant,
+        clock: &mut C,
+    ) -> Result<(), InsertManyRefused<K, V>>
+    where
+        K: Drop,
+        V: Drop,
+        P: Drop,
+        ensures made { Makes (meaning_of K.eq L.tells P.says W.weighs C.reads X.created X.read X.updated)
+            (InsertsMany (λ key. S.Hasher.finish (fold S.Hasher.write (S.build_hasher self.old.engine.hasher) (K.hash_input key))) now items.items result)
+            self.old.engine clock.old self.new.engine clock.new }
+        ensures counted { self.new.stats ≡ self.old.stats }
+    {
+        let total = items.len();
+        let mut rest = items.into_iter();
+        while let Some((key, value)) = rest.next() {
+            match self.insert(key, value, now, clock) {
+                Ok(()) => {}
+                Err(refused) => {
+                    let done = total - rest.len() - 1;
+                    return Err(InsertManyRefused {
+                        done,
+                        refused,
+                        rest,
+                    });
+                }
+            }
+        }
+        Ok(())
+    }
+
+    /// Takes each key out at the moment `now`, in order, as `invalidate`.
+    ///
+    /// # Errors
+    /// As `invalidate`, at the first key whose listener is not told: the keys after it are left.
+    pub fn invalidate_many<C: Clock>(
+        &mut self,
+        keys: &[K],
+        now: Instant,
+        clock: &mut C,
+    ) -> Result<(), InvalidateManyRefused<V>>
+    where
+        K: Clone + Drop,
+        V: Clone + Drop,
+        P: Drop,
+        ensures made { Makes (meaning_of K.eq (hears_clones K.is_clone V.is_clone L.tells) P.says W.weighs C.reads X.created X.read X.updated)
+            (InvalidatesMany (λ key. S.Hasher.finish (fold S.Hasher.write (S.build_hasher self.old.engine.hasher) (K.hash_input key))) now keys.now result)
+            self.old.engine clock.old self.new.engine clock.new }
+        ensures counted { self.new.stats ≡ self.old.stats }
+    {
+        let mut rest = keys;
+        while let Some((key, after)) = rest.split_first() {
+            match self.invalidate(key, now, clock) {
+                Ok(()) => rest = after,
+                Err(refused) => {
+                    let done = keys.len() - rest.len();
+                    return Err(InvalidateManyRefused { done, refused });
+                }
+            }
+        }
+        Ok(())
+    }
+}
