@@ -4,6 +4,7 @@ use crate::support::prelude::*;
 #[cfg(test)]
 use crate::support::test::prelude::*;
 use crate::engine::moka_drive::cache::Cache;
+use crate::engine::moka_drive::compute::{CompResult, Op};
 use crate::engine::moka_engine::{CacheConfig, FixedClock, Instant};
 use crate::support::alloc::Global;
 use crate::support::test::test::Fail;
@@ -45,5 +46,39 @@ fn asks_makers_that_give_no_value() -> Result<(), Fail> {
     let made = cache.get_or_optionally_insert_with(1, || Some(10), NOW, clock);
     assert!( matches!(made, Ok(Some(entry)) if entry.is_fresh));
     assert_eq!( cache.stats().loads, 3);
+    Ok(())
+}
+
+#[test]
+fn computes_of_what_is_there() -> Result<(), Fail> {
+    let rt = HostRuntime;
+    let mut cache = empty(rt.alloc())?;
+    let clock = &mut FixedClock(NOW);
+    let one_more = |seen: Option<u64>| seen.unwrap_or(0).saturating_add(1);
+    let first = cache.upsert_with(1, one_more, NOW, clock);
+    assert!( matches!(first, Ok(entry) if !entry.is_old_value_replaced));
+    let second = cache.upsert_with(1, one_more, NOW, clock);
+    assert!( matches!(second, Ok(entry) if entry.is_old_value_replaced && entry.value == 2));
+    let left = cache.compute_with(1, |_| Op::Nop, NOW, clock);
+    assert!( matches!(left, Ok(CompResult::Unchanged(entry)) if entry.value == 2));
+    let put = cache.compute_with(1, |_| Op::Put(3), NOW, clock);
+    assert!( matches!(put, Ok(CompResult::ReplacedWith(entry)) if entry.value == 3));
+    let taken = cache.compute_with(1, |_| Op::Remove, NOW, clock);
+    assert!( matches!(taken, Ok(CompResult::Removed(entry)) if entry.value == 3));
+    assert!( !cache.contains_key(&1, NOW));
+    Ok(())
+}
+
+#[test]
+fn takes_many_at_once() -> Result<(), Fail> {
+    let rt = HostRuntime;
+    let alloc = rt.alloc();
+    let mut cache = empty(alloc)?;
+    let clock = &mut FixedClock(NOW);
+    let items = vec![in alloc; (1, 10), (2, 20)]?;
+    assert!( cache.insert_many(items, NOW, clock).is_ok());
+    assert_eq!( cache.get(&2, NOW, clock).ok(), Some(Some(20)));
+    assert!( cache.invalidate_many(&[1, 2], NOW, clock).is_ok());
+    assert!( !cache.contains_key(&1, NOW));
     Ok(())
 }

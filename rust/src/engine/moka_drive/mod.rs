@@ -12,6 +12,7 @@ mod entry_tests;
 pub mod error;
 pub mod iter;
 pub mod laws;
+pub mod many;
 pub mod removals;
 pub mod stats;
 #[cfg(test)]
@@ -24,6 +25,7 @@ pub use compute::{CompResult, ComputeRefused, Op};
 pub use driver::drive;
 pub use entry::CacheEntry;
 pub use error::{GetWithRefused, NotTold};
+pub use many::{InsertManyRefused, InvalidateManyRefused};
 pub use removals::{CountingListener, Removals};
 pub use stats::Stats;
 pub use timed::TimedCache;
