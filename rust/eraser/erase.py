@@ -171,6 +171,7 @@ def renamed_tests(text):
     text = change("a test's text", r"\bformat!\(in [\w.()]+; ", "crate::support::test::text!(", text)
     repeated = r"\bvec!\[in [\w.()]+; ([^;\]]+); ([^\]]+)\]"
     text = change("a test's list", repeated, r"Vec::from_elem(Global, \1, \2)", text)
+    text = change("a test's list", r"\bvec!\[in ([\w.()]+); ([^\]]*)\]", r"crate::support::vec::Vec::from_array(\1, [\2])", text)
     text = change("a test's text", r"\bString::new\(alloc\)", "String::new()", text)
     text = change("a test's text", r"\.push\(('[^'\\]')\)\?", r".push(\1)", text)
     names = "|".join(STD_OF_TESTS)

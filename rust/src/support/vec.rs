@@ -9,6 +9,10 @@ pub struct Vec<T>(std::vec::Vec<T>);
 
 impl<T> Vec<T> {
     #[inline]
+    pub fn from_array<const N: usize>(_: Global, items: [T; N]) -> Result<Self, AllocError> {
+        Ok(Vec(items.into()))
+    }
+
     pub fn new(_: Global) -> Self {
         Vec(std::vec::Vec::new())
     }

@@ -75,7 +75,7 @@ fn takes_many_at_once() -> Result<(), Fail> {
     let alloc = rt.alloc();
     let mut cache = empty(alloc)?;
     let clock = &mut FixedClock(NOW);
-    let items = vec![in alloc; (1, 10), (2, 20)]?;
+    let items = crate::support::vec::Vec::from_array(alloc, [(1, 10), (2, 20)])?;
     assert!( cache.insert_many(items, NOW, clock).is_ok());
     assert_eq!( cache.get(&2, NOW, clock).ok(), Some(Some(20)));
     assert!( cache.invalidate_many(&[1, 2], NOW, clock).is_ok());
