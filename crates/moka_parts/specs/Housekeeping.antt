@@ -32,6 +32,10 @@ new_housekeeping now = record { run_after = next_run now; more = false; automati
 abbrev pub is_due : Housekeeping → ℕ → ℕ → Bool
 is_due h queued now = h.more || (h.automatic && (nat_le flush_point queued || nat_le h.run_after.0 now))
 
+-- below this length of its queue no run is due before the moment has come; while more is left one always is
+abbrev pub shortest_due : Bool → ℕ
+shortest_due more = if more then 0 else flush_point
+
 -- after a run of the housekeeper: its answer is kept only where a listener is set
 abbrev pub after_run_due : Housekeeping → Bool → ℕ → Bool → Housekeeping
 after_run_due h listening now answer = record h { run_after = next_run now; more = if listening then answer else h.more }

@@ -104,12 +104,16 @@ pub struct Housekeeper {
     more_entries_to_evict: bool,
     auto_run_enabled: bool,
     is_eviction_listener_enabled: bool,
+    // Below this length of a queue no run is due before `run_after`: 0 while more is left to evict, else 64.
+    due_length: usize,
     config: HousekeeperConfig,
 }
 
 impl Model for Housekeeper {
+    ghost use Rattle.std.specs.Prelude.{◌≡◌};
     ghost use Rattle.std.specs.Duration.{as_nanos};
     ghost use Rattle.moka_parts.specs.Housekeeper.{Keeper};
+    ghost use Rattle.moka_parts.specs.Housekeeping.{shortest_due};
 
     ghost Value = { Keeper };
 
@@ -124,6 +128,8 @@ impl Model for Housekeeper {
       run_repeats = h.config.max_log_sync_repeats;
       run_batch = h.config.eviction_batch_size;
     } };
+
+    ghost invariant = { λ h. h.due_length ≡ shortest_due h.more_entries_to_evict };
 }
 
 impl Housekeeper {
@@ -140,6 +146,7 @@ impl Housekeeper {
             more_entries_to_evict: false,
             auto_run_enabled: true,
             is_eviction_listener_enabled,
+            due_length: READ_LOG_FLUSH_POINT,
             config,
         }
     }
@@ -153,14 +160,19 @@ impl Housekeeper {
             more_entries_to_evict: self.more_entries_to_evict,
             auto_run_enabled: self.auto_run_enabled,
             is_eviction_listener_enabled: self.is_eviction_listener_enabled,
+            due_length: self.due_length,
             config: self.config,
         }
     }
 
     /// Whether a run is due before another read is queued, where so many wait.
+    #[inline(always)]
     pub fn should_apply_reads(&self, len: usize, now: Instant) -> bool
         ensures { result ≡ is_due self.now.housekeeping len now.0 }
     {
+        if len < self.due_length && now < self.run_after {
+            return false;
+        }
         self.more_entries_to_evict || self.should_apply(len, READ_LOG_FLUSH_POINT, now)
     }
 
@@ -202,6 +214,11 @@ impl Housekeeper {
         );
         if self.is_eviction_listener_enabled {
             self.more_entries_to_evict = more_to_evict;
+            self.due_length = if more_to_evict {
+                0
+            } else {
+                READ_LOG_FLUSH_POINT
+            };
         }
     }
 
