@@ -161,9 +161,16 @@ module _ {K V X L P W S : Type 0} {eq : K → K → Bool} {l : Option L} {s : St
 
 -- ---- what a look-up returns
 
--- where the cache is disabled, the key has no record, and its value was not asked about
-pub nothing_asked : {K V X L P W I : Type 0} {eq : K → K → Bool} {l : Option L} {s : State K V X P W} (h : IsCache eq l s) → is_disabled s.capacity ≡ true → (key : K) (asks : I → V → Bool → I → Type 0) (test : I) → IsAskedOnce asks (Some test) (value_of (record_of_key eq s.records key)) false (Some test)
-nothing_asked {eq = eq} h disabled key asks test = rw ((h.valid.numbered.disabled disabled).no_records, record_of_key_empty eq key) (refl, refl)
+-- a cache that has a record is not disabled
+pub enabled-found : {K V X L P W S : Type 0} {eq : K → K → Bool} {l : Option L} {s : State K V X P W} (h : IsCache eq l s) (i : Interior K V S) (inside : with_inner s i ≡ s) (key : K) (r : Record K V) → record_of_key eq i.kept.records key ≡ Some r → is_disabled s.capacity ≡ false
+enabled-found {eq = eq} {s = s} h i inside key r found = go (is_disabled s.capacity) refl
+  where
+    go : (b : Bool) → is_disabled s.capacity ≡ b → is_disabled s.capacity ≡ false
+    go false e = e
+    go true e =
+        let none : record_of_key eq s.records key ≡ None = ap (λ records. record_of_key eq records key) (h.valid.numbered.disabled e).no_records ∙ record_of_key_empty eq key in
+        let impossible : None ≡ Some r = sym none ∙ key-inside h i inside key (Some r) found in
+        absurd (cc)
 
 -- what is asked about the value inside is asked about the cache's
 pub asked_of_cache : {K V S X L P W I : Type 0} {old now : Cache K V S X L P W} → old ≡ now → (eq : K → K → Bool) (key : K) (asks : I → V → Bool → I → Type 0) (before after : I) (ignored : Bool)
@@ -184,11 +191,11 @@ module _ {K V S X L P W C : Type 0} (says : P → K → V → Bool → Type 0) (
   pub get_finds_nothing : is_disabled old.state.capacity ≡ true → Gets now (Ok None) now clock
   get_finds_nothing disabled = subst (λ c. Gets c (Ok None) c clock) is (no_events, rw disabled (refl, (refl, refl)), befalls-quietly tells old old.state, refl)
 
-  module _ {l : Option L} (h : IsCache eq l old.state) (enabled : is_disabled old.state.capacity ≡ false) (i : Interior K V S) (inside : with_inner old.state i ≡ old.state) where
+  module _ {l : Option L} (h : IsCache eq l old.state) (i : Interior K V S) (inside : with_inner old.state i ≡ old.state) where
     -- of nothing visible, with what recording the read does
-    pub get_misses : ((r : Record K V) → record_of_key eq i.kept.records key ≡ Some r → IsMissed says old.state ignored r moment.0) → {new : Cache K V S X L P W} {after : C}
+    pub get_misses : is_disabled old.state.capacity ≡ false → ((r : Record K V) → record_of_key eq i.kept.records key ≡ Some r → IsMissed says old.state ignored r moment.0) → {new : Cache K V S X L P W} {after : C}
         → Records moment (Miss hash) now new after → Gets now (Ok None) new after
-    get_misses hidden {new} {after} recorded =
+    get_misses enabled hidden {new} {after} recorded =
         let hidden_so : (r : Record K V) → record_of_key eq old.state.records key ≡ Some r → IsMissed says old.state ignored r moment.0 =
         λ r found. hidden r (ap (λ (t : State K V X P W). record_of_key eq t.records key) inside ∙ found) in
         let of_old : Records moment (Miss hash) old new after = subst (λ c. Records moment (Miss hash) c new after) (sym is) recorded in
@@ -197,6 +204,9 @@ module _ {K V S X L P W C : Type 0} (says : P → K → V → Bool → Type 0) (
     module _ (n : ℕ) (r : Record K V) (there : get i.kept.records n ≡ Some r) (found : record_of_key eq i.kept.records key ≡ Some r) (accepted : ignored ≡ false) (shown : has_lapsed old.state.settings old.state.invalid_before r moment.0 ≡ false) (uncovered : NoneCovers says old.state.predicates r) where
       found_in_state : record_of_key eq old.state.records key ≡ Some r
       found_in_state = key-inside h i inside key (Some r) found
+
+      enabled : is_disabled old.state.capacity ≡ false
+      enabled = enabled-found h i inside key r found
 
       module _ (at : Instant) (expires : Option Instant) (is_renewed : Bool) (t : Touches read (expirations_of old.state.settings) r moment.0 at.0 expires is_renewed)
           (mid : Interior K V S) (rest : mid ≡ record i { kept = mid.kept }) (kept : mid.kept ≡ record i.kept { records = insert i.kept.records n (record r { read = at; expires = expires }) }) where

@@ -15,7 +15,7 @@ use Rattle.moka_engine.specs.BaseCache.{IsCache, expirations_of}
 use Rattle.moka_inner.specs.Interior.{Interior}
 use Rattle.moka_engine.specs.Looks.{Touches}
 use Rattle.moka_engine.proofs.CacheSteps.{with_inner, befalls-quietly, befalls-listed, number-inside, key-inside}
-use Rattle.moka_engine.proofs.GetSteps.{record_read}
+use Rattle.moka_engine.proofs.GetSteps.{record_read, enabled-found}
 
 module _ {K V S X L P W : Type 0} (says : P → K → V → Bool → Type 0) (read : X → K → V → ℕ → Option ℕ → ℕ → Option ℕ) (tells : L → K → V → RemovalCause → L → Type 0) (eq : K → K → Bool)
     {old now : Cache K V S X L P W} (is : old ≡ now) (key : K) (ignored : Bool) (moment : Instant) where
@@ -23,21 +23,24 @@ module _ {K V S X L P W : Type 0} (says : P → K → V → Bool → Type 0) (re
   abbrev Peeks : Result (Option V) OutOfMemory → State K V X P W → List ℕ → S → Cache K V S X L P W → Type 0
   Peeks a t ns hasher before = PeekStep says read eq before.state key ignored moment.0 a t × Befalls tells no_events before (record old { hasher = hasher; state = t; write_list = ns })
 
-  -- in a disabled cache
-  pub peek_finds_nothing : is_disabled old.state.capacity ≡ true → PeekStep says read eq now.state key ignored moment.0 (Ok None) now.state × Befalls tells no_events now now
-  peek_finds_nothing disabled = subst (λ c. PeekStep says read eq c.state key ignored moment.0 (Ok None) c.state × Befalls tells no_events c c) is (rw disabled (refl, refl), befalls-quietly tells old old.state)
-
-  module _ {l : Option L} (h : IsCache eq l old.state) (enabled : is_disabled old.state.capacity ≡ false) (i : Interior K V S) (inside : with_inner old.state i ≡ old.state) where
-    -- of nothing visible
+  module _ {l : Option L} (h : IsCache eq l old.state) (i : Interior K V S) (inside : with_inner old.state i ≡ old.state) where
+    -- of nothing visible, as in a disabled cache
     pub peek_misses : ((r : Record K V) → record_of_key eq i.kept.records key ≡ Some r → IsMissed says old.state ignored r moment.0)
         → PeekStep says read eq now.state key ignored moment.0 (Ok None) now.state × Befalls tells no_events now now
-    peek_misses hidden = subst (λ c. PeekStep says read eq c.state key ignored moment.0 (Ok None) c.state × Befalls tells no_events c c) is (rw enabled (at (record_of_key eq old.state.records key) refl), befalls-quietly tells old old.state)
+    peek_misses hidden = subst (λ c. PeekStep says read eq c.state key ignored moment.0 (Ok None) c.state × Befalls tells no_events c c) is (step (is_disabled old.state.capacity) refl, befalls-quietly tells old old.state)
       where
         at : (o : Option (Record K V)) → record_of_key eq old.state.records key ≡ o → PeeksAt says read old.state o ignored moment.0 (Ok None) old.state
         at None found = (refl, refl)
         at (Some r) found = (hidden r (ap (λ (t : State K V X P W). record_of_key eq t.records key) inside ∙ found), refl)
 
+        step : (b : Bool) → is_disabled old.state.capacity ≡ b → PeekStep says read eq old.state key ignored moment.0 (Ok None) old.state
+        step true disabled = rw disabled (refl, refl)
+        step false enabled = rw enabled (at (record_of_key eq old.state.records key) refl)
+
     module _ (n : ℕ) (r : Record K V) (there : get i.kept.records n ≡ Some r) (found : record_of_key eq i.kept.records key ≡ Some r) (accepted : ignored ≡ false) (shown : has_lapsed old.state.settings old.state.invalid_before r moment.0 ≡ false) (uncovered : NoneCovers says old.state.predicates r) where
+      enabled : is_disabled old.state.capacity ≡ false
+      enabled = enabled-found h i inside key r found
+
       -- of what is visible
       pub peek_hits : (at : Instant) (expires : Option Instant) (is_renewed : Bool) → Touches read (expirations_of old.state.settings) r moment.0 at.0 expires is_renewed
           → (j : Interior K V S) → j ≡ record i { kept = j.kept } → j.kept ≡ record i.kept { records = insert i.kept.records n (record r { read = at; expires = expires }) } → i.kept.written ≡ old.write_list → i.kept.hasher ≡ old.hasher → (value : V) → value ≡ r.value → Peeks (Ok (Some value)) (with_inner old.state j) j.kept.written j.kept.hasher now

@@ -92,9 +92,6 @@ impl<
             × Befalls L.tells e self.old self.new
             × Leads C.reads clock.old e.readings clock.new }
     {
-        if self.is_map_disabled() {
-            return Ok(None);
-        }
         let policy = &self.expiration_policy;
         let (invalidator, valid_after) = (&self.invalidator, &self.valid_after);
         let shown = gets::find_unless(
@@ -107,6 +104,10 @@ impl<
             now,
         );
         let Some((handle, found)) = shown else {
+            // A disabled map holds nothing, so only a miss has to ask. It queues no reads.
+            if self.is_map_disabled() {
+                return Ok(None);
+            }
             self.record_miss(hashes.hash, now, clock);
             return Ok(None);
         };
@@ -174,9 +175,6 @@ impl<
             × HandsOut V.is_clone (λ a. PeekStep P.says X.read K.eq self.old.state key.now ignored now.0 a self.new.state) result
             × Befalls L.tells no_events self.old self.new }
     {
-        if self.is_map_disabled() {
-            return Ok(None);
-        }
         let own = self.inner.key_hash(key);
         let policy = &self.expiration_policy;
         let (invalidator, valid_after) = (&self.invalidator, &self.valid_after);

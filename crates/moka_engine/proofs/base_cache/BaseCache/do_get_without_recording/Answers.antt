@@ -1,29 +1,18 @@
-use Rattle.std.proofs.Common.{refl, false, Some, None, Ok, Err, ap, sym, ◌∙◌}
-use Rattle.moka_parts.specs.Runs.{Cache}
-use Rattle.moka_parts.specs.State.{is_disabled}
-use Rattle.moka_engine.proofs.GetSteps.{cache-touched, stocked-read, nothing_asked, asked_of_cache}
-use Rattle.moka_engine.proofs.PeekSteps.{peek_finds_nothing, peek_misses, peek_hits, peek_refused}
+use Rattle.std.proofs.Common.{refl, Some, None, Ok, Err}
+use Rattle.moka_engine.proofs.GetSteps.{cache-touched, stocked-read, asked_of_cache}
+use Rattle.moka_engine.proofs.PeekSteps.{peek_misses, peek_hits, peek_refused}
 use Rattle.moka_engine.proofs.base_cache.BaseCache.do_get_without_recording.Goals as goal
-
-pub returns-then-is_map_disabled : goal.returns-then-is_map_disabled
-returns-then-is_map_disabled g c =
-    let disabled = ap (λ (x : Cache g.row.K.Denot g.row.V.Denot g.row.S.Denot g.row.X.Denot g.row.L.Denot g.row.P.Denot g.row.W.Denot). is_disabled x.state.capacity) c.self.view_is ∙ (sym c.is_map_disabled.ensures ∙ c.if-is_map_disabled.true) in
-    let asked = asked_of_cache c.self.view_is g.K.PartialEq.eq c.args.key.now g.I.ValueTest.asks c.args.test.now c.args.test.now false (nothing_asked c.self.invariant.cache disabled c.args.key.now g.I.ValueTest.asks c.args.test.now) in
-    let found = peek_finds_nothing g.P.PredicateFn.says g.X.Expiry.read g.L.Listener.tells g.K.PartialEq.eq c.self.view_is c.args.key.now false c.args.now disabled in
-    (false, asked, (Ok None, found.0, refl), found.1)
 
 pub returns-in_default : goal.returns-in_default
 returns-in_default g c =
-    let enabled = ap (λ (x : Cache g.row.K.Denot g.row.V.Denot g.row.S.Denot g.row.X.Denot g.row.L.Denot g.row.P.Denot g.row.W.Denot). is_disabled x.state.capacity) c.self.view_is ∙ (sym c.is_map_disabled.ensures ∙ c.if-is_map_disabled.false) in
     let at = c.in_default.ensures in
-    let found = peek_misses g.P.PredicateFn.says g.X.Expiry.read g.L.Listener.tells g.K.PartialEq.eq c.self.view_is c.args.key.now at.0 c.args.now c.self.invariant.cache enabled c.self.inside.inner refl at.2 in
+    let found = peek_misses g.P.PredicateFn.says g.X.Expiry.read g.L.Listener.tells g.K.PartialEq.eq c.self.view_is c.args.key.now at.0 c.args.now c.self.invariant.cache c.self.inside.inner refl at.2 in
     (at.0, asked_of_cache c.self.view_is g.K.PartialEq.eq c.args.key.now g.I.ValueTest.asks c.args.test.now c.find_unless-shown.new.test at.0 at.1, (Ok None, found.0, refl), found.1)
 
 pub returns-in_default-clone : goal.returns-in_default-clone
 returns-in_default-clone g c =
-    let enabled = ap (λ (x : Cache g.row.K.Denot g.row.V.Denot g.row.S.Denot g.row.X.Denot g.row.L.Denot g.row.P.Denot g.row.W.Denot). is_disabled x.state.capacity) c.self.view_is ∙ (sym c.is_map_disabled.ensures ∙ c.if-is_map_disabled.false) in
     let at = c.in-Some.ensures in
-    let found = peek_refused g.P.PredicateFn.says g.X.Expiry.read g.L.Listener.tells g.K.PartialEq.eq c.self.view_is c.args.key.now at.0 c.args.now c.self.invariant.cache enabled c.self.inside.inner refl c.in-Some.handle.number c.in-Some.found.now at.2.numbered at.2.found at.2.accepted at.2.shown at.2.uncovered (record {}) in
+    let found = peek_refused g.P.PredicateFn.says g.X.Expiry.read g.L.Listener.tells g.K.PartialEq.eq c.self.view_is c.args.key.now at.0 c.args.now c.self.invariant.cache c.self.inside.inner refl c.in-Some.handle.number c.in-Some.found.now at.2.numbered at.2.found at.2.accepted at.2.shown at.2.uncovered (record {}) in
     (at.0, asked_of_cache c.self.view_is g.K.PartialEq.eq c.args.key.now g.I.ValueTest.asks c.args.test.now c.find_unless-shown.new.test at.0 at.1, (Err (record {}), found.0, refl), found.1)
 
 pub invariant_of-self : goal.invariant_of-self
@@ -33,8 +22,7 @@ invariant_of-self g c =
 
 pub returns : goal.returns
 returns g c =
-    let enabled = ap (λ (x : Cache g.row.K.Denot g.row.V.Denot g.row.S.Denot g.row.X.Denot g.row.L.Denot g.row.P.Denot g.row.W.Denot). is_disabled x.state.capacity) c.self.view_is ∙ (sym c.is_map_disabled.ensures ∙ c.if-is_map_disabled.false) in
     let at = c.in-Some.ensures in
-    let found = peek_hits g.P.PredicateFn.says g.X.Expiry.read g.L.Listener.tells g.K.PartialEq.eq c.self.view_is c.args.key.now at.0 c.args.now c.self.invariant.cache enabled c.self.inside.inner refl c.in-Some.handle.number c.in-Some.found.now at.2.numbered at.2.found at.2.accepted at.2.shown at.2.uncovered c.hit_of-hit.result.read c.hit_of-hit.result.expires c.hit_of-hit.result.is_renewed c.hit_of-hit.ensures
+    let found = peek_hits g.P.PredicateFn.says g.X.Expiry.read g.L.Listener.tells g.K.PartialEq.eq c.self.view_is c.args.key.now at.0 c.args.now c.self.invariant.cache c.self.inside.inner refl c.in-Some.handle.number c.in-Some.found.now at.2.numbered at.2.found at.2.accepted at.2.shown at.2.uncovered c.hit_of-hit.result.read c.hit_of-hit.result.expires c.hit_of-hit.result.is_renewed c.hit_of-hit.ensures
     c.touch.new.self c.touch.ensures.rest (c.touch.ensures.step c.in-Some.found.now at.2.numbered) refl refl c.in-Some.found.now.value refl in
     (at.0, asked_of_cache c.self.view_is g.K.PartialEq.eq c.args.key.now g.I.ValueTest.asks c.args.test.now c.find_unless-shown.new.test at.0 at.1, (Ok (Some c.in-Some.found.now.value), found.0, c.in-Ok.ensures.cases), found.1)

@@ -5,7 +5,7 @@ use Rattle.moka_parts.specs.Listed.{ListedRun}
 use Rattle.moka_parts.specs.Runs.{Cache}
 use Rattle.moka_parts.specs.State.{is_disabled}
 use Rattle.moka_engine.specs.Looks.{entry_at}
-use Rattle.moka_engine.proofs.GetSteps.{cache-queued, cache-touched, stocked-read, number-read, get_finds_nothing, get_misses, get_hits, queues_read, get_refused, located-read, nothing_asked, asked_of_cache}
+use Rattle.moka_engine.proofs.GetSteps.{cache-queued, cache-touched, stocked-read, number-read, get_finds_nothing, get_misses, get_hits, queues_read, get_refused, located-read, asked_of_cache}
 use Rattle.moka_engine.proofs.base_cache.BaseCache.get_hashed.Goals as goal
 
 pub record_hit_when_due-requires-clause-due : goal.record_hit_when_due-requires-clause-due
@@ -23,25 +23,23 @@ queue_read-requires g c =
 
 pub returns-then-is_map_disabled : goal.returns-then-is_map_disabled
 returns-then-is_map_disabled g c =
-    let disabled = ap (λ (x : Cache g.row.K.Denot g.row.V.Denot g.row.S.Denot g.row.X.Denot g.row.L.Denot g.row.P.Denot g.row.W.Denot). is_disabled x.state.capacity) c.self.view_is ∙ (sym c.is_map_disabled.ensures ∙ c.if-is_map_disabled.true) in
-    let asked = asked_of_cache c.self.view_is g.K.PartialEq.eq c.args.key.now g.I.ValueTest.asks c.args.test.now c.args.test.now false (nothing_asked c.self.invariant.cache disabled c.args.key.now g.I.ValueTest.asks c.args.test.now) in
-    let found = get_finds_nothing g.P.PredicateFn.says g.X.Expiry.read (λ (before : List ℕ). ListedRun g.P.PredicateFn.says g.X.Expiry.read before c.args.self.now.write_list) g.L.Listener.tells g.C.Clock.reads g.K.PartialEq.eq refl c.args.key.now c.args.hashes.hash c.args.need_key false c.args.now c.args.clock.now (sym c.is_map_disabled.ensures ∙ c.if-is_map_disabled.true) in
-    (false, found.0, asked, (Ok None, found.1, refl), found.2, found.3)
+    let at = c.in_default.ensures in
+    let found = get_finds_nothing g.P.PredicateFn.says g.X.Expiry.read (λ (before : List ℕ). ListedRun g.P.PredicateFn.says g.X.Expiry.read before c.args.self.now.write_list) g.L.Listener.tells g.C.Clock.reads g.K.PartialEq.eq refl c.args.key.now c.args.hashes.hash c.args.need_key at.0 c.args.now c.args.clock.now (sym c.is_map_disabled.ensures ∙ c.if-is_map_disabled.true) in
+    (at.0, found.0, asked_of_cache c.self.view_is g.K.PartialEq.eq c.args.key.now g.I.ValueTest.asks c.args.test.now c.find_unless-shown.new.test at.0 at.1, (Ok None, found.1, refl), found.2, found.3)
 
 pub returns-in_default : goal.returns-in_default
 returns-in_default g c =
     let enabled = ap (λ (x : Cache g.row.K.Denot g.row.V.Denot g.row.S.Denot g.row.X.Denot g.row.L.Denot g.row.P.Denot g.row.W.Denot). is_disabled x.state.capacity) c.self.view_is ∙ (sym c.is_map_disabled.ensures ∙ c.if-is_map_disabled.false) in
     let at = c.in_default.ensures in
     let found = get_misses g.P.PredicateFn.says g.X.Expiry.read (λ (before : List ℕ). ListedRun g.P.PredicateFn.says g.X.Expiry.read before c.record_miss.new.self.write_list) g.L.Listener.tells g.C.Clock.reads g.K.PartialEq.eq c.self.view_is c.args.key.now c.args.hashes.hash c.args.need_key at.0 c.args.now c.args.clock.now
-    c.self.invariant.cache enabled c.self.inside.inner refl at.2 c.record_miss.ensures in
+    c.self.invariant.cache c.self.inside.inner refl enabled at.2 c.record_miss.ensures in
     (at.0, found.0, asked_of_cache c.self.view_is g.K.PartialEq.eq c.args.key.now g.I.ValueTest.asks c.args.test.now c.find_unless-shown.new.test at.0 at.1, (Ok None, found.1, refl), found.2, found.3)
 
 pub returns-in_default-entry_of : goal.returns-in_default-entry_of
 returns-in_default-entry_of g c =
-    let enabled = ap (λ (x : Cache g.row.K.Denot g.row.V.Denot g.row.S.Denot g.row.X.Denot g.row.L.Denot g.row.P.Denot g.row.W.Denot). is_disabled x.state.capacity) c.self.view_is ∙ (sym c.is_map_disabled.ensures ∙ c.if-is_map_disabled.false) in
     let at = c.in-Some.ensures in
     let found = get_refused g.P.PredicateFn.says g.X.Expiry.read (λ (before : List ℕ). ListedRun g.P.PredicateFn.says g.X.Expiry.read before c.args.self.now.write_list) g.L.Listener.tells g.C.Clock.reads g.K.PartialEq.eq c.self.view_is c.args.key.now c.args.hashes.hash c.args.need_key at.0 c.args.now c.args.clock.now
-    c.self.invariant.cache enabled c.self.inside.inner refl c.in-Some.handle.number c.in-Some.found.now at.2.numbered at.2.found at.2.accepted at.2.shown at.2.uncovered (record {}) in
+    c.self.invariant.cache c.self.inside.inner refl c.in-Some.handle.number c.in-Some.found.now at.2.numbered at.2.found at.2.accepted at.2.shown at.2.uncovered (record {}) in
     (at.0, found.0, asked_of_cache c.self.view_is g.K.PartialEq.eq c.args.key.now g.I.ValueTest.asks c.args.test.now c.find_unless-shown.new.test at.0 at.1, (Err (record {}), found.1, refl), found.2, found.3)
 
 pub invariant_of-self : goal.invariant_of-self
@@ -51,10 +49,9 @@ invariant_of-self g c =
 
 pub returns-then-should_apply_reads : goal.returns-then-should_apply_reads
 returns-then-should_apply_reads g c =
-    let enabled = ap (λ (x : Cache g.row.K.Denot g.row.V.Denot g.row.S.Denot g.row.X.Denot g.row.L.Denot g.row.P.Denot g.row.W.Denot). is_disabled x.state.capacity) c.self.view_is ∙ (sym c.is_map_disabled.ensures ∙ c.if-is_map_disabled.false) in
     let at = c.in-Some.ensures in
     let found = get_hits g.P.PredicateFn.says g.X.Expiry.read (λ (before : List ℕ). ListedRun g.P.PredicateFn.says g.X.Expiry.read before c.record_hit_when_due.new.self.write_list) g.L.Listener.tells g.C.Clock.reads g.K.PartialEq.eq c.self.view_is c.args.key.now c.args.hashes.hash c.args.need_key at.0 c.args.now c.args.clock.now
-    c.self.invariant.cache enabled c.self.inside.inner refl c.in-Some.handle.number c.in-Some.found.now at.2.numbered at.2.found at.2.accepted at.2.shown at.2.uncovered c.hit_of-hit.result.read c.hit_of-hit.result.expires c.hit_of-hit.result.is_renewed c.hit_of-hit.ensures
+    c.self.invariant.cache c.self.inside.inner refl c.in-Some.handle.number c.in-Some.found.now at.2.numbered at.2.found at.2.accepted at.2.shown at.2.uncovered c.hit_of-hit.result.read c.hit_of-hit.result.expires c.hit_of-hit.result.is_renewed c.hit_of-hit.ensures
     c.touch.new.self c.touch.ensures.rest (c.touch.ensures.step c.in-Some.found.now at.2.numbered) refl refl (entry_at c.args.need_key c.in-Some.found.now) refl refl c.record_hit_when_due.ensures in
     (at.0, found.0, asked_of_cache c.self.view_is g.K.PartialEq.eq c.args.key.now g.I.ValueTest.asks c.args.test.now c.find_unless-shown.new.test at.0 at.1, (Ok (Some (entry_at c.args.need_key c.in-Some.found.now)), found.1, c.in-Ok.ensures), found.2, found.3)
 
@@ -66,13 +63,12 @@ invariant_of-self-2 g c =
 
 pub returns : goal.returns
 returns g c =
-    let enabled = ap (λ (x : Cache g.row.K.Denot g.row.V.Denot g.row.S.Denot g.row.X.Denot g.row.L.Denot g.row.P.Denot g.row.W.Denot). is_disabled x.state.capacity) c.self.view_is ∙ (sym c.is_map_disabled.ensures ∙ c.if-is_map_disabled.false) in
     let at = c.in-Some.ensures in
     let due = ap (λ n. is_due c.self.inside.housekeeper.housekeeping n c.hit_of-hit.result.read.0) (sym c.read_count-queued.ensures) ∙ sym c.should_apply_reads.ensures ∙ c.if-should_apply_reads.false in
     let queued = queues_read g.P.PredicateFn.says g.X.Expiry.read (λ (before : List ℕ). ListedRun g.P.PredicateFn.says g.X.Expiry.read before c.queue_read.new.self.kept.written) g.L.Listener.tells g.C.Clock.reads g.K.PartialEq.eq c.self.view_is c.args.key.now c.args.hashes.hash c.args.need_key at.0 c.args.now c.args.clock.now
-    c.self.invariant.cache enabled c.self.inside.inner refl c.in-Some.handle.number c.in-Some.found.now at.2.numbered at.2.found at.2.accepted at.2.shown at.2.uncovered c.hit_of-hit.result.read c.hit_of-hit.result.expires c.hit_of-hit.result.is_renewed c.hit_of-hit.ensures
+    c.self.invariant.cache c.self.inside.inner refl c.in-Some.handle.number c.in-Some.found.now at.2.numbered at.2.found at.2.accepted at.2.shown at.2.uncovered c.hit_of-hit.result.read c.hit_of-hit.result.expires c.hit_of-hit.result.is_renewed c.hit_of-hit.ensures
     c.touch.new.self c.touch.ensures.rest (c.touch.ensures.step c.in-Some.found.now at.2.numbered) due c.queue_read.new.self (Hit c.in-Some.handle.number c.in-Some.found.now.hash c.hit_of-hit.result.is_renewed) c.queue_read.ensures in
     let found = get_hits g.P.PredicateFn.says g.X.Expiry.read (λ (before : List ℕ). ListedRun g.P.PredicateFn.says g.X.Expiry.read before c.queue_read.new.self.kept.written) g.L.Listener.tells g.C.Clock.reads g.K.PartialEq.eq c.self.view_is c.args.key.now c.args.hashes.hash c.args.need_key at.0 c.args.now c.args.clock.now
-    c.self.invariant.cache enabled c.self.inside.inner refl c.in-Some.handle.number c.in-Some.found.now at.2.numbered at.2.found at.2.accepted at.2.shown at.2.uncovered c.hit_of-hit.result.read c.hit_of-hit.result.expires c.hit_of-hit.result.is_renewed c.hit_of-hit.ensures
+    c.self.invariant.cache c.self.inside.inner refl c.in-Some.handle.number c.in-Some.found.now at.2.numbered at.2.found at.2.accepted at.2.shown at.2.uncovered c.hit_of-hit.result.read c.hit_of-hit.result.expires c.hit_of-hit.result.is_renewed c.hit_of-hit.ensures
     c.touch.new.self c.touch.ensures.rest (c.touch.ensures.step c.in-Some.found.now at.2.numbered) refl refl (entry_at c.args.need_key c.in-Some.found.now) refl refl queued in
     (at.0, found.0, asked_of_cache c.self.view_is g.K.PartialEq.eq c.args.key.now g.I.ValueTest.asks c.args.test.now c.find_unless-shown.new.test at.0 at.1, (Ok (Some (entry_at c.args.need_key c.in-Some.found.now)), found.1, c.in-Ok.ensures), found.2, found.3)
