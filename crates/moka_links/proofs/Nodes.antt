@@ -1,20 +1,17 @@
 -- What each write leaves of the nodes.
-use Rattle.std.proofs.Common.{◌≡◌, ◌≢◌, ℕ, ◌<◌, List, inl, inr, refl, sym, ap, ◌∙◌, arith, length, set, get_or-set_same, get_or-set_other, length-set}
+use Rattle.std.proofs.Common.{◌≡◌, ◌≢◌, ℕ, ◌<◌, List, inl, inr, refl, sym, ap, ◌∙◌, arith, length, slice_index_or, set, get_or-set_same, get_or-set_other, length-set}
 use Rattle.std.proofs.lemmas.Bool.{cases_eq}
 use Rattle.std.proofs.lemmas.List.{get_or_default}
 use Rattle.moka_links.specs.declared.Node.{Node}
 use Rattle.moka_links.specs.Links.{blank, at, befores, behinds, values, detached, attached}
 
 module _ {T : Type 0} where
-  -- within the table it does not matter what is read past it
-  pub same-node : (past other : T) (ns : List (Node T)) (i : ℕ) → i < length ns → at past ns i ≡ at other ns i
-  same-node past other ns i l = get_or_default ns i (blank past) (blank other) l
+  -- a link that leads into the table, whatever is read past it
+  pub read-before : (ns : List (Node T)) (i size : ℕ) (n : Node T) → i < length ns → ((past : T) → befores past ns i < size) → (slice_index_or ns i n).before < size
+  read-before ns i size n l h = omega (arith, h n.value, ap (λ (m : Node T). m.before) (get_or_default ns i n (blank n.value) l))
 
-  pub any-before : (past other : T) (ns : List (Node T)) (i size : ℕ) → i < length ns → befores past ns i < size → befores other ns i < size
-  any-before past other ns i size l h = omega (arith, h, ap (λ (n : Node T). n.before) (same-node past other ns i l))
-
-  pub any-behind : (past other : T) (ns : List (Node T)) (i size : ℕ) → i < length ns → behinds past ns i < size → behinds other ns i < size
-  any-behind past other ns i size l h = omega (arith, h, ap (λ (n : Node T). n.behind) (same-node past other ns i l))
+  pub read-behind : (ns : List (Node T)) (i size : ℕ) (n : Node T) → i < length ns → ((past : T) → behinds past ns i < size) → (slice_index_or ns i n).behind < size
+  read-behind ns i size n l h = omega (arith, h n.value, ap (λ (m : Node T). m.behind) (get_or_default ns i n (blank n.value) l))
 
   module _ (past : T) where
     -- what a write at p keeps of a node

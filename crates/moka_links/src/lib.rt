@@ -1,10 +1,12 @@
 //! Nodes in one table that are linked by their slots: rings, each closed at its head, and chains of free slots.
 //!
+//! The calls take a slice, so that several changes in a row load the table's address once.
+//!
 //! In the contracts `past` is the value that is read past the last node; they hold whichever it is.
 #![tactic(auto)]
 
-ghost use Rattle.std.specs.Prelude.{◌≡◌, ◌<◌, vec_len};
-ghost use Rattle.moka_links.specs.Links.{attached, befores, behinds, detached, KeepsCapacity};
+ghost use Rattle.std.specs.Prelude.{◌≡◌, ◌<◌, length};
+ghost use Rattle.moka_links.specs.Links.{attached, befores, behinds, detached};
 
 /// A value with the slots of its neighbours.
 #[derive(Clone, Copy)]
@@ -19,12 +21,11 @@ pub struct Node<T> {
 
 /// Takes the node at `slot` out of its ring. Its own links stay as they are.
 #[inline(always)]
-pub fn detach<T>(nodes: &mut Vec<Node<T>>, slot: u32)
-    requires slot { slot < vec_len nodes.old }
-    requires before { (past : T) → befores past nodes.old.items slot < vec_len nodes.old }
-    requires behind { (past : T) → behinds past nodes.old.items slot < vec_len nodes.old }
-    ensures nodes { (past : T) → nodes.new.items ≡ detached past nodes.old.items slot }
-    ensures capacity { KeepsCapacity nodes.old nodes.new }
+pub fn detach<T>(nodes: &mut [Node<T>], slot: u32)
+    requires slot { slot < length nodes.old }
+    requires before { (past : T) → befores past nodes.old slot < length nodes.old }
+    requires behind { (past : T) → behinds past nodes.old slot < length nodes.old }
+    ensures nodes { (past : T) → nodes.new ≡ detached past nodes.old slot }
 {
     let before = nodes[slot as usize].before;
     let behind = nodes[slot as usize].behind;
@@ -34,12 +35,11 @@ pub fn detach<T>(nodes: &mut Vec<Node<T>>, slot: u32)
 
 /// Puts the node at `slot` before `head`, which is behind all others of that ring.
 #[inline(always)]
-pub fn attach<T>(nodes: &mut Vec<Node<T>>, slot: u32, head: u32)
-    requires slot { slot < vec_len nodes.old }
-    requires head { head < vec_len nodes.old }
-    requires last { (past : T) → befores past nodes.old.items head < vec_len nodes.old }
-    ensures nodes { (past : T) → nodes.new.items ≡ attached past nodes.old.items slot head }
-    ensures capacity { KeepsCapacity nodes.old nodes.new }
+pub fn attach<T>(nodes: &mut [Node<T>], slot: u32, head: u32)
+    requires slot { slot < length nodes.old }
+    requires head { head < length nodes.old }
+    requires last { (past : T) → befores past nodes.old head < length nodes.old }
+    ensures nodes { (past : T) → nodes.new ≡ attached past nodes.old slot head }
 {
     let last = nodes[head as usize].before;
     nodes[slot as usize].before = last;

@@ -301,13 +301,6 @@ sole v e z = record {
   apart = λ i j p q. absurd (omega arith);
 }
 
--- `unlink` leaves the number in the node
-pub unlinked-number : (ns : List Node) (len free s : ℕ) (o : IsOrder ns len free) → IsSome (lookup (nat_eq s) (members_of ns len)) → numbers (with_behind (detached ns s) s free) s ≡ numbers ns s
-unlinked-number ns len free s o p =
-    let n = near ns len free s o p in
-    let d = Detached-detached 0 ns s n.before_within n.behind_within in
-    set-keeps 0 (λ k. k.value) (detached ns s) s (record (at (detached ns s) s) { behind = free }) s (omega (arith, n.within, d.size)) refl ∙ d.value s
-
 -- the members after a push into a free slot
 pub added-reuse : (ns : List Node) (len free n : ℕ) (o : IsOrder ns len free) → len + 1 < length ns → members_of (attached (with_number ns free n) free) (len + 1) ≡ members_of ns len ++ (free, n) ∷ []
 added-reuse ns len free n o more = (reuse-leaves ns len free n o more).members_are ∙ ap (λ l. l ++ (free, n) ∷ []) (sym (members-are ns len free o))

@@ -25,8 +25,35 @@ fn release(nodes: &mut Vec<Node<u64>>, slot: u32, free: u32)
     ensures nodes { nodes.new.items ≡ with_behind (detached nodes.old.items slot) slot free }
     ensures capacity { KeepsCapacity nodes.old nodes.new }
 {
+    let nodes = nodes.as_mut_slice();
     detach(nodes, slot);
     nodes[slot as usize].behind = free;
+}
+
+// Puts the node at `slot` behind all others.
+#[inline(always)]
+fn append(nodes: &mut Vec<Node<u64>>, slot: u32)
+    requires slot { slot < vec_len nodes.old }
+    requires last { (at nodes.old.items 0).before < vec_len nodes.old }
+    ensures nodes { nodes.new.items ≡ attached nodes.old.items slot }
+    ensures capacity { KeepsCapacity nodes.old nodes.new }
+{
+    attach(nodes.as_mut_slice(), slot, SENTINEL);
+}
+
+// Takes the node at `slot` out of the ring, and puts it behind all others.
+#[inline(always)]
+fn relink(nodes: &mut Vec<Node<u64>>, slot: u32)
+    requires slot { slot < vec_len nodes.old }
+    requires before { (at nodes.old.items slot).before < vec_len nodes.old }
+    requires behind { (at nodes.old.items slot).behind < vec_len nodes.old }
+    requires last { (at (detached nodes.old.items slot) 0).before < vec_len nodes.old }
+    ensures nodes { nodes.new.items ≡ attached (detached nodes.old.items slot) slot }
+    ensures capacity { KeepsCapacity nodes.old nodes.new }
+{
+    let table = nodes.as_mut_slice();
+    detach(table, slot);
+    attach(table, slot, SENTINEL);
 }
 
 // Gives the free node at `slot` a number and attaches it. The answer is the slot that was free behind it.
@@ -38,6 +65,7 @@ fn reuse(nodes: &mut Vec<Node<u64>>, slot: u32, number: u64) -> u32
     ensures nodes { nodes.new.items ≡ attached (with_number nodes.old.items slot number) slot }
     ensures capacity { KeepsCapacity nodes.old nodes.new }
 {
+    let nodes = nodes.as_mut_slice();
     let next = nodes[slot as usize].behind;
     nodes[slot as usize].value = number;
     attach(nodes, slot, SENTINEL);
@@ -163,7 +191,7 @@ impl OrderList {
             before: SENTINEL,
             behind: SENTINEL,
         });
-        attach(&mut self.nodes, slot, SENTINEL);
+        append(&mut self.nodes, slot);
         self.len += 1;
         slot
     }
@@ -180,8 +208,7 @@ impl OrderList {
         ensures distinct { IsDistinct nat_eq (keys_of self.old.members) }
         ensures room { self.new.room ≡ self.old.room }
     {
-        detach(&mut self.nodes, slot);
-        attach(&mut self.nodes, slot, SENTINEL);
+        relink(&mut self.nodes, slot);
     }
 
     /// Takes the number in `slot` out and gives it back. The slot may be given to a later number.
@@ -197,10 +224,11 @@ impl OrderList {
         ensures distinct { IsDistinct nat_eq (keys_of self.old.members) }
         ensures room { self.new.room ≡ self.old.room + 1 }
     {
+        let number = self.nodes[slot as usize].value;
         release(&mut self.nodes, slot, self.free);
         self.free = slot;
         self.len -= 1;
-        self.nodes[slot as usize].value
+        number
     }
 
     /// The slot of the first number, and that number.

@@ -30,6 +30,7 @@ pub(crate) fn detach(nodes: &mut Vec<Node<Entry>>, slot: u32)
     ensures nodes { nodes.new.items ≡ detached nodes.old.items slot }
     ensures capacity { KeepsCapacity nodes.old nodes.new }
 {
+    let nodes = nodes.as_mut_slice();
     moka_links::detach(nodes, slot);
     nodes[slot as usize].value.bucket = HEADS;
 }
@@ -42,6 +43,7 @@ pub(crate) fn attach(nodes: &mut Vec<Node<Entry>>, slot: u32, bucket: u32)
     ensures nodes { nodes.new.items ≡ attached nodes.old.items slot bucket }
     ensures capacity { KeepsCapacity nodes.old nodes.new }
 {
+    let nodes = nodes.as_mut_slice();
     moka_links::attach(nodes, slot, bucket);
     nodes[slot as usize].value.bucket = bucket;
 }

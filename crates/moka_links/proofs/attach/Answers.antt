@@ -1,10 +1,12 @@
-use Rattle.std.proofs.Common.{arith, ap}
-use Rattle.std.proofs.lemmas.List.{get_or_read}
-use Rattle.moka_links.specs.Links.{blank}
+use Rattle.std.proofs.Common.{rules}
+use Rattle.moka_links.proofs.Nodes.{read-before}
 use Rattle.moka_links.proofs.attach.Goals as goal
 
-pub index_mut-requires-3 : goal.index_mut-requires-3
-index_mut-requires-3 g c =
-    let node = c.index.result.now in
-    let read = get_or_read c.args.nodes.now.items c.args.head node (omega (arith, c.requires.head)) c.index.ensures (blank node.value) in
-    omega (arith, c.requires.last node.value, ap (λ n. n.before) read)
+pub offset_bounds-nodes-last : goal.offset_bounds-nodes-last
+offset_bounds-nodes-last g c = let inside = read-before c.args.nodes.now c.args.head _ c.index-nodes-head.result c.requires.head c.requires.last in search rules
+
+pub bounds-nodes-last : goal.bounds-nodes-last
+bounds-nodes-last g c = let inside = read-before c.args.nodes.now c.args.head _ c.index-nodes-head.result c.requires.head c.requires.last in search rules
+
+pub bounds-nodes-last-2 : goal.bounds-nodes-last-2
+bounds-nodes-last-2 g c = let inside = read-before c.args.nodes.now c.args.head _ c.index-nodes-head.result c.requires.head c.requires.last in search rules

@@ -1,16 +1,21 @@
-use Rattle.std.proofs.Common.{arith, ap}
-use Rattle.std.proofs.lemmas.List.{get_or_read}
-use Rattle.moka_links.specs.Links.{blank}
+use Rattle.std.proofs.Common.{rules}
+use Rattle.moka_links.proofs.Nodes.{read-before, read-behind}
 use Rattle.moka_links.proofs.detach.Goals as goal
 
-pub index_mut-requires : goal.index_mut-requires
-index_mut-requires g c =
-    let node = c.index.result.now in
-    let read = get_or_read c.args.nodes.now.items c.args.slot node (omega (arith, c.requires.slot)) c.index.ensures (blank node.value) in
-    omega (arith, c.requires.before node.value, ap (λ n. n.before) read)
+pub offset_bounds-nodes-before : goal.offset_bounds-nodes-before
+offset_bounds-nodes-before g c = let inside = read-before c.args.nodes.now c.args.slot _ c.index-nodes-slot.result c.requires.slot c.requires.before in search rules
 
-pub index_mut-requires-2 : goal.index_mut-requires-2
-index_mut-requires-2 g c =
-    let node = c.index-2.result.now in
-    let read = get_or_read c.args.nodes.now.items c.args.slot node (omega (arith, c.requires.slot)) c.index-2.ensures (blank node.value) in
-    omega (arith, c.requires.behind node.value, ap (λ n. n.behind) read)
+pub bounds-nodes-before : goal.bounds-nodes-before
+bounds-nodes-before g c = read-before c.args.nodes.now c.args.slot _ c.index-nodes-slot.result c.requires.slot c.requires.before
+
+pub bounds-nodes-before-2 : goal.bounds-nodes-before-2
+bounds-nodes-before-2 g c = read-before c.args.nodes.now c.args.slot _ c.index-nodes-slot.result c.requires.slot c.requires.before
+
+pub offset_bounds-nodes-behind : goal.offset_bounds-nodes-behind
+offset_bounds-nodes-behind g c = let inside = read-behind c.args.nodes.now c.args.slot _ c.index-nodes-slot-2.result c.requires.slot c.requires.behind in search rules
+
+pub bounds-nodes-behind : goal.bounds-nodes-behind
+bounds-nodes-behind g c = let inside = read-behind c.args.nodes.now c.args.slot _ c.index-nodes-slot-2.result c.requires.slot c.requires.behind in search rules
+
+pub bounds-nodes-behind-2 : goal.bounds-nodes-behind-2
+bounds-nodes-behind-2 g c = let inside = read-behind c.args.nodes.now c.args.slot _ c.index-nodes-slot-2.result c.requires.slot c.requires.behind in search rules

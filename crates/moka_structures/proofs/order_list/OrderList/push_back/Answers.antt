@@ -25,7 +25,7 @@ invariant_of-self-2 c =
     let req = rw (← c.self.view_is) at c.requires in
     let small : length c.self.inside.nodes.items < 2 ^ 32 = omega arith in
     let slot : c.len-slot.result ≡ length c.self.inside.nodes.items = omega arith in
-    rw (c.attach.ensures.nodes 0, c.push_reserved.ensures.items, slot) (fresh-leaves _ _ _ c.args.number c.self.invariant _ small refl).order
+    rw (c.append.ensures.nodes, c.push_reserved.ensures.items, slot) (fresh-leaves _ _ _ c.args.number c.self.invariant _ small refl).order
 
 pub returns-clause-fresh : goal.returns-clause-fresh
 returns-clause-fresh c =
@@ -37,7 +37,7 @@ returns-clause-members c =
     let req = rw (← c.self.view_is) at c.requires in
     let small : length c.self.inside.nodes.items < 2 ^ 32 = omega arith in
     let slot : c.len-slot.result ≡ length c.self.inside.nodes.items = omega arith in
-    rw (c.attach.ensures.nodes 0, c.push_reserved.ensures.items, slot, ← c.self.view_is) (added-fresh _ _ _ c.args.number c.self.invariant _ small refl)
+    rw (c.append.ensures.nodes, c.push_reserved.ensures.items, slot, ← c.self.view_is) (added-fresh _ _ _ c.args.number c.self.invariant _ small refl)
 
 pub returns-then-self-len-clause-lookups : goal.returns-then-self-len-clause-lookups
 returns-then-self-len-clause-lookups c k =
@@ -49,7 +49,7 @@ returns-clause-lookups c k =
     let req = rw (← c.self.view_is) at c.requires in
     let small : length c.self.inside.nodes.items < 2 ^ 32 = omega arith in
     let slot : c.len-slot.result ≡ length c.self.inside.nodes.items = omega arith in
-    rw (c.attach.ensures.nodes 0, c.push_reserved.ensures.items, slot, ← c.self.view_is)
+    rw (c.append.ensures.nodes, c.push_reserved.ensures.items, slot, ← c.self.view_is)
     (ap (lookup (nat_eq k)) (added-fresh _ _ _ c.args.number c.self.invariant _ small refl) ∙ lookup-pushed _ _ c.args.number k (new-fresh _ _ _ c.self.invariant))
 
 pub returns-then-self-len-clause-len : goal.returns-then-self-len-clause-len
@@ -63,7 +63,7 @@ returns-clause-len c =
     let req = rw (← c.self.view_is) at c.requires in
     let small : length c.self.inside.nodes.items < 2 ^ 32 = omega arith in
     let v : Node = record { value = c.args.number; before = 0; behind = 0 } in
-    rw (c.attach.ensures.nodes 0, c.push_reserved.ensures.items, slot, ← c.self.view_is)
+    rw (c.append.ensures.nodes, c.push_reserved.ensures.items, slot, ← c.self.view_is)
     (omega (arith, length-members _ _ _ (fresh-leaves _ _ _ c.args.number c.self.invariant v small refl).order, length-members _ _ _ c.self.invariant))
 
 pub returns-then-self-len-clause-distinct : goal.returns-then-self-len-clause-distinct
@@ -84,7 +84,7 @@ returns-clause-few c =
     let req = rw (← c.self.view_is) at c.requires in
     let small : length c.self.inside.nodes.items < 2 ^ 32 = omega arith in
     let v : Node = record { value = c.args.number; before = 0; behind = 0 } in
-    rw (c.attach.ensures.nodes 0, c.push_reserved.ensures.items, slot)
+    rw (c.append.ensures.nodes, c.push_reserved.ensures.items, slot)
     (omega (arith, small, length-members _ _ _ (fresh-leaves _ _ _ c.args.number i v small refl).order, i.counted, i.total))
 
 pub returns-then-self-len-clause-positive : goal.returns-then-self-len-clause-positive

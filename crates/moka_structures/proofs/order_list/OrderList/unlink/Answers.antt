@@ -1,7 +1,7 @@
 use Rattle.std.proofs.Common.{◌<◌, length, Some, nat_eq, arith, sym, ap, ◌∙◌}
 use Rattle.std.proofs.lemmas.List.{get_or_read}
-use Rattle.moka_structures.specs.Links.{Node, blank, numbers}
-use Rattle.moka_structures.proofs.Orders.{near, unlinked, unlinked-number, number-of, distinct-members, length-members, placed}
+use Rattle.moka_structures.specs.Links.{Node, blank}
+use Rattle.moka_structures.proofs.Orders.{near, unlinked, number-of, distinct-members, length-members, placed}
 use Rattle.moka_structures.proofs.Lookups.{lookup-without}
 use Rattle.std.specs.Map.{lookup}
 use Rattle.moka_structures.proofs.order_list.OrderList.unlink.Goals as goal
@@ -24,7 +24,7 @@ release-requires-clause-behind c =
 pub index-requires : goal.index-requires
 index-requires c =
     let req = rw (← c.self.view_is) at c.requires in
-    omega (arith, (near _ _ _ _ c.self.invariant req).within, (unlinked _ _ _ _ c.self.invariant req).size_is, ap length c.release.ensures.nodes)
+    omega (arith, (near _ _ _ _ c.self.invariant req).within)
 
 pub invariant_of-self : goal.invariant_of-self
 invariant_of-self c =
@@ -34,10 +34,9 @@ invariant_of-self c =
 pub returns-clause-number : goal.returns-clause-number
 returns-clause-number c =
     let req = rw (← c.self.view_is) at c.requires in
-    let inside : c.args.slot < length c.release.new.nodes.items = omega (arith, (near _ _ _ _ c.self.invariant req).within, (unlinked _ _ _ _ c.self.invariant req).size_is, ap length c.release.ensures.nodes) in
-    let read = ap (λ (n : Node). n.value) (get_or_read c.release.new.nodes.items c.args.slot c.index.result.now inside c.index.ensures blank) in
-    let kept = unlinked-number _ _ _ _ c.self.invariant req in
-    rw (← c.self.view_is) (number-of _ _ _ _ c.self.invariant req ∙ ap Some (sym (read ∙ ap (λ ns. numbers ns c.args.slot) c.release.ensures.nodes ∙ kept)))
+    let inside : c.args.slot < length c.self.inside.nodes.items = omega (arith, (near _ _ _ _ c.self.invariant req).within) in
+    let read = ap (λ (n : Node). n.value) (get_or_read c.self.inside.nodes.items c.args.slot c.index.result.now inside c.index.ensures blank) in
+    rw (← c.self.view_is) (number-of _ _ _ _ c.self.invariant req ∙ ap Some (sym read))
 
 pub returns-clause-members : goal.returns-clause-members
 returns-clause-members c =

@@ -1,0 +1,12 @@
+use Rattle.std.proofs.Common.{length, rules, ap, ◌≡◌, ◌∙◌}
+use Rattle.std.proofs.lemmas.List.{with_items_is}
+use Rattle.moka_structures.specs.Links.{attached, detached}
+use Rattle.moka_structures.proofs.order_list.relink.Goals as goal
+
+pub returns-clause-nodes : goal.returns-clause-nodes
+returns-clause-nodes c =
+    let same : length c.attach.new.nodes ≡ c.args.nodes.now.len = search rules in
+    with_items_is c.args.nodes.now c.attach.new.nodes same
+    ∙ c.attach.ensures.nodes 0
+    ∙ ap (λ ns. attached ns c.args.slot) (c.detach.ensures.nodes 0)
+    ∙ ap (λ ns. attached (detached ns c.args.slot) c.args.slot) c.as_mut_slice-table.ensures.value
