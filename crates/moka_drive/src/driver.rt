@@ -6,10 +6,10 @@ ghost use Rattle.moka_parts.specs.Calls.{only_notices, KeyStep};
 ghost use Rattle.moka_parts.specs.Copies.{ClonesAreEqual};
 ghost use Rattle.moka_parts.specs.Records.{Notice};
 ghost use Rattle.moka_parts.specs.Drives.{Drives};
-ghost use Rattle.moka_parts.specs.Listed.{ListedRun};
-ghost use Rattle.moka_parts.specs.Runs.{Befalls, CallStep};
+ghost use Rattle.moka_parts.specs.Runs.{Befalls};
 ghost use Rattle.moka_parts.specs.declared.calls.Reply.TheVariants.{Report};
 ghost use Rattle.moka_drive.specs.Meanings.{meaning_of};
+ghost use Rattle.moka_engine.specs.Makes.{Makes};
 ghost use Rattle.moka_drive.specs.Replies.{RemovesAndNotifies, NotifiesEntry, TellsPending};
 
 use moka_engine::base_cache::BaseCache;
@@ -96,12 +96,8 @@ fn make<
 ) -> Reply<K, V, P>
     requires keys { ClonesAreEqual K.is_clone }
     requires values { ClonesAreEqual V.is_clone }
-    ensures { (e : Events K V)
-        × CallStep (meaning_of K.eq L.tells P.says W.weighs C.reads I.gives X.created X.read X.updated)
-        (ListedRun P.says X.read cache.old.write_list cache.new.write_list) cache.old.state call result e cache.new.state
-        × Befalls L.tells e cache.old cache.new
-        × Leads C.reads clock.old e.readings clock.new
-        × Leads I.gives ids.old e.ids ids.new }
+    ensures { Makes (meaning_of K.eq L.tells P.says W.weighs C.reads I.gives X.created X.read X.updated) call result cache.old cache.new
+        (λ e. Leads C.reads clock.old e.readings clock.new × Leads I.gives ids.old e.ids ids.new) }
 {
     match call {
         Call::Insert { key, value, .. } if cache.is_map_disabled() => {

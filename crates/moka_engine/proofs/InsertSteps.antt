@@ -11,7 +11,7 @@ use Rattle.moka_parts.specs.declared.notification.RemovalCause.{RemovalCause}
 use Rattle.moka_parts.specs.declared.policy.Instant.{Instant}
 use Rattle.moka_parts.specs.declared.records.Operation.TheVariants.{Upsert}
 use Rattle.moka_parts.specs.declared.records.Record.{Record}
-use Rattle.moka_parts.specs.Calls.{no_events, only_notices, Weighs, InsertStep, HasInsertError, handing_out, inserted, replaced}
+use Rattle.moka_parts.specs.Calls.{no_events, only_notices, Weighs, InsertStep, InsertsAt, HasInsertError, handing_out, inserted, replaced}
 use Rattle.moka_parts.specs.Causes.{cause_of_replacement}
 use Rattle.moka_parts.specs.Expiry.{expires_at_first, expires_updated}
 use Rattle.moka_parts.specs.Notification.{HearsOnce}
@@ -200,3 +200,19 @@ module _ {K V S X L P W : Type 0} (created : X → K → V → ℕ → Option �
           listed = λ none. ap (λ (x : Interior K V S). x.kept.written) step ∙ list_still;
         },
       )
+
+-- ---- events
+
+-- an insert reads no clock and asks for no identifiers
+pub notices_alone : {K V X P W : Type 0} (created : X → K → V → ℕ → Option ℕ) (updating : X → K → V → ℕ → Option ℕ → Option ℕ) (weighs : W → K → V → ℕ → Type 0) (s : State K V X P W) (o : Option (Record K V)) (key : K) (hash : ℕ) (value : V) (now : Instant) (a : Result (Ticket × Instant) (InsertRefused K V)) (e : Events K V) (t : State K V X P W)
+    → InsertsAt created updating weighs s o key hash value now a e t → e ≡ only_notices e.notices
+notices_alone {K} {V} created updating weighs s o key hash value now a e t step = at o a step
+  where
+    alone : (ns : List (K × V × RemovalCause)) → e ≡ only_notices ns → e ≡ only_notices e.notices
+    alone ns is = is ∙ ap only_notices (sym (ap (λ (x : Events K V). x.notices) is))
+
+    at : (o : Option (Record K V)) (a : Result (Ticket × Instant) (InsertRefused K V)) → InsertsAt created updating weighs s o key hash value now a e t → e ≡ only_notices e.notices
+    at None (Ok a) put = alone [] put.6
+    at (Some r) (Ok a) put = alone (when_listening s.settings.listening ((key, r.value, cause_of_replacement s.settings s.invalid_before r now.0) ∷ [])) put.6
+    at None (Err refused) put = alone [] put.1.1
+    at (Some r) (Err refused) put = alone [] put.1.1

@@ -19,22 +19,22 @@ use Rattle.moka_engine.proofs.CacheSteps.{nothing_heard}
 module _ {K V S X L P W I : Type 0} (tells : L → K → V → RemovalCause → L → Type 0) (gives : I → Uuid → I → Type 0) {old now : Cache K V S X L P W} (is : old ≡ now) (predicate : P) (moment : Instant) (source after : I) where
   -- a registration that answers so, and leaves these predicates
   abbrev Registering : Result Uuid (PredicateRefused P) → List (Registered P) → Cache K V S X L P W → Type 0
-  Registering a qs before = (e : Events K V) × InvalidateStep before.state predicate moment a e.ids (record old.state { predicates = qs }) × (e ≡ only_ids e.ids) × Befalls tells e before (record old { state = record old.state { predicates = qs } }) × Leads gives source e.ids after
+  Registering a qs before = (e : Events K V) × (InvalidateStep before.state predicate moment a e.ids (record old.state { predicates = qs }) × (e ≡ only_ids e.ids)) × Befalls tells e before (record old { state = record old.state { predicates = qs } }) × Leads gives source e.ids after
 
   -- one that is refused without a question
   abbrev Refused : Cache K V S X L P W → Type 0
-  Refused c = (e : Events K V) × InvalidateStep c.state predicate moment (Err (record { error = InvalidationClosuresDisabled; predicate = predicate })) e.ids c.state × (e ≡ only_ids e.ids) × Befalls tells e c c × Leads gives source e.ids after
+  Refused c = (e : Events K V) × (InvalidateStep c.state predicate moment (Err (record { error = InvalidationClosuresDisabled; predicate = predicate })) e.ids c.state × (e ≡ only_ids e.ids)) × Befalls tells e c c × Leads gives source e.ids after
 
   quietly : (ids : List Uuid) (t : State K V X P W) → Befalls tells (only_ids ids) old (record old { state = t })
   quietly ids t = record { kept = refl; heard = nothing_heard tells old.listener; passes = refl; listed = λ none. refl }
 
   -- where predicates are supported
   pub registers : old.state.settings.invalidator ≡ true → (a : Result Uuid (PredicateRefused P)) (qs : List (Registered P)) → Registers gives old.state.predicates predicate moment source a qs after → Registering a qs now
-  registers on a qs (ids, led, step) = subst (Registering a qs) is (only_ids ids, invalidate_step old.state predicate moment a ids qs on step, refl, quietly ids (record old.state { predicates = qs }), led)
+  registers on a qs (ids, led, step) = subst (Registering a qs) is (only_ids ids, (invalidate_step old.state predicate moment a ids qs on step, refl), quietly ids (record old.state { predicates = qs }), led)
 
   -- where they are not
   pub unsupported : old.state.settings.invalidator ≡ false → after ≡ source → Refused now
-  unsupported off same = subst Refused is (only_ids [], (refl, (off, refl), refl), refl, quietly [] old.state, same)
+  unsupported off same = subst Refused is (only_ids [], ((refl, (off, refl), refl), refl), quietly [] old.state, same)
 
 -- other predicates, where they are supported
 pub cache-registered : {K V X L P W : Type 0} {eq : K → K → Bool} {l : Option L} {s : State K V X P W} → IsCache eq l s → s.settings.invalidator ≡ true → (qs : List (Registered P)) → IsCache eq l (record s { predicates = qs })

@@ -2,6 +2,7 @@ pub mod BaseCache
 pub mod Config
 pub mod Looks
 pub mod CacheRuns
+pub mod Makes
 pub mod parts
 pub use Rattle.moka_parts.specs.Time
 pub use Rattle.moka_parts.specs.Policy

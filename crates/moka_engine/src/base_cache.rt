@@ -1,11 +1,10 @@
 //! The cache. moka: `sync::base_cache`.
 ghost use Rattle.std.specs.Prelude.{◌≡◌, ◌≤◌, ◌||◌, true, false, [], length, map, is_some, List, Option, Some, None, Ok, Err, IfOk, IfErr, option_map, option_copied};
-ghost use Rattle.std.specs.Duration.{as_nanos};
 ghost use Rattle.std.specs.List.{AllZip, fold};
 ghost use Rattle.std.specs.String.{string_bytes};
-ghost use Rattle.moka_parts.specs.Calls.{no_events, only_notices, CapacityStep, InsertStep, SendStep, RemoveStep, ContainsStep, KeysStep, GetStep};
+ghost use Rattle.moka_parts.specs.Calls.{no_events, only_notices, CapacityStep, InsertStep, SendStep, RemoveStep, ContainsStep, KeysStep};
 ghost use Rattle.moka_parts.specs.Copies.{HandsOut, IsCopy, IsEntryCopy, NotifiesOfCopy};
-ghost use Rattle.moka_parts.specs.Listed.{ListedRun};
+ghost use Rattle.moka_parts.specs.Housekeeper.{new_keeper};
 ghost use Rattle.moka_parts.specs.Order.{IsWriteList};
 ghost use Rattle.moka_parts.specs.Records.{Notice, record_of_key};
 ghost use Rattle.moka_parts.specs.Runs.{Befalls};
@@ -13,7 +12,10 @@ ghost use Rattle.moka_parts.specs.Settling.{IsValid};
 ghost use Rattle.moka_parts.specs.State.{Events, is_disabled, keeps_write_list, limits_of, new_state};
 ghost use Rattle.moka_parts.specs.Surroundings.{Leads};
 ghost use Rattle.moka_store.specs.Hashing.{IsKeyHash};
-ghost use Rattle.moka_engine.specs.BaseCache.{IsServed};
+ghost use Rattle.moka_parts.specs.declared.calls.Call.TheVariants as call;
+ghost use Rattle.moka_parts.specs.declared.calls.Reply.TheVariants as reply;
+ghost use Rattle.moka_engine.specs.BaseCache.{IsServed, settings_of};
+ghost use Rattle.moka_engine.specs.Makes.{Makes, meaning};
 
 use moka_inner::Inner;
 use moka_parts::calls::{Entry, KvEntry, Ticket};
@@ -205,18 +207,8 @@ impl<
           name = option_map string_bytes name;
           hasher = build_hasher;
           state = new_state
-              (record {
-                policy = eviction_policy;
-                time_to_live = expiration_policy.time_to_live;
-                time_to_idle = expiration_policy.time_to_idle;
-                expiry = expiration_policy.expiry;
-                weigher = weigher;
-                listening = is_some eviction_listener;
-                invalidator = invalidator_enabled;
-                run_limit = as_nanos housekeeper_config.maintenance_task_timeout;
-                run_repeats = housekeeper_config.max_log_sync_repeats;
-                run_batch = housekeeper_config.eviction_batch_size;
-              })
+              (settings_of eviction_policy expiration_policy weigher invalidator_enabled
+              (new_keeper (is_some eviction_listener) housekeeper_config now.0))
               max_capacity now.0 first_ticket;
           listener = eviction_listener;
           write_list = [];
@@ -373,7 +365,8 @@ impl<
         K: Drop,
         V: Drop,
         requires enabled { is_disabled self.old.state.capacity ≡ false }
-        ensures { (e : Events K V) × InsertStep X.created X.updated W.weighs K.eq self.old.state key hash value now result e self.new.state × Befalls L.tells e self.old self.new }
+        ensures { Makes (meaning K.eq L.tells P.says W.weighs X.created X.read X.updated)
+            (call.Insert key hash value now) (reply.Insert result) self.old self.new (λ e. e ≡ only_notices e.notices) }
     {
         let own = self.inner.key_hash(&key);
         self.insert_hashed(key, Hashes { hash, own }, value, now)
@@ -396,7 +389,8 @@ impl<
         V: Drop,
         requires enabled { is_disabled self.old.state.capacity ≡ false }
         requires own { hash ≡ S.Hasher.finish (fold S.Hasher.write (S.build_hasher self.old.hasher) (K.hash_input key)) }
-        ensures { (e : Events K V) × InsertStep X.created X.updated W.weighs K.eq self.old.state key hash value now result e self.new.state × Befalls L.tells e self.old self.new }
+        ensures { Makes (meaning K.eq L.tells P.says W.weighs X.created X.read X.updated)
+            (call.Insert key hash value now) (reply.Insert result) self.old self.new (λ e. e ≡ only_notices e.notices) }
     {
         let own = KeyHash::of(hash);
         self.insert_hashed(key, Hashes { hash, own }, value, now)
@@ -640,11 +634,9 @@ impl<
         K: Clone + Drop,
         V: Clone + Drop,
         P: Drop,
-        ensures { (e : Events K V)
-            × HandsOut (IsEntryCopy K.is_clone V.is_clone)
-            (λ a. GetStep P.says X.read (ListedRun P.says X.read self.old.write_list self.new.write_list) K.eq self.old.state key.now hash need_key false now.0 a e self.new.state) result
-            × Befalls L.tells e self.old self.new
-            × Leads C.reads clock.old e.readings clock.new }
+        ensures { HandsOut (IsEntryCopy K.is_clone V.is_clone)
+            (λ own. Makes (meaning K.eq L.tells P.says W.weighs X.created X.read X.updated) (call.Get key.now hash need_key now)
+            (reply.Get own) self.old self.new (λ e. Leads C.reads clock.old e.readings clock.new)) result }
     {
         let own = self.inner.key_hash(key);
         self.get_hashed(key, Hashes { hash, own }, &mut NoTest, need_key, now, clock)
@@ -668,11 +660,9 @@ impl<
         V: Clone + Drop,
         P: Drop,
         requires own { hash ≡ S.Hasher.finish (fold S.Hasher.write (S.build_hasher self.old.hasher) (K.hash_input key.now)) }
-        ensures { (e : Events K V)
-            × HandsOut (IsEntryCopy K.is_clone V.is_clone)
-            (λ a. GetStep P.says X.read (ListedRun P.says X.read self.old.write_list self.new.write_list) K.eq self.old.state key.now hash need_key false now.0 a e self.new.state) result
-            × Befalls L.tells e self.old self.new
-            × Leads C.reads clock.old e.readings clock.new }
+        ensures { HandsOut (IsEntryCopy K.is_clone V.is_clone)
+            (λ own. Makes (meaning K.eq L.tells P.says W.weighs X.created X.read X.updated) (call.Get key.now hash need_key now)
+            (reply.Get own) self.old self.new (λ e. Leads C.reads clock.old e.readings clock.new)) result }
     {
         let own = KeyHash::of(hash);
         self.get_hashed(key, Hashes { hash, own }, &mut NoTest, need_key, now, clock)

@@ -1,9 +1,8 @@
 //! Invalidation by predicates.
-ghost use Rattle.std.specs.Prelude.{◌≡◌};
-ghost use Rattle.moka_parts.specs.Calls.{only_ids, InvalidateStep};
-ghost use Rattle.moka_parts.specs.Runs.{Befalls};
-ghost use Rattle.moka_parts.specs.State.{Events};
 ghost use Rattle.moka_parts.specs.Surroundings.{Leads};
+ghost use Rattle.moka_parts.specs.declared.calls.Call.TheVariants as call;
+ghost use Rattle.moka_parts.specs.declared.calls.Reply.TheVariants as reply;
+ghost use Rattle.moka_engine.specs.Makes.{Makes, meaning};
 
 use super::BaseCache;
 use moka_parts::closures::{PredicateFn, Weigher};
@@ -38,11 +37,9 @@ impl<
         now: Instant,
         ids: &mut I,
     ) -> Result<PredicateId, PredicateRefused<P>>
-        ensures { (e : Events K V)
-            × InvalidateStep self.old.state predicate now result e.ids self.new.state
-            × (e ≡ only_ids e.ids)
-            × Befalls L.tells e self.old self.new
-            × Leads I.gives ids.old e.ids ids.new }
+        ensures { Makes (meaning K.eq L.tells P.says W.weighs X.created X.read X.updated)
+            (call.InvalidateIf predicate now) (reply.InvalidateIf result) self.old self.new
+            (λ e. Leads I.gives ids.old e.ids ids.new) }
     {
         if !self.invalidator_enabled {
             let error = PredicateError::InvalidationClosuresDisabled;

@@ -4,13 +4,12 @@ ghost use Rattle.std.specs.Prelude.{Bool, Some};
 ghost use Rattle.moka_parts.specs.Calls.{GetStep, PeekStep, ScanStep, no_events};
 ghost use Rattle.moka_parts.specs.Closures.{CanAskIfGiven, test_given, test_left};
 ghost use Rattle.moka_parts.specs.Copies.{HandsOut, IsEntryCopy};
-ghost use Rattle.moka_parts.specs.Listed.{ListedRun};
 ghost use Rattle.moka_parts.specs.Records.{record_of_key};
 ghost use Rattle.moka_parts.specs.Runs.{Befalls};
-ghost use Rattle.moka_parts.specs.State.{Events};
 ghost use Rattle.moka_parts.specs.Surroundings.{IsAskedOnce, Leads};
 ghost use Rattle.moka_store.specs.Hashing.{IsKeyHash};
 ghost use Rattle.moka_engine.specs.Looks.{value_of};
+ghost use Rattle.moka_engine.specs.Makes.{Takes};
 
 use super::{BaseCache, Hashes, gets};
 use moka_parts::calls::Entry;
@@ -52,12 +51,12 @@ impl<
         V: Clone + Drop,
         P: Drop,
         requires askable { CanAskIfGiven I.can_ask (test_given ignore_if) }
-        ensures { (ignored : Bool) × (e : Events K V)
+        ensures { (ignored : Bool)
             × IsAskedOnce I.asks (test_given ignore_if.entry) (value_of (record_of_key K.eq self.old.state.records key.now)) ignored (test_left ignore_if.exit)
             × HandsOut (IsEntryCopy K.is_clone V.is_clone)
-            (λ a. GetStep P.says X.read (ListedRun P.says X.read self.old.write_list self.new.write_list) K.eq self.old.state key.now hash need_key ignored now.0 a e self.new.state) result
-            × Befalls L.tells e self.old self.new
-            × Leads C.reads clock.old e.readings clock.new }
+            (λ own. Takes P.says X.read L.tells
+            (λ Runs s. GetStep P.says X.read Runs K.eq s key.now hash need_key ignored now.0 own)
+            self.old self.new (λ e. Leads C.reads clock.old e.readings clock.new)) result }
     {
         match ignore_if {
             Some(test) => {
@@ -85,12 +84,12 @@ impl<
         P: Drop,
         requires own { IsKeyHash S.build_hasher S.Hasher.finish S.Hasher.write self.old.hasher (K.hash_input key.now) hashes.own }
         requires askable { (v : V) → I.can_ask test.old v }
-        ensures { (ignored : Bool) × (e : Events K V)
+        ensures { (ignored : Bool)
             × IsAskedOnce I.asks (Some test.old) (value_of (record_of_key K.eq self.old.state.records key.now)) ignored (Some test.new)
             × HandsOut (IsEntryCopy K.is_clone V.is_clone)
-            (λ a. GetStep P.says X.read (ListedRun P.says X.read self.old.write_list self.new.write_list) K.eq self.old.state key.now hashes.hash need_key ignored now.0 a e self.new.state) result
-            × Befalls L.tells e self.old self.new
-            × Leads C.reads clock.old e.readings clock.new }
+            (λ own. Takes P.says X.read L.tells
+            (λ Runs s. GetStep P.says X.read Runs K.eq s key.now hashes.hash need_key ignored now.0 own)
+            self.old self.new (λ e. Leads C.reads clock.old e.readings clock.new)) result }
     {
         let policy = &self.expiration_policy;
         let (invalidator, valid_after) = (&self.invalidator, &self.valid_after);

@@ -2,17 +2,19 @@
 ghost use Rattle.std.specs.Prelude.{◌≡◌, length, min, option_map, None, Some, true, false, if◌then◌else◌};
 ghost use Rattle.std.specs.Duration.{as_nanos};
 ghost use Rattle.std.specs.FinMap as finite;
-ghost use Rattle.moka_parts.specs.Calls.{KeeperRun, RecordsRead, RunStep, RunsIfDue, no_events};
+ghost use Rattle.moka_parts.specs.Calls.{KeeperRun, RecordsRead, RunsIfDue, no_events};
 ghost use Rattle.moka_parts.specs.Exact.{IsExact};
 ghost use Rattle.moka_parts.specs.Housekeeping.{is_due, without_automatic};
-ghost use Rattle.moka_parts.specs.Listed.{ListedRun};
 ghost use Rattle.moka_parts.specs.Records.{record_of_key};
 ghost use Rattle.moka_parts.specs.Runs.{Befalls};
 ghost use Rattle.moka_parts.specs.Settling.{IsValid, leaves_more_idle};
-ghost use Rattle.moka_parts.specs.State.{Events, is_disabled};
+ghost use Rattle.moka_parts.specs.State.{is_disabled};
 ghost use Rattle.moka_parts.specs.Surroundings.{Leads};
 ghost use Rattle.moka_parts.specs.Time.{greatest};
+ghost use Rattle.moka_parts.specs.declared.calls.Call.TheVariants as call;
+ghost use Rattle.moka_parts.specs.declared.calls.Reply.TheVariants as reply;
 ghost use Rattle.moka_parts.specs.declared.records.ReadOperation.TheVariants.{Hit, Miss};
+ghost use Rattle.moka_engine.specs.Makes.{Makes, Takes, meaning};
 
 use super::BaseCache;
 use moka_maintenance::sweep::Tests;
@@ -64,11 +66,9 @@ impl<
         K: Drop,
         V: Drop,
         P: Drop,
-        ensures step { (e : Events K V)
-            × RunStep (ListedRun P.says X.read self.old.write_list self.new.write_list) self.old.state
-            (record { now = now.0; limit = option_map as_nanos limit; batch = batch }) result e self.new.state
-            × Befalls L.tells e self.old self.new
-            × Leads C.reads clock.old e.readings clock.new }
+        ensures step { Makes (meaning K.eq L.tells P.says W.weighs X.created X.read X.updated)
+            (call.Run now limit repeats batch) (reply.Run result) self.old self.new
+            (λ e. Leads C.reads clock.old e.readings clock.new) }
         ensures exact { self.old.state.outstanding ≡ finite.empty → IsExact self.new.state }
         ensures idle { is_disabled self.old.state.capacity ≡ false → batch ≡ 0 → result ≡ leaves_more_idle self.new.state }
     {
@@ -107,10 +107,8 @@ impl<
         K: Drop,
         V: Drop,
         P: Drop,
-        ensures { (e : Events K V)
-            × RunsIfDue (ListedRun P.says X.read self.old.write_list self.new.write_list) self.old.state (length self.old.state.writes) now.0 e self.new.state
-            × Befalls L.tells e self.old self.new
-            × Leads C.reads clock.old e.readings clock.new }
+        ensures { Makes (meaning K.eq L.tells P.says W.weighs X.created X.read X.updated)
+            (call.RunIfDue now) reply.RunIfDue self.old self.new (λ e. Leads C.reads clock.old e.readings clock.new) }
     {
         let queued = self.inner.write_count();
         if self.housekeeper.should_apply_writes(queued, now) {
@@ -125,10 +123,8 @@ impl<
         K: Drop,
         V: Drop,
         P: Drop,
-        ensures { (e : Events K V)
-            × RunsIfDue (ListedRun P.says X.read self.old.write_list self.new.write_list) self.old.state (length self.old.state.reads) now.0 e self.new.state
-            × Befalls L.tells e self.old self.new
-            × Leads C.reads clock.old e.readings clock.new }
+        ensures { Takes P.says X.read L.tells (λ Runs s. RunsIfDue Runs s (length s.reads) now.0) self.old self.new
+            (λ e. Leads C.reads clock.old e.readings clock.new) }
     {
         let queued = self.inner.read_count();
         if self.housekeeper.should_apply_reads(queued, now) {
@@ -144,10 +140,8 @@ impl<
         K: Drop,
         V: Drop,
         P: Drop,
-        ensures { (e : Events K V)
-            × RecordsRead (ListedRun P.says X.read self.old.write_list self.new.write_list) self.old.state now.0 (Miss hash) e self.new.state
-            × Befalls L.tells e self.old self.new
-            × Leads C.reads clock.old e.readings clock.new }
+        ensures { Takes P.says X.read L.tells (λ Runs s. RecordsRead Runs s now.0 (Miss hash)) self.old self.new
+            (λ e. Leads C.reads clock.old e.readings clock.new) }
     {
         self.apply_reads_if_needed(now, clock);
         self.inner.queue_read(0, ReadOperation::Miss { hash });
@@ -171,10 +165,8 @@ impl<
         P: Drop,
         requires due { is_due self.old.state.housekeeping (length self.old.state.reads) now.0 ≡ true }
         requires found { option_map (λ r. r.number) (record_of_key K.eq self.old.state.records key.now) ≡ Some number }
-        ensures { (e : Events K V)
-            × RecordsRead (ListedRun P.says X.read self.old.write_list self.new.write_list) self.old.state now.0 (Hit number hash renewed) e self.new.state
-            × Befalls L.tells e self.old self.new
-            × Leads C.reads clock.old e.readings clock.new }
+        ensures { Takes P.says X.read L.tells (λ Runs s. RecordsRead Runs s now.0 (Hit number hash renewed)) self.old self.new
+            (λ e. Leads C.reads clock.old e.readings clock.new) }
     {
         self.run_by_housekeeper(now, clock);
         self.inner.queue_hit(key, number, hash, renewed);
@@ -187,10 +179,8 @@ impl<
         K: Drop,
         V: Drop,
         P: Drop,
-        ensures step { (e : Events K V)
-            × KeeperRun (ListedRun P.says X.read self.old.write_list self.new.write_list) self.old.state now.0 e self.new.state
-            × Befalls L.tells e self.old self.new
-            × Leads C.reads clock.old e.readings clock.new }
+        ensures step { Takes P.says X.read L.tells (λ Runs s. KeeperRun Runs s now.0) self.old self.new
+            (λ e. Leads C.reads clock.old e.readings clock.new) }
         ensures valid { IsValid K.eq self.old.state }
     {
         let mut housekeeper = self.housekeeper.copied();

@@ -36,7 +36,7 @@ loop-call-preserved g c =
       ran = (
         h.0 ++ made ∷ [],
         rw c.push_reserved.ensures.items (MakesCalls_push m (PromisedRun m.says m.read) c.loop-call.yielded c.loop-call.replies.items h.0 c.args.cache.now c.loop-call.cache c.make-reply.new.cache
-            c.args.clock.now c.loop-call.clock c.make-reply.new.clock c.args.ids.now c.loop-call.ids c.make-reply.new.ids made h.1 promised refl k.2 k.3 k.4),
+            c.args.clock.now c.loop-call.clock c.make-reply.new.clock c.args.ids.now c.loop-call.ids c.make-reply.new.ids made h.1 promised refl k.2 k.3.0 k.3.1),
         lists_go_on m (PromisedRun m.says m.read) c.loop-call.yielded c.loop-call.replies.items h.0 c.args.cache.now c.loop-call.cache c.args.clock.now c.loop-call.clock c.args.ids.now c.loop-call.ids made c.make-reply.new.cache.write_list h.1 h.2 listed,
       );
       rest = c.loop-call.invariant.rest ∙ (ap (λ xs. c.loop-call.yielded ++ xs) step.0 ∙ sym (append_assoc c.loop-call.yielded (c.in-Some.call ∷ []) (into_iter_items c.next.new.self)));

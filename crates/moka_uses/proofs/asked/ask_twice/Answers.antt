@@ -21,6 +21,6 @@ returns c =
     let called = c.in_ok-found.ensures in
     let s = c.args.cache.now.state in
     let found = c.in_ok-found.found in
-    let agrees = c.gets_what_is_contained.ensures.listed c.args.cache.now.write_list c.get_with_hash.new.self.write_list s c.args.key c.hash-hash.result false c.args.now.0 called.1.0 called.0 c.get_with_hash.new.self.state c.contains_key_with_hash-is_contained.result
-    c.invariant_holds.ensures.valid.numbered called.1.1 c.contains_key_with_hash-is_contained.ensures (answered _ _ called.1.0 found called.1.2) in
-    sym agrees ∙ found_alike _ _ called.1.0 found called.1.2 ∙ sym c.is_some.ensures
+    let agrees = c.gets_what_is_contained.ensures.listed c.args.cache.now.write_list c.get_with_hash.new.self.write_list s c.args.key c.hash-hash.result false c.args.now.0 called.0 called.1.0 c.get_with_hash.new.self.state c.contains_key_with_hash-is_contained.result
+    c.invariant_holds.ensures.valid.numbered called.1.1 c.contains_key_with_hash-is_contained.ensures (answered _ _ called.0 found called.2) in
+    sym agrees ∙ found_alike _ _ called.0 found called.2 ∙ sym c.is_some.ensures

@@ -35,7 +35,7 @@ returns g c =
     let s = c.args.numbers.now.state in
     let t = c.invalidate_entries_if.new.self.state in
     record {
-      hidden = hidden s t c.args.bound c.args.now called.0.ids c.invalidate_entries_if.result called.1;
-      back = back s t c.args.bound c.args.now called.0.ids c.invalidate_entries_if.result called.1;
-      unchanged = unchanged s t c.args.bound c.args.now called.0.ids c.invalidate_entries_if.result called.1;
+      hidden = hidden s t c.args.bound c.args.now called.0.ids c.invalidate_entries_if.result called.1.0;
+      back = back s t c.args.bound c.args.now called.0.ids c.invalidate_entries_if.result called.1.0;
+      unchanged = unchanged s t c.args.bound c.args.now called.0.ids c.invalidate_entries_if.result called.1.0;
     }

@@ -25,7 +25,7 @@ pub returns-then-is_map_disabled : goal.returns-then-is_map_disabled
 returns-then-is_map_disabled g c =
     let at = c.in_default.ensures in
     let found = get_finds_nothing g.P.PredicateFn.says g.X.Expiry.read (λ (before : List ℕ). ListedRun g.P.PredicateFn.says g.X.Expiry.read before c.args.self.now.write_list) g.L.Listener.tells g.C.Clock.reads g.K.PartialEq.eq refl c.args.key.now c.args.hashes.hash c.args.need_key at.0 c.args.now c.args.clock.now (sym c.is_map_disabled.ensures ∙ c.if-is_map_disabled.true) in
-    (at.0, found.0, asked_of_cache c.self.view_is g.K.PartialEq.eq c.args.key.now g.I.ValueTest.asks c.args.test.now c.find_unless-shown.new.test at.0 at.1, (Ok None, found.1, refl), found.2, found.3)
+    (at.0, asked_of_cache c.self.view_is g.K.PartialEq.eq c.args.key.now g.I.ValueTest.asks c.args.test.now c.find_unless-shown.new.test at.0 at.1, (Ok None, found, refl))
 
 pub returns-in_default : goal.returns-in_default
 returns-in_default g c =
@@ -33,14 +33,14 @@ returns-in_default g c =
     let at = c.in_default.ensures in
     let found = get_misses g.P.PredicateFn.says g.X.Expiry.read (λ (before : List ℕ). ListedRun g.P.PredicateFn.says g.X.Expiry.read before c.record_miss.new.self.write_list) g.L.Listener.tells g.C.Clock.reads g.K.PartialEq.eq c.self.view_is c.args.key.now c.args.hashes.hash c.args.need_key at.0 c.args.now c.args.clock.now
     c.self.invariant.cache c.self.inside.inner refl enabled at.2 c.record_miss.ensures in
-    (at.0, found.0, asked_of_cache c.self.view_is g.K.PartialEq.eq c.args.key.now g.I.ValueTest.asks c.args.test.now c.find_unless-shown.new.test at.0 at.1, (Ok None, found.1, refl), found.2, found.3)
+    (at.0, asked_of_cache c.self.view_is g.K.PartialEq.eq c.args.key.now g.I.ValueTest.asks c.args.test.now c.find_unless-shown.new.test at.0 at.1, (Ok None, found, refl))
 
 pub returns-in_default-entry_of : goal.returns-in_default-entry_of
 returns-in_default-entry_of g c =
     let at = c.in-Some.ensures in
     let found = get_refused g.P.PredicateFn.says g.X.Expiry.read (λ (before : List ℕ). ListedRun g.P.PredicateFn.says g.X.Expiry.read before c.args.self.now.write_list) g.L.Listener.tells g.C.Clock.reads g.K.PartialEq.eq c.self.view_is c.args.key.now c.args.hashes.hash c.args.need_key at.0 c.args.now c.args.clock.now
     c.self.invariant.cache c.self.inside.inner refl c.in-Some.handle.number c.in-Some.found.now at.2.numbered at.2.found at.2.accepted at.2.shown at.2.uncovered (record {}) in
-    (at.0, found.0, asked_of_cache c.self.view_is g.K.PartialEq.eq c.args.key.now g.I.ValueTest.asks c.args.test.now c.find_unless-shown.new.test at.0 at.1, (Err (record {}), found.1, refl), found.2, found.3)
+    (at.0, asked_of_cache c.self.view_is g.K.PartialEq.eq c.args.key.now g.I.ValueTest.asks c.args.test.now c.find_unless-shown.new.test at.0 at.1, (Err (record {}), found, refl))
 
 pub invariant_of-self : goal.invariant_of-self
 invariant_of-self g c =
@@ -53,7 +53,7 @@ returns-then-should_apply_reads g c =
     let found = get_hits g.P.PredicateFn.says g.X.Expiry.read (λ (before : List ℕ). ListedRun g.P.PredicateFn.says g.X.Expiry.read before c.record_hit_when_due.new.self.write_list) g.L.Listener.tells g.C.Clock.reads g.K.PartialEq.eq c.self.view_is c.args.key.now c.args.hashes.hash c.args.need_key at.0 c.args.now c.args.clock.now
     c.self.invariant.cache c.self.inside.inner refl c.in-Some.handle.number c.in-Some.found.now at.2.numbered at.2.found at.2.accepted at.2.shown at.2.uncovered c.hit_of-hit.result.read c.hit_of-hit.result.expires c.hit_of-hit.result.is_renewed c.hit_of-hit.ensures
     c.touch.new.self c.touch.ensures.rest (c.touch.ensures.step c.in-Some.found.now at.2.numbered) refl refl (entry_at c.args.need_key c.in-Some.found.now) refl refl c.record_hit_when_due.ensures in
-    (at.0, found.0, asked_of_cache c.self.view_is g.K.PartialEq.eq c.args.key.now g.I.ValueTest.asks c.args.test.now c.find_unless-shown.new.test at.0 at.1, (Ok (Some (entry_at c.args.need_key c.in-Some.found.now)), found.1, c.in-Ok.ensures), found.2, found.3)
+    (at.0, asked_of_cache c.self.view_is g.K.PartialEq.eq c.args.key.now g.I.ValueTest.asks c.args.test.now c.find_unless-shown.new.test at.0 at.1, (Ok (Some (entry_at c.args.need_key c.in-Some.found.now)), found, c.in-Ok.ensures))
 
 pub invariant_of-self-2 : goal.invariant_of-self-2
 invariant_of-self-2 g c =
@@ -71,4 +71,4 @@ returns g c =
     let found = get_hits g.P.PredicateFn.says g.X.Expiry.read (λ (before : List ℕ). ListedRun g.P.PredicateFn.says g.X.Expiry.read before c.queue_read.new.self.kept.written) g.L.Listener.tells g.C.Clock.reads g.K.PartialEq.eq c.self.view_is c.args.key.now c.args.hashes.hash c.args.need_key at.0 c.args.now c.args.clock.now
     c.self.invariant.cache c.self.inside.inner refl c.in-Some.handle.number c.in-Some.found.now at.2.numbered at.2.found at.2.accepted at.2.shown at.2.uncovered c.hit_of-hit.result.read c.hit_of-hit.result.expires c.hit_of-hit.result.is_renewed c.hit_of-hit.ensures
     c.touch.new.self c.touch.ensures.rest (c.touch.ensures.step c.in-Some.found.now at.2.numbered) refl refl (entry_at c.args.need_key c.in-Some.found.now) refl refl queued in
-    (at.0, found.0, asked_of_cache c.self.view_is g.K.PartialEq.eq c.args.key.now g.I.ValueTest.asks c.args.test.now c.find_unless-shown.new.test at.0 at.1, (Ok (Some (entry_at c.args.need_key c.in-Some.found.now)), found.1, c.in-Ok.ensures), found.2, found.3)
+    (at.0, asked_of_cache c.self.view_is g.K.PartialEq.eq c.args.key.now g.I.ValueTest.asks c.args.test.now c.find_unless-shown.new.test at.0 at.1, (Ok (Some (entry_at c.args.need_key c.in-Some.found.now)), found, c.in-Ok.ensures))
