@@ -1,6 +1,7 @@
 pub mod BaseCache
 pub mod Config
 pub mod Looks
+pub mod Sights
 pub mod CacheRuns
 pub mod Makes
 pub mod parts

@@ -11,7 +11,7 @@
 pub mod base_cache;
 pub mod config;
 
-pub use base_cache::BaseCache;
+pub use base_cache::{BaseCache, Sight};
 pub use config::{CacheConfig, DefaultHasher, Engine};
 pub use moka_parts::calls::{Call, DriveRefused, Entry, KvEntry, Reply, Ticket};
 pub use moka_parts::closures::{

@@ -10,12 +10,12 @@ use Rattle.moka_parts.specs.declared.calls.Reply.{Reply}
 use Rattle.moka_script.specs.declared.key_range.KeyRange.{KeyRange}
 use Rattle.moka_script.specs.declared.failure.Failure.{Failure}
 use Rattle.moka_script.specs.declared.failure.Failure.TheVariants.{BadLine, OutOfMemory}
-use Rattle.moka_replay.specs.declared.play.Played.{Played}
+use Rattle.moka_play.specs.declared.play.Played.{Played}
 use Rattle.moka_script.specs.declared.script.Script.{Script}
 use Rattle.moka_script.specs.Failure.{failure_text, status_of, IsWritten, IsReadFailure}
 use Rattle.moka_script.specs.Script.{ScriptText, script_of, asks_for_memory, text_of}
 use Rattle.moka_script.specs.Notices.{told_of}
-use Rattle.moka_replay.specs.Played.{AreReplies, total_of}
+use Rattle.moka_play.specs.Played.{AreReplies, total_of}
 use Rattle.moka_script.specs.Text.{AreInOrder, replay_text, is_refused_memory}
 
 -- what a reading to the end answers

@@ -4,7 +4,6 @@
 ghost use Rattle.moka_replay.specs.Replay.{IsReplayedBuffered};
 
 mod arguments;
-mod play;
 mod replay;
 
 use crate::arguments::script_path;

@@ -3,7 +3,7 @@ ghost use Rattle.std.specs.Prelude.{◌≡◌, is_some, IfOk};
 ghost use Rattle.std.specs.Duration.{as_nanos};
 ghost use Rattle.moka_script.specs.Notices.{told_of, listener_for};
 ghost use Rattle.moka_script.specs.Script.{text_of};
-ghost use Rattle.moka_replay.specs.Played.{AreReplies, chosen_terms, expirations_of, first_state, total_of};
+ghost use Rattle.moka_play.specs.Played.{AreReplies, chosen_terms, expirations_of, first_state, total_of};
 
 use moka_drive::drive;
 use moka_engine::base_cache::BaseCache;
@@ -70,8 +70,11 @@ pub fn play(alloc: Global, script: Script) -> Result<Played, OutOfMemory>
     }
 }
 
-/// The listener of a script, if it asks for one, with room for all that its calls may tell.
-fn listener_for(
+/// The listener of a script, if it asks for one, with room for every notice that its calls may cause.
+///
+/// # Errors
+/// `OutOfMemory` if memory for that room is refused.
+pub fn listener_for(
     alloc: Global,
     is_asked: bool,
     calls: &[ScriptCall],
@@ -86,7 +89,10 @@ fn listener_for(
 }
 
 /// The cache that a script begins with.
-fn new_cache(
+///
+/// # Errors
+/// `OutOfMemory` if memory for its tables is refused.
+pub fn new_cache(
     alloc: Global,
     settings: Settings,
     rules: Vec<Rule>,

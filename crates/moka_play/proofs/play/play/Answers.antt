@@ -3,9 +3,9 @@ use Rattle.moka_parts.specs.Surroundings.{Heard, Leads}
 use Rattle.moka_parts.specs.Runs.{AreSteps, PromisedRun, notices_of, readings_of, ids_of, last_state}
 use Rattle.moka_script.specs.Calls.{told_call}
 use Rattle.moka_script.specs.Notices.{Keeps, listener_for}
-use Rattle.moka_replay.specs.Played.{script_meaning, total_of}
-use Rattle.moka_replay.proofs.KeptNotices.{told_by_script}
-use Rattle.moka_replay.proofs.play.play.Goals as goal
+use Rattle.moka_play.specs.Played.{script_meaning, total_of}
+use Rattle.moka_play.proofs.KeptNotices.{told_by_script}
+use Rattle.moka_play.proofs.play.play.Goals as goal
 
 pub returns-in-Ok : goal.returns-in-Ok
 returns-in-Ok c =

@@ -32,7 +32,7 @@ use Rattle.moka_script.specs.Calls.{CallText}
 use Rattle.moka_parts.proofs.RunsGoOn.{promised_is_run}
 use Rattle.moka_script.specs.Notices.{ScriptNotice, Kept, Keeps, needs_room, room_of, listener_for, told_of}
 use Rattle.moka_script.specs.Settings.{Chosen}
-use Rattle.moka_replay.specs.Played.{ScriptStep, script_meaning, first_state, start_of}
+use Rattle.moka_play.specs.Played.{ScriptStep, script_meaning, first_state, start_of}
 
 -- ---- the listener
 

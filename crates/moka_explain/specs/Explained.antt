@@ -1,0 +1,44 @@
+-- What explains the reply to a call.
+use Rattle.std.specs.Prelude.{◌≡◌, ℕ, List, length, map, IsPermutation}
+use Rattle.std.specs.List.{AllByRecursion}
+use Rattle.std.specs.FinMap.{values}
+use Rattle.moka_parts.specs.declared.calls.Call.TheVariants as call
+use Rattle.moka_script.specs.Calls.{CallText}
+use Rattle.moka_play.specs.Played.{ScriptState}
+use Rattle.moka_explain.specs.declared.look.Look.{Look}
+use Rattle.moka_explain.specs.declared.explain.Question.{Question}
+use Rattle.moka_explain.specs.declared.explain.Question.TheVariants as question
+use Rattle.moka_explain.specs.declared.explain.Queued.{Queued}
+use Rattle.moka_explain.specs.declared.explain.Answer.{Answer}
+use Rattle.moka_explain.specs.declared.explain.Answer.TheVariants as answer
+use Rattle.moka_explain.specs.Looks.{IsLook}
+
+-- what is worth asking about a call
+abbrev pub question_of : CallText → Question
+question_of (call.Get key hash need_key now) = question.Key key now
+question_of (call.GetUnrecorded key hash now) = question.Key key now
+question_of (call.Contains key hash now) = question.Key key now
+question_of (call.Scan key now) = question.Key key now
+question_of (call.Run now limit repeats batch) = question.All now
+question_of (call.RunIfDue now) = question.All now
+question_of (call.InvalidateAll now) = question.All now
+question_of (call.InvalidateIf predicate now) = question.All now
+question_of c = question.Nothing
+
+-- how many operations are queued
+abbrev pub queued_in : ScriptState → Queued
+queued_in s = record { writes = length s.writes; reads = length s.reads }
+
+-- the keys of all records of the first state, each once, and what is known of them in both
+pub record Tells (s t : ScriptState) (now : ℕ) (before after : List Look) : Type 0 where
+  pub keys : IsPermutation (map (λ r. r.key) (values s.records)) (map (λ (l : Look). l.key) before)
+  pub same : map (λ (l : Look). l.key) after ≡ map (λ (l : Look). l.key) before
+  pub before_call : AllByRecursion (IsLook s now) before
+  pub after_call : AllByRecursion (IsLook t now) after
+
+-- the answer to a question about a call that leads from the first state to the second
+abbrev pub IsAnswer : Question → ScriptState → ScriptState → Answer → Type 0
+IsAnswer (question.Key key now) s t (answer.Met look) = (look.key ≡ key) × IsLook s now.0 look
+IsAnswer (question.All now) s t (answer.Became before after queued_before queued_after) = Tells s t now.0 before.items after.items × (queued_before ≡ queued_in s) × (queued_after ≡ queued_in t)
+IsAnswer question.Nothing s t answer.Nothing = Unit {0}
+IsAnswer q s t a = ⊥

@@ -1,0 +1,11 @@
+-- What is known of a key at a moment.
+use Rattle.std.specs.Prelude.{◌≡◌, ℕ, nat_eq, List, Option, option_map}
+use Rattle.moka_parts.specs.Records.{is_applied, record_of_key}
+use Rattle.moka_engine.specs.Sights.{IsSight}
+use Rattle.moka_play.specs.Played.{ScriptState, script_meaning}
+use Rattle.moka_explain.specs.declared.look.Look.{Look}
+
+-- a look-up of the key meets this, for that reason, and its last write was applied or not
+pub record IsLook (s : ScriptState) (now : ℕ) (look : Look) : Type 0 where
+  pub sight : IsSight script_meaning.says s now (record_of_key nat_eq s.records look.key) look.sight
+  pub applied : look.applied ≡ option_map is_applied (record_of_key nat_eq s.records look.key)

@@ -1,0 +1,195 @@
+//! Makes the calls of a script one after the other, and finds out what each met and what came of it.
+ghost use Rattle.std.specs.Prelude.{◌≡◌, ℕ, List, [], ◌∷◌, map, IfOk, IsPermutation};
+ghost use Rattle.std.specs.FinMap.{values};
+ghost use Rattle.moka_parts.specs.declared.calls.Reply.{Reply};
+ghost use Rattle.moka_parts.specs.Drives.{Drives};
+ghost use Rattle.moka_script.specs.declared.key_range.KeyRange.{KeyRange};
+ghost use Rattle.moka_script.specs.Text.{IsInOrder};
+ghost use Rattle.moka_play.specs.Played.{script_meaning};
+ghost use Rattle.moka_explain.specs.Explained.{question_of, queued_in, IsAnswer};
+
+use crate::look::{Look, look_at, look_at_all};
+use crate::text::write_explained;
+use anyhow::Result;
+use moka_drive::drive;
+use moka_parts::calls::Call;
+use moka_parts::error::OutOfMemory;
+use moka_parts::policy::Instant;
+use moka_play::{ScriptCache, listener_for, new_cache};
+use moka_script::print::sort_keys_of;
+use moka_script::script::{Script, ScriptCall, ScriptReply};
+use moka_script::sources::{CountedIds, ListedClock};
+use std::alloc::Global;
+use std::io::Write;
+
+/// What is worth asking about a call.
+#[derive(Clone, Copy)]
+pub enum Question {
+    /// What the look-up of a key meets at a moment.
+    Key { key: u32, now: Instant },
+    /// What becomes of all keys, seen at a moment.
+    All { now: Instant },
+    /// Its reply says all.
+    Nothing,
+}
+
+/// How many writes and reads are queued.
+#[derive(Clone, Copy)]
+pub struct Queued {
+    pub writes: usize,
+    pub reads: usize,
+}
+
+/// What explains a reply.
+#[derive(Drop)]
+pub enum Answer {
+    /// What the look-up met.
+    Met(Look),
+    /// The keys of all records before the call, and the same keys after it, with the queues of both moments.
+    Became {
+        before: Vec<Look>,
+        after: Vec<Look>,
+        queued_before: Queued,
+        queued_after: Queued,
+    },
+    /// The reply says all.
+    Nothing,
+}
+
+/// A reply with what explains it. Its keys, if it has any, are in rising order.
+#[derive(Drop)]
+pub struct Explained {
+    pub reply: ScriptReply,
+    pub answer: Answer,
+}
+
+/// Makes the calls of a script on a new cache, and prints each reply with what explains it.
+pub fn explain_script<W: Write>(alloc: Global, script: Script, out: &mut W) -> Result<()> {
+    let Script {
+        settings,
+        rules,
+        clock,
+        calls,
+    } = script;
+    let listener = listener_for(alloc, settings.listener, &calls)?;
+    let mut ids = CountedIds::new(settings.repeats_ids);
+    let mut clock = ListedClock::new(clock);
+    let mut cache = new_cache(alloc, settings, rules, listener)?;
+    for call in calls {
+        let explained = explain_call(alloc, &mut cache, call, &mut ids, &mut clock)?;
+        write_explained(out, &explained)?;
+    }
+    Ok(())
+}
+
+/// Makes a call, and says what explains its reply.
+///
+/// # Errors
+/// `OutOfMemory` if memory for the reply or for what explains it is refused.
+pub fn explain_call(
+    alloc: Global,
+    cache: &mut ScriptCache,
+    call: ScriptCall,
+    ids: &mut CountedIds,
+    clock: &mut ListedClock,
+) -> Result<Explained, OutOfMemory>
+    ensures made { IfOk result (λ explained. (given : Reply ℕ (List ℕ) KeyRange) × IsInOrder given explained.reply
+        × Drives script_meaning (call ∷ []) (given ∷ []) cache.old clock.old ids.old cache.new clock.new ids.new) }
+    ensures answer { IfOk result (λ explained.
+        IsAnswer (question_of call) cache.old.state cache.new.state explained.answer) }
+{
+    match question_of(&call) {
+        Question::Key { key, now } => {
+            let look = look_at(cache, key, now);
+            let reply = make(alloc, cache, call, ids, clock)?;
+            let answer = Answer::Met(look);
+            Ok(Explained { reply, answer })
+        }
+        Question::All { now } => {
+            let keys = keys_of(cache)?;
+            let before = look_at_all(alloc, cache, &keys, now)?;
+            let queued_before = queues_of(cache);
+            let reply = make(alloc, cache, call, ids, clock)?;
+            let after = look_at_all(alloc, cache, &keys, now)?;
+            let queued_after = queues_of(cache);
+            let answer = Answer::Became {
+                before,
+                after,
+                queued_before,
+                queued_after,
+            };
+            Ok(Explained { reply, answer })
+        }
+        Question::Nothing => {
+            let reply = make(alloc, cache, call, ids, clock)?;
+            let answer = Answer::Nothing;
+            Ok(Explained { reply, answer })
+        }
+    }
+}
+
+/// What is worth asking about a call.
+fn question_of(call: &ScriptCall) -> Question
+    ensures { result ≡ question_of call.now }
+{
+    match call {
+        Call::Get { key, now, .. }
+        | Call::GetUnrecorded { key, now, .. }
+        | Call::Contains { key, now, .. }
+        | Call::Scan { key, now } => Question::Key {
+            key: *key,
+            now: *now,
+        },
+        Call::Run { now, .. }
+        | Call::RunIfDue { now }
+        | Call::InvalidateAll { now }
+        | Call::InvalidateIf { now, .. } => Question::All { now: *now },
+        _ => Question::Nothing,
+    }
+}
+
+/// The keys of all records, in rising order.
+fn keys_of(cache: &ScriptCache) -> Result<Vec<u32>, OutOfMemory>
+    ensures { IfOk result (λ keys. IsPermutation (map (λ r. r.key) (values cache.now.state.records)) keys.items) }
+{
+    let Some(mut keys) = cache.keys(0)? else {
+        return Err(OutOfMemory);
+    };
+    keys.sort_unstable();
+    Ok(keys)
+}
+
+/// How many operations are queued.
+fn queues_of(cache: &ScriptCache) -> Queued
+    ensures { result ≡ queued_in cache.now.state }
+{
+    Queued {
+        writes: cache.queued_writes(),
+        reads: cache.queued_reads(),
+    }
+}
+
+/// Makes one call. The keys of its reply, if it has any, are in rising order.
+fn make(
+    alloc: Global,
+    cache: &mut ScriptCache,
+    call: ScriptCall,
+    ids: &mut CountedIds,
+    clock: &mut ListedClock,
+) -> Result<ScriptReply, OutOfMemory>
+    ensures { IfOk result (λ reply. (given : Reply ℕ (List ℕ) KeyRange) × IsInOrder given reply
+        × Drives script_meaning (call ∷ []) (given ∷ []) cache.old clock.old ids.old cache.new clock.new ids.new) }
+{
+    let Ok(mut calls) = Vec::with_capacity(alloc, 1) else {
+        return Err(OutOfMemory);
+    };
+    calls.push_reserved(call);
+    match drive(alloc, cache, calls, ids, clock) {
+        Ok(mut replies) => {
+            let mut reply = replies.swap_remove(0);
+            sort_keys_of(&mut reply);
+            Ok(reply)
+        }
+        Err(refused) => Err(refused.error),
+    }
+}
