@@ -15,7 +15,7 @@ use moka_drive::drive;
 use moka_parts::calls::Call;
 use moka_parts::error::OutOfMemory;
 use moka_parts::policy::Instant;
-use moka_play::{ScriptCache, listener_for, new_cache};
+use moka_play::play::{ScriptCache, listener_for, new_cache};
 use moka_script::print::sort_keys_of;
 use moka_script::script::{Script, ScriptCall, ScriptReply};
 use moka_script::sources::{CountedIds, ListedClock};

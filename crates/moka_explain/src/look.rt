@@ -6,7 +6,7 @@ ghost use Rattle.moka_explain.specs.Looks.{IsLook};
 use moka_engine::base_cache::Sight;
 use moka_parts::error::OutOfMemory;
 use moka_parts::policy::Instant;
-use moka_play::ScriptCache;
+use moka_play::play::ScriptCache;
 use std::alloc::Global;
 
 /// What is known of a key at a moment.

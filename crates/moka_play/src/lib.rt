@@ -2,5 +2,3 @@
 #![tactic(auto)]
 
 pub mod play;
-
-pub use play::{Played, ScriptCache, listener_for, new_cache, play};

@@ -4,7 +4,7 @@ ghost use Rattle.moka_script.specs.Failure.{IsWritten};
 ghost use Rattle.moka_script.specs.Notices.{told_of};
 ghost use Rattle.moka_replay.specs.Replay.{Reading, Answers, Ends, IsReplayed, IsPlayed, IsScriptRead, played_text, status_of_replies};
 
-use moka_play::{Played, play};
+use moka_play::play::{Played, play};
 use moka_script::failure::{Failure, REFUSED, REPLAYED, tell, write_with_status};
 use moka_script::notices::{Notice, Notices};
 use moka_script::print::{ReplayText, Total, in_order, is_refused_memory};
