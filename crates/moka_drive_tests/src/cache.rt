@@ -1,9 +1,7 @@
 //! Worked calls of the synchronous cache.
-use crate::cache::Cache;
-use crate::clock::{ManualClock, SystemClock};
-use crate::removals::{CountingListener, Removals};
-use crate::stats::Stats;
-use crate::timed::TimedCache;
+use moka_drive::{
+    Cache, CountingListener, ManualClock, Removals, Stats, SystemClock, TimedCache,
+};
 use moka_engine::{
     CacheConfig, FixedClock, IdSource, Instant, Listener, NoListener, PredicateFn, PredicateId,
     RemovalCause,

@@ -1,6 +1,5 @@
 //! Worked entry calls.
-use crate::cache::Cache;
-use crate::compute::{CompResult, Op};
+use moka_drive::{Cache, CompResult, Op};
 use moka_engine::{CacheConfig, FixedClock, Instant};
 use std::alloc::Global;
 use std::test::Fail;

@@ -1,0 +1,7 @@
+//! Tests of the synchronous cache's calls, and nothing else.
+#![tactic(auto)]
+
+#[cfg(test)]
+mod cache;
+#[cfg(test)]
+mod entry;
