@@ -7,16 +7,12 @@ pub mod clock;
 pub mod compute;
 pub mod driver;
 pub mod entry;
-#[cfg(test)]
-mod entry_tests;
 pub mod error;
 pub mod iter;
 pub mod laws;
 pub mod many;
 pub mod removals;
 pub mod stats;
-#[cfg(test)]
-mod tests;
 pub mod timed;
 
 pub use cache::Cache;
