@@ -14,3 +14,4 @@ mod Telling
 pub mod Entries
 pub mod Computing
 pub mod InOrder
+pub mod Gotten

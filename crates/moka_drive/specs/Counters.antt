@@ -1,5 +1,6 @@
 -- What a cache counts of its look-ups.
-use Rattle.std.specs.Prelude.{ℕ, ◌+◌, min, Option, Some, None, Result, Ok, Err}
+use Rattle.std.specs.Prelude.{ℕ, ◌+◌, min, List, [], ◌∷◌, Option, Some, None, Result, Ok, Err}
+use Rattle.moka_parts.specs.declared.error.OutOfMemory.{OutOfMemory}
 use Rattle.moka_parts.specs.Time.{greatest}
 use Rattle.moka_drive.specs.declared.stats.Stats.{Stats}
 
@@ -16,6 +17,11 @@ abbrev pub after_look_up : {V E : Type 0} → Result (Option V) E → Stats → 
 after_look_up (Ok (Some value)) s = record s { hits = one_more s.hits }
 after_look_up (Ok None) s = record s { misses = one_more s.misses }
 after_look_up (Err refused) s = s
+
+-- look-ups that found this, one after the other
+abbrev pub after_look_ups : {V : Type 0} → List (Option V) → Stats → Stats
+after_look_ups [] s = s
+after_look_ups {V} (found ∷ rest) s = after_look_ups rest (after_look_up {V = V} {E = OutOfMemory} (Ok found) s)
 
 -- a maker was called
 abbrev pub after_load : Stats → Stats

@@ -1,15 +1,19 @@
 -- Calls for many keys at once: the calls for one, in order, up to the first that is refused.
-use Rattle.std.specs.Prelude.{◌≡◌, ℕ, List, [], ◌∷◌, ◌++◌, length, Option, Result, Ok, Err}
+use Rattle.std.specs.Prelude.{◌≡◌, ℕ, List, [], ◌∷◌, ◌++◌, length, map, Option, Result, Ok, Err, ◌⊎◌}
+use Rattle.std.specs.declared.alloc.Global.{Global}
+use Rattle.std.specs.declared.vec.Vec.{Vec}
 use Rattle.std.specs.Vec.Iter.{into_iter_items}
 use Rattle.moka_parts.specs.declared.calls.Call.{Call}
 use Rattle.moka_parts.specs.declared.calls.Reply.{Reply}
 use Rattle.moka_parts.specs.declared.error.OutOfMemory.{OutOfMemory}
 use Rattle.moka_parts.specs.declared.policy.Instant.{Instant}
+use Rattle.moka_parts.specs.Copies.{IsCopy}
 use Rattle.moka_drive.specs.declared.error.NotTold.{NotTold}
+use Rattle.moka_drive.specs.declared.many.GetManyRefused.{GetManyRefused}
 use Rattle.moka_drive.specs.declared.many.InsertManyRefused.{InsertManyRefused}
 use Rattle.moka_drive.specs.declared.many.InvalidateManyRefused.{InvalidateManyRefused}
 use Rattle.moka_drive.specs.Computing.{InTurn}
-use Rattle.moka_drive.specs.Synchronous.{InsertsEntry, RemovesEntry, invalidated}
+use Rattle.moka_drive.specs.Synchronous.{GetsValue, InsertsEntry, RemovesEntry, invalidated}
 
 -- the calls of each item, in order
 abbrev pub Each : {A K V P : Type 0} → (A → List (Call K V P) → List (Reply K V P) → Type 0) → List A → List (Call K V P) → List (Reply K V P) → Type 0
@@ -38,3 +42,21 @@ module _ {K V P : Type 0} (hash_of : K → ℕ) (now : Instant) where
   InvalidatesMany keys (Err e) calls replies =
       (before : List K) × (key : K) × (after : List K) × (keys ≡ before ++ key ∷ after) × (e.done ≡ length before)
       × InTurn (Each (Invalidates (Ok tt)) before) (Invalidates (Err e.refused) key) calls replies
+
+-- what was found before a refusal, if there is one
+abbrev pub found_by : {V : Type 0} → Result (Vec (Option V) Global) (GetManyRefused V) → List (Option V)
+found_by (Ok found) = found.items
+found_by (Err e) = e.found.items
+
+module _ {K V P : Type 0} (is_clone : V → V → Type 0) (hash_of : K → ℕ) (now : Instant) where
+  -- a look-up of the key, which finds nothing or this clone of its value
+  abbrev pub GetsItem : K × Option V → List (Call K V P) → List (Reply K V P) → Type 0
+  GetsItem item calls replies = (own : Option V) × IsCopy is_clone own item.1 × GetsValue item.0 (hash_of item.0) now (Ok own) calls replies
+
+  -- a look-up of each key; or of those before the one that is refused, or of none where there is no room for the answers
+  abbrev pub GetsMany : List K → Result (Vec (Option V) Global) (GetManyRefused V) → List (Call K V P) → List (Reply K V P) → Type 0
+  GetsMany keys (Ok found) calls replies = (got : List (K × Option V)) × (keys ≡ map (λ g. g.0) got) × (found.items ≡ map (λ g. g.1) got) × Each GetsItem got calls replies
+  GetsMany keys (Err e) calls replies =
+      ((e.found.items ≡ []) × (calls ≡ []) × (replies ≡ []))
+      ⊎ ((got : List (K × Option V)) × (key : K) × (after : List K) × (keys ≡ map (λ g. g.0) got ++ key ∷ after) × (e.found.items ≡ map (λ g. g.1) got)
+      × (refused : OutOfMemory) × InTurn (Each GetsItem got) (GetsValue key (hash_of key) now (Err refused)) calls replies)

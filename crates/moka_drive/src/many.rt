@@ -2,7 +2,8 @@
 //! refused.
 ghost use Rattle.std.specs.Prelude.{◌≡◌};
 ghost use Rattle.std.specs.List.{fold};
-ghost use Rattle.moka_drive.specs.Many.{InsertsMany, InvalidatesMany};
+ghost use Rattle.moka_drive.specs.Counters.{after_look_ups};
+ghost use Rattle.moka_drive.specs.Many.{GetsMany, InsertsMany, InvalidatesMany, found_by};
 ghost use Rattle.moka_drive.specs.Synchronous.{Makes, hears_clones, meaning_of};
 
 use crate::cache::Cache;
@@ -12,8 +13,16 @@ use moka_parts::error::InsertRefused;
 use moka_parts::housekeeper::Clock;
 use moka_parts::notification::Listener;
 use moka_parts::policy::{Expiry, Instant};
+use std::alloc::Global;
 use std::hash::{BuildHasher, Hash};
 use std::vec::IntoIter;
+
+/// A look-up of many keys that stopped at one, since memory was refused.
+#[derive(Debug, Drop)]
+pub struct GetManyRefused<V> {
+    /// What the keys before it found, in order.
+    pub found: Vec<Option<V>>,
+}
 
 /// An insert of many items that stopped at one.
 #[derive(Drop)]
@@ -44,6 +53,44 @@ impl<
     W: Weigher<K, V>,
     S: BuildHasher,
 > Cache<K, V, X, L, P, W, S> {
+    /// Looks up each key at the moment `now`, in order, as `get`: what each finds, in the same order.
+    ///
+    /// # Errors
+    /// As `get`, at the first key that is refused: what the keys before it found comes back. If there is no memory for the
+    /// list of answers, no key is looked up.
+    pub fn get_many<C: Clock>(
+        &mut self,
+        alloc: Global,
+        keys: &[K],
+        now: Instant,
+        clock: &mut C,
+    ) -> Result<Vec<Option<V>>, GetManyRefused<V>>
+    where
+        K: Clone + Drop,
+        V: Clone + Drop,
+        P: Drop,
+        ensures made { Makes (meaning_of K.eq L.tells P.says W.weighs C.reads X.created X.read X.updated)
+            (GetsMany V.is_clone (λ key. S.Hasher.finish (fold S.Hasher.write (S.build_hasher self.old.engine.hasher) (K.hash_input key))) now keys.now result)
+            self.old.engine clock.old self.new.engine clock.new }
+        ensures counted { self.new.stats ≡ after_look_ups (found_by result) self.old.stats }
+    {
+        let Ok(mut found) = Vec::with_capacity(alloc, keys.len()) else {
+            let found = Vec::new(alloc);
+            return Err(GetManyRefused { found });
+        };
+        let mut rest = keys;
+        while let Some((key, after)) = rest.split_first() {
+            match self.get(key, now, clock) {
+                Ok(value) => {
+                    found.push_reserved(value);
+                    rest = after;
+                }
+                Err(_) => return Err(GetManyRefused { found }),
+            }
+        }
+        Ok(found)
+    }
+
     /// Inserts each item at the moment `now`, in order, as `insert`.
     ///
     /// # Errors

@@ -68,7 +68,11 @@ fn takes_many_at_once(rt: HostRuntime) -> Result<(), Fail> {
     let clock = &mut FixedClock(NOW);
     let items = vec![in alloc; (1, 10), (2, 20)]?;
     assert!(rt; cache.insert_many(items, NOW, clock).is_ok());
-    assert_eq!(rt; cache.get(&2, NOW, clock).ok(), Some(Some(20)));
+    let Ok(found) = cache.get_many(alloc, &[2, 3, 1], NOW, clock) else {
+        return Err("memory".into());
+    };
+    assert!(rt; matches!(found.as_slice(), [Some(20), None, Some(10)]));
+    assert_eq!(rt; (cache.stats().hits, cache.stats().misses), (2, 1));
     assert!(rt; cache.invalidate_many(&[1, 2], NOW, clock).is_ok());
     assert!(rt; !cache.contains_key(&1, NOW));
     Ok(())
