@@ -10,8 +10,16 @@ use crate::engine::moka_parts::error::InsertRefused;
 use crate::engine::moka_parts::housekeeper::Clock;
 use crate::engine::moka_parts::notification::Listener;
 use crate::engine::moka_parts::policy::{Expiry, Instant};
+use crate::support::alloc::Global;
 use crate::support::hash::{BuildHasher, Hash};
 use std::vec::IntoIter;
+
+/// A look-up of many keys that stopped at one, since memory was refused.
+#[derive(Debug)]
+pub struct GetManyRefused<V> {
+    /// What the keys before it found, in order.
+    pub found: Vec<Option<V>>,
+}
 
 /// An insert of many items that stopped at one.
 pub struct InsertManyRefused<K, V> {
@@ -41,6 +49,39 @@ impl<
     W: Weigher<K, V>,
     S: BuildHasher,
 > Cache<K, V, X, L, P, W, S> {
+    /// Looks up each key at the moment `now`, in order, as `get`: what each finds, in the same order.
+    ///
+    /// # Errors
+    /// As `get`, at the first key that is refused: what the keys before it found comes back. If there is no memory for the
+    /// list of answers, no key is looked up.
+    pub fn get_many<C: Clock>(
+        &mut self,
+        alloc: Global,
+        keys: &[K],
+        now: Instant,
+        clock: &mut C,
+    ) -> Result<Vec<Option<V>>, GetManyRefused<V>>
+    where
+        K: Clone,
+        V: Clone,
+    {
+        let Ok(mut found) = Vec::with_capacity(alloc, keys.len()) else {
+            let found = Vec::new(alloc);
+            return Err(GetManyRefused { found });
+        };
+        let mut rest = keys;
+        while let Some((key, after)) = rest.split_first() {
+            match self.get(key, now, clock) {
+                Ok(value) => {
+                    found.push_reserved(value);
+                    rest = after;
+                }
+                Err(_) => return Err(GetManyRefused { found }),
+            }
+        }
+        Ok(found)
+    }
+
     /// Inserts each item at the moment `now`, in order, as `insert`.
     ///
     /// # Errors

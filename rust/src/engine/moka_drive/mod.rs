@@ -21,7 +21,7 @@ pub use compute::{CompResult, ComputeRefused, Op};
 pub use driver::drive;
 pub use entry::CacheEntry;
 pub use error::{GetWithRefused, NotTold};
-pub use many::{InsertManyRefused, InvalidateManyRefused};
+pub use many::{GetManyRefused, InsertManyRefused, InvalidateManyRefused};
 pub use removals::{CountingListener, Removals};
 pub use stats::Stats;
 pub use timed::TimedCache;

@@ -21,6 +21,9 @@ mod invalidation;
 mod looks;
 mod reports;
 mod runs;
+mod sights;
+
+pub use sights::Sight;
 
 // How many segments the map has.
 const SEGMENTS: usize = 1;

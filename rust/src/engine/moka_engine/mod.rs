@@ -12,7 +12,7 @@ use crate::support::prelude::*;
 pub mod base_cache;
 pub mod config;
 
-pub use base_cache::BaseCache;
+pub use base_cache::{BaseCache, Sight};
 pub use config::{CacheConfig, DefaultHasher, Engine};
 pub use crate::engine::moka_parts::calls::{Call, DriveRefused, Entry, KvEntry, Reply, Ticket};
 pub use crate::engine::moka_parts::closures::{

@@ -81,6 +81,8 @@ pub struct Housekeeper {
     more_entries_to_evict: bool,
     auto_run_enabled: bool,
     is_eviction_listener_enabled: bool,
+    // Below this length of a queue no run is due before `run_after`: 0 while more is left to evict, else 64.
+    due_length: usize,
     config: HousekeeperConfig,
 }
 
@@ -94,6 +96,7 @@ impl Housekeeper {
             more_entries_to_evict: false,
             auto_run_enabled: true,
             is_eviction_listener_enabled,
+            due_length: READ_LOG_FLUSH_POINT,
             config,
         }
     }
@@ -106,13 +109,18 @@ impl Housekeeper {
             more_entries_to_evict: self.more_entries_to_evict,
             auto_run_enabled: self.auto_run_enabled,
             is_eviction_listener_enabled: self.is_eviction_listener_enabled,
+            due_length: self.due_length,
             config: self.config,
         }
     }
 
     /// Whether a run is due before another read is queued, where so many wait.
+    #[inline(always)]
     pub fn should_apply_reads(&self, len: usize, now: Instant) -> bool
     {
+        if len < self.due_length && now < self.run_after {
+            return false;
+        }
         self.more_entries_to_evict || self.should_apply(len, READ_LOG_FLUSH_POINT, now)
     }
 
@@ -149,6 +157,11 @@ impl Housekeeper {
         );
         if self.is_eviction_listener_enabled {
             self.more_entries_to_evict = more_to_evict;
+            self.due_length = if more_to_evict {
+                0
+            } else {
+                READ_LOG_FLUSH_POINT
+            };
         }
     }
 

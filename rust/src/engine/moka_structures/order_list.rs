@@ -15,14 +15,32 @@ const SENTINEL: u32 = 0;
 #[inline(always)]
 fn release(nodes: &mut Vec<Node<u64>>, slot: u32, free: u32)
 {
+    let nodes = nodes.as_mut_slice();
     detach(nodes, slot);
     nodes[slot as usize].behind = free;
+}
+
+// Puts the node at `slot` behind all others.
+#[inline(always)]
+fn append(nodes: &mut Vec<Node<u64>>, slot: u32)
+{
+    attach(nodes.as_mut_slice(), slot, SENTINEL);
+}
+
+// Takes the node at `slot` out of the ring, and puts it behind all others.
+#[inline(always)]
+fn relink(nodes: &mut Vec<Node<u64>>, slot: u32)
+{
+    let table = nodes.as_mut_slice();
+    detach(table, slot);
+    attach(table, slot, SENTINEL);
 }
 
 // Gives the free node at `slot` a number and attaches it. The answer is the slot that was free behind it.
 #[inline(always)]
 fn reuse(nodes: &mut Vec<Node<u64>>, slot: u32, number: u64) -> u32
 {
+    let nodes = nodes.as_mut_slice();
     let next = nodes[slot as usize].behind;
     nodes[slot as usize].value = number;
     attach(nodes, slot, SENTINEL);
@@ -109,7 +127,7 @@ impl OrderList {
             before: SENTINEL,
             behind: SENTINEL,
         });
-        attach(&mut self.nodes, slot, SENTINEL);
+        append(&mut self.nodes, slot);
         self.len += 1;
         slot
     }
@@ -120,8 +138,7 @@ impl OrderList {
     #[inline(always)]
     pub fn move_to_back(&mut self, slot: u32)
     {
-        detach(&mut self.nodes, slot);
-        attach(&mut self.nodes, slot, SENTINEL);
+        relink(&mut self.nodes, slot);
     }
 
     /// Takes the number in `slot` out and gives it back. The slot may be given to a later number.
@@ -130,10 +147,11 @@ impl OrderList {
     #[inline(always)]
     pub fn unlink(&mut self, slot: u32) -> u64
     {
+        let number = self.nodes[slot as usize].value;
         release(&mut self.nodes, slot, self.free);
         self.free = slot;
         self.len -= 1;
-        self.nodes[slot as usize].value
+        number
     }
 
     /// The slot of the first number, and that number.

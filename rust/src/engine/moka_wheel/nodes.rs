@@ -24,6 +24,7 @@ pub(crate) struct Entry {
 /// Takes the timer in `slot` out of its list.
 pub(crate) fn detach(nodes: &mut Vec<Node<Entry>>, slot: u32)
 {
+    let nodes = nodes.as_mut_slice();
     crate::engine::moka_links::detach(nodes, slot);
     nodes[slot as usize].value.bucket = HEADS;
 }
@@ -31,6 +32,7 @@ pub(crate) fn detach(nodes: &mut Vec<Node<Entry>>, slot: u32)
 /// Puts the timer in `slot` behind all others of a bucket.
 pub(crate) fn attach(nodes: &mut Vec<Node<Entry>>, slot: u32, bucket: u32)
 {
+    let nodes = nodes.as_mut_slice();
     crate::engine::moka_links::attach(nodes, slot, bucket);
     nodes[slot as usize].value.bucket = bucket;
 }

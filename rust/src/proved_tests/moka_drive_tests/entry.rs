@@ -76,7 +76,11 @@ fn takes_many_at_once() -> Result<(), Fail> {
     let clock = &mut FixedClock(NOW);
     let items = crate::support::vec::Vec::from_array(alloc, [(1, 10), (2, 20)])?;
     assert!( cache.insert_many(items, NOW, clock).is_ok());
-    assert_eq!( cache.get(&2, NOW, clock).ok(), Some(Some(20)));
+    let Ok(found) = cache.get_many(alloc, &[2, 3, 1], NOW, clock) else {
+        return Err("memory".into());
+    };
+    assert!( matches!(found.as_slice(), [Some(20), None, Some(10)]));
+    assert_eq!( (cache.stats().hits, cache.stats().misses), (2, 1));
     assert!( cache.invalidate_many(&[1, 2], NOW, clock).is_ok());
     assert!( !cache.contains_key(&1, NOW));
     Ok(())

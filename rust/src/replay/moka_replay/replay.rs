@@ -2,7 +2,7 @@
 //! Reads a script, makes its calls on a cache, and prints what comes of it.
 use crate::support::prelude::*;
 
-use crate::replay::moka_replay::play::{Played, play};
+use crate::replay::moka_play::play::{Played, play};
 use crate::replay::moka_script::failure::{Failure, REFUSED, REPLAYED, tell, write_with_status};
 use crate::replay::moka_script::notices::{Notice, Notices};
 use crate::replay::moka_script::print::{ReplayText, Total, in_order, is_refused_memory};

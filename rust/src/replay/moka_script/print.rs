@@ -232,7 +232,7 @@ fn sort_keys(replies: &mut [ScriptReply])
 }
 
 /// Puts the keys of a reply, if it has any, in rising order.
-fn sort_keys_of(reply: &mut ScriptReply)
+pub fn sort_keys_of(reply: &mut ScriptReply)
 {
     if let Reply::Keys(Ok(Some(keys))) = reply {
         keys.sort_unstable();

@@ -66,9 +66,6 @@ impl<
         K: Clone,
         V: Clone,
     {
-        if self.is_map_disabled() {
-            return Ok(None);
-        }
         let policy = &self.expiration_policy;
         let (invalidator, valid_after) = (&self.invalidator, &self.valid_after);
         let shown = gets::find_unless(
@@ -81,6 +78,10 @@ impl<
             now,
         );
         let Some((handle, found)) = shown else {
+            // A disabled map holds nothing, so only a miss has to ask. It queues no reads.
+            if self.is_map_disabled() {
+                return Ok(None);
+            }
             self.record_miss(hashes.hash, now, clock);
             return Ok(None);
         };
@@ -138,9 +139,6 @@ impl<
     where
         V: Clone,
     {
-        if self.is_map_disabled() {
-            return Ok(None);
-        }
         let own = self.inner.key_hash(key);
         let policy = &self.expiration_policy;
         let (invalidator, valid_after) = (&self.invalidator, &self.valid_after);
