@@ -1,5 +1,5 @@
 -- What is known of many keys.
-use Rattle.std.proofs.Common.{◌≡◌, refl, sym, subst, ap, ◌∙◌, ℕ, ◌+◌, ◌<◌, List, [], ◌∷◌, ◌++◌, length, map, take, Option, Some, None, Ok, slice_index_or}
+use Rattle.std.proofs.Common.{◌≡◌, refl, sym, subst, ◌∙◌, ℕ, ◌+◌, ◌<◌, List, [], ◌∷◌, ◌++◌, length, map, take, Option, Some, None, Ok, slice_index_or}
 use Rattle.std.specs.Prelude.{IsPermutation}
 use Rattle.std.specs.FinMap.{values}
 use Rattle.std.specs.List.{AllByRecursion, AllZip}

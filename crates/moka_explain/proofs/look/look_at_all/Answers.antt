@@ -1,5 +1,5 @@
-use Rattle.std.proofs.Common.{◌≡◌, ◌∙◌, ap, arith, sym, subst, length, [], ◌∷◌, ◌++◌, map, take}
-use Rattle.std.proofs.lemmas.List.{take_more, take_all}
+use Rattle.std.proofs.Common.{◌∙◌, ap, arith, sym, subst, map}
+use Rattle.std.proofs.lemmas.List.{take_all}
 use Rattle.std.specs.List.{AllByRecursion}
 use Rattle.moka_explain.specs.Looks.{IsLook}
 use Rattle.moka_explain.proofs.Looked.{all_none, all_more, keys_more}
