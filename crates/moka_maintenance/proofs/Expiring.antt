@@ -17,9 +17,10 @@ use Rattle.moka_parts.proofs.Values.{remove_absent, values_inserted, values_remo
 use Rattle.moka_store.specs.Store.{Kept, with_timer}
 use Rattle.moka_store.proofs.Gets.{after_remove, get-past_insert, get-past_remove}
 use Rattle.moka_maintenance.specs.declared.sweep.Tests.{Tests}
-use Rattle.moka_maintenance.specs.Steps.{Stock, Told, after_step, after_steps, left_by_step, stock_in, MayLeave}
+use Rattle.moka_maintenance.specs.Steps.{Stock, AddsNoPlace, LeavesNoRow, Told, after_step, after_steps, left_by_step, stock_in, MayLeave}
 use Rattle.moka_maintenance.specs.Sweeps.{MayExpire, ExpiresDue}
 use Rattle.moka_maintenance.specs.Timers.{IsReset, KeepsTimers}
+use Rattle.moka_maintenance.specs.Upkeep.{Upkeep}
 use Rattle.moka_maintenance.proofs.Stepped.{may-also, removed-on, shrinks, stepped-none, stepped-one, stepped-on}
 use Rattle.moka_maintenance.proofs.Timing.{member-was, set-own}
 
@@ -140,8 +141,8 @@ module _ {K V L : Type 0} (tells : L → K → V → RemovalCause → L → Type
 
   -- a timer that was due is taken out, and then its member leaves or stays
   module _ {S : Type 0} (old mid new : Kept K V S) (l m : Option L) (n r : ℕ) (taken : mid ≡ record old { timers = remove old.timers n }) (reset : IsReset q.now.0 n mid new) (expired : ExpiresDue tells q (stock_in mid) (stock_in new) l m r) where
-    pub keeps-due : KeepsTimers old new
-    keeps-due = record {
+    keeps_timers : KeepsTimers old new
+    keeps_timers = record {
       ordered = reset.ordered ∙ ap (λ (k : Kept K V S). k.ordered) taken;
       timed = reset.timed ∙ ap (λ (k : Kept K V S). k.timed) taken;
       hasher = reset.hasher ∙ ap (λ (k : Kept K V S). k.hasher) taken;
@@ -160,6 +161,14 @@ module _ {K V L : Type 0} (tells : L → K → V → RemovalCause → L → Type
           | inl same ↦ ap (λ m. get m k) same
           | inr at ↦ ap (λ m. get m k) at.2 ∙ get-past_insert mid.timers n at.0 k other
         ]
+
+    pub upkeep-due : AddsNoPlace mid new → LeavesNoRow mid new → mid.room ≤ new.room → Upkeep old new
+    upkeep-due places rows room = record {
+      timers = keeps_timers;
+      places = λ k p at. sym (ap (λ (s : Kept K V S). get s.places k) taken) ∙ places k p at;
+      rows = λ k p at gone. sym (ap (λ (s : Kept K V S). get s.records k) taken) ∙ rows k p at gone;
+      room = (let same = ap (λ (s : Kept K V S). s.room) taken in omega arith);
+    }
 
     pub fewer-due : (t : ℕ) → get old.timers n ≡ Some t → t ≤ q.now.0 → get mid.timers n ≡ None → how_many_due q.now.0 new.timers < how_many_due q.now.0 old.timers
     fewer-due t there is untimed =

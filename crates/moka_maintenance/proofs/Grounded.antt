@@ -1,5 +1,5 @@
 -- Steps by their grounds, and their order.
-use Rattle.std.proofs.Common.{◌≡◌, refl, ℕ, zero, suc, ◌+◌, Bool, true, false, true≢false, not, ◌&&◌, ◌||◌, List, [], ◌∷◌, ◌++◌, Option, Some, None, inl, inr, ap, sym, subst, ◌∙◌, arith, append_assoc, append-nil, if◌then◌else◌}
+use Rattle.std.proofs.Common.{◌≡◌, refl, ℕ, zero, suc, ◌+◌, Bool, true, false, true≢false, not, ◌&&◌, ◌||◌, List, [], ◌∷◌, ◌++◌, Some, None, inl, inr, ap, sym, subst, ◌∙◌, arith, append_assoc, append-nil, if◌then◌else◌}
 use Rattle.moka_parts.specs.declared.notification.RemovalCause.{RemovalCause}
 use Rattle.moka_parts.specs.declared.notification.RemovalCause.TheVariants.{Expired, Explicit, Replaced, Size}
 use Rattle.moka_parts.specs.declared.records.Record.{Record}
@@ -8,7 +8,7 @@ use Rattle.moka_parts.specs.State.{Contents}
 use Rattle.moka_parts.specs.Visibility.{SomeCovers, is_expired, is_written_before, is_read_before}
 use Rattle.moka_parts.specs.Maintenance as parts
 use Rattle.moka_parts.specs.Maintenance.{Choice, Removes, MovesToBack, Drops, HasGround, HasCause, after_choice, after_choices, is_past_read, is_past_write}
-use Rattle.moka_parts.specs.Grounds.{Ground, ByTimer, ByWrite, ByRead, ByPredicate, BySurplus, AreTaken, FollowsGrounds, LeavesBy, MayTake, cause_by_read, cause_by_write, grounds_of, grounds_of_pass, is_sweep}
+use Rattle.moka_parts.specs.Grounds.{Ground, ByTimer, ByWrite, ByRead, ByPredicate, BySurplus, AreTaken, FollowsGrounds, LeavesBy, MayTake, grounds_of, grounds_of_pass, is_sweep}
 use Rattle.moka_maintenance.specs.declared.sweep.Tests.{Tests}
 use Rattle.moka_maintenance.specs.declared.sweep.Sweep.{Sweep}
 use Rattle.moka_maintenance.specs.declared.sweep.Sweep.TheVariants.{Written, Read, Surplus}

@@ -8,6 +8,7 @@ pub mod AllApplied
 pub mod Stepped
 pub mod Seen
 pub mod Timing
+pub mod Upkeep
 pub mod Enabled
 pub mod Fronts
 mod Halves

@@ -49,16 +49,6 @@ module _ {K V : Type 0} where
     ];
   }
 
-  pub drops-none : {S : Type 0} → (k : Kept K V S) → DropsTimers k k
-  drops-none k = record { keeps = keeps-none k; fewer = λ n t there. there }
-
-  pub drops-on : {S : Type 0} → (a b c : Kept K V S) → DropsTimers a b → DropsTimers b c → DropsTimers a c
-  drops-on a b c h j = record { keeps = keeps-on a b c h.keeps j.keeps; fewer = λ n t there. h.fewer n t (j.fewer n t there) }
-
-  -- no timer is due where none is new
-  pub none-due : {S : Type 0} → (now : ℕ) (a b : Kept K V S) → DropsTimers a b → HasNoneDue now a → HasNoneDue now b
-  none-due now a b h none n t there = none n t (h.fewer n t there)
-
   module _ {S : Type 0} (old new : Kept K V S) (ordered : new.ordered ≡ old.ordered) (timed : new.timed ≡ old.timed) (hasher : new.hasher ≡ old.hasher) where
     -- members move, and all else stays
     pub keeps-moved : new.records ≡ old.records → ((k : ℕ) → counted_of k new.access ≡ counted_of k old.access) → new.timers ≡ old.timers → KeepsTimers old new

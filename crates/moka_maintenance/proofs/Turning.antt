@@ -1,5 +1,5 @@
 -- What stays of a store while a scan looks at a member.
-use Rattle.std.proofs.Common.{◌≡◌, ◌≢◌, refl, ℕ, ◌≤◌, Bool, true, false, true≢false, cond, ◌==◌, List, [], ◌∷◌, Option, Some, None, IfSome, IsSome, is_some, slice_get, inl, inr, ap, sym, subst, ◌∙◌, arith}
+use Rattle.std.proofs.Common.{◌≡◌, ◌≢◌, refl, ℕ, ◌≤◌, Bool, true, false, true≢false, cond, ◌==◌, List, [], ◌∷◌, Option, Some, None, IfSome, IsSome, is_some, slice_get, inl, inr, ap, sym, subst, ◌∙◌}
 use Rattle.std.proofs.lemmas.Bool.{ne_eqb, cond-false}
 use Rattle.std.specs.List.{IsDistinct}
 use Rattle.moka_parts.specs.declared.notification.RemovalCause.{RemovalCause}
@@ -13,10 +13,8 @@ use Rattle.moka_store.proofs.Gets.{get-past_remove}
 use Rattle.moka_store.proofs.Members.{counted-without}
 use Rattle.moka_maintenance.specs.Expelled.{without_record}
 use Rattle.moka_maintenance.specs.Scanning.{LooksAt}
-use Rattle.moka_maintenance.specs.Steps.{AddsNoPlace, LeavesNoRow}
-use Rattle.moka_maintenance.specs.Timers.{DropsTimers}
-use Rattle.moka_maintenance.proofs.Placed.{places-gone, rows-gone}
-use Rattle.moka_maintenance.proofs.Timing.{drops-gone, drops-none}
+use Rattle.moka_maintenance.specs.Upkeep.{SetsNoTimer}
+use Rattle.moka_maintenance.proofs.Upkeep.{untimed-none, untimed-gone}
 
 -- what stands behind a number is another
 pub next_other : (ns : List ℕ) (n m : ℕ) → IsDistinct (◌==◌) ns → number_after n ns ≡ Some m → m ≢ n
@@ -42,10 +40,7 @@ pub record KeepsOthers {K V S : Type 0} (old new : Kept K V S) (n : ℕ) : Type 
   pub members : (k : ℕ) → k ≢ n → IsSome (counted_of k old.access) → IsSome (counted_of k new.access)
   pub listed : (k : ℕ) → k ≢ n → is_listed k old.written ≡ true → is_listed k new.written ≡ true
   pub once : IsDistinct (◌==◌) old.written → IsDistinct (◌==◌) new.written
-  pub timers : DropsTimers old new
-  pub places : AddsNoPlace old new
-  pub rows : LeavesNoRow old new
-  pub room : old.room ≤ new.room
+  pub upkeep : SetsNoTimer old new
 
 module _ {K V : Type 0} where
   -- another member stays in the order of writing
@@ -53,7 +48,7 @@ module _ {K V : Type 0} where
   still-ordered old new n keeps h other at = record { placed = keeps.placed h other at.placed; member = keeps.members h.number other at.member; listed = keeps.listed h.number other at.listed }
 
   keeps_same : {S : Type 0} → (old : Kept K V S) (n : ℕ) → KeepsOthers old old n
-  keeps_same old n = record { placed = λ h other at. at; members = λ k other there. there; listed = λ k other there. there; once = λ o. o; timers = drops-none old; places = λ k p at. at; rows = λ k p at gone. gone; room = omega arith }
+  keeps_same old n = record { placed = λ h other at. at; members = λ k other there. there; listed = λ k other there. there; once = λ o. o; upkeep = untimed-none old }
 
   keeps_past : {S : Type 0} → (old : Kept K V S) (n room : ℕ) → old.room ≤ room → KeepsOthers old (without_record n room old) n
   keeps_past old n room more = record {
@@ -61,10 +56,7 @@ module _ {K V : Type 0} where
     members = λ k other there. subst (λ o. is_some o ≡ true) (sym (counted-without n k old.access ∙ cond-false (k == n) None (counted_of k old.access) (ne_eqb k n other))) there;
     listed = λ k other there. elim (same_or_apart k n) [ inl same ↦ absurd (other same) | inr apart ↦ listed_past_taken_out n k old.written apart ∙ there ];
     once = λ o. once_taken_out n old.written o;
-    timers = drops-gone old (without_record n room old) refl refl refl n refl refl refl;
-    places = places-gone old (without_record n room old) n refl;
-    rows = rows-gone old (without_record n room old) n refl refl;
-    room = more;
+    upkeep = untimed-gone old n room more;
   }
 
   module _ {L P : Type 0} (tells : L → K → V → RemovalCause → L → Type 0) (says : P → K → V → Bool → Type 0) (ps : List (Registered P)) where

@@ -1,6 +1,7 @@
 pub mod Queued
 pub mod Steps
 pub mod Timers
+pub mod Upkeep
 pub mod Queues
 pub mod Sweeps
 pub mod Passes

@@ -1,7 +1,7 @@
 //! What queued reads and writes make of the records and their order.
 //!
 //! moka: `sync::base_cache::Inner::apply_reads`, `Inner::apply_writes`, `Inner::handle_upsert`.
-ghost use Rattle.std.specs.Prelude.{◌≡◌, ◌<◌, ◌≤◌, ℕ, true, [], None, Some, Contains};
+ghost use Rattle.std.specs.Prelude.{◌≡◌, ◌<◌, ℕ, true, [], None, Some, Contains};
 ghost use Rattle.std.specs.FinMap as finite;
 ghost use Rattle.circular_buffer.specs.Buffer.{buffer};
 ghost use Rattle.moka_parts.specs.declared.records.Operation.TheVariants.{Upsert, Removal};
@@ -17,8 +17,9 @@ ghost use Rattle.moka_maintenance.specs.declared.queued.QueuedRead.{QueuedRead};
 ghost use Rattle.moka_maintenance.specs.declared.queued.QueuedWrite.{QueuedWrite};
 ghost use Rattle.moka_maintenance.specs.Queued.{IsAt, IsReadAt, reads_of, writes_of};
 ghost use Rattle.moka_maintenance.specs.Queues.{IsApplied, AreApplied, IsCompared, LeavesNoRowAfter, LeavesNoRowBy};
-ghost use Rattle.moka_maintenance.specs.Steps.{contents_in, contents_with, AddsNoPlace, LeavesNoRow, Told};
+ghost use Rattle.moka_maintenance.specs.Steps.{contents_in, contents_with, Told};
 ghost use Rattle.moka_maintenance.specs.Timers.{KeepsTimers, StandsAtExpiry};
+ghost use Rattle.moka_maintenance.specs.Upkeep.{Upkeep};
 
 use crate::choice::{choose, expel_front};
 use crate::expel::expel;
@@ -123,10 +124,8 @@ pub fn apply_writes<K: Eq + Hash + Drop, V: Drop, S: BuildHasher, L: Listener<K,
     requires at { (q : QueuedWrite) → Contains writes.old.items q → IsAt store.old.places (number_of q.write.operation) q.write.place }
     ensures applied { AreApplied L.tells capacity policy store.old.ordered (contents_with sketch.now store.old)
         (contents_with sketch.now store.new) store.old.written store.new.written (writes_of writes.old.items) notifier.old notifier.new }
-    ensures timers { KeepsTimers store.old store.new }
-    ensures places { AddsNoPlace store.old store.new }
+    ensures upkeep { Upkeep store.old store.new }
     ensures rows { LeavesNoRowBy (writes_of writes.old.items) store.old store.new }
-    ensures room { store.old.room ≤ store.new.room }
     ensures writes { writes.new ≡ buffer [] writes.old.capacity }
 {
     let (first, second) = writes.as_slices();
@@ -147,10 +146,8 @@ fn apply_each_write<K: Eq + Hash + Drop, V: Drop, S: BuildHasher, L: Listener<K,
     requires at { (q : QueuedWrite) → Contains writes.now q → IsAt store.old.places (number_of q.write.operation) q.write.place }
     ensures applied { AreApplied L.tells capacity policy store.old.ordered (contents_with sketch.now store.old)
         (contents_with sketch.now store.new) store.old.written store.new.written (writes_of writes.now) notifier.old notifier.new }
-    ensures timers { KeepsTimers store.old store.new }
-    ensures places { AddsNoPlace store.old store.new }
+    ensures upkeep { Upkeep store.old store.new }
     ensures rows { LeavesNoRowBy (writes_of writes.now) store.old store.new }
-    ensures room { store.old.room ≤ store.new.room }
 {
     let mut rest = writes;
     while let Some((sent, behind)) = rest.split_first() {
@@ -171,10 +168,8 @@ fn apply_write<K: Eq + Hash + Drop, V: Drop, S: BuildHasher, L: Listener<K, V>>(
     requires at { IsAt store.old.places (number_of write.operation) write.place }
     ensures applied { IsApplied L.tells capacity policy store.old.ordered (contents_with sketch.now store.old)
         (contents_with sketch.now store.new) store.old.written store.new.written write.operation notifier.old notifier.new }
-    ensures timers { KeepsTimers store.old store.new }
-    ensures places { AddsNoPlace store.old store.new }
+    ensures upkeep { Upkeep store.old store.new }
     ensures rows { LeavesNoRowAfter write.operation store.old store.new }
-    ensures room { store.old.room ≤ store.new.room }
 {
     let place = write.place;
     match write.operation {
@@ -210,10 +205,7 @@ fn apply_upsert<K: Eq + Hash + Drop, V: Drop, S: BuildHasher, L: Listener<K, V>>
     ensures applied { IsApplied L.tells capacity policy store.old.ordered (contents_with sketch.now store.old)
         (contents_with sketch.now store.new) store.old.written store.new.written
         (Upsert upsert.handle.number upsert.generation upsert.weight upsert.hash) notifier.old notifier.new }
-    ensures timers { KeepsTimers store.old store.new }
-    ensures places { AddsNoPlace store.old store.new }
-    ensures rows { LeavesNoRow store.old store.new }
-    ensures room { store.old.room ≤ store.new.room }
+    ensures upkeep { Upkeep store.old store.new }
 {
     let handle = upsert.handle;
     store.invariant_holds();
@@ -250,10 +242,7 @@ fn admit_or_reject<K: Eq + Hash + Drop, V: Drop, S: BuildHasher, L: Listener<K, 
     ensures applied { IsApplied L.tells capacity policy store.old.ordered (contents_with sketch.now store.old)
         (contents_with sketch.now store.new) store.old.written store.new.written
         (Upsert upsert.handle.number upsert.generation upsert.weight upsert.hash) notifier.old notifier.new }
-    ensures timers { KeepsTimers store.old store.new }
-    ensures places { AddsNoPlace store.old store.new }
-    ensures rows { LeavesNoRow store.old store.new }
-    ensures room { store.old.room ≤ store.new.room }
+    ensures upkeep { Upkeep store.old store.new }
 {
     if has_room(capacity, store.total_weight(), upsert.weight) {
         enter(store, upsert);
@@ -281,10 +270,7 @@ fn compare<K: Eq + Hash + Drop, V: Drop, S: BuildHasher, L: Listener<K, V>>(
         IsCompared L.tells store.old.ordered (contents_with sketch.now store.old) (contents_with sketch.now store.new)
         store.old.written store.new.written candidate.handle.number candidate.generation candidate.weight candidate.hash r
         notifier.old notifier.new }
-    ensures timers { KeepsTimers store.old store.new }
-    ensures places { AddsNoPlace store.old store.new }
-    ensures rows { LeavesNoRow store.old store.new }
-    ensures room { store.old.room ≤ store.new.room }
+    ensures upkeep { Upkeep store.old store.new }
 {
     let chosen = choose(store, sketch, candidate.weight, candidate.hash);
     if chosen.is_preferred {
@@ -315,10 +301,8 @@ fn enter<K: Eq + Hash, V, S: BuildHasher>(store: &mut Store<K, V, S>, upsert: Pl
     ensures step { (r : Record K V) → finite.get store.old.records upsert.handle.number ≡ Some r →
         contents_in store.new ≡ entered upsert.handle.number upsert.generation upsert.weight r (contents_in store.old) }
     ensures written { store.new.written ≡ entered_by store.old.ordered upsert.handle.number store.old.written }
-    ensures timers { KeepsTimers store.old store.new }
+    ensures upkeep { Upkeep store.old store.new }
     ensures places { store.new.places ≡ store.old.places }
-    ensures rows { LeavesNoRow store.old store.new }
-    ensures room { store.old.room ≤ store.new.room }
 {
     store.set_applied(upsert.handle, upsert.generation);
     store.admit(upsert.handle, upsert.weight);
@@ -337,10 +321,7 @@ fn reject<K: Eq + Hash + Drop, V: Drop, S: BuildHasher, L: Listener<K, V>>(
     ensures step { (r : Record K V) → finite.get store.old.records handle.number ≡ Some r → contents_in store.new ≡ rejected handle.number generation r (contents_in store.old) }
     ensures told { (r : Record K V) → finite.get store.old.records handle.number ≡ Some r → Told L.tells notifier.old (left_by_rejection generation r) notifier.new }
     ensures written { store.old.ordered ≡ true → store.new.written ≡ store.old.written }
-    ensures timers { KeepsTimers store.old store.new }
-    ensures places { AddsNoPlace store.old store.new }
-    ensures rows { LeavesNoRow store.old store.new }
-    ensures room { store.old.room ≤ store.new.room }
+    ensures upkeep { Upkeep store.old store.new }
 {
     store.invariant_holds();
     let Some(present) = store.find(handle) else {
@@ -399,10 +380,8 @@ fn apply_removal<K: Eq + Hash + Drop, V: Drop, S: BuildHasher>(
     requires { IsAt store.old.places handle.number handle.place }
     ensures step { contents_in store.new ≡ record (contents_in store.old) { access = without_member handle.number store.old.access } }
     ensures written { store.old.ordered ≡ true → store.new.written ≡ without_number handle.number store.old.written }
-    ensures timers { KeepsTimers store.old store.new }
-    ensures places { AddsNoPlace store.old store.new }
+    ensures upkeep { Upkeep store.old store.new }
     ensures rows { (generation : ℕ) → LeavesNoRowAfter (Removal handle.number generation) store.old store.new }
-    ensures room { store.old.room ≤ store.new.room }
 {
     store.invariant_holds();
     if !store.has_row(handle) {

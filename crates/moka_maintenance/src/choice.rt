@@ -1,7 +1,7 @@
 //! TinyLFU's choice between a candidate and the members that would make room for it.
 //!
 //! moka: `sync::base_cache::Inner::admit`.
-ghost use Rattle.std.specs.Prelude.{◌≡◌, ◌≤◌, ◌+◌, ◌<◌, ◌^◌, ℕ, true, false, None, IfSome, IfNone, take};
+ghost use Rattle.std.specs.Prelude.{◌≡◌, ◌+◌, ◌<◌, ◌^◌, ℕ, true, false, None, IfSome, IfNone, take};
 ghost use Rattle.std.specs.FinMap as finite;
 ghost use Rattle.moka_sketch.specs.Frequency.{frequency};
 ghost use Rattle.moka_parts.specs.Candidates.{hash_of};
@@ -9,8 +9,8 @@ ghost use Rattle.moka_parts.specs.Records.{counted_of, is_settled, member, witho
 ghost use Rattle.moka_parts.specs.Writes.{left_with, without_victims};
 ghost use Rattle.moka_store.specs.Store.{IsPlaced};
 ghost use Rattle.moka_maintenance.specs.Chosen.{AreSettled, Chooses};
-ghost use Rattle.moka_maintenance.specs.Steps.{contents_in, contents_with, AddsNoPlace, LeavesNoRow, Told};
-ghost use Rattle.moka_maintenance.specs.Timers.{DropsTimers};
+ghost use Rattle.moka_maintenance.specs.Steps.{contents_in, contents_with, Told};
+ghost use Rattle.moka_maintenance.specs.Upkeep.{SetsNoTimer};
 
 use crate::expel::expel;
 use moka_parts::notification::{Listener, RemovalCause, RemovalNotifier};
@@ -113,10 +113,7 @@ pub(crate) fn expel_front<K: Eq + Hash + Drop, V: Drop, S: BuildHasher, L: Liste
     ensures told { Told L.tells notifier.old (left_with (take how_many store.old.access) store.old.records) notifier.new }
     ensures others { (n : ℕ) → counted_of n store.old.access ≡ None → (counted_of n store.new.access ≡ None)
         × (finite.get store.new.records n ≡ finite.get store.old.records n) × (finite.get store.new.places n ≡ finite.get store.old.places n) }
-    ensures timers { DropsTimers store.old store.new }
-    ensures places { AddsNoPlace store.old store.new }
-    ensures rows { LeavesNoRow store.old store.new }
-    ensures room { store.old.room ≤ store.new.room }
+    ensures upkeep { SetsNoTimer store.old store.new }
 {
     store.invariant_holds();
     let mut left = how_many;

@@ -7,7 +7,8 @@ ghost use Rattle.moka_parts.specs.Records.{counted_of};
 ghost use Rattle.moka_store.specs.Store.{IsPlaced};
 ghost use Rattle.moka_maintenance.specs.Steps.{stock_in, AddsNoPlace, LeavesNoRow};
 ghost use Rattle.moka_maintenance.specs.Sweeps.{ExpiresDue};
-ghost use Rattle.moka_maintenance.specs.Timers.{HasNoneDue, IsReset, KeepsTimers};
+ghost use Rattle.moka_maintenance.specs.Timers.{HasNoneDue, IsReset};
+ghost use Rattle.moka_maintenance.specs.Upkeep.{Upkeep};
 
 use crate::expel::expel;
 use crate::sweep::Tests;
@@ -24,10 +25,7 @@ pub(crate) fn expire_due<K: Eq + Hash + Drop, V: Drop, S: BuildHasher, L: Listen
 ) -> u32
     ensures expired { ExpiresDue L.tells tests (stock_in store.old) (stock_in store.new) notifier.old notifier.new result }
     ensures none { HasNoneDue tests.now.0 store.new }
-    ensures timers { KeepsTimers store.old store.new }
-    ensures places { AddsNoPlace store.old store.new }
-    ensures rows { LeavesNoRow store.old store.new }
-    ensures room { store.old.room ≤ store.new.room }
+    ensures upkeep { Upkeep store.old store.new }
 {
     // No more leave than there are members.
     let _members = store.member_count();

@@ -1,13 +1,12 @@
 //! How a record leaves the cache: every removal by maintenance goes through here.
 //!
 //! moka: `sync::base_cache::Inner::handle_remove`, `notification::notifier::RemovalNotifier::notify`.
-ghost use Rattle.std.specs.Prelude.{◌≡◌, ◌≤◌};
-ghost use Rattle.std.specs.FinMap as finite;
+ghost use Rattle.std.specs.Prelude.{◌≡◌};
 ghost use Rattle.moka_parts.specs.Maintenance.{Removes};
 ghost use Rattle.moka_store.specs.Store.{IsHandle};
 ghost use Rattle.moka_maintenance.specs.Expelled.{without_record};
 ghost use Rattle.moka_maintenance.specs.Steps.{stock_in, after_step, left_by_step, Told};
-ghost use Rattle.moka_maintenance.specs.Timers.{DropsTimers};
+ghost use Rattle.moka_maintenance.specs.Upkeep.{SetsNoTimer};
 
 use moka_parts::notification::{Listener, RemovalCause, RemovalNotifier};
 use moka_parts::records::Record;
@@ -24,11 +23,8 @@ pub(crate) fn expel<K: Eq + Hash + Drop, V: Drop, S: BuildHasher, L: Listener<K,
     requires { IsHandle store.old handle }
     ensures step { stock_in store.new ≡ after_step (stock_in store.old) (Removes handle.number cause) }
     ensures told { Told L.tells notifier.old (left_by_step (stock_in store.old) (Removes handle.number cause)) notifier.new }
-    ensures taken { store.new.timers ≡ finite.remove store.old.timers handle.number }
-    ensures timers { DropsTimers store.old store.new }
-    ensures places { store.new.places ≡ finite.remove store.old.places handle.number }
     ensures whole { store.new ≡ without_record handle.number store.new.room store.old }
-    ensures room { store.old.room ≤ store.new.room }
+    ensures upkeep { SetsNoTimer store.old store.new }
 {
     let Record { key, value, .. } = store.take_out(handle);
     store.forget(handle);

@@ -3,10 +3,11 @@
 //! moka: `sync::base_cache::Inner::do_run_pending_tasks`.
 ghost use Rattle.std.specs.Prelude.{◌≡◌, ◌≤◌, ◌+◌, ◌||◌, true, false, Some, option_map};
 ghost use Rattle.std.specs.Duration.{as_nanos};
-ghost use Rattle.moka_maintenance.specs.Steps.{stock_in, AddsNoPlace, LeavesNoRow};
+ghost use Rattle.moka_maintenance.specs.Steps.{stock_in};
 ghost use Rattle.moka_maintenance.specs.Sweeps.{IsSwept};
-ghost use Rattle.moka_maintenance.specs.Timers.{DropsTimers, HasNoneDue, KeepsTimers};
+ghost use Rattle.moka_maintenance.specs.Timers.{HasNoneDue};
 ghost use Rattle.moka_maintenance.specs.Passes.{Starts, Checks, is_taken, IsPass, IsRan};
+ghost use Rattle.moka_maintenance.specs.Upkeep.{Upkeep, SetsNoTimer};
 
 use crate::due::expire_due;
 use crate::scan::scan;
@@ -64,10 +65,7 @@ pub fn make_passes<
         invalidator.new (stock_in store.old) (stock_in store.new) notifier.old notifier.new clock.old clock.new
         result.passes result.is_left }
     ensures none { HasNoneDue tests.now.0 store.new }
-    ensures timers { KeepsTimers store.old store.new }
-    ensures places { AddsNoPlace store.old store.new }
-    ensures rows { LeavesNoRow store.old store.new }
-    ensures room { store.old.room ≤ store.new.room }
+    ensures upkeep { Upkeep store.old store.new }
 {
     // There are no more passes than members, and one.
     let _members = store.member_count();
@@ -101,10 +99,7 @@ where
         (stock_in store.old) (stock_in store.new) notifier.old notifier.new result.removed result.is_left
         result.is_scan_left }
     ensures none { HasNoneDue tests.now.0 store.new }
-    ensures timers { KeepsTimers store.old store.new }
-    ensures places { AddsNoPlace store.old store.new }
-    ensures rows { LeavesNoRow store.old store.new }
-    ensures room { store.old.room ≤ store.new.room }
+    ensures upkeep { Upkeep store.old store.new }
 {
     let due = expire_due(store, notifier, tests);
     let by_write = take_step(store, notifier, tests, Sweep::Written, batch);
@@ -138,10 +133,7 @@ fn take_step<K: Eq + Hash + Drop, V: Drop, S: BuildHasher, L: Listener<K, V>>(
 ) -> Swept
     ensures swept { IsSwept L.tells tests sweep batch (stock_in store.old) (stock_in store.new) notifier.old notifier.new result.removed result.is_left }
     ensures idle { batch ≡ 0 → result.is_left ≡ is_taken tests sweep store.old.access }
-    ensures timers { DropsTimers store.old store.new }
-    ensures places { AddsNoPlace store.old store.new }
-    ensures rows { LeavesNoRow store.old store.new }
-    ensures room { store.old.room ≤ store.new.room }
+    ensures upkeep { SetsNoTimer store.old store.new }
 {
     if !is_taken(store, tests, sweep) {
         return Swept {

@@ -9,8 +9,8 @@ ghost use Rattle.moka_parts.specs.Maintenance.{CoversNothing};
 ghost use Rattle.moka_parts.specs.Records.{counted_of};
 ghost use Rattle.moka_store.specs.Store.{IsPlaced, IsOrdered};
 ghost use Rattle.moka_maintenance.specs.Scanning.{from_cursor, CoversSome, LooksAt, IsWalked, IsRound, AllDropped, IsScanned};
-ghost use Rattle.moka_maintenance.specs.Steps.{contents_in, AddsNoPlace, LeavesNoRow};
-ghost use Rattle.moka_maintenance.specs.Timers.{DropsTimers};
+ghost use Rattle.moka_maintenance.specs.Steps.{contents_in};
+ghost use Rattle.moka_maintenance.specs.Upkeep.{SetsNoTimer};
 
 use crate::expel::expel;
 use moka_parts::closures::PredicateFn;
@@ -43,10 +43,7 @@ pub(crate) fn scan<K: Eq + Hash + Drop, V: Drop, S: BuildHasher, L: Listener<K, 
 where
     P: PredicateFn<K, V>,
     ensures scanned { IsScanned L.tells P.says invalidator.old batch store.old store.new invalidator.new notifier.old notifier.new result }
-    ensures timers { DropsTimers store.old store.new }
-    ensures places { AddsNoPlace store.old store.new }
-    ensures rows { LeavesNoRow store.old store.new }
-    ensures room { store.old.room ≤ store.new.room }
+    ensures upkeep { SetsNoTimer store.old store.new }
 {
     if invalidator.is_empty() {
         return false;
@@ -69,10 +66,7 @@ fn go_round<K: Eq + Hash + Drop, V: Drop, S: BuildHasher, L: Listener<K, V>, P>(
 where
     P: PredicateFn<K, V>,
     ensures round { IsRound L.tells P.says invalidator.now batch store.old store.new notifier.old notifier.new result.looked result.is_end }
-    ensures timers { DropsTimers store.old store.new }
-    ensures places { AddsNoPlace store.old store.new }
-    ensures rows { LeavesNoRow store.old store.new }
-    ensures room { store.old.room ≤ store.new.room }
+    ensures upkeep { SetsNoTimer store.old store.new }
 {
     store.invariant_holds();
     let members = store.member_count();
@@ -122,11 +116,8 @@ where
     ensures stopped { result.is_end ≡ false → (most ≤ result.passed) ⊎ (batch ≤ result.looked) }
     ensures few { result.passed ≤ most }
     ensures looked { result.looked ≤ batch }
-    ensures timers { DropsTimers store.old store.new }
     ensures once { IsDistinct (◌==◌) store.new.written }
-    ensures places { AddsNoPlace store.old store.new }
-    ensures rows { LeavesNoRow store.old store.new }
-    ensures room { store.old.room ≤ store.new.room }
+    ensures upkeep { SetsNoTimer store.old store.new }
 {
     let mut next = start;
     let mut looked = 0;

@@ -2,7 +2,7 @@
 //! is exceeded.
 //!
 //! moka: `sync::base_cache::Inner::remove_expired_wo`, `Inner::remove_expired_ao`, `Inner::evict_lru_entries`.
-ghost use Rattle.std.specs.Prelude.{◌≡◌, ◌≤◌, ◌&&◌, ℕ, true, false, [], Some, IfSome, IfNone, IsSome, List};
+ghost use Rattle.std.specs.Prelude.{◌≡◌, ◌&&◌, ℕ, true, false, [], Some, IfSome, IfNone, IsSome, List};
 ghost use Rattle.std.specs.FinMap as finite;
 ghost use Rattle.moka_parts.specs.declared.notification.RemovalCause.{RemovalCause};
 ghost use Rattle.moka_parts.specs.declared.records.Member.{Member};
@@ -12,9 +12,9 @@ ghost use Rattle.moka_parts.specs.Exact.{IsWithin};
 ghost use Rattle.moka_parts.specs.Visibility.{is_read_before, is_written_before};
 ghost use Rattle.moka_parts.specs.Records.{counted_of, total_weight};
 ghost use Rattle.moka_store.specs.Store.{IsPlaced};
-ghost use Rattle.moka_maintenance.specs.Steps.{Stock, stock_in, AddsNoPlace, LeavesNoRow};
-ghost use Rattle.moka_maintenance.specs.Timers.{DropsTimers};
+ghost use Rattle.moka_maintenance.specs.Steps.{Stock, stock_in};
 ghost use Rattle.moka_maintenance.specs.Sweeps.{tests_in, LeavesIn, IsNext, IsAtRest, TakesTurn, IsSwept};
+ghost use Rattle.moka_maintenance.specs.Upkeep.{SetsNoTimer};
 
 use crate::expel::expel;
 use moka_parts::expiry::{is_expired_by_tti, is_expired_by_ttl, is_invalid_entry};
@@ -77,10 +77,7 @@ pub(crate) fn sweep_along<K: Eq + Hash + Drop, V: Drop, S: BuildHasher, L: Liste
 ) -> Swept
     ensures swept { IsSwept L.tells tests sweep batch (stock_in store.old) (stock_in store.new) notifier.old notifier.new result.removed result.is_left }
     ensures left { result.removed ≡ batch → result.is_left ≡ true }
-    ensures timers { DropsTimers store.old store.new }
-    ensures places { AddsNoPlace store.old store.new }
-    ensures rows { LeavesNoRow store.old store.new }
-    ensures room { store.old.room ≤ store.new.room }
+    ensures upkeep { SetsNoTimer store.old store.new }
 {
     let mut turns = batch as usize;
     let mut removed = 0;
@@ -121,10 +118,7 @@ fn take_turn<K: Eq + Hash + Drop, V: Drop, S: BuildHasher, L: Listener<K, V>>(
     sweep: Sweep,
 ) -> Turn
     ensures turn { TakesTurn L.tells tests sweep (stock_in store.old) (stock_in store.new) notifier.old notifier.new result }
-    ensures timers { DropsTimers store.old store.new }
-    ensures places { AddsNoPlace store.old store.new }
-    ensures rows { LeavesNoRow store.old store.new }
-    ensures room { store.old.room ≤ store.new.room }
+    ensures upkeep { SetsNoTimer store.old store.new }
 {
     let Some(handle) = next_of(store, tests, sweep) else {
         return Turn::Ended;

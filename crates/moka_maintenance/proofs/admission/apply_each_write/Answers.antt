@@ -1,4 +1,4 @@
-use Rattle.std.proofs.Common.{List, sym, subst, arith}
+use Rattle.std.proofs.Common.{List, sym, subst}
 use Rattle.moka_maintenance.specs.declared.queued.QueuedWrite.{QueuedWrite}
 use Rattle.moka_maintenance.specs.Queued.{writes_of}
 use Rattle.moka_maintenance.specs.Queues.{IsApplied, AreApplied, LeavesNoRowBy}
@@ -6,7 +6,7 @@ use Rattle.moka_maintenance.specs.Steps.{contents_with}
 use Rattle.moka_maintenance.proofs.AllApplied.{applied-none, applied-then}
 use Rattle.moka_maintenance.proofs.Placed.{places-on, rows-none, rows-then}
 use Rattle.moka_maintenance.proofs.Popped.{first_is, behind_in, nothing_in}
-use Rattle.moka_maintenance.proofs.Timing.{keeps-none, keeps-on}
+use Rattle.moka_maintenance.proofs.Upkeep.{upkeep-none, upkeep-on}
 use Rattle.moka_maintenance.proofs.admission.apply_each_write.Goals as goal
 
 pub apply_write-requires : goal.apply_write-requires
@@ -23,28 +23,24 @@ loop-sent-preserved g c =
     let split = c.in-Some.ensures.cases.0 in
     record {
       applied = λ d ks m are.
-          (let made_ordered = subst (λ b. IsApplied g.L.Listener.tells c.args.capacity c.args.policy b (contents_with c.args.sketch.now store) (contents_with c.args.sketch.now next) store.written next.written c.in-Some.sent.now.write.operation c.loop-sent.notifier c.apply_write.new.notifier) inv.timers.ordered made.applied in
+          (let made_ordered = subst (λ b. IsApplied g.L.Listener.tells c.args.capacity c.args.policy b (contents_with c.args.sketch.now store) (contents_with c.args.sketch.now next) store.written next.written c.in-Some.sent.now.write.operation c.loop-sent.notifier c.apply_write.new.notifier) inv.upkeep.timers.ordered made.applied in
           inv.applied d ks m
           (subst (λ (qs : List QueuedWrite). AreApplied g.L.Listener.tells c.args.capacity c.args.policy c.args.store.now.ordered (contents_with c.args.sketch.now store) d store.written ks (writes_of qs) c.loop-sent.notifier m) (sym split)
           (applied-then g.L.Listener.tells c.args.capacity c.args.policy c.args.store.now.ordered (contents_with c.args.sketch.now store) (contents_with c.args.sketch.now next) d store.written next.written ks c.in-Some.sent.now.write.operation c.in-Some.sent.now.ticket _ c.loop-sent.notifier c.apply_write.new.notifier m made_ordered are)));
-      timers = keeps-on c.args.store.now store next inv.timers made.timers;
+      upkeep = upkeep-on c.args.store.now store next inv.upkeep made.upkeep;
       rows = λ k kept are.
-          inv.rows k (places-on store next k made.places kept)
+          inv.rows k (places-on store next k made.upkeep.places kept)
           (subst (λ (qs : List QueuedWrite). LeavesNoRowBy (writes_of qs) store k) (sym split)
           (rows-then store next k c.in-Some.sent.now.write.operation c.in-Some.sent.now.ticket _ kept made.rows are));
-      places = places-on c.args.store.now store next inv.places made.places;
-      room = (let before = inv.room in let after = made.room in omega arith);
       located = λ q there p at.
-          inv.located q (behind_in c.loop-sent.rest.now c.in-Some.sent.now q c.in-Some.behind.now split there) p (made.places _ p at);
+          inv.located q (behind_in c.loop-sent.rest.now c.in-Some.sent.now q c.in-Some.behind.now split there) p (made.upkeep.places _ p at);
     }
 
 pub loop-sent-init : goal.loop-sent-init
 loop-sent-init g c = record {
   applied = λ d ks m are. are;
-  timers = keeps-none c.args.store.now;
+  upkeep = upkeep-none c.args.store.now;
   rows = λ k kept are. are;
-  places = λ n p at. at;
-  room = omega arith;
   located = c.requires.at;
 }
 
@@ -56,8 +52,8 @@ returns-clause-applied g c =
     c.loop-sent.invariant.applied k ks c.loop-sent.notifier
     (subst (λ (qs : List QueuedWrite). AreApplied g.L.Listener.tells c.args.capacity c.args.policy c.args.store.now.ordered k k ks ks (writes_of qs) c.loop-sent.notifier c.loop-sent.notifier) (sym empty) (applied-none g.L.Listener.tells c.args.capacity c.args.policy c.args.store.now.ordered k ks c.loop-sent.notifier))
 
-pub returns-clause-timers : goal.returns-clause-timers
-returns-clause-timers g c = c.loop-sent.invariant.timers
+pub returns-clause-upkeep : goal.returns-clause-upkeep
+returns-clause-upkeep g c = c.loop-sent.invariant.upkeep
 
 pub returns-clause-rows : goal.returns-clause-rows
 returns-clause-rows g c =

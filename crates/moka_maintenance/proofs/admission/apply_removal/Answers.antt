@@ -1,10 +1,11 @@
-use Rattle.std.proofs.Common.{◌≡◌, is_some, refl, sym, ap, ◌∙◌, true≢false}
+use Rattle.std.proofs.Common.{◌≡◌, is_some, refl, sym, ap, ◌∙◌, true≢false, arith}
 use Rattle.std.specs.FinMap as finite
 use Rattle.moka_parts.specs.Records.{counted_of}
 use Rattle.moka_parts.proofs.AccessList.{absent_taken_out, counted_taken_out}
 use Rattle.moka_store.specs.Store.{Kept}
 use Rattle.moka_parts.proofs.WriteList.{unlisted_taken_out}
-use Rattle.moka_maintenance.proofs.Timing.{keeps-none, keeps-left}
+use Rattle.moka_maintenance.proofs.Timing.{keeps-left}
+use Rattle.moka_maintenance.proofs.Upkeep.{upkeep-none}
 use Rattle.moka_maintenance.proofs.Placed.{no_row, places-gone, rows-unplaced, rows-forgotten}
 use Rattle.moka_maintenance.proofs.admission.apply_removal.Goals as goal
 
@@ -23,12 +24,6 @@ returns-then-not-has_row-clause-rows g c = λ generation.
 pub forget-requires-clause-apart : goal.forget-requires-clause-apart
 forget-requires-clause-apart g c = rw c.leave.ensures (counted_taken_out c.args.handle.number c.args.store.now.access)
 
-pub returns-then-is_none-clause-places : goal.returns-then-is_none-clause-places
-returns-then-is_none-clause-places g c =
-    let step = ap (λ (k : Kept g.row.K.Denot g.row.V.Denot g.row.S.Denot). k.places) c.forget.ensures.step in
-    let left : finite.remove c.leave.new.store.places c.args.handle.number ≡ finite.remove c.args.store.now.places c.args.handle.number = ap (λ (k : Kept g.row.K.Denot g.row.V.Denot g.row.S.Denot). finite.remove k.places c.args.handle.number) c.leave.ensures in
-    places-gone c.args.store.now c.forget.new.self c.args.handle.number (step ∙ left)
-
 pub returns-then-is_none-clause-rows : goal.returns-then-is_none-clause-rows
 returns-then-is_none-clause-rows g c = λ generation.
     let step = ap (λ (k : Kept g.row.K.Denot g.row.V.Denot g.row.S.Denot). k.places) c.forget.ensures.step in
@@ -43,14 +38,34 @@ returns-then-not-has_row-clause-written g c = λ kept.
     let none = no_row k.places n c.args.handle.place (counted_of n k.access) c.requires (c.has_row.ensures.members n) (λ here. absurd (true≢false (sym (c.has_row.ensures.placed.1 here) ∙ c.if-not-has_row.true))) in
     sym (unlisted_taken_out n k.written ((c.invariant_holds.ensures.listed kept).1 n ∙ ap is_some none))
 
-pub returns-then-not-has_row-clause-timers : goal.returns-then-not-has_row-clause-timers
-returns-then-not-has_row-clause-timers g c = keeps-none c.args.store.now
-
 pub returns-then-is_none-clause-written : goal.returns-then-is_none-clause-written
 returns-then-is_none-clause-written g c = λ _. ap (λ (k : Kept g.row.K.Denot g.row.V.Denot g.row.S.Denot). k.written) c.forget.ensures.step ∙ ap (λ (k : Kept g.row.K.Denot g.row.V.Denot g.row.S.Denot). k.written) c.leave.ensures
 
-pub returns-then-is_none-clause-timers : goal.returns-then-is_none-clause-timers
-returns-then-is_none-clause-timers g c = keeps-left c.args.store.now c.leave.new.store c.forget.new.self c.args.handle.number (finite.remove c.leave.new.store.places c.args.handle.number) c.leave.ensures c.forget.ensures.step
+pub returns-then-not-has_row-clause-upkeep : goal.returns-then-not-has_row-clause-upkeep
+returns-then-not-has_row-clause-upkeep g c = upkeep-none c.args.store.now
 
-pub returns-else-is_none-clause-timers : goal.returns-else-is_none-clause-timers
-returns-else-is_none-clause-timers g c = keeps-left c.args.store.now c.leave.new.store c.leave.new.store c.args.handle.number c.leave.new.store.places c.leave.ensures refl
+pub returns-then-is_none-clause-upkeep : goal.returns-then-is_none-clause-upkeep
+returns-then-is_none-clause-upkeep g c =
+    let step = ap (λ (k : Kept g.row.K.Denot g.row.V.Denot g.row.S.Denot). k.places) c.forget.ensures.step in
+    let left : finite.remove c.leave.new.store.places c.args.handle.number ≡ finite.remove c.args.store.now.places c.args.handle.number = ap (λ (k : Kept g.row.K.Denot g.row.V.Denot g.row.S.Denot). finite.remove k.places c.args.handle.number) c.leave.ensures in
+    let records = c.forget.ensures.records ∙ ap (λ (k : Kept g.row.K.Denot g.row.V.Denot g.row.S.Denot). k.records) c.leave.ensures in
+    let same = ap (λ (k : Kept g.row.K.Denot g.row.V.Denot g.row.S.Denot). k.room) c.leave.ensures in
+    let more = c.forget.ensures.room in
+    record {
+      timers = keeps-left c.args.store.now c.leave.new.store c.forget.new.self c.args.handle.number (finite.remove c.leave.new.store.places c.args.handle.number) c.leave.ensures c.forget.ensures.step;
+      places = places-gone c.args.store.now c.forget.new.self c.args.handle.number (step ∙ left);
+      rows = λ n p _ gone. sym (ap (λ m. finite.get m n) records) ∙ gone;
+      room = omega arith;
+    }
+
+pub returns-else-is_none-clause-upkeep : goal.returns-else-is_none-clause-upkeep
+returns-else-is_none-clause-upkeep g c =
+    let old = c.args.store.now in
+    let left = c.leave.ensures in
+    let same = ap (λ (k : Kept g.row.K.Denot g.row.V.Denot g.row.S.Denot). k.room) left in
+    record {
+      timers = keeps-left c.args.store.now c.leave.new.store c.leave.new.store c.args.handle.number c.leave.new.store.places c.leave.ensures refl;
+      places = λ n p at. sym (ap (λ (k : Kept g.row.K.Denot g.row.V.Denot g.row.S.Denot). finite.get k.places n) left) ∙ at;
+      rows = λ n p _ gone. sym (ap (λ (k : Kept g.row.K.Denot g.row.V.Denot g.row.S.Denot). finite.get k.records n) left) ∙ gone;
+      room = omega arith;
+    }

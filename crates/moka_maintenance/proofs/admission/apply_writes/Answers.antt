@@ -5,7 +5,7 @@ use Rattle.moka_maintenance.specs.Queued.{writes_of}
 use Rattle.moka_maintenance.specs.Queues.{AreApplied, LeavesNoRowBy}
 use Rattle.moka_maintenance.specs.Steps.{contents_with}
 use Rattle.moka_maintenance.proofs.Halves.{applied-both, rows-both}
-use Rattle.moka_maintenance.proofs.Timing.{keeps-on}
+use Rattle.moka_maintenance.proofs.Upkeep.{upkeep-on}
 use Rattle.moka_maintenance.proofs.admission.apply_writes.Goals as goal
 
 pub apply_each_write-requires : goal.apply_each_write-requires
@@ -14,7 +14,7 @@ apply_each_write-requires g c =
 
 pub apply_each_write-requires-2 : goal.apply_each_write-requires-2
 apply_each_write-requires-2 g c =
-    record { at = λ q there p at. c.requires.at q (subst (λ (qs : List QueuedWrite). Contains qs q) c.as_slices.ensures (Contains-append_right c.as_slices.result.0.now c.as_slices.result.1.now q there)) p (c.apply_each_write.ensures.places _ p at) }
+    record { at = λ q there p at. c.requires.at q (subst (λ (qs : List QueuedWrite). Contains qs q) c.as_slices.ensures (Contains-append_right c.as_slices.result.0.now c.as_slices.result.1.now q there)) p (c.apply_each_write.ensures.upkeep.places _ p at) }
 
 pub returns-clause-applied : goal.returns-clause-applied
 returns-clause-applied g c =
@@ -24,17 +24,17 @@ returns-clause-applied g c =
     let old = c.args.store.now in
     let mid = made.new.store in
     let new = then.new.store in
-    let then_ordered = subst (λ b. AreApplied g.L.Listener.tells c.args.capacity c.args.policy b (contents_with sketch mid) (contents_with sketch new) mid.written new.written (writes_of c.as_slices.result.1.now) made.new.notifier then.new.notifier) made.ensures.timers.ordered then.ensures.applied in
+    let then_ordered = subst (λ b. AreApplied g.L.Listener.tells c.args.capacity c.args.policy b (contents_with sketch mid) (contents_with sketch new) mid.written new.written (writes_of c.as_slices.result.1.now) made.new.notifier then.new.notifier) made.ensures.upkeep.timers.ordered then.ensures.applied in
     subst (λ (qs : List QueuedWrite). AreApplied g.L.Listener.tells c.args.capacity c.args.policy old.ordered (contents_with sketch old) (contents_with sketch new) old.written new.written (writes_of qs) c.args.notifier.now then.new.notifier) c.as_slices.ensures
     (applied-both g.L.Listener.tells c.args.capacity c.args.policy old.ordered (contents_with sketch old) (contents_with sketch mid) (contents_with sketch new) old.written mid.written new.written c.as_slices.result.0.now c.as_slices.result.1.now c.args.notifier.now made.new.notifier then.new.notifier made.ensures.applied then_ordered)
 
-pub returns-clause-timers : goal.returns-clause-timers
-returns-clause-timers g c =
-    keeps-on c.args.store.now c.apply_each_write.new.store c.apply_each_write-2.new.store c.apply_each_write.ensures.timers c.apply_each_write-2.ensures.timers
+pub returns-clause-upkeep : goal.returns-clause-upkeep
+returns-clause-upkeep g c =
+    upkeep-on c.args.store.now c.apply_each_write.new.store c.apply_each_write-2.new.store c.apply_each_write.ensures.upkeep c.apply_each_write-2.ensures.upkeep
 
 pub returns-clause-rows : goal.returns-clause-rows
 returns-clause-rows g c =
     let made = c.apply_each_write in
     let then = c.apply_each_write-2 in
     subst (λ (qs : List QueuedWrite). LeavesNoRowBy (writes_of qs) c.args.store.now then.new.store) c.as_slices.ensures
-    (rows-both c.args.store.now made.new.store then.new.store c.as_slices.result.0.now c.as_slices.result.1.now then.ensures.places made.ensures.rows then.ensures.rows)
+    (rows-both c.args.store.now made.new.store then.new.store c.as_slices.result.0.now c.as_slices.result.1.now then.ensures.upkeep.places made.ensures.rows then.ensures.rows)

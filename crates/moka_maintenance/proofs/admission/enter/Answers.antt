@@ -1,4 +1,4 @@
-use Rattle.std.proofs.Common.{ap, ◌∙◌}
+use Rattle.std.proofs.Common.{ap, sym, ◌∙◌}
 use Rattle.std.specs.FinMap as finite
 use Rattle.moka_parts.specs.Records.{entered_by}
 use Rattle.moka_store.specs.Store.{Kept}
@@ -11,20 +11,16 @@ returns-clause-written g c =
     let found = some_is (finite.get c.args.store.now.records c.args.upsert.handle.number) c.requires.handle.stored in
     ap (λ (k : Kept g.row.K.Denot g.row.V.Denot g.row.S.Denot). k.written) c.set_timer.ensures.rest ∙ ap (λ (k : Kept g.row.K.Denot g.row.V.Denot g.row.S.Denot). k.written) c.admit.ensures.step ∙ ap (λ (k : Kept g.row.K.Denot g.row.V.Denot g.row.S.Denot). entered_by k.ordered c.args.upsert.handle.number k.written) (c.set_applied.ensures.step found.0 found.1)
 
-pub returns-clause-timers : goal.returns-clause-timers
-returns-clause-timers g c =
+pub returns-clause-upkeep : goal.returns-clause-upkeep
+returns-clause-upkeep g c =
     let found = some_is (finite.get c.args.store.now.records c.args.upsert.handle.number) c.requires.handle.stored in
     let step = c.admit.ensures.step in
-    entered-timers c.args.store.now c.set_applied.new.self c.admit.new.self c.args.upsert.handle.number c.args.upsert.generation c.args.upsert.weight found.0 (c.set_applied.ensures.step found.0 found.1) c.set_timer.new.self
-    c.admit.ensures.records (ap (λ (k : Kept g.row.K.Denot g.row.V.Denot g.row.S.Denot). k.ordered) step) (ap (λ (k : Kept g.row.K.Denot g.row.V.Denot g.row.S.Denot). k.timed) step) (ap (λ (k : Kept g.row.K.Denot g.row.V.Denot g.row.S.Denot). k.hasher) step) (ap (λ (k : Kept g.row.K.Denot g.row.V.Denot g.row.S.Denot). k.timers) step) c.admit.ensures.counted c.set_timer.ensures.step
-
-pub returns-clause-rows : goal.returns-clause-rows
-returns-clause-rows g c =
-    let found = some_is (finite.get c.args.store.now.records c.args.upsert.handle.number) c.requires.handle.stored in
-    entered-rows c.args.store.now c.set_applied.new.self c.set_timer.new.self c.args.upsert.handle.number c.args.upsert.generation c.args.upsert.weight found.0 (c.set_applied.ensures.step found.0 found.1) (ap (λ (k : Kept g.row.K.Denot g.row.V.Denot g.row.S.Denot). k.records) c.set_timer.ensures.rest ∙ c.admit.ensures.records)
-
-pub returns-clause-room : goal.returns-clause-room
-returns-clause-room g c =
-    let found = some_is (finite.get c.args.store.now.records c.args.upsert.handle.number) c.requires.handle.stored in
-    entered-room c.args.store.now c.set_applied.new.self c.set_timer.new.self c.args.upsert.handle.number c.args.upsert.generation c.args.upsert.weight found.0 (c.set_applied.ensures.step found.0 found.1)
-    (ap (λ (k : Kept g.row.K.Denot g.row.V.Denot g.row.S.Denot). k.room) c.set_timer.ensures.rest ∙ ap (λ (k : Kept g.row.K.Denot g.row.V.Denot g.row.S.Denot). k.room) c.admit.ensures.step)
+    let places = ap (λ (k : Kept g.row.K.Denot g.row.V.Denot g.row.S.Denot). k.places) c.set_timer.ensures.rest ∙ ap (λ (k : Kept g.row.K.Denot g.row.V.Denot g.row.S.Denot). k.places) step ∙ c.set_applied.ensures.places in
+    record {
+      timers = entered-timers c.args.store.now c.set_applied.new.self c.admit.new.self c.args.upsert.handle.number c.args.upsert.generation c.args.upsert.weight found.0 (c.set_applied.ensures.step found.0 found.1) c.set_timer.new.self
+    c.admit.ensures.records (ap (λ (k : Kept g.row.K.Denot g.row.V.Denot g.row.S.Denot). k.ordered) step) (ap (λ (k : Kept g.row.K.Denot g.row.V.Denot g.row.S.Denot). k.timed) step) (ap (λ (k : Kept g.row.K.Denot g.row.V.Denot g.row.S.Denot). k.hasher) step) (ap (λ (k : Kept g.row.K.Denot g.row.V.Denot g.row.S.Denot). k.timers) step) c.admit.ensures.counted c.set_timer.ensures.step;
+      places = λ n p at. sym (ap (λ m. finite.get m n) places) ∙ at;
+      rows = entered-rows c.args.store.now c.set_applied.new.self c.set_timer.new.self c.args.upsert.handle.number c.args.upsert.generation c.args.upsert.weight found.0 (c.set_applied.ensures.step found.0 found.1) (ap (λ (k : Kept g.row.K.Denot g.row.V.Denot g.row.S.Denot). k.records) c.set_timer.ensures.rest ∙ c.admit.ensures.records);
+      room = entered-room c.args.store.now c.set_applied.new.self c.set_timer.new.self c.args.upsert.handle.number c.args.upsert.generation c.args.upsert.weight found.0 (c.set_applied.ensures.step found.0 found.1)
+    (ap (λ (k : Kept g.row.K.Denot g.row.V.Denot g.row.S.Denot). k.room) c.set_timer.ensures.rest ∙ ap (λ (k : Kept g.row.K.Denot g.row.V.Denot g.row.S.Denot). k.room) c.admit.ensures.step);
+    }

@@ -1,10 +1,10 @@
 use Rattle.std.proofs.Common.{refl, sym, ap, ◌∙◌}
 use Rattle.std.specs.FinMap as finite
+use Rattle.moka_store.specs.Store.{Kept}
 use Rattle.moka_store.proofs.Gets.{get-removed}
 use Rattle.moka_maintenance.specs.Steps.{Stock, stock_in}
 use Rattle.moka_maintenance.proofs.Expiring.{expires-none, expires-one, reset-waiting, reset-gone, reset-set}
 use Rattle.moka_maintenance.proofs.Fronts.{settled_member}
-use Rattle.moka_maintenance.proofs.Placed.{places-gone, rows-gone}
 use Rattle.moka_maintenance.proofs.due.expire.Goals as goal
 
 pub returns-then-not-is_settled-clause-expired : goal.returns-then-not-is_settled-clause-expired
@@ -27,13 +27,13 @@ returns-then-is_expired_by_per_entry_ttl-clause-timers g c =
     let n = c.args.handle.number in
     reset-gone c.args.tests.now.0 n c.args.store.now c.expel.new.store c.requires.untimed
     (ap (λ (s : Stock g.row.K.Denot g.row.V.Denot). finite.get s.records n) c.expel.ensures.step ∙ get-removed c.args.store.now.records n)
-    c.expel.ensures.timers.keeps.ordered c.expel.ensures.timers.keeps.timed c.expel.ensures.timers.keeps.hasher c.expel.ensures.taken
+    c.expel.ensures.upkeep.keeps.timers.ordered c.expel.ensures.upkeep.keeps.timers.timed c.expel.ensures.upkeep.keeps.timers.hasher (ap (λ (k : Kept g.row.K.Denot g.row.V.Denot g.row.S.Denot). k.timers) c.expel.ensures.whole)
 
 pub returns-then-is_expired_by_per_entry_ttl-clause-places : goal.returns-then-is_expired_by_per_entry_ttl-clause-places
-returns-then-is_expired_by_per_entry_ttl-clause-places g c = places-gone c.args.store.now c.expel.new.store c.args.handle.number c.expel.ensures.places
+returns-then-is_expired_by_per_entry_ttl-clause-places g c = c.expel.ensures.upkeep.keeps.places
 
 pub returns-then-is_expired_by_per_entry_ttl-clause-rows : goal.returns-then-is_expired_by_per_entry_ttl-clause-rows
-returns-then-is_expired_by_per_entry_ttl-clause-rows g c = rows-gone c.args.store.now c.expel.new.store c.args.handle.number (ap (λ (s : Stock g.row.K.Denot g.row.V.Denot). s.records) c.expel.ensures.step) c.expel.ensures.places
+returns-then-is_expired_by_per_entry_ttl-clause-rows g c = c.expel.ensures.upkeep.keeps.rows
 
 pub returns-clause-expired : goal.returns-clause-expired
 returns-clause-expired g c =

@@ -4,18 +4,14 @@ use Rattle.moka_store.specs.Store.{Kept}
 use Rattle.moka_store.proofs.Gets.{get-removed}
 use Rattle.moka_maintenance.specs.Steps.{stock_in}
 use Rattle.moka_maintenance.specs.Sweeps.{ExpiresDue}
-use Rattle.moka_maintenance.proofs.Expiring.{expires-none, expires-on, expires-few, keeps-due, fewer-due}
-use Rattle.moka_maintenance.proofs.Placed.{places-on, rows-on}
-use Rattle.moka_maintenance.proofs.Timing.{keeps-none, keeps-on}
+use Rattle.moka_maintenance.proofs.Expiring.{expires-none, expires-on, expires-few, upkeep-due, fewer-due}
+use Rattle.moka_maintenance.proofs.Upkeep.{upkeep-none, upkeep-on}
 use Rattle.moka_maintenance.proofs.due.expire_due.Goals as goal
 
 pub loop-handle-init : goal.loop-handle-init
 loop-handle-init g c = record {
   expired = expires-none g.L.Listener.tells c.args.tests (stock_in c.args.store.now) c.args.notifier.now;
-  timers = keeps-none c.args.store.now;
-  places = λ n p at. at;
-  rows = λ n p at gone. gone;
-  room = omega arith;
+  upkeep = upkeep-none c.args.store.now;
 }
 
 pub expire-requires-clause-untimed : goal.expire-requires-clause-untimed
@@ -53,13 +49,9 @@ loop-handle-preserved-then-expire g c =
     let mid = c.due.new.self in
     let new = c.expire.new.store in
     let made = c.if-expire.ensures in
-    let placed = ap (λ (k : Kept g.row.K.Denot g.row.V.Denot g.row.S.Denot). k.places) step in
     record {
       expired = expires-on g.L.Listener.tells c.args.tests (stock_in c.args.store.now) (stock_in old) (stock_in new) c.args.notifier.now c.loop-handle.notifier c.expire.new.notifier c.loop-handle.removed 1 inv.expired (rw (← ap stock_in step) made.expired);
-      timers = keeps-on c.args.store.now old new inv.timers (keeps-due g.L.Listener.tells c.args.tests old mid new c.loop-handle.notifier c.expire.new.notifier c.in-Some.handle.number 1 step made.timers made.expired);
-      places = places-on c.args.store.now mid new (rw step inv.places) made.places;
-      rows = rows-on c.args.store.now mid new made.places (rw step inv.rows) made.rows;
-      room = (let before = inv.room in let same = ap (λ (k : Kept g.row.K.Denot g.row.V.Denot g.row.S.Denot). k.room) step in let after = made.room in omega arith);
+      upkeep = upkeep-on c.args.store.now old new inv.upkeep (upkeep-due g.L.Listener.tells c.args.tests old mid new c.loop-handle.notifier c.expire.new.notifier c.in-Some.handle.number 1 step made.timers made.expired made.places made.rows made.room);
     }
 
 pub loop-handle-preserved : goal.loop-handle-preserved
@@ -70,11 +62,7 @@ loop-handle-preserved g c =
     let mid = c.due.new.self in
     let new = c.expire.new.store in
     let made = c.if-expire.ensures in
-    let placed = ap (λ (k : Kept g.row.K.Denot g.row.V.Denot g.row.S.Denot). k.places) step in
     record {
       expired = (let same : c.loop-handle.removed + 0 ≡ c.loop-handle.removed = omega arith in subst (λ (k : ℕ). ExpiresDue g.L.Listener.tells c.args.tests (stock_in c.args.store.now) (stock_in new) c.args.notifier.now c.expire.new.notifier k) same (expires-on g.L.Listener.tells c.args.tests (stock_in c.args.store.now) (stock_in old) (stock_in new) c.args.notifier.now c.loop-handle.notifier c.expire.new.notifier c.loop-handle.removed 0 inv.expired (rw (← ap stock_in step) made.expired)));
-      timers = keeps-on c.args.store.now old new inv.timers (keeps-due g.L.Listener.tells c.args.tests old mid new c.loop-handle.notifier c.expire.new.notifier c.in-Some.handle.number 0 step made.timers made.expired);
-      places = places-on c.args.store.now mid new (rw step inv.places) made.places;
-      rows = rows-on c.args.store.now mid new made.places (rw step inv.rows) made.rows;
-      room = (let before = inv.room in let same = ap (λ (k : Kept g.row.K.Denot g.row.V.Denot g.row.S.Denot). k.room) step in let after = made.room in omega arith);
+      upkeep = upkeep-on c.args.store.now old new inv.upkeep (upkeep-due g.L.Listener.tells c.args.tests old mid new c.loop-handle.notifier c.expire.new.notifier c.in-Some.handle.number 0 step made.timers made.expired made.places made.rows made.room);
     }

@@ -2,8 +2,7 @@ use Rattle.std.proofs.Common.{Bool, ℕ, ◌+◌, ◌||◌, ◌∙◌, sym, subs
 use Rattle.moka_maintenance.specs.Steps.{stock_in}
 use Rattle.moka_maintenance.specs.Passes.{IsPass}
 use Rattle.moka_maintenance.proofs.PassSteps.{pass-five}
-use Rattle.moka_maintenance.proofs.Placed.{places-on, rows-on}
-use Rattle.moka_maintenance.proofs.Timing.{keeps-on, none-due}
+use Rattle.moka_maintenance.proofs.Upkeep.{none-due, upkeep-on}
 use Rattle.moka_maintenance.proofs.passes.make_pass.Goals as goal
 
 pub returns-clause-pass : goal.returns-clause-pass
@@ -17,7 +16,7 @@ returns-clause-pass g c =
     let scan = c.scan-is_scan_left in
     let ps = c.args.invalidator.now in
     let qs = scan.new.invalidator in
-    let ordered = second.ensures.timers.keeps.ordered ∙ first.ensures.timers.keeps.ordered ∙ due.ensures.timers.ordered in
+    let ordered = second.ensures.upkeep.keeps.timers.ordered ∙ first.ensures.upkeep.keeps.timers.ordered ∙ due.ensures.upkeep.timers.ordered in
     subst (λ (n : ℕ). IsPass g.L.Listener.tells g.P.PredicateFn.says c.args.tests c.args.batch c.args.store.now.ordered ps qs before after c.args.notifier.now last.new.notifier n c.joined.result.is_left c.joined.result.is_scan_left) (sym c.joined.ensures.removed)
     (subst (λ (b : Bool). IsPass g.L.Listener.tells g.P.PredicateFn.says c.args.tests c.args.batch c.args.store.now.ordered ps qs before after c.args.notifier.now last.new.notifier (due.result + first.result.removed + second.result.removed + last.result.removed) b c.joined.result.is_scan_left) (sym c.joined.ensures.left)
     (subst (λ (b : Bool). IsPass g.L.Listener.tells g.P.PredicateFn.says c.args.tests c.args.batch c.args.store.now.ordered ps qs before after c.args.notifier.now last.new.notifier (due.result + first.result.removed + second.result.removed + last.result.removed) (first.result.is_left || second.result.is_left || last.result.is_left) b) (sym c.joined.ensures.scan)
@@ -28,31 +27,21 @@ returns-clause-pass g c =
 
 pub returns-clause-none : goal.returns-clause-none
 returns-clause-none g c =
-    none-due c.args.tests.now.0 c.scan-is_scan_left.new.store c.take_step-surplus.new.store c.take_step-surplus.ensures.timers
-    (none-due c.args.tests.now.0 c.take_step-by_read.new.store c.scan-is_scan_left.new.store c.scan-is_scan_left.ensures.timers
-    (none-due c.args.tests.now.0 c.take_step-by_write.new.store c.take_step-by_read.new.store c.take_step-by_read.ensures.timers
-    (none-due c.args.tests.now.0 c.expire_due-due.new.store c.take_step-by_write.new.store c.take_step-by_write.ensures.timers c.expire_due-due.ensures.none)))
+    none-due c.args.tests.now.0 c.scan-is_scan_left.new.store c.take_step-surplus.new.store c.take_step-surplus.ensures.upkeep
+    (none-due c.args.tests.now.0 c.take_step-by_read.new.store c.scan-is_scan_left.new.store c.scan-is_scan_left.ensures.upkeep
+    (none-due c.args.tests.now.0 c.take_step-by_write.new.store c.take_step-by_read.new.store c.take_step-by_read.ensures.upkeep
+    (none-due c.args.tests.now.0 c.expire_due-due.new.store c.take_step-by_write.new.store c.take_step-by_write.ensures.upkeep c.expire_due-due.ensures.none)))
 
-pub returns-clause-timers : goal.returns-clause-timers
-returns-clause-timers g c =
-    keeps-on c.args.store.now c.scan-is_scan_left.new.store c.take_step-surplus.new.store
-    (keeps-on c.args.store.now c.take_step-by_read.new.store c.scan-is_scan_left.new.store
-    (keeps-on c.args.store.now c.take_step-by_write.new.store c.take_step-by_read.new.store (keeps-on c.args.store.now c.expire_due-due.new.store c.take_step-by_write.new.store c.expire_due-due.ensures.timers c.take_step-by_write.ensures.timers.keeps) c.take_step-by_read.ensures.timers.keeps)
-    c.scan-is_scan_left.ensures.timers.keeps)
-    c.take_step-surplus.ensures.timers.keeps
-
-pub returns-clause-places : goal.returns-clause-places
-returns-clause-places g c =
-    places-on c.args.store.now c.scan-is_scan_left.new.store c.take_step-surplus.new.store
-    (places-on c.args.store.now c.take_step-by_read.new.store c.scan-is_scan_left.new.store
-    (places-on c.args.store.now c.take_step-by_write.new.store c.take_step-by_read.new.store (places-on c.args.store.now c.expire_due-due.new.store c.take_step-by_write.new.store c.expire_due-due.ensures.places c.take_step-by_write.ensures.places) c.take_step-by_read.ensures.places)
-    c.scan-is_scan_left.ensures.places)
-    c.take_step-surplus.ensures.places
-
-pub returns-clause-rows : goal.returns-clause-rows
-returns-clause-rows g c =
-    rows-on c.args.store.now c.scan-is_scan_left.new.store c.take_step-surplus.new.store c.take_step-surplus.ensures.places
-    (rows-on c.args.store.now c.take_step-by_read.new.store c.scan-is_scan_left.new.store c.scan-is_scan_left.ensures.places
-    (rows-on c.args.store.now c.take_step-by_write.new.store c.take_step-by_read.new.store c.take_step-by_read.ensures.places (rows-on c.args.store.now c.expire_due-due.new.store c.take_step-by_write.new.store c.take_step-by_write.ensures.places c.expire_due-due.ensures.rows c.take_step-by_write.ensures.rows) c.take_step-by_read.ensures.rows)
-    c.scan-is_scan_left.ensures.rows)
-    c.take_step-surplus.ensures.rows
+pub returns-clause-upkeep : goal.returns-clause-upkeep
+returns-clause-upkeep g c =
+    let old = c.args.store.now in
+    let due = c.expire_due-due in
+    let first = c.take_step-by_write in
+    let second = c.take_step-by_read in
+    let scan = c.scan-is_scan_left in
+    let last = c.take_step-surplus in
+    upkeep-on old scan.new.store last.new.store
+    (upkeep-on old second.new.store scan.new.store
+    (upkeep-on old first.new.store second.new.store (upkeep-on old due.new.store first.new.store due.ensures.upkeep first.ensures.upkeep.keeps) second.ensures.upkeep.keeps)
+    scan.ensures.upkeep.keeps)
+    last.ensures.upkeep.keeps

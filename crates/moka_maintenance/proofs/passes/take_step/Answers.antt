@@ -1,7 +1,7 @@
 use Rattle.std.proofs.Common.{sym, ◌∙◌}
 use Rattle.moka_maintenance.specs.Steps.{stock_in}
 use Rattle.moka_maintenance.proofs.PassSteps.{swept-none, left-idle, not_taken}
-use Rattle.moka_maintenance.proofs.Timing.{drops-none}
+use Rattle.moka_maintenance.proofs.Upkeep.{untimed-none}
 use Rattle.moka_maintenance.proofs.passes.take_step.Goals as goal
 
 pub returns-then-not-is_taken-clause-swept : goal.returns-then-not-is_taken-clause-swept
@@ -12,5 +12,5 @@ pub returns-clause-idle : goal.returns-clause-idle
 returns-clause-idle g c = λ none.
     c.sweep_along.ensures.left (left-idle g.L.Listener.tells c.args.tests c.args.sweep c.args.batch _ _ _ _ _ _ c.sweep_along.ensures.swept none) ∙ sym (sym c.is_taken.ensures ∙ c.if-not-is_taken.false)
 
-pub returns-then-not-is_taken-clause-timers : goal.returns-then-not-is_taken-clause-timers
-returns-then-not-is_taken-clause-timers g c = drops-none c.args.store.now
+pub returns-then-not-is_taken-clause-upkeep : goal.returns-then-not-is_taken-clause-upkeep
+returns-then-not-is_taken-clause-upkeep g c = untimed-none c.args.store.now

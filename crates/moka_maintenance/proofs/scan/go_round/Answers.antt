@@ -2,6 +2,7 @@ use Rattle.std.proofs.Common.{◌≤◌, ◌-◌, ◌⊎◌, ℕ, [], refl, sym,
 use Rattle.moka_maintenance.specs.Scanning.{before_cursor, from_cursor}
 use Rattle.moka_maintenance.proofs.Rounds.{IsKnown, before_and_from, round-part, round-whole}
 use Rattle.moka_maintenance.proofs.Scanned.{not_true, not_false}
+use Rattle.moka_maintenance.proofs.Upkeep.{untimed-on}
 use Rattle.moka_maintenance.proofs.scan.go_round.Goals as goal
 
 pub returns-then-not-first-clause-round : goal.returns-then-not-first-clause-round
@@ -29,3 +30,6 @@ returns-clause-round g c =
     (subst (λ (n : ℕ). second.result.passed ≤ n - first.result.passed) c.member_count-members.ensures.value second.ensures.few)
     (λ some. subst (λ (n : ℕ). (n - first.result.passed ≤ second.result.passed) ⊎ (c.args.batch - first.result.looked ≤ second.result.looked)) c.member_count-members.ensures.value (second.ensures.stopped (second.ensures.end ∙ some)))
     _ refl
+
+pub returns-clause-upkeep : goal.returns-clause-upkeep
+returns-clause-upkeep g c = untimed-on c.args.store.now c.scan_along-first.new.store c.scan_along-second.new.store c.scan_along-first.ensures.upkeep c.scan_along-second.ensures.upkeep

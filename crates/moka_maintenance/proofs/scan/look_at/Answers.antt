@@ -16,7 +16,7 @@ returns-then-apply_predicates g c =
       inr (
         (r, found, settled_member old.records old.access n c.requires.member settled, c.if-apply_predicates.ensures, refl),
         c.expel.ensures.whole,
-        c.expel.ensures.room,
+        c.expel.ensures.upkeep.keeps.room,
         c.expel.ensures.told,
       ),
     )

@@ -2,6 +2,7 @@ use Rattle.std.proofs.Common.{◌≡◌, ◌⊎◌, Bool, nat_lt, false, not, in
 use Rattle.moka_maintenance.specs.Scanning.{AllDropped, IsScanned}
 use Rattle.moka_maintenance.specs.Steps.{contents_in}
 use Rattle.moka_maintenance.proofs.Scanned.{scanned, scanned-none, none_there, some_there, left_more, left_further}
+use Rattle.moka_maintenance.proofs.Upkeep.{untimed-none}
 use Rattle.moka_maintenance.proofs.scan.scan.Goals as goal
 use Rattle.moka_maintenance.proofs.scan.scan.Goals.{then-round, else-round}
 
@@ -35,3 +36,6 @@ returns-else-round-gt0-clause-scanned g c =
     subst (λ (b : Bool). IsScanned g.L.Listener.tells g.P.PredicateFn.says ps c.args.batch c.args.store.now round.new.store qs c.args.notifier.now round.new.notifier b) (sym none)
     (scanned g.L.Listener.tells g.P.PredicateFn.says c.args.batch c.args.store.now ps c.args.notifier.now round.new.store round.new.notifier round.result.looked round.result.is_end round.ensures.round c.invariant_holds.ensures.listed (some_there (length ps) c.if-is_empty.ensures) qs
     false (λ is. absurd (true≢false (sym is))) (λ is. absurd (true≢false (sym is))) (λ some. (let none = c.if-round-gt0.false in absurd (omega arith))) over)
+
+pub returns-then-is_empty-clause-upkeep : goal.returns-then-is_empty-clause-upkeep
+returns-then-is_empty-clause-upkeep g c = untimed-none c.args.store.now

@@ -2,10 +2,9 @@ use Rattle.std.proofs.Common.{◌≡◌, ◌≢◌, ◌+◌, true, false, Some, 
 use Rattle.moka_store.specs.declared.store.Handle.{Handle}
 use Rattle.moka_store.specs.Store.{Kept}
 use Rattle.moka_maintenance.specs.Scanning.{IsWalked}
-use Rattle.moka_maintenance.proofs.Placed.{places-on, rows-on}
-use Rattle.moka_maintenance.proofs.Timing.{drops-none, drops-on}
 use Rattle.moka_maintenance.proofs.Turning.{if_some, still-ordered, next_other, turn_keeps}
 use Rattle.moka_maintenance.proofs.Walked.{walked-none, walked-settled, walked-unsettled, walked-cursor}
+use Rattle.moka_maintenance.proofs.Upkeep.{untimed-none, untimed-on}
 use Rattle.moka_maintenance.proofs.scan.scan_along.Goals as goal
 
 pub loop-passed-init : goal.loop-passed-init
@@ -16,10 +15,7 @@ loop-passed-init g c = record {
   most = omega arith;
   few = omega arith;
   batch = omega arith;
-  timers = drops-none c.args.store.now;
-  places = λ n p at. at;
-  rows = λ n p at gone. gone;
-  room = omega arith;
+  upkeep = untimed-none c.args.store.now;
 }
 
 pub loop-passed-preserved-then-look_at : goal.loop-passed-preserved-then-look_at
@@ -47,10 +43,7 @@ loop-passed-preserved-then-look_at g c =
       most = (let some = c.loop-passed-test.true in omega arith);
       few = (let f = inv.few in omega arith);
       batch = (let some = c.if-looked-batch.true in omega arith);
-      timers = drops-on old mid new inv.timers keeps.timers;
-      places = places-on old mid new inv.places keeps.places;
-      rows = rows-on old mid new keeps.places inv.rows keeps.rows;
-      room = (let before = inv.room in let after = keeps.room in omega arith);
+      upkeep = untimed-on old mid new inv.upkeep keeps.upkeep;
     }
 
 pub loop-passed-preserved : goal.loop-passed-preserved
@@ -78,10 +71,7 @@ loop-passed-preserved g c =
       most = (let some = c.loop-passed-test.true in omega arith);
       few = (let f = inv.few in omega arith);
       batch = inv.batch;
-      timers = drops-on old mid new inv.timers keeps.timers;
-      places = places-on old mid new inv.places keeps.places;
-      rows = rows-on old mid new keeps.places inv.rows keeps.rows;
-      room = (let before = inv.room in let after = keeps.room in omega arith);
+      upkeep = untimed-on old mid new inv.upkeep keeps.upkeep;
     }
 
 pub returns-clause-walked : goal.returns-clause-walked

@@ -2,8 +2,7 @@ use Rattle.std.proofs.Common.{◌≡◌, ◌≤◌, ◌-◌, ◌==◌, ℕ, ◌+
 use Rattle.std.specs.List.{IsDistinct}
 use Rattle.moka_store.specs.Store.{IsOrdered}
 use Rattle.moka_maintenance.specs.Scanning.{IsWalked}
-use Rattle.moka_maintenance.specs.Steps.{AddsNoPlace, LeavesNoRow}
-use Rattle.moka_maintenance.specs.Timers.{DropsTimers}
+use Rattle.moka_maintenance.specs.Upkeep.{SetsNoTimer}
 use Rattle.moka_maintenance.proofs.scan.scan_along.Given as goal
 
 abbrev pub invariant-loop-passed : goal.invariant-loop-passed
@@ -15,10 +14,7 @@ invariant-loop-passed g l = record {
   most : l.passed ≤ l.most;
   few : l.looked ≤ l.passed;
   batch : l.looked ≤ l.batch;
-  timers : DropsTimers l.initial.store l.store;
-  places : AddsNoPlace l.initial.store l.store;
-  rows : LeavesNoRow l.initial.store l.store;
-  room : l.initial.store.room ≤ l.store.room;
+  upkeep : SetsNoTimer l.initial.store l.store;
 }
 
 abbrev pub decreases-loop-passed : goal.decreases-loop-passed

@@ -1,18 +1,14 @@
 use Rattle.std.proofs.Common.{arith, refl, ◌∙◌}
 use Rattle.moka_maintenance.specs.Steps.{stock_in}
-use Rattle.moka_maintenance.proofs.Placed.{places-on, rows-on}
 use Rattle.moka_maintenance.proofs.Rows.{is_along}
-use Rattle.moka_maintenance.proofs.Timing.{drops-none, drops-on}
 use Rattle.moka_maintenance.proofs.Sweeping.{sweeping-none, sweeping-removed, sweeping-passed, sweeping-rounds, sweeping-ended, sweeping-over, sweeping-all}
+use Rattle.moka_maintenance.proofs.Upkeep.{untimed-none, untimed-on}
 use Rattle.moka_maintenance.proofs.sweep.sweep_along.Goals as goal
 
 pub loop-turns-init : goal.loop-turns-init
 loop-turns-init g c = record {
   sweeping = sweeping-none g.L.Listener.tells c.args.tests c.args.sweep c.args.batch (stock_in c.args.store.now) c.args.notifier.now c.invariant_holds.ensures.distinct (is_along c.args.sweep (stock_in c.args.store.now) c.args.store.now.ordered c.invariant_holds.ensures.listed c.invariant_holds.ensures.unlisted);
-  timers = drops-none c.args.store.now;
-  places = λ n p at. at;
-  rows = λ n p at gone. gone;
-  room = omega arith;
+  upkeep = untimed-none c.args.store.now;
 }
 
 pub returns-in-Ended-clause-swept : goal.returns-in-Ended-clause-swept
@@ -23,10 +19,7 @@ loop-turns-preserved-in-Removed g c =
     let inv = c.loop-turns.invariant in
     record {
       sweeping = sweeping-removed g.L.Listener.tells c.args.tests c.args.sweep c.args.batch _ _ _ _ _ _ _ _ _ _ inv.sweeping _ (let some = c.loop-turns-test.true in omega arith) c.in-Removed.ensures.turn;
-      timers = drops-on c.args.store.now c.loop-turns.store c.take_turn.new.store inv.timers c.in-Removed.ensures.timers;
-      places = places-on c.args.store.now c.loop-turns.store c.take_turn.new.store inv.places c.in-Removed.ensures.places;
-      rows = rows-on c.args.store.now c.loop-turns.store c.take_turn.new.store c.in-Removed.ensures.places inv.rows c.in-Removed.ensures.rows;
-      room = (let before = inv.room in let after = c.in-Removed.ensures.room in omega arith);
+      upkeep = untimed-on c.args.store.now c.loop-turns.store c.take_turn.new.store inv.upkeep c.in-Removed.ensures.upkeep;
     }
 
 pub loop-turns-preserved-then-passed-member_count : goal.loop-turns-preserved-then-passed-member_count
@@ -35,10 +28,7 @@ loop-turns-preserved-then-passed-member_count g c =
     record {
       sweeping = sweeping-rounds g.L.Listener.tells c.args.tests c.args.sweep c.args.batch _ _ _ _ _ _ _ _ (c.if-passed-member_count.true ∙ c.member_count.ensures.value) refl
           (sweeping-passed g.L.Listener.tells c.args.tests c.args.sweep c.args.batch _ _ _ _ _ _ _ _ _ _ inv.sweeping _ (let some = c.loop-turns-test.true in omega arith) c.in-Passed.ensures.turn);
-      timers = drops-on c.args.store.now c.loop-turns.store c.take_turn.new.store inv.timers c.in-Passed.ensures.timers;
-      places = places-on c.args.store.now c.loop-turns.store c.take_turn.new.store inv.places c.in-Passed.ensures.places;
-      rows = rows-on c.args.store.now c.loop-turns.store c.take_turn.new.store c.in-Passed.ensures.places inv.rows c.in-Passed.ensures.rows;
-      room = (let before = inv.room in let after = c.in-Passed.ensures.room in omega arith);
+      upkeep = untimed-on c.args.store.now c.loop-turns.store c.take_turn.new.store inv.upkeep c.in-Passed.ensures.upkeep;
     }
 
 pub loop-turns-preserved : goal.loop-turns-preserved
@@ -46,10 +36,7 @@ loop-turns-preserved g c =
     let inv = c.loop-turns.invariant in
     record {
       sweeping = sweeping-passed g.L.Listener.tells c.args.tests c.args.sweep c.args.batch _ _ _ _ _ _ _ _ _ _ inv.sweeping _ (let some = c.loop-turns-test.true in omega arith) c.in-Passed.ensures.turn;
-      timers = drops-on c.args.store.now c.loop-turns.store c.take_turn.new.store inv.timers c.in-Passed.ensures.timers;
-      places = places-on c.args.store.now c.loop-turns.store c.take_turn.new.store inv.places c.in-Passed.ensures.places;
-      rows = rows-on c.args.store.now c.loop-turns.store c.take_turn.new.store c.in-Passed.ensures.places inv.rows c.in-Passed.ensures.rows;
-      room = (let before = inv.room in let after = c.in-Passed.ensures.room in omega arith);
+      upkeep = untimed-on c.args.store.now c.loop-turns.store c.take_turn.new.store inv.upkeep c.in-Passed.ensures.upkeep;
     }
 
 pub returns-clause-swept : goal.returns-clause-swept

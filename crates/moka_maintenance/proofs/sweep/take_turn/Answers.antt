@@ -1,9 +1,9 @@
 use Rattle.std.proofs.Common.{sym, ap, ◌∙◌}
-use Rattle.moka_maintenance.specs.Steps.{Stock, stock_in}
-use Rattle.moka_maintenance.proofs.Placed.{places-gone, rows-gone}
+use Rattle.moka_maintenance.specs.Steps.{stock_in}
 use Rattle.moka_store.specs.Store.{Kept}
 use Rattle.moka_maintenance.proofs.Timing.{drops-moved}
 use Rattle.moka_maintenance.proofs.Fronts.{settled_member}
+use Rattle.moka_maintenance.proofs.Upkeep.{untimed-moved}
 use Rattle.moka_maintenance.proofs.sweep.take_turn.Goals as goal
 
 pub returns-clause-turn : goal.returns-clause-turn
@@ -21,14 +21,11 @@ returns-clause-turn g c =
       c.expel.ensures.told,
     )
 
-pub returns-clause-places : goal.returns-clause-places
-returns-clause-places g c = places-gone c.args.store.now c.expel.new.store c.in-Some.handle.number c.expel.ensures.places
-
-pub returns-clause-rows : goal.returns-clause-rows
-returns-clause-rows g c = rows-gone c.args.store.now c.expel.new.store c.in-Some.handle.number (ap (λ (s : Stock g.row.K.Denot g.row.V.Denot). s.records) c.expel.ensures.step) c.expel.ensures.places
-
-pub returns-then-not-is_settled-clause-timers : goal.returns-then-not-is_settled-clause-timers
-returns-then-not-is_settled-clause-timers g c =
+pub returns-then-not-is_settled-clause-upkeep : goal.returns-then-not-is_settled-clause-upkeep
+returns-then-not-is_settled-clause-upkeep g c =
+    let old = c.args.store.now in
+    let new = c.move_to_back.new.self in
     let step = c.move_to_back.ensures.step in
-    drops-moved c.args.store.now c.move_to_back.new.self (ap (λ (k : Kept g.row.K.Denot g.row.V.Denot g.row.S.Denot). k.ordered) step) (ap (λ (k : Kept g.row.K.Denot g.row.V.Denot g.row.S.Denot). k.timed) step) (ap (λ (k : Kept g.row.K.Denot g.row.V.Denot g.row.S.Denot). k.hasher) step) c.move_to_back.ensures.records c.move_to_back.ensures.counted
-    (ap (λ (k : Kept g.row.K.Denot g.row.V.Denot g.row.S.Denot). k.timers) step)
+    untimed-moved old new
+    (drops-moved old new (ap (λ (k : Kept g.row.K.Denot g.row.V.Denot g.row.S.Denot). k.ordered) step) (ap (λ (k : Kept g.row.K.Denot g.row.V.Denot g.row.S.Denot). k.timed) step) (ap (λ (k : Kept g.row.K.Denot g.row.V.Denot g.row.S.Denot). k.hasher) step) c.move_to_back.ensures.records c.move_to_back.ensures.counted (ap (λ (k : Kept g.row.K.Denot g.row.V.Denot g.row.S.Denot). k.timers) step))
+    c.move_to_back.ensures.records c.move_to_back.ensures.places (ap (λ (k : Kept g.row.K.Denot g.row.V.Denot g.row.S.Denot). k.room) step)

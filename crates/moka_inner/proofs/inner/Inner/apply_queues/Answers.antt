@@ -21,7 +21,7 @@ invariant_of-self g c =
     rw (c.apply_writes.ensures.writes, c.apply_reads.ensures.reads)
     (inner-applied g.L.Listener.tells c.self.inside.store c.apply_writes.new.store c.self.inside.outstanding c.self.inside.writes c.self.inside.reads (c.self.inside.last_ticket + 1) c.self.inside.next_number c.self.invariant c.args.notifier.now c.apply_writes.new.notifier
     c.args.capacity c.args.policy c.apply_reads.new.sketch c.apply_reads.new.store (ap (λ (k : Kept g.row.K.Denot g.row.V.Denot g.row.S.Denot). k.records) rest) (ap (λ (k : Kept g.row.K.Denot g.row.V.Denot g.row.S.Denot). k.places) rest)
-    c.apply_writes.ensures.applied c.apply_writes.ensures.places c.apply_writes.ensures.rows)
+    c.apply_writes.ensures.applied c.apply_writes.ensures.upkeep.places c.apply_writes.ensures.rows)
 
 pub returns-clause-prepared : goal.returns-clause-prepared
 returns-clause-prepared g c =
@@ -37,4 +37,4 @@ returns-clause-prepared g c =
 
 pub returns-clause-timers : goal.returns-clause-timers
 returns-clause-timers g c =
-    subst (λ (i : Interior g.row.K.Denot g.row.V.Denot g.row.S.Denot). KeepsTimers i.kept c.apply_writes.new.store) c.self.view_is (keeps-on c.self.inside.store c.apply_reads.new.store c.apply_writes.new.store c.apply_reads.ensures.timers c.apply_writes.ensures.timers)
+    subst (λ (i : Interior g.row.K.Denot g.row.V.Denot g.row.S.Denot). KeepsTimers i.kept c.apply_writes.new.store) c.self.view_is (keeps-on c.self.inside.store c.apply_reads.new.store c.apply_writes.new.store c.apply_reads.ensures.timers c.apply_writes.ensures.upkeep.timers)
