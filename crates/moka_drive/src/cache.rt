@@ -289,7 +289,7 @@ impl<
     }
 
     // A get of a key with its hash.
-    fn get_hashed<C: Clock>(
+    pub(crate) fn get_hashed<C: Clock>(
         &mut self,
         key: &K,
         hash: u64,
@@ -340,7 +340,8 @@ impl<
             self.old.engine clock.old self.new.engine clock.new }
         ensures counted { self.new.stats ≡ self.old.stats }
     {
-        let Some((value, told)) = self.take(key, now, clock) else {
+        let hash = self.engine.hash(key);
+        let Some((value, told)) = self.take(key, hash, now, clock) else {
             return Ok(None);
         };
         match told {
@@ -369,7 +370,8 @@ impl<
             self.old.engine clock.old self.new.engine clock.new }
         ensures counted { self.new.stats ≡ self.old.stats }
     {
-        let Some((value, told)) = self.take(key, now, clock) else {
+        let hash = self.engine.hash(key);
+        let Some((value, told)) = self.take(key, hash, now, clock) else {
             return Ok(());
         };
         match told {
@@ -378,10 +380,11 @@ impl<
         }
     }
 
-    // Takes a key out: its value, and whether the listener was told.
-    fn take<C: Clock>(
+    // Takes a key with its hash out: its value, and whether the listener was notified.
+    pub(crate) fn take<C: Clock>(
         &mut self,
         key: &K,
+        hash: u64,
         now: Instant,
         clock: &mut C,
     ) -> Option<(V, Result<(), OutOfMemory>)>
@@ -389,13 +392,13 @@ impl<
         K: Clone + Drop,
         V: Clone + Drop,
         P: Drop,
+        requires own { hash ≡ S.Hasher.finish (fold S.Hasher.write (S.build_hasher self.old.engine.hasher) (K.hash_input key.now)) }
         ensures made { Makes (meaning_of K.eq (hears_clones K.is_clone V.is_clone L.tells) P.says W.weighs C.reads X.created X.read X.updated)
             (RemovesEntry key.now (S.Hasher.finish (fold S.Hasher.write (S.build_hasher self.old.engine.hasher) (K.hash_input key.now))) now result)
             self.old.engine clock.old self.new.engine clock.new }
         ensures counted { self.new.stats ≡ self.old.stats }
     {
         self.engine.invariant_holds();
-        let hash = self.engine.hash(key);
         let Some((entry, ticket)) = self.engine.remove_entry_with_own_hash(key, hash) else {
             return None;
         };
@@ -405,7 +408,8 @@ impl<
     }
 
     /// A clone of a key's value, if the key is there and visible at the moment `now`, and else the value that `init`
-    /// makes, which is inserted; a clone of it is handed out. `init` is called only where the key is not there.
+    /// makes, which is inserted; a clone of it is handed out. `init` is called only if the key is not there. The value is
+    /// inserted at the moment `now`, so if `init` takes longer than the time to live the entry has expired already.
     ///
     /// # Errors
     /// `Lookup`, with the key, where memory for the clone of a value that is there is refused; and `Insert`, with key and
@@ -525,30 +529,8 @@ impl<
         }
     }
 
-    // Inserts a value that was made for a key, and hands out a clone of it.
-    pub(crate) fn insert_made<C: Clock>(
-        &mut self,
-        key: K,
-        value: V,
-        now: Instant,
-        clock: &mut C,
-    ) -> Result<V, InsertRefused<K, V>>
-    where
-        K: Drop,
-        V: Clone + Drop,
-        P: Drop,
-        ensures made { (own : Result V (InsertRefused K V)) × HandsOutOwn V.is_clone own result
-            × Makes (meaning_of K.eq L.tells P.says W.weighs C.reads X.created X.read X.updated)
-            (InsertsMade key (S.Hasher.finish (fold S.Hasher.write (S.build_hasher self.old.engine.hasher) (K.hash_input key))) now value own)
-            self.old.engine clock.old self.new.engine clock.new }
-        ensures counted { self.new.stats ≡ self.old.stats }
-    {
-        let hash = self.engine.hash(&key);
-        self.insert_made_hashed(key, hash, value, now, clock)
-    }
-
-    // The same with the key's hash.
-    fn insert_made_hashed<C: Clock>(
+    // Inserts a value that was made for a key with its hash, and hands out a clone of it.
+    pub(crate) fn insert_made_hashed<C: Clock>(
         &mut self,
         key: K,
         hash: u64,

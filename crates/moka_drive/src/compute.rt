@@ -113,13 +113,14 @@ impl<
             self.old.engine clock.old self.new.engine clock.new
             × (self.new.stats ≡ after_look_up got self.old.stats) }
     {
-        let seen = match self.get(&key, now, clock) {
+        let hash = self.engine().hash(&key);
+        let seen = match self.get_hashed(&key, hash, now, clock) {
             Ok(seen) => seen,
             Err(_) => return Err(GetWithRefused::Lookup(key)),
         };
         let is_there = seen.is_some();
         let value = f(seen);
-        match self.insert_entry(key, value, is_there, now, clock) {
+        match self.insert_entry(key, hash, value, is_there, now, clock) {
             Ok(entry) => Ok(entry),
             Err(refused) => Err(GetWithRefused::Insert(refused)),
         }
@@ -154,20 +155,21 @@ impl<
             self.old.engine clock.old self.new.engine clock.new
             × (self.new.stats ≡ after_look_up got self.old.stats) }
     {
-        let seen = match self.get(&key, now, clock) {
+        let hash = self.engine().hash(&key);
+        let seen = match self.get_hashed(&key, hash, now, clock) {
             Ok(seen) => seen,
             Err(_) => return Err(ComputeRefused::Lookup(key)),
         };
         let is_there = seen.is_some();
         match f(seen.as_ref()) {
-            Op::Put(value) => self.put_computed(key, value, is_there, now, clock),
+            Op::Put(value) => self.put_computed(key, hash, value, is_there, now, clock),
             Op::Nop => match seen {
                 Some(value) => Ok(CompResult::Unchanged(found(key, value))),
                 None => Ok(CompResult::StillNone(key)),
             },
             Op::Remove => {
                 if is_there {
-                    self.remove_computed(key, now, clock)
+                    self.remove_computed(key, hash, now, clock)
                 } else {
                     Ok(CompResult::StillNone(key))
                 }
@@ -175,10 +177,11 @@ impl<
         }
     }
 
-    // Puts the value that was computed.
+    // Puts the value that was computed, with the key's hash.
     fn put_computed<C: Clock>(
         &mut self,
         key: K,
+        hash: u64,
         value: V,
         is_there: bool,
         now: Instant,
@@ -188,6 +191,7 @@ impl<
         K: Clone + Drop,
         V: Clone + Drop,
         P: Drop,
+        requires own { hash ≡ S.Hasher.finish (fold S.Hasher.write (S.build_hasher self.old.engine.hasher) (K.hash_input key)) }
         ensures made { (own : Result V (InsertRefused K V))
             × HandsOutComputedPut K.is_clone V.is_clone key is_there own result
             × Makes (meaning_of K.eq L.tells P.says W.weighs C.reads X.created X.read X.updated)
@@ -195,7 +199,7 @@ impl<
             self.old.engine clock.old self.new.engine clock.new }
         ensures counted { self.new.stats ≡ self.old.stats }
     {
-        let entry = match self.insert_entry(key, value, is_there, now, clock) {
+        let entry = match self.insert_entry(key, hash, value, is_there, now, clock) {
             Ok(entry) => entry,
             Err(refused) => return Err(ComputeRefused::Insert(refused)),
         };
@@ -206,10 +210,11 @@ impl<
         }
     }
 
-    // Takes the key out, of which a value was seen.
+    // Takes the key out, of which a value was seen, with its hash.
     fn remove_computed<C: Clock>(
         &mut self,
         key: K,
+        hash: u64,
         now: Instant,
         clock: &mut C,
     ) -> Result<CompResult<K, V>, ComputeRefused<K, V>>
@@ -217,6 +222,7 @@ impl<
         K: Clone + Drop,
         V: Clone + Drop,
         P: Drop,
+        requires own { hash ≡ S.Hasher.finish (fold S.Hasher.write (S.build_hasher self.old.engine.hasher) (K.hash_input key)) }
         ensures made { (taken : Option (V × Result (Unit {0}) OutOfMemory))
             × HandsOutTaken K.is_clone V.is_clone key taken result
             × Makes (meaning_of K.eq (hears_clones K.is_clone V.is_clone L.tells) P.says W.weighs C.reads X.created X.read X.updated)
@@ -224,11 +230,13 @@ impl<
             self.old.engine clock.old self.new.engine clock.new }
         ensures counted { self.new.stats ≡ self.old.stats }
     {
-        match self.remove(&key, now, clock) {
-            Ok(Some(value)) => Ok(CompResult::Removed(found(key, value))),
-            // The run of maintenance that the look-up made had taken it already.
-            Ok(None) => Ok(CompResult::StillNone(key)),
-            Err(refused) => Err(ComputeRefused::NotTold(key, refused)),
+        // None is there if the run of maintenance that the look-up made had taken it already.
+        let Some((value, told)) = self.take(&key, hash, now, clock) else {
+            return Ok(CompResult::StillNone(key));
+        };
+        match told {
+            Ok(()) => Ok(CompResult::Removed(found(key, value))),
+            Err(error) => Err(ComputeRefused::NotTold(key, NotTold { error, value })),
         }
     }
 }

@@ -67,7 +67,8 @@ impl<
             self.old.engine clock.old self.new.engine clock.new
             × (self.new.stats ≡ after_get_or_insert put own self.old.stats) }
     {
-        match self.get(&key, now, clock) {
+        let hash = self.engine().hash(&key);
+        match self.get_hashed(&key, hash, now, clock) {
             Ok(Some(value)) => return Ok(found(key, value)),
             Ok(None) => {}
             Err(_) => {
@@ -75,11 +76,12 @@ impl<
                 return Err(InsertRefused { error, key, value });
             }
         }
-        self.insert_entry(key, value, false, now, clock)
+        self.insert_entry(key, hash, value, false, now, clock)
     }
 
     /// The entry of a key, with a clone of its value, if the key is there and visible at the moment `now`; and else the
-    /// value that `init` makes is inserted. `init` is called only if the key is not there. moka: `or_insert_with`.
+    /// value that `init` makes is inserted, at the moment `now` as by `get_with`. `init` is called only if the key is not
+    /// there. moka: `or_insert_with`.
     ///
     /// # Errors
     /// `Lookup`, with the key, if memory for the clone of a value that is there is refused; and `Insert`, with key and
@@ -105,14 +107,15 @@ impl<
             self.old.engine clock.old self.new.engine clock.new
             × (self.new.stats ≡ after_get_with made own self.old.stats) }
     {
-        match self.get(&key, now, clock) {
+        let hash = self.engine().hash(&key);
+        match self.get_hashed(&key, hash, now, clock) {
             Ok(Some(value)) => return Ok(found(key, value)),
             Ok(None) => {}
             Err(_) => return Err(GetWithRefused::Lookup(key)),
         }
         self.count_load();
         let value = init();
-        match self.insert_entry(key, value, false, now, clock) {
+        match self.insert_entry(key, hash, value, false, now, clock) {
             Ok(entry) => Ok(entry),
             Err(refused) => Err(GetWithRefused::Insert(refused)),
         }
@@ -144,7 +147,8 @@ impl<
             self.old.engine clock.old self.new.engine clock.new
             × (self.new.stats ≡ after_get_with made own self.old.stats) }
     {
-        match self.get(&key, now, clock) {
+        let hash = self.engine().hash(&key);
+        match self.get_hashed(&key, hash, now, clock) {
             Ok(Some(value)) => return Ok(Some(found(key, value))),
             Ok(None) => {}
             Err(_) => return Err(GetWithRefused::Lookup(key)),
@@ -153,7 +157,7 @@ impl<
         let Some(value) = init() else {
             return Ok(None);
         };
-        match self.insert_entry(key, value, false, now, clock) {
+        match self.insert_entry(key, hash, value, false, now, clock) {
             Ok(entry) => Ok(Some(entry)),
             Err(refused) => Err(GetWithRefused::Insert(refused)),
         }
@@ -185,7 +189,8 @@ impl<
             self.old.engine clock.old self.new.engine clock.new
             × (self.new.stats ≡ after_get_with made own self.old.stats) }
     {
-        match self.get(&key, now, clock) {
+        let hash = self.engine().hash(&key);
+        match self.get_hashed(&key, hash, now, clock) {
             Ok(Some(value)) => return Ok(Ok(found(key, value))),
             Ok(None) => {}
             Err(_) => return Err(GetWithRefused::Lookup(key)),
@@ -195,16 +200,17 @@ impl<
             Ok(value) => value,
             Err(error) => return Ok(Err(error)),
         };
-        match self.insert_entry(key, value, false, now, clock) {
+        match self.insert_entry(key, hash, value, false, now, clock) {
             Ok(entry) => Ok(Ok(entry)),
             Err(refused) => Err(GetWithRefused::Insert(refused)),
         }
     }
 
-    // Inserts a value for a key, and hands out its entry.
+    // Inserts a value for a key with its hash, and hands out its entry.
     pub(crate) fn insert_entry<C: Clock>(
         &mut self,
         key: K,
+        hash: u64,
         value: V,
         is_old_value_replaced: bool,
         now: Instant,
@@ -214,6 +220,7 @@ impl<
         K: Clone + Drop,
         V: Clone + Drop,
         P: Drop,
+        requires own { hash ≡ S.Hasher.finish (fold S.Hasher.write (S.build_hasher self.old.engine.hasher) (K.hash_input key)) }
         ensures made { (own : Result V (InsertRefused K V)) × HandsOutOwn V.is_clone own (entry_value result)
             × Makes (meaning_of K.eq L.tells P.says W.weighs C.reads X.created X.read X.updated)
             (InsertsMade key (S.Hasher.finish (fold S.Hasher.write (S.build_hasher self.old.engine.hasher) (K.hash_input key))) now value own)
@@ -225,7 +232,7 @@ impl<
             let error = InsertError::OutOfMemory;
             return Err(InsertRefused { error, key, value });
         };
-        match self.insert_made(key, value, now, clock) {
+        match self.insert_made_hashed(key, hash, value, now, clock) {
             Ok(value) => Ok(CacheEntry {
                 key: own_key,
                 value,

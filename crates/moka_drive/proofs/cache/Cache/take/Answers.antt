@@ -7,8 +7,9 @@ use Rattle.moka_drive.proofs.cache.Cache.take.Goals as goal
 
 pub returns-in_default-clause-made : goal.returns-in_default-clause-made
 returns-in_default-clause-made g c =
+    let own = rw (← c.self.view_is) at c.requires.own in
     let m : Meaning g.row.K.Denot g.row.V.Denot g.row.X.Denot g.row.L.Denot g.row.P.Denot g.row.W.Denot g.row.C.Denot (Unit {0}) = meaning_of g.K.PartialEq.eq g.L.Listener.tells g.P.PredicateFn.says g.W.Weigher.weighs g.C.Clock.reads g.X.Expiry.created g.X.Expiry.read g.X.Expiry.updated in
-    rw (← c.self.view_is, ← c.hash-hash.ensures) (took_none g.K.Clone.is_clone g.V.Clone.is_clone m c.args.key.now c.hash-hash.result c.args.now c.self.inside.engine c.remove_entry_with_own_hash.new.self c.args.clock.now c.in_default.ensures.step c.in_default.ensures.events)
+    rw (← c.self.view_is, ← own) (took_none g.K.Clone.is_clone g.V.Clone.is_clone m c.args.key.now c.args.hash c.args.now c.self.inside.engine c.remove_entry_with_own_hash.new.self c.args.clock.now c.in_default.ensures.step c.in_default.ensures.events)
 
 pub post-requires-clause-enabled : goal.post-requires-clause-enabled
 post-requires-clause-enabled g c =
@@ -17,8 +18,9 @@ post-requires-clause-enabled g c =
 
 pub returns-clause-made : goal.returns-clause-made
 returns-clause-made g c =
+    let own = rw (← c.self.view_is) at c.requires.own in
     let m : Meaning g.row.K.Denot g.row.V.Denot g.row.X.Denot g.row.L.Denot g.row.P.Denot g.row.W.Denot g.row.C.Denot (Unit {0}) = meaning_of g.K.PartialEq.eq g.L.Listener.tells g.P.PredicateFn.says g.W.Weigher.weighs g.C.Clock.reads g.X.Expiry.created g.X.Expiry.read g.X.Expiry.updated in
     let told = c.notify_invalidate-told.ensures in
-    rw (← c.self.view_is, ← c.hash-hash.ensures) (took g.K.Clone.is_clone g.V.Clone.is_clone m c.args.key.now c.hash-hash.result c.args.now c.self.inside.engine c.remove_entry_with_own_hash.new.self c.args.clock.now
+    rw (← c.self.view_is, ← own) (took g.K.Clone.is_clone g.V.Clone.is_clone m c.args.key.now c.args.hash c.args.now c.self.inside.engine c.remove_entry_with_own_hash.new.self c.args.clock.now
     c.in-Some.entry c.in-Some.ticket c.in-Some.ensures.step c.in-Some.ensures.events
     c.notify_invalidate-told.result told.0 told.1 c.notify_invalidate-told.new.self told.2 told.3 c.post.new.engine c.post.new.clock c.post.ensures.made)
