@@ -1,7 +1,5 @@
 //! Worked calls of the synchronous cache.
-use moka_drive::{
-    Cache, CountingListener, ManualClock, Removals, Stats, SystemClock, TimedCache,
-};
+use moka_drive::{Cache, CountingListener, ManualClock, Removals, Stats, SystemClock, TimedCache};
 use moka_engine::{
     CacheConfig, FixedClock, IdSource, Instant, Listener, NoListener, PredicateFn, PredicateId,
     RemovalCause,
