@@ -177,7 +177,7 @@ impl<
     }
 
     // A get of a key with its hash.
-    fn get_hashed<C: Clock>(
+    pub(crate) fn get_hashed<C: Clock>(
         &mut self,
         key: &K,
         hash: u64,
@@ -210,7 +210,8 @@ impl<
         K: Clone,
         V: Clone,
     {
-        let Some((value, told)) = self.take(key, now, clock) else {
+        let hash = self.engine.hash(key);
+        let Some((value, told)) = self.take(key, hash, now, clock) else {
             return Ok(None);
         };
         match told {
@@ -233,7 +234,8 @@ impl<
         K: Clone,
         V: Clone,
     {
-        let Some((value, told)) = self.take(key, now, clock) else {
+        let hash = self.engine.hash(key);
+        let Some((value, told)) = self.take(key, hash, now, clock) else {
             return Ok(());
         };
         match told {
@@ -242,10 +244,11 @@ impl<
         }
     }
 
-    // Takes a key out: its value, and whether the listener was told.
-    fn take<C: Clock>(
+    // Takes a key with its hash out: its value, and whether the listener was notified.
+    pub(crate) fn take<C: Clock>(
         &mut self,
         key: &K,
+        hash: u64,
         now: Instant,
         clock: &mut C,
     ) -> Option<(V, Result<(), OutOfMemory>)>
@@ -254,7 +257,6 @@ impl<
         V: Clone,
     {
         self.engine.invariant_holds();
-        let hash = self.engine.hash(key);
         let Some((entry, ticket)) = self.engine.remove_entry_with_own_hash(key, hash) else {
             return None;
         };
@@ -264,7 +266,8 @@ impl<
     }
 
     /// A clone of a key's value, if the key is there and visible at the moment `now`, and else the value that `init`
-    /// makes, which is inserted; a clone of it is handed out. `init` is called only where the key is not there.
+    /// makes, which is inserted; a clone of it is handed out. `init` is called only if the key is not there. The value is
+    /// inserted at the moment `now`, so if `init` takes longer than the time to live the entry has expired already.
     ///
     /// # Errors
     /// `Lookup`, with the key, where memory for the clone of a value that is there is refused; and `Insert`, with key and
@@ -357,23 +360,8 @@ impl<
         }
     }
 
-    // Inserts a value that was made for a key, and hands out a clone of it.
-    pub(crate) fn insert_made<C: Clock>(
-        &mut self,
-        key: K,
-        value: V,
-        now: Instant,
-        clock: &mut C,
-    ) -> Result<V, InsertRefused<K, V>>
-    where
-        V: Clone,
-    {
-        let hash = self.engine.hash(&key);
-        self.insert_made_hashed(key, hash, value, now, clock)
-    }
-
-    // The same with the key's hash.
-    fn insert_made_hashed<C: Clock>(
+    // Inserts a value that was made for a key with its hash, and hands out a clone of it.
+    pub(crate) fn insert_made_hashed<C: Clock>(
         &mut self,
         key: K,
         hash: u64,

@@ -92,13 +92,14 @@ impl<
         K: Clone,
         V: Clone,
     {
-        let seen = match self.get(&key, now, clock) {
+        let hash = self.engine().hash(&key);
+        let seen = match self.get_hashed(&key, hash, now, clock) {
             Ok(seen) => seen,
             Err(_) => return Err(GetWithRefused::Lookup(key)),
         };
         let is_there = seen.is_some();
         let value = f(seen);
-        match self.insert_entry(key, value, is_there, now, clock) {
+        match self.insert_entry(key, hash, value, is_there, now, clock) {
             Ok(entry) => Ok(entry),
             Err(refused) => Err(GetWithRefused::Insert(refused)),
         }
@@ -122,20 +123,21 @@ impl<
         K: Clone,
         V: Clone,
     {
-        let seen = match self.get(&key, now, clock) {
+        let hash = self.engine().hash(&key);
+        let seen = match self.get_hashed(&key, hash, now, clock) {
             Ok(seen) => seen,
             Err(_) => return Err(ComputeRefused::Lookup(key)),
         };
         let is_there = seen.is_some();
         match f(seen.as_ref()) {
-            Op::Put(value) => self.put_computed(key, value, is_there, now, clock),
+            Op::Put(value) => self.put_computed(key, hash, value, is_there, now, clock),
             Op::Nop => match seen {
                 Some(value) => Ok(CompResult::Unchanged(found(key, value))),
                 None => Ok(CompResult::StillNone(key)),
             },
             Op::Remove => {
                 if is_there {
-                    self.remove_computed(key, now, clock)
+                    self.remove_computed(key, hash, now, clock)
                 } else {
                     Ok(CompResult::StillNone(key))
                 }
@@ -143,10 +145,11 @@ impl<
         }
     }
 
-    // Puts the value that was computed.
+    // Puts the value that was computed, with the key's hash.
     fn put_computed<C: Clock>(
         &mut self,
         key: K,
+        hash: u64,
         value: V,
         is_there: bool,
         now: Instant,
@@ -156,7 +159,7 @@ impl<
         K: Clone,
         V: Clone,
     {
-        let entry = match self.insert_entry(key, value, is_there, now, clock) {
+        let entry = match self.insert_entry(key, hash, value, is_there, now, clock) {
             Ok(entry) => entry,
             Err(refused) => return Err(ComputeRefused::Insert(refused)),
         };
@@ -167,10 +170,11 @@ impl<
         }
     }
 
-    // Takes the key out, of which a value was seen.
+    // Takes the key out, of which a value was seen, with its hash.
     fn remove_computed<C: Clock>(
         &mut self,
         key: K,
+        hash: u64,
         now: Instant,
         clock: &mut C,
     ) -> Result<CompResult<K, V>, ComputeRefused<K, V>>
@@ -178,11 +182,13 @@ impl<
         K: Clone,
         V: Clone,
     {
-        match self.remove(&key, now, clock) {
-            Ok(Some(value)) => Ok(CompResult::Removed(found(key, value))),
-            // The run of maintenance that the look-up made had taken it already.
-            Ok(None) => Ok(CompResult::StillNone(key)),
-            Err(refused) => Err(ComputeRefused::NotTold(key, refused)),
+        // None is there if the run of maintenance that the look-up made had taken it already.
+        let Some((value, told)) = self.take(&key, hash, now, clock) else {
+            return Ok(CompResult::StillNone(key));
+        };
+        match told {
+            Ok(()) => Ok(CompResult::Removed(found(key, value))),
+            Err(error) => Err(ComputeRefused::NotTold(key, NotTold { error, value })),
         }
     }
 }

@@ -53,7 +53,8 @@ impl<
         K: Clone,
         V: Clone,
     {
-        match self.get(&key, now, clock) {
+        let hash = self.engine().hash(&key);
+        match self.get_hashed(&key, hash, now, clock) {
             Ok(Some(value)) => return Ok(found(key, value)),
             Ok(None) => {}
             Err(_) => {
@@ -61,11 +62,12 @@ impl<
                 return Err(InsertRefused { error, key, value });
             }
         }
-        self.insert_entry(key, value, false, now, clock)
+        self.insert_entry(key, hash, value, false, now, clock)
     }
 
     /// The entry of a key, with a clone of its value, if the key is there and visible at the moment `now`; and else the
-    /// value that `init` makes is inserted. `init` is called only if the key is not there. moka: `or_insert_with`.
+    /// value that `init` makes is inserted, at the moment `now` as by `get_with`. `init` is called only if the key is not
+    /// there. moka: `or_insert_with`.
     ///
     /// # Errors
     /// `Lookup`, with the key, if memory for the clone of a value that is there is refused; and `Insert`, with key and
@@ -81,14 +83,15 @@ impl<
         K: Clone,
         V: Clone,
     {
-        match self.get(&key, now, clock) {
+        let hash = self.engine().hash(&key);
+        match self.get_hashed(&key, hash, now, clock) {
             Ok(Some(value)) => return Ok(found(key, value)),
             Ok(None) => {}
             Err(_) => return Err(GetWithRefused::Lookup(key)),
         }
         self.count_load();
         let value = init();
-        match self.insert_entry(key, value, false, now, clock) {
+        match self.insert_entry(key, hash, value, false, now, clock) {
             Ok(entry) => Ok(entry),
             Err(refused) => Err(GetWithRefused::Insert(refused)),
         }
@@ -110,7 +113,8 @@ impl<
         K: Clone,
         V: Clone,
     {
-        match self.get(&key, now, clock) {
+        let hash = self.engine().hash(&key);
+        match self.get_hashed(&key, hash, now, clock) {
             Ok(Some(value)) => return Ok(Some(found(key, value))),
             Ok(None) => {}
             Err(_) => return Err(GetWithRefused::Lookup(key)),
@@ -119,7 +123,7 @@ impl<
         let Some(value) = init() else {
             return Ok(None);
         };
-        match self.insert_entry(key, value, false, now, clock) {
+        match self.insert_entry(key, hash, value, false, now, clock) {
             Ok(entry) => Ok(Some(entry)),
             Err(refused) => Err(GetWithRefused::Insert(refused)),
         }
@@ -141,7 +145,8 @@ impl<
         K: Clone,
         V: Clone,
     {
-        match self.get(&key, now, clock) {
+        let hash = self.engine().hash(&key);
+        match self.get_hashed(&key, hash, now, clock) {
             Ok(Some(value)) => return Ok(Ok(found(key, value))),
             Ok(None) => {}
             Err(_) => return Err(GetWithRefused::Lookup(key)),
@@ -151,16 +156,17 @@ impl<
             Ok(value) => value,
             Err(error) => return Ok(Err(error)),
         };
-        match self.insert_entry(key, value, false, now, clock) {
+        match self.insert_entry(key, hash, value, false, now, clock) {
             Ok(entry) => Ok(Ok(entry)),
             Err(refused) => Err(GetWithRefused::Insert(refused)),
         }
     }
 
-    // Inserts a value for a key, and hands out its entry.
+    // Inserts a value for a key with its hash, and hands out its entry.
     pub(crate) fn insert_entry<C: Clock>(
         &mut self,
         key: K,
+        hash: u64,
         value: V,
         is_old_value_replaced: bool,
         now: Instant,
@@ -174,7 +180,7 @@ impl<
             let error = InsertError::OutOfMemory;
             return Err(InsertRefused { error, key, value });
         };
-        match self.insert_made(key, value, now, clock) {
+        match self.insert_made_hashed(key, hash, value, now, clock) {
             Ok(value) => Ok(CacheEntry {
                 key: own_key,
                 value,

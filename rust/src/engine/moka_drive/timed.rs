@@ -154,7 +154,8 @@ impl<
     }
 
     /// A clone of a key's value, if the key is there and visible, and else of the value that `init` makes, which is
-    /// inserted. `init` is called only where the key is not there.
+    /// inserted. `init` is called only if the key is not there. The clock is read once, before `init` is called, so if that
+    /// takes longer than the time to live the entry has expired already.
     ///
     /// # Errors
     /// As `Cache::get_with`.

@@ -3,9 +3,7 @@
 use crate::support::prelude::*;
 #[cfg(test)]
 use crate::support::test::prelude::*;
-use crate::engine::moka_drive::{
-    Cache, CountingListener, ManualClock, Removals, Stats, SystemClock, TimedCache,
-};
+use crate::engine::moka_drive::{Cache, CountingListener, ManualClock, Removals, Stats, SystemClock, TimedCache};
 use crate::engine::moka_engine::{
     CacheConfig, FixedClock, IdSource, Instant, Listener, NoListener, PredicateFn, PredicateId,
     RemovalCause,
