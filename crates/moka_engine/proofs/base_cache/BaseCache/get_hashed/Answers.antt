@@ -1,4 +1,4 @@
-use Rattle.std.proofs.Common.{refl, ℕ, false, List, Some, None, Ok, Err, ap, sym, ◌∙◌}
+use Rattle.std.proofs.Common.{refl, ℕ, List, Some, None, Ok, Err, ap, sym, ◌∙◌}
 use Rattle.moka_parts.specs.declared.records.ReadOperation.TheVariants.{Hit}
 use Rattle.moka_parts.specs.Housekeeping.{is_due}
 use Rattle.moka_parts.specs.Listed.{ListedRun}
