@@ -48,9 +48,9 @@ returns-then-is_member-clause-upkeep g c =
     let places = ap (λ (k : Kept g.row.K.Denot g.row.V.Denot g.row.S.Denot). k.places) c.set_timer.ensures.rest ∙ ap (λ (k : Kept g.row.K.Denot g.row.V.Denot g.row.S.Denot). k.places) step ∙ c.set_applied.ensures.places in
     record {
       timers = entered-timers c.args.store.now c.set_applied.new.self c.recount.new.self c.args.upsert.handle.number c.args.upsert.generation c.args.upsert.weight c.in-Some.found.now (c.set_applied.ensures.step c.in-Some.found.now (sym (c.in-Some.ensures.found (c.has_row.ensures.placed.0 c.if-not-has_row.false)))) c.set_timer.new.self
-    c.recount.ensures.records (ap (λ (k : Kept g.row.K.Denot g.row.V.Denot g.row.S.Denot). k.ordered) step) (ap (λ (k : Kept g.row.K.Denot g.row.V.Denot g.row.S.Denot). k.timed) step) (ap (λ (k : Kept g.row.K.Denot g.row.V.Denot g.row.S.Denot). k.hasher) step) (ap (λ (k : Kept g.row.K.Denot g.row.V.Denot g.row.S.Denot). k.timers) step) c.recount.ensures.counted c.set_timer.ensures.step;
+          c.recount.ensures.records (ap (λ (k : Kept g.row.K.Denot g.row.V.Denot g.row.S.Denot). k.ordered) step) (ap (λ (k : Kept g.row.K.Denot g.row.V.Denot g.row.S.Denot). k.timed) step) (ap (λ (k : Kept g.row.K.Denot g.row.V.Denot g.row.S.Denot). k.hasher) step) (ap (λ (k : Kept g.row.K.Denot g.row.V.Denot g.row.S.Denot). k.timers) step) c.recount.ensures.counted c.set_timer.ensures.step;
       places = λ n p at. sym (ap (λ m. finite.get m n) places) ∙ at;
       rows = entered-rows c.args.store.now c.set_applied.new.self c.set_timer.new.self c.args.upsert.handle.number c.args.upsert.generation c.args.upsert.weight c.in-Some.found.now (c.set_applied.ensures.step c.in-Some.found.now (sym (c.in-Some.ensures.found (c.has_row.ensures.placed.0 c.if-not-has_row.false)))) (ap (λ (k : Kept g.row.K.Denot g.row.V.Denot g.row.S.Denot). k.records) c.set_timer.ensures.rest ∙ c.recount.ensures.records);
       room = entered-room c.args.store.now c.set_applied.new.self c.set_timer.new.self c.args.upsert.handle.number c.args.upsert.generation c.args.upsert.weight c.in-Some.found.now (c.set_applied.ensures.step c.in-Some.found.now (sym (c.in-Some.ensures.found (c.has_row.ensures.placed.0 c.if-not-has_row.false))))
-    (ap (λ (k : Kept g.row.K.Denot g.row.V.Denot g.row.S.Denot). k.room) c.set_timer.ensures.rest ∙ ap (λ (k : Kept g.row.K.Denot g.row.V.Denot g.row.S.Denot). k.room) c.recount.ensures.step);
+          (ap (λ (k : Kept g.row.K.Denot g.row.V.Denot g.row.S.Denot). k.room) c.set_timer.ensures.rest ∙ ap (λ (k : Kept g.row.K.Denot g.row.V.Denot g.row.S.Denot). k.room) c.recount.ensures.step);
     }

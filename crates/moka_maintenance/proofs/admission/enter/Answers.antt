@@ -18,9 +18,9 @@ returns-clause-upkeep g c =
     let places = ap (λ (k : Kept g.row.K.Denot g.row.V.Denot g.row.S.Denot). k.places) c.set_timer.ensures.rest ∙ ap (λ (k : Kept g.row.K.Denot g.row.V.Denot g.row.S.Denot). k.places) step ∙ c.set_applied.ensures.places in
     record {
       timers = entered-timers c.args.store.now c.set_applied.new.self c.admit.new.self c.args.upsert.handle.number c.args.upsert.generation c.args.upsert.weight found.0 (c.set_applied.ensures.step found.0 found.1) c.set_timer.new.self
-    c.admit.ensures.records (ap (λ (k : Kept g.row.K.Denot g.row.V.Denot g.row.S.Denot). k.ordered) step) (ap (λ (k : Kept g.row.K.Denot g.row.V.Denot g.row.S.Denot). k.timed) step) (ap (λ (k : Kept g.row.K.Denot g.row.V.Denot g.row.S.Denot). k.hasher) step) (ap (λ (k : Kept g.row.K.Denot g.row.V.Denot g.row.S.Denot). k.timers) step) c.admit.ensures.counted c.set_timer.ensures.step;
+          c.admit.ensures.records (ap (λ (k : Kept g.row.K.Denot g.row.V.Denot g.row.S.Denot). k.ordered) step) (ap (λ (k : Kept g.row.K.Denot g.row.V.Denot g.row.S.Denot). k.timed) step) (ap (λ (k : Kept g.row.K.Denot g.row.V.Denot g.row.S.Denot). k.hasher) step) (ap (λ (k : Kept g.row.K.Denot g.row.V.Denot g.row.S.Denot). k.timers) step) c.admit.ensures.counted c.set_timer.ensures.step;
       places = λ n p at. sym (ap (λ m. finite.get m n) places) ∙ at;
       rows = entered-rows c.args.store.now c.set_applied.new.self c.set_timer.new.self c.args.upsert.handle.number c.args.upsert.generation c.args.upsert.weight found.0 (c.set_applied.ensures.step found.0 found.1) (ap (λ (k : Kept g.row.K.Denot g.row.V.Denot g.row.S.Denot). k.records) c.set_timer.ensures.rest ∙ c.admit.ensures.records);
       room = entered-room c.args.store.now c.set_applied.new.self c.set_timer.new.self c.args.upsert.handle.number c.args.upsert.generation c.args.upsert.weight found.0 (c.set_applied.ensures.step found.0 found.1)
-    (ap (λ (k : Kept g.row.K.Denot g.row.V.Denot g.row.S.Denot). k.room) c.set_timer.ensures.rest ∙ ap (λ (k : Kept g.row.K.Denot g.row.V.Denot g.row.S.Denot). k.room) c.admit.ensures.step);
+          (ap (λ (k : Kept g.row.K.Denot g.row.V.Denot g.row.S.Denot). k.room) c.set_timer.ensures.rest ∙ ap (λ (k : Kept g.row.K.Denot g.row.V.Denot g.row.S.Denot). k.room) c.admit.ensures.step);
     }

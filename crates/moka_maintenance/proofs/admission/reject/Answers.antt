@@ -32,10 +32,10 @@ returns-else-present-generation-clause-upkeep g c =
     let room = ap (λ (k : Kept g.row.K.Denot g.row.V.Denot g.row.S.Denot). k.room) step in
     record {
       timers = keeps-outside c.args.store.now c.set_applied.new.self (ap (λ (k : Kept g.row.K.Denot g.row.V.Denot g.row.S.Denot). k.ordered) step) (ap (λ (k : Kept g.row.K.Denot g.row.V.Denot g.row.S.Denot). k.timed) step) (ap (λ (k : Kept g.row.K.Denot g.row.V.Denot g.row.S.Denot). k.hasher) step) n
-    (ap (λ (k : Kept g.row.K.Denot g.row.V.Denot g.row.S.Denot). counted_of n k.access) step ∙ c.requires.apart)
-    (λ k other. ap (λ (s : Kept g.row.K.Denot g.row.V.Denot g.row.S.Denot). finite.get s.records k) step ∙ get-past_insert c.args.store.now.records n (record c.in-Some.present.now { applied = c.args.generation }) k other)
-    (λ k is_in. sym (ap (λ (s : Kept g.row.K.Denot g.row.V.Denot g.row.S.Denot). is_member k s.access) step) ∙ is_in)
-    (λ k _. ap (λ (s : Kept g.row.K.Denot g.row.V.Denot g.row.S.Denot). finite.get s.timers k) step);
+          (ap (λ (k : Kept g.row.K.Denot g.row.V.Denot g.row.S.Denot). counted_of n k.access) step ∙ c.requires.apart)
+          (λ k other. ap (λ (s : Kept g.row.K.Denot g.row.V.Denot g.row.S.Denot). finite.get s.records k) step ∙ get-past_insert c.args.store.now.records n (record c.in-Some.present.now { applied = c.args.generation }) k other)
+          (λ k is_in. sym (ap (λ (s : Kept g.row.K.Denot g.row.V.Denot g.row.S.Denot). is_member k s.access) step) ∙ is_in)
+          (λ k _. ap (λ (s : Kept g.row.K.Denot g.row.V.Denot g.row.S.Denot). finite.get s.timers k) step);
       places = λ k p at. sym (ap (λ m. finite.get m k) c.set_applied.ensures.places) ∙ at;
       rows = rows-changed c.args.store.now c.set_applied.new.self n (record c.in-Some.present.now { applied = c.args.generation }) (ap (λ (k : Kept g.row.K.Denot g.row.V.Denot g.row.S.Denot). k.records) step);
       room = omega arith;
