@@ -36,6 +36,12 @@ module _ {K V S X L P W C : Type 0} (m : Meaning K V X L P W C (Unit {0})) (is_c
   value_given IsMade made (Err None) value post handed makes = absurd handed
   value_given IsMade made (Err (Some r)) value post handed makes = absurd handed
 
+  -- and what any answer promises of it
+  pub made_given : (IsMade : V → Type 0) (made : Option V) (own : Result V (Option (InsertRefused K V))) → ((x : V) → made ≡ Some x → IsMade x) → Makes m (GetsOrInserts key hash now made own) old clock new clock_after →
+      (result : Result V (GetWithRefused K V)) → HandsOutMade {K = K} is_clone key own result → IfOk result (λ value. IsCloneOfKept m.eq is_clone old.state key value ⊎ IsCloneOfMade IsMade value)
+  made_given IsMade made own post makes (Ok value) handed = value_given IsMade made own value post handed makes
+  made_given IsMade made own post makes (Err refused) handed = tt
+
   -- an insert of what was made that is refused has the value that was made
   pub refused_value : (x : V) (refused : InsertRefused K V) → Makes m (GetsThen key hash now (InsertsMade key hash now x (Err refused))) old clock new clock_after → (refused.key ≡ key) × (refused.value ≡ x)
   refused_value x refused (calls, replies, (later, answers, inl (is, none, quiet), calls_are, replies_are), made) = (ap (λ r. r.key) is, ap (λ r. r.value) is)

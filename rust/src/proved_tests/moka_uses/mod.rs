@@ -12,6 +12,7 @@ pub mod invalidated;
 pub mod late;
 pub mod notified;
 pub mod ordered;
+pub mod profiles;
 pub mod read_through;
 pub mod refused;
 pub mod released;

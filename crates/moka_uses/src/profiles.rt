@@ -1,0 +1,70 @@
+//! A read-through cache of profiles, each of which lasts a while, with a listener that counts what leaves.
+ghost use Rattle.std.specs.Prelude.{◌≡◌, ◌⊎◌, ◌==◌, IfOk, Some};
+ghost use Rattle.std.specs.Duration.{as_nanos};
+ghost use Rattle.moka_uses.specs.Handled.{IsCloneOfKept};
+
+use moka_drive::{CountingListener, GetWithRefused, TimedCache};
+use moka_engine::{CacheConfig, Clock, NoExpiry, NoListener, OutOfMemory};
+use std::alloc::Global;
+use std::time::Duration;
+
+/// Users' profiles.
+pub type Profiles<V, C> = TimedCache<u64, V, C, NoExpiry, CountingListener<NoListener>>;
+
+/// No profiles. One that was read stays for the time `lasting`.
+///
+/// # Errors
+/// `OutOfMemory`
+pub fn start<V: Drop, C: Clock + Drop>(
+    alloc: Global,
+    lasting: Duration,
+    clock: C,
+) -> Result<Profiles<V, C>, OutOfMemory>
+    ensures { IfOk result (λ profiles. profiles.cache.engine.state.settings.time_to_live ≡ Some (as_nanos lasting)) }
+{
+    let config = CacheConfig::default()
+        .time_to_live(lasting)
+        .eviction_listener(CountingListener::new(NoListener));
+    TimedCache::build(config, alloc, clock)
+}
+
+/// The profile of a user: a clone of the one that is kept, or else of the one that `read` makes, which is kept.
+///
+/// # Errors
+/// As `TimedCache::get_with`.
+pub fn profile<V: Clone + Drop, C: Clock, F: FnOnce() -> V>(
+    profiles: &mut Profiles<V, C>,
+    user: u64,
+    read: F,
+) -> Result<V, GetWithRefused<u64, V>>
+    requires { F.pre read }
+    ensures { IfOk result (λ profile. IsCloneOfKept (λ a b. a == b) V.is_clone profiles.old.cache.engine.state user profile
+        ⊎ ((made : V) × F.post read made × V.is_clone made profile)) }
+{
+    profiles.get_with(user, read)
+}
+
+#[cfg(test)]
+mod tests {
+    use super::*;
+    use anyhow::Result;
+    use moka_drive::ManualClock;
+    use moka_engine::Instant;
+
+    #[test]
+    fn reads_again_what_has_expired(rt: HostRuntime) -> Result<()> {
+        let clock = ManualClock { now: Instant(0) };
+        let mut profiles: Profiles<u64, ManualClock> = start(
+            rt.alloc(),
+            Duration::from_secs(5),
+            clock,
+        )?;
+        assert_eq!(rt; profile(&mut profiles, 1, || 10)?, 10);
+        profiles.clock.advance(Duration::from_secs(4));
+        assert_eq!(rt; profile(&mut profiles, 1, || 11)?, 10);
+        profiles.clock.advance(Duration::from_secs(1));
+        assert_eq!(rt; profile(&mut profiles, 1, || 12)?, 12);
+        assert_eq!(rt; profiles.removals().expired, 1);
+        Ok(())
+    }
+}
