@@ -23,7 +23,7 @@ none_kept (Drops zero ∷ xs) = none_kept xs
 none_kept (Drops (suc i) ∷ xs) = none_kept xs
 
 module _ {K V X P W : Type 0} where
-  itself : (s : State K V X P W) → HidesNoMore s s
+  pub itself : (s : State K V X P W) → HidesNoMore s s
   itself s = record { settings = refl; bound = refl; predicates = λ none. none }
 
   pub then : (s t u : State K V X P W) → HidesNoMore s t → HidesNoMore t u → HidesNoMore s u

@@ -3,6 +3,7 @@ pub mod Made
 pub mod Waiting
 pub mod Posting
 pub mod Asking
+pub mod ByTest
 pub mod Stays
 pub mod Put
 pub mod Getting
@@ -15,3 +16,8 @@ pub mod Entries
 pub mod Computing
 pub mod InOrder
 pub mod Gotten
+pub mod Keeping
+pub mod Restoring
+pub mod Membership
+mod Answering
+pub mod Saving

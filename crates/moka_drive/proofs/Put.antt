@@ -20,7 +20,7 @@ use Rattle.moka_parts.proofs.Maps.{get_inserted}
 use Rattle.moka_parts.proofs.Lookup.{record_of_key_found, present_key}
 use Rattle.moka_drive.specs.Unsent.{IsHeld, IsOlder, AreOlder, IsThere, ShowsWrites}
 
-each_older : {K V : Type 0} (n : ℕ) (r : Record K V) (hs : List Ticketed) → ((h : Ticketed) → Contains hs h → IsOlder n r h.operation) → AreOlder n r hs
+pub each_older : {K V : Type 0} (n : ℕ) (r : Record K V) (hs : List Ticketed) → ((h : Ticketed) → Contains hs h → IsOlder n r h.operation) → AreOlder n r hs
 each_older n r [] each = tt
 each_older n r (h ∷ hs) each = (each h (Contains-append_left (h ∷ []) hs h (Contains-push [] h)), each_older n r hs (λ x there. each x (Contains-append_right (h ∷ []) hs x there)))
 

@@ -87,10 +87,10 @@ module _ {K V X P W : Type 0} where
         let h = due_alike s (length s.reads) now e mid run in
         (record { outstanding = ap (λ (x : State K V X P W). x.outstanding) queued ∙ h.0.outstanding; capacity = ap (λ (x : State K V X P W). x.capacity) queued ∙ h.0.capacity }, h.1)
 
-    -- a get
-    pub get_alike : (says : P → K → V → Bool → Type 0) (read : X → K → V → ℕ → Option ℕ → ℕ → Option ℕ) (eq : K → K → Bool) (s : State K V X P W) (key : K) (hash : ℕ) (need_key ignored : Bool) (now : ℕ) (a : Result (Option (Entry K V)) OutOfMemory) (e : Events K V) (t : State K V X P W)
-        → GetStep says read Runs eq s key hash need_key ignored now a e t → IsAlike s t × (e.ids ≡ [])
-    get_alike says read eq s key hash need_key ignored now a e t step = go (is_disabled s.capacity) step
+    -- a get, where the key has that record or none
+    pub gets_alike : (says : P → K → V → Bool → Type 0) (read : X → K → V → ℕ → Option ℕ → ℕ → Option ℕ) (s : State K V X P W) (o : Option (Record K V)) (hash : ℕ) (need_key ignored : Bool) (now : ℕ) (a : Result (Option (Entry K V)) OutOfMemory) (e : Events K V) (t : State K V X P W)
+        → MatchBool (is_disabled s.capacity) ((a ≡ Ok None) × Unchanged s e t) (GetsAt says read Runs s o hash need_key ignored now a e t) → IsAlike s t × (e.ids ≡ [])
+    gets_alike says read s o hash need_key ignored now a e t step = go (is_disabled s.capacity) step
       where
         at : (o : Option (Record K V)) (a : Result (Option (Entry K V)) OutOfMemory) → GetsAt says read Runs s o hash need_key ignored now a e t → IsAlike s t × (e.ids ≡ [])
         at None a h = recorded_alike s now (Miss hash) e t h.1
@@ -98,9 +98,14 @@ module _ {K V X P W : Type 0} where
         at (Some r) (Ok (Some entry)) h = let k = recorded_alike (after_hit read s r now) (hit_at read s r now) (hit_operation read s r now) e t h.3 in (record { outstanding = k.0.outstanding; capacity = k.0.capacity }, k.1)
         at (Some r) (Err _) h = (subst (IsAlike s) (sym h.1.0) (alike_itself s), ap (λ (x : Events K V). x.ids) h.1.1)
 
-        go : (b : Bool) → MatchBool b ((a ≡ Ok None) × Unchanged s e t) (GetsAt says read Runs s (record_of_key eq s.records key) hash need_key ignored now a e t) → IsAlike s t × (e.ids ≡ [])
+        go : (b : Bool) → MatchBool b ((a ≡ Ok None) × Unchanged s e t) (GetsAt says read Runs s o hash need_key ignored now a e t) → IsAlike s t × (e.ids ≡ [])
         go true h = (subst (IsAlike s) (sym h.1.0) (alike_itself s), ap (λ (x : Events K V). x.ids) h.1.1)
-        go false h = at (record_of_key eq s.records key) a h
+        go false h = at o a h
+
+    -- a get of a key
+    pub get_alike : (says : P → K → V → Bool → Type 0) (read : X → K → V → ℕ → Option ℕ → ℕ → Option ℕ) (eq : K → K → Bool) (s : State K V X P W) (key : K) (hash : ℕ) (need_key ignored : Bool) (now : ℕ) (a : Result (Option (Entry K V)) OutOfMemory) (e : Events K V) (t : State K V X P W)
+        → GetStep says read Runs eq s key hash need_key ignored now a e t → IsAlike s t × (e.ids ≡ [])
+    get_alike says read eq s key hash need_key ignored now a e t step = gets_alike says read s (record_of_key eq s.records key) hash need_key ignored now a e t step
 
   -- ---- inserts and removals
 

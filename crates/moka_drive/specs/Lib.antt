@@ -6,6 +6,7 @@ pub mod Laws
 pub mod Texts
 pub mod Counters
 pub mod Visible
+pub mod Saved
 pub mod Counted
 pub mod Removed
 pub mod Entries

@@ -18,6 +18,7 @@ ghost use Rattle.moka_parts.specs.declared.records.Operation.{Operation};
 ghost use Rattle.moka_parts.specs.declared.records.Record.{Record};
 ghost use Rattle.moka_drive.specs.Unsent.{HoldsUnsent, HidesNoMore, IsThere, ShowsWrites};
 ghost use Rattle.moka_drive.specs.Counters.{after_look_up, after_load, after_get_with};
+ghost use Rattle.moka_drive.specs.Saved.{AreAllMembers, KeepsRecords};
 ghost use Rattle.moka_drive.specs.Synchronous.{fresh, value_found, InsertsMade, HandsOutOwn, HandsOutIfMade, HandsOutIfNoError, GetsOrInsertsIfMade, GetsOrInsertsIfNoError, Makes, meaning_of, hears_clones, Just, own_run, Posts, InsertsEntry, GetsValue, RemovesEntry, GetsOrInserts, HandsOutMade, removed, invalidated};
 
 use crate::error::{GetWithRefused, NotTold};
@@ -34,6 +35,11 @@ use moka_parts::policy::{Expiry, Instant, NoExpiry, Policy};
 use std::alloc::Global;
 use std::hash::{BuildHasher, Hash};
 use std::marker::Model;
+
+mod saves;
+mod tested;
+
+pub use saves::RestoreManyRefused;
 
 // How often a run of its own may go back to its queues.
 const MAX_LOG_SYNC_REPEATS: u32 = 4;
@@ -611,7 +617,8 @@ impl<
 
     /// Runs maintenance without a time limit. The answer tells whether more is left.
     ///
-    /// It leaves count and weight exactly the entries', and the weight within the capacity.
+    /// It leaves count and weight exactly the entries', and the weight within the capacity, and each entry is in the order of
+    /// access.
     pub fn run_pending_tasks<C: Clock>(&mut self, now: Instant, clock: &mut C) -> bool
     where
         K: Drop,
@@ -621,9 +628,15 @@ impl<
             (Just (own_run now) (reply.Run result)) self.old.engine clock.old self.new.engine clock.new }
         ensures exact { IsExact self.new.engine.state }
         ensures within { IsWithin self.new.engine.state.capacity self.new.engine.state.access }
+        ensures members { AreAllMembers self.new.engine.state }
         ensures counted { self.new.stats ≡ self.old.stats }
     {
-        self.engine.run_pending_tasks(now, clock, None, MAX_LOG_SYNC_REPEATS, EVICTION_BATCH_SIZE)
+        let (repeats, batch) = (MAX_LOG_SYNC_REPEATS, EVICTION_BATCH_SIZE);
+        let more = self
+            .engine
+            .run_pending_tasks(now, clock, None, repeats, batch);
+        self.engine.invariant_holds();
+        more
     }
 }
 
@@ -689,6 +702,7 @@ fn post<
     ensures sent { engine.new.state.outstanding ≡ finite.empty }
     ensures holds { HoldsUnsent engine.old.state engine.new.state }
     ensures hides { HidesNoMore engine.old.state engine.new.state }
+    ensures keeps { KeepsRecords engine.old.state engine.new.state }
 {
     engine.apply_reads_writes_if_needed(now, clock);
     match engine.send(ticket) {

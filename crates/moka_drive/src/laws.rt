@@ -1,5 +1,6 @@
 //! Laws of the calls that a synchronous cache made. None of these functions does anything: the contract of each is a law.
 ghost use Rattle.moka_drive.specs.Removed.{counting, CountsRemovals, PassesOn};
+ghost use Rattle.moka_drive.specs.Saved.{AnswersAlike};
 ghost use Rattle.moka_drive.specs.Synchronous.{meaning_of, hears_clones};
 ghost use Rattle.moka_drive.specs.Counted.{CountsCalls, AddsUp, SumsToLookUps};
 ghost use Rattle.moka_drive.specs.Laws.{GoesOn, KeepsPromises, AgesOut, HearsClones, HearsThemselves};
@@ -102,4 +103,10 @@ pub fn counts_removals<
     ensures themselves { CountsRemovals S (meaning_of K.eq (counting L.tells) P.says W.weighs C.reads X.created X.read X.updated) }
     ensures clones { CountsRemovals S (meaning_of K.eq (hears_clones K.is_clone V.is_clone (counting L.tells)) P.says W.weighs C.reads X.created X.read X.updated) }
     ensures passed_on { PassesOn L.tells }
+{}
+
+/// What was put back as it was listed answers as before: whenever one of the two records is visible the other is, where the
+/// times are the same, and the second cache has no predicates and no invalidation of all.
+pub fn answers_as_before<K, V, X, P: PredicateFn<K, V>, W>()
+    ensures { AnswersAlike {K = K} {V = V} X W P.says }
 {}

@@ -29,6 +29,8 @@ use moka_parts::policy::{Expiry, NoExpiry, Policy};
 use std::alloc::Global;
 use std::hash::{BuildHasher, Hash};
 
+mod tested;
+
 /// A cache with a clock, which each call that needs the moment reads once at its start.
 #[derive(Drop)]
 pub struct TimedCache<

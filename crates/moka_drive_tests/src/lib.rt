@@ -5,3 +5,7 @@
 mod cache;
 #[cfg(test)]
 mod entry;
+#[cfg(test)]
+mod saves;
+#[cfg(test)]
+mod segments;

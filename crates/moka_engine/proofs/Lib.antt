@@ -1,5 +1,6 @@
 pub mod Stocked
 pub mod CacheSteps
+pub mod ByTests
 pub mod NewSteps
 pub mod SendSteps
 pub mod InsertSteps
@@ -12,6 +13,8 @@ pub mod IdleRuns
 pub mod KeeperSteps
 pub mod HitSteps
 pub mod Registering
+pub mod Passing
+pub mod RestoreSteps
 pub use Rattle.moka_parts.proofs.Copies
 pub use Rattle.moka_parts.proofs.Lookup
 pub use Rattle.moka_parts.proofs.Maps

@@ -1,7 +1,10 @@
 pub mod BaseCache
 pub mod Config
 pub mod Looks
+pub mod LooksBy
 pub mod Sights
+pub mod Snapshots
+pub mod Restores
 pub mod CacheRuns
 pub mod Makes
 pub mod parts
@@ -37,3 +40,4 @@ pub use Rattle.moka_parts.specs.Laws
 pub use Rattle.moka_parts.specs.Drives
 pub use Rattle.moka_parts.specs.Synchronous
 pub use Rattle.moka_parts.specs.Texts
+pub use Rattle.moka_parts.specs.KeyTests

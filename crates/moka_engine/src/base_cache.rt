@@ -17,7 +17,7 @@ ghost use Rattle.moka_parts.specs.declared.calls.Reply.TheVariants as reply;
 ghost use Rattle.moka_engine.specs.BaseCache.{IsServed, settings_of};
 ghost use Rattle.moka_engine.specs.Makes.{Makes, meaning};
 
-use moka_inner::Inner;
+use moka_inner::{Inner, Layout};
 use moka_parts::calls::{Entry, KvEntry, Ticket};
 use moka_parts::closures::{NoTest, PredicateFn, Weigher};
 use moka_parts::error::{CapacityError, InsertRefused, OutOfMemory, SendError};
@@ -36,10 +36,15 @@ mod inserts;
 mod invalidation;
 mod looks;
 mod reports;
+mod restores;
 mod runs;
 mod sights;
+mod snapshot;
+mod tested;
 
+pub use restores::{RestoreError, RestoreRefused, Restored};
 pub use sights::Sight;
+pub use snapshot::{Snapshot, SnapshotEntry};
 
 // How many segments the map has.
 const SEGMENTS: usize = 1;
@@ -221,14 +226,12 @@ impl<
         let initial_capacity = initial_capacity.unwrap_or(0);
         let ordered = needs_write_list(&expiration_policy, invalidator_enabled);
         let timed = needs_timers(&expiration_policy);
-        let Ok(inner) = Inner::new(
-            alloc,
-            build_hasher,
-            first_ticket,
+        let layout = Layout {
             initial_capacity,
             ordered,
             timed,
-        ) else {
+        };
+        let Ok(inner) = Inner::new(alloc, build_hasher, first_ticket, layout) else {
             return Err(OutOfMemory);
         };
         let notifier = RemovalNotifier::new(eviction_listener);

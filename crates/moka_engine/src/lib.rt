@@ -11,7 +11,9 @@
 pub mod base_cache;
 pub mod config;
 
-pub use base_cache::{BaseCache, Sight};
+pub use base_cache::{
+    BaseCache, RestoreError, RestoreRefused, Restored, Sight, Snapshot, SnapshotEntry,
+};
 pub use config::{CacheConfig, DefaultHasher, Engine};
 pub use moka_parts::calls::{Call, DriveRefused, Entry, KvEntry, Reply, Ticket};
 pub use moka_parts::closures::{
@@ -24,6 +26,7 @@ pub use moka_parts::error::{
 pub use moka_parts::expiry::{deadline_of, has_lapsed, remaining, renewed};
 pub use moka_parts::housekeeper::{Clock, FixedClock, Housekeeper, HousekeeperConfig, InnerSync};
 pub use moka_parts::invalidator::{IdSource, Invalidator, PredicateId};
+pub use moka_parts::key_test::KeyTest;
 pub use moka_parts::notification::{Listener, NoListener, RemovalCause, RemovalNotifier};
 pub use moka_parts::policy::{
     EvictionPolicy, ExpirationPolicy, ExpireAfter, ExpireAfterCreate, ExpireAfterRead,

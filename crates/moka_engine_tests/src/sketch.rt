@@ -1,4 +1,5 @@
 //! How long the sketch is that comes on at a capacity. moka: `test_skt_capacity_will_not_overflow`.
+use moka_maintenance::bounds::Bounds;
 use moka_maintenance::sketch::enable_frequency_sketch;
 use moka_parts::policy::{EvictionPolicy, Instant};
 use moka_parts::records::Record;
@@ -38,8 +39,12 @@ fn store_of(alloc: Global, weight: u32) -> Result<TestStore, Fail> {
 fn length_at(alloc: Global, capacity: u64) -> Result<usize, Fail> {
     let store = store_of(alloc, u32::try_from(capacity / 2)?)?;
     let mut sketch = FrequencySketch::new(alloc)?;
-    let policy = EvictionPolicy::TinyLfu;
-    enable_frequency_sketch(&store, &mut sketch, Some(capacity), policy, false);
+    let bounds = Bounds {
+        capacity: Some(capacity),
+        policy: EvictionPolicy::TinyLfu,
+        has_weigher: false,
+    };
+    enable_frequency_sketch(&store, &mut sketch, bounds);
     Ok(sketch.table_len())
 }
 

@@ -39,6 +39,7 @@ pub record Tells (s t : ScriptState) (now : ℕ) (before after : List Look) : Ty
 -- the answer to a question about a call that leads from the first state to the second
 abbrev pub IsAnswer : Question → ScriptState → ScriptState → Answer → Type 0
 IsAnswer (question.Key key now) s t (answer.Met look) = (look.key ≡ key) × IsLook s now.0 look
-IsAnswer (question.All now) s t (answer.Became before after queued_before queued_after) = Tells s t now.0 before.items after.items × (queued_before ≡ queued_in s) × (queued_after ≡ queued_in t)
+IsAnswer (question.All now) s t (answer.Became moment before after queued_before queued_after) =
+    (moment ≡ now) × Tells s t now.0 before.items after.items × (queued_before ≡ queued_in s) × (queued_after ≡ queued_in t)
 IsAnswer question.Nothing s t answer.Nothing = Unit {0}
 IsAnswer q s t a = ⊥

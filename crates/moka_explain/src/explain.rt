@@ -45,8 +45,10 @@ pub struct Queued {
 pub enum Answer {
     /// What the look-up met.
     Met(Look),
-    /// The keys of all records before the call, and the same keys after it, with the queues of both moments.
+    /// The keys of all records before the call, made at this moment, and the same keys after it, with the queues before
+    /// and after.
     Became {
+        now: Instant,
         before: Vec<Look>,
         after: Vec<Look>,
         queued_before: Queued,
@@ -113,6 +115,7 @@ pub fn explain_call(
             let after = look_at_all(alloc, cache, &keys, now)?;
             let queued_after = queues_of(cache);
             let answer = Answer::Became {
+                now,
                 before,
                 after,
                 queued_before,

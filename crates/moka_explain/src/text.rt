@@ -3,6 +3,7 @@ use crate::explain::{Answer, Explained, Queued};
 use crate::look::Look;
 use anyhow::Result;
 use moka_engine::base_cache::Sight;
+use moka_parts::policy::Instant;
 use moka_script::print::ReplyText;
 use std::fmt;
 use std::io::Write;
@@ -13,12 +14,13 @@ pub fn write_explained<W: Write>(out: &mut W, explained: &Explained) -> Result<(
     match &explained.answer {
         Answer::Met(look) => writeln!(out, "  {}: {}", look.key, SightText(look.sight))?,
         Answer::Became {
+            now,
             before,
             after,
             queued_before,
             queued_after,
         } => {
-            write_applied(out, *queued_before, *queued_after)?;
+            write_applied(out, *now, *queued_before, *queued_after)?;
             write_fates(out, before, after)?;
         }
         Answer::Nothing => {}
@@ -26,12 +28,18 @@ pub fn write_explained<W: Write>(out: &mut W, explained: &Explained) -> Result<(
     Ok(())
 }
 
-/// Says how many operations were applied, if any was.
-fn write_applied<W: Write>(out: &mut W, before: Queued, after: Queued) -> Result<()> {
+/// Says at which moment the call was made, and how many operations it applied, if any.
+fn write_applied<W: Write>(out: &mut W, now: Instant, before: Queued, after: Queued) -> Result<()> {
     let writes = before.writes.saturating_sub(after.writes);
     let reads = before.reads.saturating_sub(after.reads);
+    let now = now.0;
     if writes > 0 || reads > 0 {
-        writeln!(out, "  applied: {writes} writes, {reads} reads")?;
+        writeln!(
+            out,
+            "  at {now}: writes applied {writes}, reads applied {reads}"
+        )?;
+    } else {
+        writeln!(out, "  at {now}: nothing applied")?;
     }
     Ok(())
 }
@@ -82,7 +90,10 @@ impl fmt::Display for FateText {
                 _ => "not admitted, or evicted to make room",
             }),
             (_, Sight::Absent) => write!(f, "removed, {before}"),
-            (Sight::Visible, Sight::Visible) => f.write_str("kept"),
+            (Sight::Visible, Sight::Visible) => f.write_str(match self.after.applied {
+                Some(true) => "kept",
+                _ => "kept, its last write is not applied",
+            }),
             (_, Sight::Visible) => f.write_str("visible again"),
             (Sight::Visible, _) => write!(f, "hidden now, {after}"),
             _ => match self.after.applied {

@@ -24,17 +24,17 @@ ghost use Rattle.moka_inner.specs.ReadNumber.{IsReadNumber};
 
 use circular_buffer::HeapCircularBuffer;
 use moka_maintenance::admission::{apply_reads, apply_writes};
-use moka_maintenance::passes::{Ran, make_passes};
+use moka_maintenance::bounds::Bounds;
+use moka_maintenance::passes::{Ran, Terms, make_passes};
 use moka_maintenance::queued::{PlacedWrite, QueuedRead, QueuedWrite};
 use moka_maintenance::sketch::enable_frequency_sketch;
-use moka_maintenance::sweep::Tests;
 use moka_parts::calls::Ticket;
 use moka_parts::closures::PredicateFn;
 use moka_parts::error::{InsertError, SendError};
 use moka_parts::housekeeper::Clock;
 use moka_parts::invalidator::Invalidator;
 use moka_parts::notification::{Listener, RemovalNotifier};
-use moka_parts::policy::{EvictionPolicy, Instant};
+use moka_parts::policy::Instant;
 use moka_parts::records::{Operation, ReadOperation, Record};
 use moka_sketch::frequency_sketch::FrequencySketch;
 use moka_store::{Handle, KeyHash, Store, Update};
@@ -42,10 +42,22 @@ use moka_structures::outstanding::Outstanding;
 use std::alloc::{AllocError, Global};
 use std::hash::{BuildHasher, Hash};
 use std::marker::Model;
-use std::time::Duration;
+
+mod members;
+mod tested;
 
 // How many operations and how many reads can be queued. moka: `WRITE_LOG_SIZE`, `READ_LOG_SIZE`.
 const QUEUE_SIZE: usize = 384;
+
+/// What an inner part keeps beside its records, and for how many of them it has room at first.
+#[derive(Clone, Copy)]
+pub struct Layout {
+    pub initial_capacity: usize,
+    /// Whether it keeps the order of writing.
+    pub ordered: bool,
+    /// Whether it keeps timers.
+    pub timed: bool,
+}
 
 /// The inner part of the cache. moka: `sync::base_cache::Inner`.
 pub struct Inner<K: Eq + Hash, V, S: BuildHasher> {
@@ -104,15 +116,12 @@ impl<K: Eq + Hash, V, S: BuildHasher> Model for Inner<K, V, S> {
 }
 
 impl<K: Eq + Hash, V, S: BuildHasher> Inner<K, V, S> {
-    /// An inner part with no records, with room for `initial_capacity` of them, whose first ticket is `first_ticket`. It keeps
-    /// the order of writing if it is to be `ordered`, and timers if it is to be `timed`.
+    /// An inner part with no records, laid out like this, whose first ticket is `first_ticket`.
     pub fn new(
         alloc: Global,
         hasher: S,
         first_ticket: u64,
-        initial_capacity: usize,
-        ordered: bool,
-        timed: bool,
+        layout: Layout,
     ) -> Result<Self, AllocError>
     where
         K: Drop,
@@ -120,11 +129,11 @@ impl<K: Eq + Hash, V, S: BuildHasher> Inner<K, V, S> {
         S: Drop,
         requires { 1 ≤ first_ticket }
         ensures hasher { IfOk result (λ i. i.kept.hasher ≡ hasher) }
-        ensures empty { IfOk result (λ i. i ≡ nothing_inside ordered timed first_ticket i) }
-        ensures room { IfOk result (λ i. initial_capacity ≤ i.kept.room) }
+        ensures empty { IfOk result (λ i. i ≡ nothing_inside layout.ordered layout.timed first_ticket i) }
+        ensures room { IfOk result (λ i. layout.initial_capacity ≤ i.kept.room) }
     {
-        let mut store = Store::new(alloc, hasher, ordered, timed)?;
-        store.reserve(initial_capacity)?;
+        let mut store = Store::new(alloc, hasher, layout.ordered, layout.timed)?;
+        store.reserve(layout.initial_capacity)?;
         let sketch = FrequencySketch::new(alloc)?;
         let outstanding = Outstanding::new(alloc)?;
         let writes = HeapCircularBuffer::with_capacity(alloc, QUEUE_SIZE)?;
@@ -387,14 +396,12 @@ impl<K: Eq + Hash, V, S: BuildHasher> Inner<K, V, S> {
     pub fn apply_queues<L: Listener<K, V>>(
         &mut self,
         notifier: &mut RemovalNotifier<L>,
-        capacity: Option<u64>,
-        policy: EvictionPolicy,
-        has_weigher: bool,
+        bounds: Bounds,
     )
     where
         K: Drop,
         V: Drop,
-        ensures prepared { ArePrepared L.tells capacity policy self.old.kept.ordered has_weigher
+        ensures prepared { ArePrepared L.tells bounds.capacity bounds.policy self.old.kept.ordered bounds.has_weigher
             (after_reads (contents_with self.old.sketch self.old.kept) self.old.reads) (contents_with self.new.sketch self.new.kept)
             self.old.kept.written self.new.kept.written self.old.writes notifier.old notifier.new }
         ensures timers { KeepsTimers self.old.kept self.new.kept }
@@ -402,33 +409,31 @@ impl<K: Eq + Hash, V, S: BuildHasher> Inner<K, V, S> {
     {
         let (store, sketch) = (&mut self.store, &mut self.sketch);
         apply_reads(store, sketch, &mut self.reads);
-        apply_writes(store, sketch, notifier, capacity, policy, &mut self.writes);
-        enable_frequency_sketch(store, sketch, capacity, policy, has_weigher);
+        apply_writes(store, sketch, notifier, bounds, &mut self.writes);
+        enable_frequency_sketch(store, sketch, bounds);
     }
 
-    /// Removes what the tests find and what registered predicates cover, in passes of at most `batch` turns a step, until the limit is up.
+    /// Removes what the tests find and what registered predicates cover, in passes of at most a batch of turns a step, until
+    /// the limit is up.
     pub fn make_passes<L: Listener<K, V>, P: PredicateFn<K, V>, C: Clock>(
         &mut self,
         notifier: &mut RemovalNotifier<L>,
         invalidator: &mut Invalidator<P>,
         clock: &mut C,
-        tests: Tests,
-        limit: Option<Duration>,
-        batch: u32,
+        terms: Terms,
     ) -> Ran
     where
         K: Drop,
         V: Drop,
         P: Drop,
-        ensures ran { IsRan L.tells P.says tests C.reads (option_map as_nanos limit) batch self.old.kept.ordered
+        ensures ran { IsRan L.tells P.says terms.tests C.reads (option_map as_nanos terms.limit) terms.batch self.old.kept.ordered
             invalidator.old invalidator.new (stock_in self.old.kept) (stock_in self.new.kept) notifier.old notifier.new
             clock.old clock.new result.passes result.is_left }
-        ensures none { HasNoneDue tests.now.0 self.new.kept }
+        ensures none { HasNoneDue terms.tests.now.0 self.new.kept }
         ensures timers { KeepsTimers self.old.kept self.new.kept }
         ensures rest { self.new ≡ record self.old { kept = self.new.kept; operation_room = self.new.operation_room } }
     {
-        let store = &mut self.store;
-        make_passes(store, notifier, invalidator, clock, tests, limit, batch)
+        make_passes(&mut self.store, notifier, invalidator, clock, terms)
     }
 
     /// Clones of the keys of all records, in no particular order.

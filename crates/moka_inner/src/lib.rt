@@ -3,4 +3,4 @@
 
 pub mod inner;
 
-pub use inner::Inner;
+pub use inner::{Inner, Layout};

@@ -3,13 +3,19 @@ use Rattle.std.proofs.Common.{◌≡◌, refl, ℕ, Bool, true, List, [], ◌∷
 use Rattle.moka_parts.specs.declared.notification.RemovalCause.{RemovalCause}
 use Rattle.moka_parts.specs.declared.policy.EvictionPolicy.{EvictionPolicy}
 use Rattle.moka_parts.specs.declared.records.Operation.{Operation}
+use Rattle.moka_parts.specs.declared.records.Operation.TheVariants.{Upsert}
 use Rattle.moka_parts.specs.declared.records.Ticketed.{Ticketed}
 use Rattle.moka_parts.specs.State.{Contents}
 use Rattle.moka_parts.specs.Writes.{after_write, after_writes, left_by_write, left_by_writes, AreAllMoves}
 use Rattle.moka_parts.specs.Maintenance.{with_sketch}
 use Rattle.moka_parts.specs.Order.{written_after_writes}
-use Rattle.moka_maintenance.specs.Steps.{Told}
-use Rattle.moka_maintenance.specs.Queues.{IsApplied, AreApplied, ArePrepared}
+use Rattle.moka_sketch.specs.Frequency.{Table}
+use Rattle.moka_store.specs.Store.{Kept}
+use Rattle.moka_maintenance.specs.declared.admission.PlacedUpsert.{PlacedUpsert}
+use Rattle.moka_maintenance.specs.declared.bounds.Bounds.{Bounds}
+use Rattle.moka_maintenance.specs.Steps.{Told, contents_with}
+use Rattle.moka_maintenance.specs.Queues.{IsApplied, AreApplied, ArePrepared, AppliesUpsert}
+use Rattle.moka_maintenance.specs.Upkeep.{Upkeep}
 use Rattle.moka_maintenance.proofs.Told.{told-none, told-on}
 
 module _ {K V L : Type 0} (tells : L → K → V → RemovalCause → L → Type 0) (capacity : Option ℕ) (policy : EvictionPolicy) (ordered : Bool) where
@@ -39,3 +45,9 @@ prepared tells capacity policy ordered has_weigher is_short a b c ns ms os l m h
   listed = h.listed;
   told = h.told;
 }
+
+-- an upsert, which is no removal
+pub applies-upsert : {K V S L : Type 0} (tells : L → K → V → RemovalCause → L → Type 0) (bounds : Bounds) (sketch : Option Table) (old new : Kept K V S) (u : PlacedUpsert) (l m : Option L)
+    → IsApplied tells bounds.capacity bounds.policy old.ordered (contents_with sketch old) (contents_with sketch new) old.written new.written (Upsert u.handle.number u.generation u.weight u.hash) l m
+    → Upkeep old new → AppliesUpsert tells bounds sketch old new u l m
+applies-upsert tells bounds sketch old new u l m applied upkeep = record { applied = applied; upkeep = upkeep; rows = λ n p at gone. (upkeep.rows n p at gone, λ generation is. cc) }

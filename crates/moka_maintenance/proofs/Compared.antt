@@ -1,6 +1,5 @@
 -- A candidate that was compared enters in its victims' place, or is rejected.
-use Rattle.std.proofs.Common.{◌≡◌, ℕ, Bool, true, false, Option, None, take, ap, sym, subst, ◌∙◌, arith, if◌then◌else◌}
-use Rattle.std.specs.FinMap.{get}
+use Rattle.std.proofs.Common.{◌≡◌, ℕ, Bool, true, false, Option, None, take, ap, sym, subst, ◌∙◌, if◌then◌else◌}
 use Rattle.moka_sketch.specs.Frequency.{Table}
 use Rattle.moka_parts.specs.declared.notification.RemovalCause.{RemovalCause}
 use Rattle.moka_parts.specs.declared.records.Record.{Record}
@@ -12,20 +11,14 @@ use Rattle.moka_parts.specs.Order.{written_after_fate}
 use Rattle.moka_parts.proofs.AccessList.{counted-all_to_back}
 use Rattle.moka_store.specs.Store.{Kept}
 use Rattle.moka_maintenance.specs.Upkeep.{Upkeep}
-use Rattle.moka_maintenance.proofs.Timing.{keeps-moved}
+use Rattle.moka_maintenance.proofs.Upkeep.{untimed-moved}
 use Rattle.moka_maintenance.specs.Chosen.{Chooses}
 use Rattle.moka_maintenance.specs.Queues.{IsCompared}
 use Rattle.moka_maintenance.specs.Steps.{contents_in, contents_with, Told}
 
 -- what the comparison moves keeps its timer and its row
 pub upkeep-chosen : {K V S : Type 0} (sketch : Option Table) (old mid : Kept K V S) (weight hash victims : ℕ) {preferred : Bool} → Chooses (contents_with sketch old) weight hash mid.access victims preferred → mid ≡ record old { access = mid.access } → Upkeep old mid
-upkeep-chosen sketch old mid weight hash victims chosen rest = record {
-  timers = keeps-moved old mid (ap (λ (k : Kept _ _ _). k.ordered) rest) (ap (λ (k : Kept _ _ _). k.timed) rest) (ap (λ (k : Kept _ _ _). k.hasher) rest) (ap (λ (k : Kept _ _ _). k.records) rest)
-      (λ k. ap (counted_of k) chosen.order ∙ counted-all_to_back chosen.moved k old.access) (ap (λ (k : Kept _ _ _). k.timers) rest);
-  places = λ n p at. sym (ap (λ (k : Kept _ _ _). get k.places n) rest) ∙ at;
-  rows = λ n p at gone. sym (ap (λ (k : Kept _ _ _). get k.records n) rest) ∙ gone;
-  room = (let same = ap (λ (k : Kept _ _ _). k.room) rest in omega arith);
-}
+upkeep-chosen sketch old mid weight hash victims chosen rest = (untimed-moved old mid rest (λ k. ap (counted_of k) chosen.order ∙ counted-all_to_back chosen.moved k old.access)).keeps
 
 module _ {K V S : Type 0} (sketch : Option Table) (old mid : Kept K V S) (number generation weight hash victims : ℕ) {preferred : Bool} (chosen : Chooses (contents_with sketch old) weight hash mid.access victims preferred) (rest : mid ≡ record old { access = mid.access }) where
   -- a record outside the access list stays outside

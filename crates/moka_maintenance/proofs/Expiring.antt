@@ -17,7 +17,7 @@ use Rattle.moka_parts.proofs.Values.{remove_absent, values_inserted, values_remo
 use Rattle.moka_store.specs.Store.{Kept, with_timer}
 use Rattle.moka_store.proofs.Gets.{after_remove, get-past_insert, get-past_remove}
 use Rattle.moka_maintenance.specs.declared.sweep.Tests.{Tests}
-use Rattle.moka_maintenance.specs.Steps.{Stock, AddsNoPlace, LeavesNoRow, Told, after_step, after_steps, left_by_step, stock_in, MayLeave}
+use Rattle.moka_maintenance.specs.Steps.{Stock, Told, after_step, after_steps, left_by_step, stock_in, MayLeave}
 use Rattle.moka_maintenance.specs.Sweeps.{MayExpire, ExpiresDue}
 use Rattle.moka_maintenance.specs.Timers.{IsReset, KeepsTimers}
 use Rattle.moka_maintenance.specs.Upkeep.{Upkeep}
@@ -78,16 +78,22 @@ module _ {K V S : Type 0} (now n : ℕ) (old new : Kept K V S) (untimed : get ol
     hasher = refl;
     timers = inl refl;
     own = λ kept r there applied. absurd (true≢false (sym applied ∙ sym (ap (λ o. option_map_or is_applied o false) there) ∙ waiting));
+    places = λ k p at. at;
+    rows = λ k p at gone. gone;
+    room = omega arith;
   }
 
   -- its record leaves
-  pub reset-gone : get new.records n ≡ None → new.ordered ≡ old.ordered → new.timed ≡ old.timed → new.hasher ≡ old.hasher → new.timers ≡ remove old.timers n → IsReset now n old new
-  reset-gone gone ordered timed hasher taken = record {
-    ordered = ordered;
-    timed = timed;
-    hasher = hasher;
+  pub reset-gone : get new.records n ≡ None → Upkeep old new → new.timers ≡ remove old.timers n → IsReset now n old new
+  reset-gone gone keeps taken = record {
+    ordered = keeps.timers.ordered;
+    timed = keeps.timers.timed;
+    hasher = keeps.timers.hasher;
     timers = inl (taken ∙ remove_absent old.timers n untimed);
     own = λ kept r there applied. (let bad : None ≡ Some r = sym gone ∙ there in cc);
+    places = keeps.places;
+    rows = keeps.rows;
+    room = keeps.room;
   }
 
   -- it is set again
@@ -100,6 +106,9 @@ module _ {K V S : Type 0} (now n : ℕ) (old new : Kept K V S) (untimed : get ol
     own = λ kept p there applied.
         (let is : r ≡ p = (let f = sym found ∙ (sym (ap (λ (k : Kept K V S). get k.records n) step) ∙ there) in cc) in
         ap (λ (k : Kept K V S). get k.timers n) step ∙ ap (λ b. get (if b then with_timer old.timers n (moment_of r.expires) else old.timers) n) kept ∙ set-own old.timers n (moment_of r.expires) ∙ ap (λ (x : Record K V). moment_of x.expires) is);
+    places = λ k p at. sym (ap (λ (s : Kept K V S). get s.places k) step) ∙ at;
+    rows = λ k p at gone. sym (ap (λ (s : Kept K V S). get s.records k) step) ∙ gone;
+    room = (let same = ap (λ (s : Kept K V S). s.room) step in omega arith);
   }
     where
       set : (b : Bool) (o : Option ℕ) → has_passed o now ≡ false → ((if b then with_timer old.timers n o else old.timers) ≡ old.timers) ⊎ ((t : ℕ) × (now < t) × ((if b then with_timer old.timers n o else old.timers) ≡ insert old.timers n t))
@@ -162,12 +171,12 @@ module _ {K V L : Type 0} (tells : L → K → V → RemovalCause → L → Type
           | inr at ↦ ap (λ m. get m k) at.2 ∙ get-past_insert mid.timers n at.0 k other
         ]
 
-    pub upkeep-due : AddsNoPlace mid new → LeavesNoRow mid new → mid.room ≤ new.room → Upkeep old new
-    upkeep-due places rows room = record {
+    pub upkeep-due : Upkeep old new
+    upkeep-due = record {
       timers = keeps_timers;
-      places = λ k p at. sym (ap (λ (s : Kept K V S). get s.places k) taken) ∙ places k p at;
-      rows = λ k p at gone. sym (ap (λ (s : Kept K V S). get s.records k) taken) ∙ rows k p at gone;
-      room = (let same = ap (λ (s : Kept K V S). s.room) taken in omega arith);
+      places = λ k p at. sym (ap (λ (s : Kept K V S). get s.places k) taken) ∙ reset.places k p at;
+      rows = λ k p at gone. sym (ap (λ (s : Kept K V S). get s.records k) taken) ∙ reset.rows k p at gone;
+      room = (let same = ap (λ (s : Kept K V S). s.room) taken in let more = reset.room in omega arith);
     }
 
     pub fewer-due : (t : ℕ) → get old.timers n ≡ Some t → t ≤ q.now.0 → get mid.timers n ≡ None → how_many_due q.now.0 new.timers < how_many_due q.now.0 old.timers

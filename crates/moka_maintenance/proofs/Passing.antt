@@ -1,5 +1,5 @@
 -- Passes one after the other.
-use Rattle.std.proofs.Common.{◌≡◌, refl, ℕ, ◌+◌, ◌*◌, ◌/◌, ◌≤◌, ◌⊎◌, Bool, true, false, true≢false, ◌||◌, List, [], ◌++◌, Contains, length, Option, inl, inr, ap, sym, subst, ◌∙◌, arith, append_assoc, if◌then◌else◌}
+use Rattle.std.proofs.Common.{◌≡◌, refl, ℕ, ◌+◌, ◌*◌, ◌/◌, ◌≤◌, ◌⊎◌, Bool, true, false, true≢false, nat_lt, ◌&&◌, ◌||◌, List, [], ◌++◌, Contains, length, Option, inl, inr, ap, sym, subst, ◌∙◌, arith, append_assoc, if◌then◌else◌}
 use Rattle.std.proofs.lemmas.Nat.{div-mul-add}
 use Rattle.std.specs.FinMap.{get}
 use Rattle.std.specs.List.{list_all}
@@ -24,6 +24,15 @@ use Rattle.moka_maintenance.proofs.Scanned.{covers_fewer, dropped-later, dropped
 use Rattle.moka_maintenance.proofs.Stepped.{fewer_run, may-also, members-steps, steps-append, length-on, removed-on, run_leaves, shrinks, stepped-also, stepped-none, stepped-on}
 use Rattle.moka_maintenance.proofs.PassSteps.{both_make_room}
 use Rattle.moka_maintenance.proofs.Clocked.{Clocked, IsChecked, clocked_ends}
+
+-- another pass is due where more is left and a record was removed
+pub is_due : (left : Bool) (removed : ℕ) → (left && nat_lt 0 removed) ≡ true → (left ≡ true) × (1 ≤ removed)
+is_due true removed e = (refl, grind (arith, e))
+is_due false removed e = absurd (true≢false (sym e))
+
+pub not_due : (left : Bool) (removed : ℕ) → (left && nat_lt 0 removed) ≡ false → left ≡ true → removed ≡ 0
+not_due true removed e is = grind (arith, e)
+not_due false removed e is = absurd (true≢false (sym is))
 
 -- ---- passes
 

@@ -19,6 +19,8 @@ use Rattle.moka_parts.proofs.WriteList.{listed_past_taken_out}
 use Rattle.moka_store.specs.Store.{Kept}
 use Rattle.moka_store.proofs.Gets.{after_remove}
 use Rattle.moka_store.proofs.Members.{counted-without}
+use Rattle.moka_maintenance.specs.Upkeep.{SetsNoTimer}
+use Rattle.moka_maintenance.proofs.Upkeep.{untimed-on}
 use Rattle.moka_maintenance.specs.Scanning.{from_cursor, before_cursor, round_from, LeavesSome, MayScan, IsWalked, GoesRound, IsRound}
 use Rattle.moka_maintenance.specs.Steps.{Stock, after_step, after_steps, stock_in}
 use Rattle.moka_maintenance.proofs.Stepped.{length-on, length-removed, stepped-on}
@@ -288,13 +290,14 @@ module _ {K V L P S : Type 0} (tells : L → K → V → RemovalCause → L → 
         list_now : mid.written ≡ (before ++ h.kept) ++ h.ahead
         list_now = h.list ∙ sym (append_assoc before h.kept h.ahead)
 
-    pub round-part : (end : Bool) → end ≡ false → IsRound tells says ps batch old mid l m looked end
-    round-part end part = record {
+    pub round-part : SetsNoTimer old mid → (end : Bool) → end ≡ false → IsRound tells says ps batch old mid l m looked end
+    round-part keeps end part = record {
       by = h.by;
       goes = goes-part;
       few = h.few;
       unlooked = λ ordered some none. elim stopped [ inl all ↦ absurd (beyond all) | inr used ↦ absurd (omega arith) ];
       whole = λ ordered large. elim stopped [ inl all ↦ absurd (beyond all) | inr used ↦ absurd (beyond (let f = fewer in omega arith)) ];
+      upkeep = keeps;
     }
 
   -- it did, and another walk began at the front
@@ -396,13 +399,14 @@ module _ {K V L P S : Type 0} (tells : L → K → V → RemovalCause → L → 
           | inr late ↦ listed_first n h.walked j.walked (ap (is_listed n) (sym all_walked) ∙ late)
         ]
 
-    pub round-whole : (end : Bool) → end ≡ true → IsRound tells says ps batch old new l k (looked + looked_then) end
+    pub round-whole : SetsNoTimer old mid → SetsNoTimer mid new → (end : Bool) → end ≡ true → IsRound tells says ps batch old new l k (looked + looked_then) end
     unfolding stepped-on goes-whole
-    round-whole end over_all = record {
+    round-whole keeps then_keeps end over_all = record {
       by = stepped-on tells (MayScan says ps) (stock_in old) (stock_in mid) (stock_in new) l m k h.by j.by;
       goes = goes-whole;
       few = (let both = length-on h.by.steps j.by.steps in let f = h.few in let g = j.few in omega arith);
       unlooked = λ ordered some none. none_settled old.records old.access (λ n member.
           none_looked old.records (h.walked ++ j.walked) (sym goes-whole.looks ∙ none) n (all_passed (inl (omega arith)) ordered n ((known.listed ordered).1 n ∙ member)));
       whole = λ ordered large. (record { settled = λ n r listed at applied. goes-whole.uncovered.settled n r (all_passed (inr large) ordered n listed) at applied }, over_all);
+      upkeep = untimed-on old mid new keeps then_keeps;
     }

@@ -13,6 +13,7 @@ use Rattle.moka_parts.specs.State.{Contents}
 use Rattle.moka_parts.proofs.Maps.{itself_tested, same_by_test}
 use Rattle.moka_parts.proofs.Scanned.{not_one_covers, uncovered-none}
 use Rattle.moka_store.specs.Store.{Kept}
+use Rattle.moka_maintenance.proofs.Upkeep.{untimed-none}
 use Rattle.moka_maintenance.specs.Scanning.{round_from, AreDrops, MayScan, GoesRound, IsRound, AreDropped, AllDropped, IsScanned}
 use Rattle.moka_maintenance.specs.Steps.{Stock, AreAllMembers, HasNoSettled, after_steps, contents_in, stock_in}
 use Rattle.moka_maintenance.proofs.Dropping.{drops_stay, kept-append}
@@ -129,6 +130,7 @@ module _ {K V L P S : Type 0} (tells : L → K → V → RemovalCause → L → 
     more = λ is. absurd (true≢false (sym is));
     unfinished = λ ordered some more. absurd (omega arith);
     whole = λ ordered large all. nothing ps none;
+    upkeep = untimed-none old;
   }
     where
       nothing : (ps : List (Registered P)) → length ps ≡ 0 → ps ≡ []
@@ -166,6 +168,7 @@ module _ {K V L P S : Type 0} (tells : L → K → V → RemovalCause → L → 
       more = more;
       unfinished = decide;
       whole = whole;
+      upkeep = h.upkeep;
     }
 
     -- the end was reached, and what covers nothing has left, or it was not

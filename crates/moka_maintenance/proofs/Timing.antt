@@ -1,16 +1,17 @@
 -- Timers are set where records are, and stay where members move or leave.
-use Rattle.std.proofs.Common.{◌≡◌, ◌≢◌, refl, ℕ, true, false, true≢false, Option, Some, None, is_some, inl, inr, ap, sym, ◌∙◌, arith, if◌then◌else◌}
+use Rattle.std.proofs.Common.{List, ◌≡◌, ◌≢◌, refl, ℕ, true, false, true≢false, Option, Some, None, is_some, inl, inr, ap, sym, ◌∙◌, arith, if◌then◌else◌}
 use Rattle.std.proofs.lemmas.Bool.{cases_eq}
 use Rattle.std.specs.FinMap.{FinMap, get, remove}
 use Rattle.std.specs.Ordering.{nat_cmp}
 use Rattle.moka_parts.specs.declared.records.Record.{Record}
+use Rattle.moka_parts.specs.declared.records.Member.{Member}
 use Rattle.moka_parts.specs.Records.{counted_of, is_applied, is_member, without_member, without_number}
 use Rattle.moka_parts.specs.Time.{has_passed, moment_of}
 use Rattle.moka_parts.specs.Visibility.{is_expired}
 use Rattle.moka_parts.proofs.AccessList.{counted_taken_out, uncounted_taken_out}
 use Rattle.moka_store.specs.Store.{Kept, cursor_past, with_timer}
-use Rattle.moka_store.proofs.Gets.{get-inserted, get-past_insert, get-removed, get-past_remove, after_remove}
-use Rattle.moka_maintenance.specs.Timers.{AreTimed, DropsTimers, HasNoneDue, KeepsTimers, StandsAtExpiry}
+use Rattle.moka_store.proofs.Gets.{get-inserted, get-past_insert, get-removed, get-past_remove}
+use Rattle.moka_maintenance.specs.Timers.{AreTimed, HasNoneDue, KeepsTimers, StandsAtExpiry}
 
 -- who is a member once one was taken out was one before
 pub member-was : (n k : ℕ) (access : _) → is_member k (without_member n access) ≡ true → is_member k access ≡ true
@@ -50,18 +51,6 @@ module _ {K V : Type 0} where
   }
 
   module _ {S : Type 0} (old new : Kept K V S) (ordered : new.ordered ≡ old.ordered) (timed : new.timed ≡ old.timed) (hasher : new.hasher ≡ old.hasher) where
-    -- members move, and all else stays
-    pub keeps-moved : new.records ≡ old.records → ((k : ℕ) → counted_of k new.access ≡ counted_of k old.access) → new.timers ≡ old.timers → KeepsTimers old new
-    keeps-moved records counted timers = record {
-      ordered = ordered;
-      timed = timed;
-      hasher = hasher;
-      set = λ _ n r there is_in applied. inl (sym (ap (λ m. get m n) records) ∙ there, sym (ap is_some (counted n)) ∙ is_in, ap (λ m. get m n) timers);
-    }
-
-    pub drops-moved : new.records ≡ old.records → ((k : ℕ) → counted_of k new.access ≡ counted_of k old.access) → new.timers ≡ old.timers → DropsTimers old new
-    drops-moved records counted timers = record { keeps = keeps-moved records counted timers; fewer = λ n t there. sym (ap (λ m. get m n) timers) ∙ there }
-
     -- a number is no member in the end, and the other records and timers stay
     pub keeps-outside : (n : ℕ) → counted_of n new.access ≡ None → ((k : ℕ) → k ≢ n → get new.records k ≡ get old.records k) → ((k : ℕ) → is_member k new.access ≡ true → is_member k old.access ≡ true) → ((k : ℕ) → k ≢ n → get new.timers k ≡ get old.timers k) → KeepsTimers old new
     keeps-outside n out records members timers = record {
@@ -74,15 +63,13 @@ module _ {K V : Type 0} where
     }
 
     -- a record leaves with its member and its timer
-    pub drops-gone : (n : ℕ) → new.records ≡ remove old.records n → new.access ≡ without_member n old.access → new.timers ≡ remove old.timers n → DropsTimers old new
-    drops-gone n records access timers = record {
-      keeps = keeps-outside n
-          (ap (counted_of n) access ∙ counted_taken_out n old.access)
-          (λ k other. ap (λ m. get m k) records ∙ get-past_remove old.records n k other)
-          (λ k is_in. member-was n k old.access (sym (ap (is_member k) access) ∙ is_in))
-          (λ k other. ap (λ m. get m k) timers ∙ get-past_remove old.timers n k other);
-      fewer = λ k t there. (after_remove old.timers n k t (sym (ap (λ m. get m k) timers) ∙ there)).1;
-    }
+    pub keeps-gone : (n : ℕ) → new.records ≡ remove old.records n → new.access ≡ without_member n old.access → new.timers ≡ remove old.timers n → KeepsTimers old new
+    keeps-gone n records access timers =
+        keeps-outside n
+        (ap (counted_of n) access ∙ counted_taken_out n old.access)
+        (λ k other. ap (λ m. get m k) records ∙ get-past_remove old.records n k other)
+        (λ k is_in. member-was n k old.access (sym (ap (is_member k) access) ∙ is_in))
+        (λ k other. ap (λ m. get m k) timers ∙ get-past_remove old.timers n k other)
 
   -- a number leaves the orders and the timers, and perhaps its row goes
   pub keeps-left : {S : Type 0} → (old mid new : Kept K V S) (n : ℕ) (places : FinMap nat_cmp ℕ) → mid ≡ record old { access = without_member n old.access; written = without_number n old.written; timers = remove old.timers n; cursor = cursor_past n old.written old.cursor } → new ≡ record mid { places = places; room = new.room } → KeepsTimers old new
@@ -142,10 +129,20 @@ module _ {K V : Type 0} where
           ∙ stands (sym (ap (λ (s : Kept K V S). s.timed) step) ∙ kept) p (sym (ap (λ (s : Kept K V S). get s.records k) step) ∙ there) (sym (ap (λ (s : Kept K V S). is_member k s.access) step) ∙ is_in)
     ]
 
-  -- where members move alone
-  pub stands-moved : {S : Type 0} → (old new : Kept K V S) (k : ℕ) → new.timed ≡ old.timed → new.records ≡ old.records → counted_of k new.access ≡ counted_of k old.access → new.timers ≡ old.timers → StandsAtExpiry k old → StandsAtExpiry k new
-  stands-moved old new k timed records counted timers stands kept p there is_in =
-      ap (λ m. get m k) timers ∙ stands (sym timed ∙ kept) p (sym (ap (λ m. get m k) records) ∙ there) (sym (ap is_some counted) ∙ is_in)
+  -- members move, and all else stays
+  module _ {S : Type 0} (old new : Kept K V S) {xs : List Member} {ns : List ℕ} {cursor : Option ℕ} (moved : new ≡ record old { access = xs; written = ns; cursor = cursor }) (counted : (k : ℕ) → counted_of k new.access ≡ counted_of k old.access) where
+    pub keeps-moved : KeepsTimers old new
+    keeps-moved = record {
+      ordered = ap (λ (k : Kept K V S). k.ordered) moved;
+      timed = ap (λ (k : Kept K V S). k.timed) moved;
+      hasher = ap (λ (k : Kept K V S). k.hasher) moved;
+      set = λ _ n r there is_in applied. inl (sym (ap (λ (k : Kept K V S). get k.records n) moved) ∙ there, sym (ap is_some (counted n)) ∙ is_in, ap (λ (k : Kept K V S). get k.timers n) moved);
+    }
+
+    pub stands-moved : (k : ℕ) → StandsAtExpiry k old → StandsAtExpiry k new
+    stands-moved k stands kept p there is_in =
+        ap (λ (s : Kept K V S). get s.timers k) moved
+        ∙ stands (sym (ap (λ (s : Kept K V S). s.timed) moved) ∙ kept) p (sym (ap (λ (s : Kept K V S). get s.records k) moved) ∙ there) (sym (ap is_some (counted k)) ∙ is_in)
 
 -- ---- what is past its own expiry
 

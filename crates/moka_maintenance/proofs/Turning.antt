@@ -64,5 +64,5 @@ module _ {K V : Type 0} where
     turn_keeps old new l m n false turn = subst (λ new. KeepsOthers old new n) (sym turn.1) (keeps_same old n)
     turn_keeps old new l m n true turn = elim turn.1 [
       | inl same ↦ subst (λ new. KeepsOthers old new n) (sym same.0) (keeps_same old n)
-      | inr left ↦ subst (λ new. KeepsOthers old new n) (sym left.1) (keeps_past old n new.room left.2)
+      | inr left ↦ subst (λ new. KeepsOthers old new n) (sym left.1.whole) (keeps_past old n new.room left.1.upkeep.keeps.room)
     ]

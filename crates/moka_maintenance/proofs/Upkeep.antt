@@ -1,12 +1,16 @@
 -- What every step keeps is kept by none and by one step after another.
-use Rattle.std.proofs.Common.{◌≡◌, ℕ, ◌≤◌, ap, sym, ◌∙◌, refl, arith}
+use Rattle.std.proofs.Common.{◌≡◌, ℕ, ◌≤◌, List, Option, Some, ap, sym, ◌∙◌, refl, arith, if◌then◌else◌}
 use Rattle.std.specs.FinMap.{get}
-use Rattle.moka_store.specs.Store.{Kept}
+use Rattle.moka_parts.specs.declared.records.Member.{Member}
+use Rattle.moka_parts.specs.declared.records.Record.{Record}
+use Rattle.moka_parts.specs.Records.{counted_of}
+use Rattle.moka_parts.specs.Time.{moment_of}
+use Rattle.moka_store.specs.Store.{Kept, with_timer}
+use Rattle.moka_store.proofs.Gets.{after_remove}
 use Rattle.moka_maintenance.specs.Expelled.{without_record}
-use Rattle.moka_maintenance.specs.Timers.{DropsTimers, HasNoneDue}
-use Rattle.moka_maintenance.specs.Upkeep.{Upkeep, SetsNoTimer}
+use Rattle.moka_maintenance.specs.Upkeep.{Upkeep, SetsNoTimer, UpkeepAt}
 use Rattle.moka_maintenance.proofs.Placed.{places-gone, places-on, rows-gone, rows-on}
-use Rattle.moka_maintenance.proofs.Timing.{drops-gone, keeps-none, keeps-on}
+use Rattle.moka_maintenance.proofs.Timing.{keeps-gone, keeps-moved, keeps-none, keeps-on, keeps-set}
 
 module _ {K V S : Type 0} where
   -- nothing is done
@@ -31,24 +35,37 @@ module _ {K V S : Type 0} where
   -- a record leaves
   pub untimed-gone : (old : Kept K V S) (n room : ℕ) → old.room ≤ room → SetsNoTimer old (without_record n room old)
   untimed-gone old n room more =
-      let drops = drops-gone old (without_record n room old) refl refl refl n refl refl refl in
+      let new = without_record n room old in
       record {
-        keeps = record { timers = drops.keeps; places = places-gone old (without_record n room old) n refl; rows = rows-gone old (without_record n room old) n refl refl; room = more };
-        fewer = drops.fewer;
+        keeps = record { timers = keeps-gone old new refl refl refl n refl refl refl; places = places-gone old new n refl; rows = rows-gone old new n refl refl; room = more };
+        fewer = λ k t there. (after_remove old.timers n k t there).1;
       }
 
-  -- members move and no timer is new
-  pub untimed-moved : (old new : Kept K V S) → DropsTimers old new → new.records ≡ old.records → new.places ≡ old.places → new.room ≡ old.room → SetsNoTimer old new
-  untimed-moved old new drops records places room = record {
+  -- members move, and all else stays
+  pub untimed-moved : (old new : Kept K V S) {xs : List Member} {ns : List ℕ} {cursor : Option ℕ} → new ≡ record old { access = xs; written = ns; cursor = cursor } → ((k : ℕ) → counted_of k new.access ≡ counted_of k old.access) → SetsNoTimer old new
+  untimed-moved old new moved counted = record {
     keeps = record {
-      timers = drops.keeps;
-      places = λ n p at. sym (ap (λ m. get m n) places) ∙ at;
-      rows = λ n p at gone. sym (ap (λ m. get m n) records) ∙ gone;
-      room = omega arith;
+      timers = keeps-moved old new moved counted;
+      places = λ n p at. sym (ap (λ (k : Kept K V S). get k.places n) moved) ∙ at;
+      rows = λ n p at gone. sym (ap (λ (k : Kept K V S). get k.records n) moved) ∙ gone;
+      room = (let same = ap (λ (k : Kept K V S). k.room) moved in omega arith);
     };
-    fewer = drops.fewer;
+    fewer = λ n t there. sym (ap (λ (k : Kept K V S). get k.timers n) moved) ∙ there;
   }
 
-  -- no timer is due where none is new
-  pub none-due : (now : ℕ) (a b : Kept K V S) → SetsNoTimer a b → HasNoneDue now a → HasNoneDue now b
-  none-due now a b h none n t there = none n t (h.fewer n t there)
+  -- the timer of a number is set to its record's expiry
+  pub upkeep-timed : (old new : Kept K V S) (n : ℕ) (r : Record K V) → get old.records n ≡ Some r → new ≡ record old { timers = if old.timed then with_timer old.timers n (moment_of r.expires) else old.timers } → Upkeep old new
+  upkeep-timed old new n r found set = record {
+    timers = keeps-set old old new n r found refl refl refl refl (λ k other. refl) (λ k other. refl) set;
+    places = λ k p at. sym (ap (λ (s : Kept K V S). get s.places k) set) ∙ at;
+    rows = λ k p at gone. sym (ap (λ (s : Kept K V S). get s.records k) set) ∙ gone;
+    room = (let same = ap (λ (s : Kept K V S). s.room) set in omega arith);
+  }
+
+  -- no timer is due where none was and none is new
+  pub still-upkept : (now : ℕ) (a b c : Kept K V S) → SetsNoTimer b c → UpkeepAt now a b → UpkeepAt now a c
+  still-upkept now a b c h j = record { upkeep = upkeep-on a b c j.upkeep h.keeps; none = λ n t there. j.none n t (h.fewer n t there) }
+
+  -- a step and then one after which none is due
+  pub upkept-on : (now : ℕ) (a b c : Kept K V S) → Upkeep a b → UpkeepAt now b c → UpkeepAt now a c
+  upkept-on now a b c h j = record { upkeep = upkeep-on a b c h j.upkeep; none = j.none }

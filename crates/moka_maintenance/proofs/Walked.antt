@@ -223,19 +223,19 @@ module _ {K V L P S : Type 0} (tells : L → K → V → RemovalCause → L → 
           (subst (λ new. IsWalked tells says ps old new l m before rest (number_after n mid.written) (looked + 1) (passed + 1)) (sym same.0)
           (stays (looked + 1) (omega arith) looked_now (λ r at applied. same.2 r at)))
       | inr left ↦
-          let records : new.records ≡ remove mid.records n = ap (λ (s : Kept K V S). s.records) left.1 in
+          let records : new.records ≡ remove mid.records n = ap (λ (s : Kept K V S). s.records) left.1.whole in
           let gone : (j : ℕ) (r : Record K V) → get new.records j ≡ Some r → (j ≡ n → ⊥) × (get mid.records j ≡ Some r) = λ j r at. after_remove mid.records n j r (sym (ap (λ rs. get rs j) records) ∙ at) in
           record {
             walked = h.walked ++ n ∷ [];
             kept = h.kept;
             ahead = here.behind;
             split = split_is;
-            list = ap (λ (s : Kept K V S). s.written) left.1 ∙ ap (without_number n) list_is ∙ without_split (before ++ h.kept) here.behind n once_there ∙ append_assoc before h.kept here.behind;
+            list = ap (λ (s : Kept K V S). s.written) left.1.whole ∙ ap (without_number n) list_is ∙ without_split (before ++ h.kept) here.behind n once_there ∙ append_assoc before h.kept here.behind;
             at = next_is;
             count = count_is;
             stay = subst (LeavesSome (h.walked ++ n ∷ [])) (append-nil h.kept) (some-append h.walked h.kept (n ∷ []) [] h.stay (one_leaves n));
             looks = looked_now;
-            by = stepped-on tells (MayScan says ps) (stock_in old) (stock_in mid) (stock_in new) l m k h.by (stepped-one tells (MayScan says ps) (stock_in mid) (stock_in new) m k (Removes n Explicit) left.0 (ap stock_in left.1) left.3);
+            by = stepped-on tells (MayScan says ps) (stock_in old) (stock_in mid) (stock_in new) l m k h.by (stepped-one tells (MayScan says ps) (stock_in mid) (stock_in new) m k (Removes n Explicit) left.0 left.1.step left.1.told);
             few = (let f = h.few in let both = length-on h.by.steps (Removes n Explicit ∷ []) in omega arith);
             uncovered = uncovered-push says ps new.records h.walked n (λ r at applied. absurd ((gone n r at).0 refl)) (uncovered-kept says ps mid.records new.records h.walked (λ j r at. (gone j r at).1) h.uncovered);
           }

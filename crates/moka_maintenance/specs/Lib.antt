@@ -1,5 +1,6 @@
 pub mod Queued
 pub mod Steps
+pub mod Handles
 pub mod Timers
 pub mod Upkeep
 pub mod Queues

@@ -1,5 +1,5 @@
 -- Operations and reads that wait, with the places of their records' rows.
-use Rattle.std.specs.Prelude.{◌≡◌, ℕ, List, map, Some}
+use Rattle.std.specs.Prelude.{◌≡◌, ℕ, true, List, Contains, map, Some}
 use Rattle.std.specs.FinMap.{FinMap, get}
 use Rattle.std.specs.Ordering.{nat_cmp}
 use Rattle.moka_parts.specs.declared.records.ReadOperation.{ReadOperation}
@@ -28,3 +28,11 @@ IsAt places number place = (p : ℕ) → get places number ≡ Some p → p ≡ 
 abbrev pub IsReadAt : FinMap nat_cmp ℕ → ℕ → ReadOperation → Type 0
 IsReadAt places place (Hit number hash renewed) = IsAt places number place
 IsReadAt places place (Miss hash) = Unit {0}
+
+-- the read is a hit of the number that renewed its record's expiry
+abbrev pub IsRenewed : ReadOperation → ℕ → Type 0
+IsRenewed read n = (hash : ℕ) × (read ≡ Hit n hash true)
+
+-- one of the reads is
+abbrev pub IsRenewedBy : List QueuedRead → ℕ → Type 0
+IsRenewedBy reads n = (q : QueuedRead) × Contains reads q × IsRenewed q.read n

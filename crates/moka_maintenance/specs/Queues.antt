@@ -5,15 +5,19 @@ use Rattle.moka_parts.specs.declared.notification.RemovalCause.{RemovalCause}
 use Rattle.moka_parts.specs.declared.policy.EvictionPolicy.{EvictionPolicy}
 use Rattle.moka_parts.specs.declared.records.Record.{Record}
 use Rattle.moka_parts.specs.declared.records.Operation.{Operation}
-use Rattle.moka_parts.specs.declared.records.Operation.TheVariants.{Removal}
+use Rattle.moka_parts.specs.declared.records.Operation.TheVariants.{Upsert, Removal}
 use Rattle.moka_parts.specs.declared.records.Ticketed.{Ticketed}
 use Rattle.moka_parts.specs.State.{Contents}
 use Rattle.moka_parts.specs.Candidates.{are_unsettled, victims_for}
 use Rattle.moka_parts.specs.Writes.{after_fate, left_by_fate, fate_by_frequency, after_write, after_writes, left_by_write, left_by_writes, AreMoves, AreAllMoves}
 use Rattle.moka_parts.specs.Maintenance.{with_sketch}
 use Rattle.moka_parts.specs.Order.{written_after_fate, written_after_write, written_after_writes}
+use Rattle.moka_sketch.specs.Frequency.{Table}
 use Rattle.moka_store.specs.Store.{Kept}
-use Rattle.moka_maintenance.specs.Steps.{Told}
+use Rattle.moka_maintenance.specs.declared.admission.PlacedUpsert.{PlacedUpsert}
+use Rattle.moka_maintenance.specs.declared.bounds.Bounds.{Bounds}
+use Rattle.moka_maintenance.specs.Steps.{Told, contents_with}
+use Rattle.moka_maintenance.specs.Upkeep.{Upkeep}
 
 module _ {K V L : Type 0} (tells : L → K → V → RemovalCause → L → Type 0) (ordered : Bool) where
   -- a candidate of this number was compared, as one for which there is no room, and has the fate that its frequency decides
@@ -59,3 +63,20 @@ LeavesNoRowAfter o old new = (n p : ℕ) → get new.places n ≡ Some p → get
 -- a number that has kept its row without a record had no record before, and no removal of it was among the operations
 abbrev pub LeavesNoRowBy : {K V S : Type 0} → List Ticketed → Kept K V S → Kept K V S → Type 0
 LeavesNoRowBy os old new = (n p : ℕ) → get new.places n ≡ Some p → get new.records n ≡ None → (get old.records n ≡ None) × ((ticket generation : ℕ) → Contains os (record { ticket = ticket; operation = Removal n generation }) → ⊥)
+
+module _ {K V S L : Type 0} (tells : L → K → V → RemovalCause → L → Type 0) (bounds : Bounds) (sketch : Option Table) (old new : Kept K V S) where
+  -- one operation is applied to a store, whose row is given back where it was a removal
+  pub record AppliesWrite (o : Operation) (l m : Option L) : Type 0 where
+    pub applied : IsApplied tells bounds.capacity bounds.policy old.ordered (contents_with sketch old) (contents_with sketch new) old.written new.written o l m
+    pub upkeep : Upkeep old new
+    pub rows : LeavesNoRowAfter o old new
+
+  -- one upsert is
+  abbrev pub AppliesUpsert : PlacedUpsert → Option L → Option L → Type 0
+  AppliesUpsert u l m = AppliesWrite (Upsert u.handle.number u.generation u.weight u.hash) l m
+
+  -- operations are, in order
+  pub record AppliesWrites (os : List Ticketed) (l m : Option L) : Type 0 where
+    pub applied : AreApplied tells bounds.capacity bounds.policy old.ordered (contents_with sketch old) (contents_with sketch new) old.written new.written os l m
+    pub upkeep : Upkeep old new
+    pub rows : LeavesNoRowBy os old new

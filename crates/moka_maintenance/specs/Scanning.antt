@@ -1,5 +1,5 @@
 -- A scan along the order of writing for what registered predicates cover, and the drop of predicates that cover nothing.
-use Rattle.std.specs.Prelude.{◌≡◌, ℕ, ◌≤◌, ◌<◌, Bool, true, false, ◌&&◌, ◌⊎◌, ◌==◌, if◌then◌else◌, List, [], ◌∷◌, ◌++◌, length, Option, Some, None, slice_get, Contains}
+use Rattle.std.specs.Prelude.{◌≡◌, ℕ, ◌≤◌, ◌<◌, Bool, true, false, ◌&&◌, ◌⊎◌, ◌==◌, if◌then◌else◌, List, [], ◌∷◌, ◌++◌, length, Option, Some, None, is_none, slice_get, Contains}
 use Rattle.std.specs.FinMap.{get}
 use Rattle.std.specs.List.{IsDistinct, filter}
 use Rattle.moka_parts.specs.declared.notification.RemovalCause.{RemovalCause}
@@ -12,8 +12,9 @@ use Rattle.moka_parts.specs.Visibility.{Covers, SomeCovers, NoneCovers}
 use Rattle.moka_parts.specs.Maintenance.{Choice, Removes, MovesToBack, Drops, Tests, kept_by_choices, AreJustified}
 use Rattle.moka_parts.specs.Scan.{AreUncovered}
 use Rattle.moka_store.specs.Store.{Kept}
-use Rattle.moka_maintenance.specs.Expelled.{without_record}
-use Rattle.moka_maintenance.specs.Steps.{Stock, contents_in, stock_in, left_by_step, AreAllMembers, HasNoSettled, IsStepped, Told}
+use Rattle.moka_maintenance.specs.Expelled.{Expels}
+use Rattle.moka_maintenance.specs.Steps.{Stock, contents_in, stock_in, AreAllMembers, HasNoSettled, IsStepped}
+use Rattle.moka_maintenance.specs.Upkeep.{SetsNoTimer}
 
 -- the numbers from the cursor on, which is at the front where it is at none
 abbrev pub from_cursor : Option ℕ → List ℕ → List ℕ
@@ -88,13 +89,22 @@ module _ {K V P : Type 0} (says : P → K → V → Bool → Type 0) where
     pub stay : LeavesSome walked kept
     pub next : round_from new.cursor new.written ≡ ahead ++ kept
 
+-- how far a walk went that passes `most` members at most and looks at `batch` of them: to the end, unless one of these was reached
+pub record IsStretch {K V S : Type 0} (most batch : ℕ) (old new : Kept K V S) (looked passed : ℕ) (end : Bool) : Type 0 where
+  pub ended : end ≡ is_none new.cursor
+  pub stopped : end ≡ false → (most ≤ passed) ⊎ (batch ≤ looked)
+  pub few : passed ≤ most
+  pub used : looked ≤ batch
+  pub once : IsDistinct (◌==◌) new.written
+  pub upkeep : SetsNoTimer old new
+
 module _ {K V L P : Type 0} (tells : L → K → V → RemovalCause → L → Type 0) (says : P → K → V → Bool → Type 0) (ps : List (Registered P)) where
   -- a member is looked at: one that is not settled stays; a settled one stays where no predicate covers it, and else leaves
   abbrev pub LooksAt : {S : Type 0} → Kept K V S → Kept K V S → Option L → Option L → ℕ → Bool → Type 0
   LooksAt old new l m n false = (is_settled old.records n ≡ false) × (new ≡ old) × (m ≡ l)
   LooksAt old new l m n true = (is_settled old.records n ≡ true)
       × (((new ≡ old) × (m ≡ l) × ((r : Record K V) → get old.records n ≡ Some r → NoneCovers says ps r))
-      ⊎ (MayScan says ps (stock_in old) (Removes n Explicit) × (new ≡ without_record n new.room old) × (old.room ≤ new.room) × Told tells l (left_by_step (stock_in old) (Removes n Explicit)) m))
+      ⊎ (MayScan says ps (stock_in old) (Removes n Explicit) × Expels tells n Explicit old new l m))
 
   -- a walk along the members of `rest`, which stand behind `before`, up to the one before the next
   pub record IsWalked {S : Type 0} (old new : Kept K V S) (l m : Option L) (before rest : List ℕ) (next : Option ℕ) (looked passed : ℕ) : Type 0 where
@@ -121,6 +131,7 @@ module _ {K V L P : Type 0} (tells : L → K → V → RemovalCause → L → Ty
     pub unlooked : old.ordered ≡ true → 1 ≤ batch → looked ≡ 0 → HasNoSettled (stock_in old)
     -- with a batch for all members it is a whole one
     pub whole : old.ordered ≡ true → length old.access ≤ batch → AreUncovered says ps new.records old.written × (end ≡ true)
+    pub upkeep : SetsNoTimer old new
 
   -- a scan with the drop behind it, and whether it leaves more
   pub record IsScanned {S : Type 0} (batch : ℕ) (old new : Kept K V S) (qs : List (Registered P)) (l m : Option L) (left : Bool) : Type 0 where
@@ -138,3 +149,4 @@ module _ {K V L P : Type 0} (tells : L → K → V → RemovalCause → L → Ty
     pub unfinished : old.ordered ≡ true → 1 ≤ batch → 0 < length qs → (left ≡ true) ⊎ HasNoSettled (stock_in new)
     -- with a batch for all members, no predicate is left once every record is settled
     pub whole : old.ordered ≡ true → length old.access ≤ batch → AreAllMembers (stock_in old) → qs ≡ []
+    pub upkeep : SetsNoTimer old new

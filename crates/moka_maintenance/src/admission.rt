@@ -1,26 +1,26 @@
 //! What queued reads and writes make of the records and their order.
 //!
 //! moka: `sync::base_cache::Inner::apply_reads`, `Inner::apply_writes`, `Inner::handle_upsert`.
-ghost use Rattle.std.specs.Prelude.{◌≡◌, ◌<◌, ℕ, true, [], None, Some, Contains};
+ghost use Rattle.std.specs.Prelude.{◌≡◌, ◌<◌, ℕ, true, [], Some, Contains};
 ghost use Rattle.std.specs.FinMap as finite;
 ghost use Rattle.circular_buffer.specs.Buffer.{buffer};
-ghost use Rattle.moka_parts.specs.declared.records.Operation.TheVariants.{Upsert, Removal};
-ghost use Rattle.moka_parts.specs.declared.records.ReadOperation.{ReadOperation};
-ghost use Rattle.moka_parts.specs.declared.records.ReadOperation.TheVariants.{Hit};
+ghost use Rattle.moka_parts.specs.declared.records.Operation.TheVariants.{Removal};
 ghost use Rattle.moka_parts.specs.declared.records.Record.{Record};
-ghost use Rattle.moka_parts.specs.Records.{counted_of, entered_by, has_room, to_back, without_member, number_to_back, without_number};
+ghost use Rattle.moka_parts.specs.Records.{entered_by, to_back, without_member, number_to_back, without_number};
 ghost use Rattle.moka_parts.specs.Reads.{after_read, after_reads};
 ghost use Rattle.moka_parts.specs.Settling.{number_of};
 ghost use Rattle.moka_parts.specs.Writes.{entered, rejected, left_by_rejection};
 ghost use Rattle.moka_store.specs.Store.{IsPlaced, IsHandle, cursor_past};
 ghost use Rattle.moka_maintenance.specs.declared.queued.QueuedRead.{QueuedRead};
 ghost use Rattle.moka_maintenance.specs.declared.queued.QueuedWrite.{QueuedWrite};
-ghost use Rattle.moka_maintenance.specs.Queued.{IsAt, IsReadAt, reads_of, writes_of};
-ghost use Rattle.moka_maintenance.specs.Queues.{IsApplied, AreApplied, IsCompared, LeavesNoRowAfter, LeavesNoRowBy};
+ghost use Rattle.moka_maintenance.specs.Queued.{IsAt, IsReadAt, IsRenewed, IsRenewedBy, reads_of, writes_of};
+ghost use Rattle.moka_maintenance.specs.Handles.{IsOutside};
+ghost use Rattle.moka_maintenance.specs.Queues.{AppliesUpsert, AppliesWrite, AppliesWrites, IsCompared, LeavesNoRowAfter};
 ghost use Rattle.moka_maintenance.specs.Steps.{contents_in, contents_with, Told};
-ghost use Rattle.moka_maintenance.specs.Timers.{KeepsTimers, StandsAtExpiry};
+ghost use Rattle.moka_maintenance.specs.Timers.{Serves};
 ghost use Rattle.moka_maintenance.specs.Upkeep.{Upkeep};
 
+use crate::bounds::Bounds;
 use crate::choice::{choose, expel_front};
 use crate::expel::expel;
 use crate::queued::{PlacedWrite, QueuedRead, QueuedWrite};
@@ -49,9 +49,7 @@ pub fn apply_reads<K: Eq + Hash, V, S: BuildHasher>(
 )
     requires { (q : QueuedRead) → Contains reads.old.items q → IsReadAt store.old.places q.place q.read }
     ensures applied { contents_with sketch.new store.new ≡ after_reads (contents_with sketch.old store.old) (reads_of reads.old.items) }
-    ensures rest { store.new ≡ record store.old { access = store.new.access; timers = store.new.timers } }
-    ensures renewed { (q : QueuedRead) (n hash : ℕ) → Contains reads.old.items q → q.read ≡ Hit n hash true → StandsAtExpiry n store.new }
-    ensures timers { KeepsTimers store.old store.new }
+    ensures served { Serves (IsRenewedBy reads.old.items) store.old store.new }
     ensures reads { reads.new ≡ buffer [] reads.old.capacity }
 {
     // The queue is gone through where it lies and emptied at once, so that the next reads lie there again.
@@ -69,10 +67,7 @@ fn apply_each_read<K: Eq + Hash, V, S: BuildHasher>(
 )
     requires { (q : QueuedRead) → Contains reads.now q → IsReadAt store.old.places q.place q.read }
     ensures applied { contents_with sketch.new store.new ≡ after_reads (contents_with sketch.old store.old) (reads_of reads.now) }
-    ensures rest { store.new ≡ record store.old { access = store.new.access; timers = store.new.timers } }
-    ensures renewed { (q : QueuedRead) (n hash : ℕ) → Contains reads.now q → q.read ≡ Hit n hash true → StandsAtExpiry n store.new }
-    ensures kept { (n : ℕ) → StandsAtExpiry n store.old → StandsAtExpiry n store.new }
-    ensures timers { KeepsTimers store.old store.new }
+    ensures served { Serves (IsRenewedBy reads.now) store.old store.new }
 {
     let mut rest = reads;
     while let Some((read, behind)) = rest.split_first() {
@@ -90,10 +85,7 @@ fn apply_read<K: Eq + Hash, V, S: BuildHasher>(
 )
     requires { IsReadAt store.old.places queued.place queued.read }
     ensures applied { contents_with sketch.new store.new ≡ after_read (contents_with sketch.old store.old) queued.read }
-    ensures rest { store.new ≡ record store.old { access = store.new.access; timers = store.new.timers } }
-    ensures renewed { (n hash : ℕ) → queued.read ≡ Hit n hash true → StandsAtExpiry n store.new }
-    ensures kept { (n : ℕ) → StandsAtExpiry n store.old → StandsAtExpiry n store.new }
-    ensures timers { KeepsTimers store.old store.new }
+    ensures served { Serves (IsRenewed queued.read) store.old store.new }
 {
     match queued.read {
         ReadOperation::Hit {
@@ -117,20 +109,18 @@ pub fn apply_writes<K: Eq + Hash + Drop, V: Drop, S: BuildHasher, L: Listener<K,
     store: &mut Store<K, V, S>,
     sketch: &FrequencySketch,
     notifier: &mut RemovalNotifier<L>,
-    capacity: Option<u64>,
-    policy: EvictionPolicy,
+    bounds: Bounds,
     writes: &mut HeapCircularBuffer<QueuedWrite>,
 )
-    requires at { (q : QueuedWrite) → Contains writes.old.items q → IsAt store.old.places (number_of q.write.operation) q.write.place }
-    ensures applied { AreApplied L.tells capacity policy store.old.ordered (contents_with sketch.now store.old)
-        (contents_with sketch.now store.new) store.old.written store.new.written (writes_of writes.old.items) notifier.old notifier.new }
-    ensures upkeep { Upkeep store.old store.new }
-    ensures rows { LeavesNoRowBy (writes_of writes.old.items) store.old store.new }
+    requires { (q : QueuedWrite) → Contains writes.old.items q →
+        IsAt store.old.places (number_of q.write.operation) q.write.place }
+    ensures applied { AppliesWrites L.tells bounds sketch.now store.old store.new (writes_of writes.old.items)
+        notifier.old notifier.new }
     ensures writes { writes.new ≡ buffer [] writes.old.capacity }
 {
     let (first, second) = writes.as_slices();
-    apply_each_write(store, sketch, notifier, capacity, policy, first);
-    apply_each_write(store, sketch, notifier, capacity, policy, second);
+    apply_each_write(store, sketch, notifier, bounds, first);
+    apply_each_write(store, sketch, notifier, bounds, second);
     writes.clear();
 }
 
@@ -139,19 +129,17 @@ fn apply_each_write<K: Eq + Hash + Drop, V: Drop, S: BuildHasher, L: Listener<K,
     store: &mut Store<K, V, S>,
     sketch: &FrequencySketch,
     notifier: &mut RemovalNotifier<L>,
-    capacity: Option<u64>,
-    policy: EvictionPolicy,
+    bounds: Bounds,
     writes: &[QueuedWrite],
 )
-    requires at { (q : QueuedWrite) → Contains writes.now q → IsAt store.old.places (number_of q.write.operation) q.write.place }
-    ensures applied { AreApplied L.tells capacity policy store.old.ordered (contents_with sketch.now store.old)
-        (contents_with sketch.now store.new) store.old.written store.new.written (writes_of writes.now) notifier.old notifier.new }
-    ensures upkeep { Upkeep store.old store.new }
-    ensures rows { LeavesNoRowBy (writes_of writes.now) store.old store.new }
+    requires { (q : QueuedWrite) → Contains writes.now q →
+        IsAt store.old.places (number_of q.write.operation) q.write.place }
+    ensures { AppliesWrites L.tells bounds sketch.now store.old store.new (writes_of writes.now)
+        notifier.old notifier.new }
 {
     let mut rest = writes;
     while let Some((sent, behind)) = rest.split_first() {
-        apply_write(store, sketch, notifier, capacity, policy, sent.write);
+        apply_write(store, sketch, notifier, bounds, sent.write);
         rest = behind;
     }
 }
@@ -161,15 +149,11 @@ fn apply_write<K: Eq + Hash + Drop, V: Drop, S: BuildHasher, L: Listener<K, V>>(
     store: &mut Store<K, V, S>,
     sketch: &FrequencySketch,
     notifier: &mut RemovalNotifier<L>,
-    capacity: Option<u64>,
-    policy: EvictionPolicy,
+    bounds: Bounds,
     write: PlacedWrite,
 )
-    requires at { IsAt store.old.places (number_of write.operation) write.place }
-    ensures applied { IsApplied L.tells capacity policy store.old.ordered (contents_with sketch.now store.old)
-        (contents_with sketch.now store.new) store.old.written store.new.written write.operation notifier.old notifier.new }
-    ensures upkeep { Upkeep store.old store.new }
-    ensures rows { LeavesNoRowAfter write.operation store.old store.new }
+    requires { IsAt store.old.places (number_of write.operation) write.place }
+    ensures { AppliesWrite L.tells bounds sketch.now store.old store.new write.operation notifier.old notifier.new }
 {
     let place = write.place;
     match write.operation {
@@ -185,7 +169,7 @@ fn apply_write<K: Eq + Hash + Drop, V: Drop, S: BuildHasher, L: Listener<K, V>>(
                 weight,
                 hash,
             };
-            apply_upsert(store, sketch, notifier, capacity, policy, upsert);
+            apply_upsert(store, sketch, notifier, bounds, upsert);
         }
         Operation::Removal { number, .. } => apply_removal(store, Handle { number, place }),
     }
@@ -197,15 +181,11 @@ fn apply_upsert<K: Eq + Hash + Drop, V: Drop, S: BuildHasher, L: Listener<K, V>>
     store: &mut Store<K, V, S>,
     sketch: &FrequencySketch,
     notifier: &mut RemovalNotifier<L>,
-    capacity: Option<u64>,
-    policy: EvictionPolicy,
+    bounds: Bounds,
     upsert: PlacedUpsert,
 )
-    requires at { IsAt store.old.places upsert.handle.number upsert.handle.place }
-    ensures applied { IsApplied L.tells capacity policy store.old.ordered (contents_with sketch.now store.old)
-        (contents_with sketch.now store.new) store.old.written store.new.written
-        (Upsert upsert.handle.number upsert.generation upsert.weight upsert.hash) notifier.old notifier.new }
-    ensures upkeep { Upkeep store.old store.new }
+    requires { IsAt store.old.places upsert.handle.number upsert.handle.place }
+    ensures { AppliesUpsert L.tells bounds sketch.now store.old store.new upsert notifier.old notifier.new }
 {
     let handle = upsert.handle;
     store.invariant_holds();
@@ -222,7 +202,7 @@ fn apply_upsert<K: Eq + Hash + Drop, V: Drop, S: BuildHasher, L: Listener<K, V>>
         store.recount(handle, upsert.weight);
         store.set_timer(handle);
     } else {
-        admit_or_reject(store, sketch, notifier, capacity, policy, upsert);
+        admit_or_reject(store, sketch, notifier, bounds, upsert);
     }
 }
 
@@ -232,24 +212,19 @@ fn admit_or_reject<K: Eq + Hash + Drop, V: Drop, S: BuildHasher, L: Listener<K, 
     store: &mut Store<K, V, S>,
     sketch: &FrequencySketch,
     notifier: &mut RemovalNotifier<L>,
-    capacity: Option<u64>,
-    policy: EvictionPolicy,
+    bounds: Bounds,
     upsert: PlacedUpsert,
 )
-    requires handle { IsHandle store.old upsert.handle }
-    requires apart { counted_of upsert.handle.number store.old.access ≡ None }
+    requires outside { IsOutside store.old upsert.handle }
     requires newer { (r : Record K V) → finite.get store.old.records upsert.handle.number ≡ Some r → r.applied < upsert.generation }
-    ensures applied { IsApplied L.tells capacity policy store.old.ordered (contents_with sketch.now store.old)
-        (contents_with sketch.now store.new) store.old.written store.new.written
-        (Upsert upsert.handle.number upsert.generation upsert.weight upsert.hash) notifier.old notifier.new }
-    ensures upkeep { Upkeep store.old store.new }
+    ensures { AppliesUpsert L.tells bounds sketch.now store.old store.new upsert notifier.old notifier.new }
 {
-    if has_room(capacity, store.total_weight(), upsert.weight) {
+    if bounds.has_room(store.total_weight(), upsert.weight) {
         enter(store, upsert);
-    } else if !has_room(capacity, 0, upsert.weight) {
+    } else if !bounds.has_room(0, upsert.weight) {
         reject(store, notifier, upsert.handle, upsert.generation);
     } else {
-        match policy {
+        match bounds.policy {
             // The least recently used will leave for it.
             EvictionPolicy::Lru => enter(store, upsert),
             EvictionPolicy::TinyLfu => compare(store, sketch, notifier, upsert),
@@ -264,8 +239,7 @@ fn compare<K: Eq + Hash + Drop, V: Drop, S: BuildHasher, L: Listener<K, V>>(
     notifier: &mut RemovalNotifier<L>,
     candidate: PlacedUpsert,
 )
-    requires handle { IsHandle store.old candidate.handle }
-    requires apart { counted_of candidate.handle.number store.old.access ≡ None }
+    requires { IsOutside store.old candidate.handle }
     ensures compared { (r : Record K V) → finite.get store.old.records candidate.handle.number ≡ Some r →
         IsCompared L.tells store.old.ordered (contents_with sketch.now store.old) (contents_with sketch.now store.new)
         store.old.written store.new.written candidate.handle.number candidate.generation candidate.weight candidate.hash r
@@ -281,23 +255,9 @@ fn compare<K: Eq + Hash + Drop, V: Drop, S: BuildHasher, L: Listener<K, V>>(
     }
 }
 
-// Whether so much more weight stays within the capacity, if there is one.
-fn has_room(capacity: Option<u64>, total: u128, weight: u32) -> bool
-    ensures { result ≡ has_room capacity total weight }
-{
-    match capacity {
-        Some(capacity) => {
-            let capacity = u128::from(capacity);
-            total <= capacity && u128::from(weight) <= capacity - total
-        }
-        None => true,
-    }
-}
-
 // The record has seen the operation, and enters both orders with its timer.
 fn enter<K: Eq + Hash, V, S: BuildHasher>(store: &mut Store<K, V, S>, upsert: PlacedUpsert)
-    requires handle { IsHandle store.old upsert.handle }
-    requires apart { counted_of upsert.handle.number store.old.access ≡ None }
+    requires { IsOutside store.old upsert.handle }
     ensures step { (r : Record K V) → finite.get store.old.records upsert.handle.number ≡ Some r →
         contents_in store.new ≡ entered upsert.handle.number upsert.generation upsert.weight r (contents_in store.old) }
     ensures written { store.new.written ≡ entered_by store.old.ordered upsert.handle.number store.old.written }
@@ -316,8 +276,7 @@ fn reject<K: Eq + Hash + Drop, V: Drop, S: BuildHasher, L: Listener<K, V>>(
     handle: Handle,
     generation: u64,
 )
-    requires handle { IsHandle store.old handle }
-    requires apart { counted_of handle.number store.old.access ≡ None }
+    requires { IsOutside store.old handle }
     ensures step { (r : Record K V) → finite.get store.old.records handle.number ≡ Some r → contents_in store.new ≡ rejected handle.number generation r (contents_in store.old) }
     ensures told { (r : Record K V) → finite.get store.old.records handle.number ≡ Some r → Told L.tells notifier.old (left_by_rejection generation r) notifier.new }
     ensures written { store.old.ordered ≡ true → store.new.written ≡ store.old.written }
@@ -343,7 +302,7 @@ fn pass<K: Eq + Hash, V, S: BuildHasher>(store: &mut Store<K, V, S>, handle: Han
       timers = store.new.timers;
       cursor = cursor_past handle.number store.old.written store.old.cursor;
     } }
-    ensures timers { KeepsTimers store.old store.new }
+    ensures upkeep { Upkeep store.old store.new }
 {
     if store.is_member(handle) {
         store.move_to_back(handle);
@@ -359,10 +318,8 @@ fn pass_read<K: Eq + Hash, V, S: BuildHasher>(
     renewed: bool,
 )
     requires { IsHandle store.old handle }
-    ensures step { store.new ≡ record store.old { access = to_back handle.number store.old.access; timers = store.new.timers } }
-    ensures renewed { renewed ≡ true → StandsAtExpiry handle.number store.new }
-    ensures kept { (n : ℕ) → StandsAtExpiry n store.old → StandsAtExpiry n store.new }
-    ensures timers { KeepsTimers store.old store.new }
+    ensures access { store.new.access ≡ to_back handle.number store.old.access }
+    ensures served { Serves (λ n. (n ≡ handle.number) × (renewed ≡ true)) store.old store.new }
 {
     if store.is_member(handle) {
         store.move_in_access(handle);

@@ -1,7 +1,7 @@
 //! TinyLFU's choice between a candidate and the members that would make room for it.
 //!
 //! moka: `sync::base_cache::Inner::admit`.
-ghost use Rattle.std.specs.Prelude.{◌≡◌, ◌+◌, ◌<◌, ◌^◌, ℕ, true, false, None, IfSome, IfNone, take};
+ghost use Rattle.std.specs.Prelude.{◌≡◌, ◌+◌, ◌<◌, ◌^◌, ℕ, true, false, None, MatchOption, take};
 ghost use Rattle.std.specs.FinMap as finite;
 ghost use Rattle.moka_sketch.specs.Frequency.{frequency};
 ghost use Rattle.moka_parts.specs.Candidates.{hash_of};
@@ -91,9 +91,9 @@ fn frequency_of<K: Eq + Hash, V, S: BuildHasher>(
     handle: Handle,
 ) -> Option<u8>
     requires { IsPlaced store.now handle }
-    ensures settled { IfSome result (λ f. is_settled store.now.records handle.number ≡ true) }
-    ensures seen { IfSome result (λ f. (counted : ℕ) → f ≡ frequency sketch.now (hash_of (contents_with sketch.now store.now) (member handle.number counted))) }
-    ensures unsettled { IfNone result (is_settled store.now.records handle.number ≡ false) }
+    ensures { MatchOption result (is_settled store.now.records handle.number ≡ false)
+        (λ f. (is_settled store.now.records handle.number ≡ true) × ((counted : ℕ) →
+        f ≡ frequency sketch.now (hash_of (contents_with sketch.now store.now) (member handle.number counted)))) }
 {
     match store.find(handle) {
         Some(found) if found.applied == found.generation => Some(sketch.frequency(found.hash)),

@@ -1,14 +1,13 @@
 //! Timers that are due: records whose own expiry has come leave.
 //!
 //! moka: `sync::base_cache::Inner::evict_expired_entries_using_timers`.
-ghost use Rattle.std.specs.Prelude.{◌≡◌, ◌≤◌, IsSome, None, if◌then◌else◌};
+ghost use Rattle.std.specs.Prelude.{◌≡◌, None, if◌then◌else◌};
 ghost use Rattle.std.specs.FinMap as finite;
-ghost use Rattle.moka_parts.specs.Records.{counted_of};
-ghost use Rattle.moka_store.specs.Store.{IsPlaced};
-ghost use Rattle.moka_maintenance.specs.Steps.{stock_in, AddsNoPlace, LeavesNoRow};
+ghost use Rattle.moka_maintenance.specs.Handles.{IsMemberAt};
+ghost use Rattle.moka_maintenance.specs.Steps.{stock_in};
 ghost use Rattle.moka_maintenance.specs.Sweeps.{ExpiresDue};
-ghost use Rattle.moka_maintenance.specs.Timers.{HasNoneDue, IsReset};
-ghost use Rattle.moka_maintenance.specs.Upkeep.{Upkeep};
+ghost use Rattle.moka_maintenance.specs.Timers.{IsReset};
+ghost use Rattle.moka_maintenance.specs.Upkeep.{UpkeepAt};
 
 use crate::expel::expel;
 use crate::sweep::Tests;
@@ -24,8 +23,7 @@ pub(crate) fn expire_due<K: Eq + Hash + Drop, V: Drop, S: BuildHasher, L: Listen
     tests: Tests,
 ) -> u32
     ensures expired { ExpiresDue L.tells tests (stock_in store.old) (stock_in store.new) notifier.old notifier.new result }
-    ensures none { HasNoneDue tests.now.0 store.new }
-    ensures upkeep { Upkeep store.old store.new }
+    ensures kept { UpkeepAt tests.now.0 store.old store.new }
 {
     // No more leave than there are members.
     let _members = store.member_count();
@@ -46,14 +44,10 @@ fn expire<K: Eq + Hash + Drop, V: Drop, S: BuildHasher, L: Listener<K, V>>(
     tests: Tests,
     handle: Handle,
 ) -> bool
-    requires placed { IsPlaced store.old handle }
-    requires member { IsSome (counted_of handle.number store.old.access) }
+    requires member { IsMemberAt store.old handle }
     requires untimed { finite.get store.old.timers handle.number ≡ None }
     ensures expired { ExpiresDue L.tells tests (stock_in store.old) (stock_in store.new) notifier.old notifier.new (if result then 1 else 0) }
-    ensures timers { IsReset tests.now.0 handle.number store.old store.new }
-    ensures places { AddsNoPlace store.old store.new }
-    ensures rows { LeavesNoRow store.old store.new }
-    ensures room { store.old.room ≤ store.new.room }
+    ensures reset { IsReset tests.now.0 handle.number store.old store.new }
 {
     if !store.is_settled(handle) {
         return false;

@@ -2,6 +2,7 @@
 #![tactic(auto)]
 
 pub mod admission;
+pub mod bounds;
 mod choice;
 mod due;
 mod expel;

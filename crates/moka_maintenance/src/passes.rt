@@ -1,13 +1,12 @@
 //! A run of maintenance: passes of the steps that remove, and the clock between them.
 //!
 //! moka: `sync::base_cache::Inner::do_run_pending_tasks`.
-ghost use Rattle.std.specs.Prelude.{◌≡◌, ◌≤◌, ◌+◌, ◌||◌, true, false, Some, option_map};
+ghost use Rattle.std.specs.Prelude.{◌≡◌, ◌+◌, ◌&&◌, ◌||◌, Some, nat_lt, option_map};
 ghost use Rattle.std.specs.Duration.{as_nanos};
 ghost use Rattle.moka_maintenance.specs.Steps.{stock_in};
 ghost use Rattle.moka_maintenance.specs.Sweeps.{IsSwept};
-ghost use Rattle.moka_maintenance.specs.Timers.{HasNoneDue};
 ghost use Rattle.moka_maintenance.specs.Passes.{Starts, Checks, is_taken, IsPass, IsRan};
-ghost use Rattle.moka_maintenance.specs.Upkeep.{Upkeep, SetsNoTimer};
+ghost use Rattle.moka_maintenance.specs.Upkeep.{SetsNoTimer, UpkeepAt};
 
 use crate::due::expire_due;
 use crate::scan::scan;
@@ -23,6 +22,16 @@ use std::time::Duration;
 
 // How many rows are read ahead at most: as many as a run removes where one is made at each 64th operation.
 const MOST_AHEAD: u128 = 64;
+
+/// What a run goes by.
+#[derive(Clone, Copy)]
+pub struct Terms {
+    pub tests: Tests,
+    /// After this time no further pass is made.
+    pub limit: Option<Duration>,
+    /// How many turns each sweep of a pass makes at most, and at how many records its scan looks.
+    pub batch: u32,
+}
 
 /// What a run came to.
 #[derive(Clone, Copy, Debug, PartialEq, Eq)]
@@ -44,6 +53,38 @@ struct Pass {
     is_scan_left: bool,
 }
 
+impl Pass {
+    // What the steps came to, the first of which leaves nothing.
+    fn joined(due: u32, by_write: Swept, by_read: Swept, is_scan_left: bool, surplus: Swept) -> Self
+        ensures { result ≡ record {
+          removed = due + by_write.removed + by_read.removed + surplus.removed;
+          is_left = by_write.is_left || by_read.is_left || surplus.is_left;
+          is_scan_left = is_scan_left;
+        } }
+    {
+        let by_moment = u64::from(due) + u64::from(by_write.removed) + u64::from(by_read.removed);
+        Pass {
+            removed: by_moment + u64::from(surplus.removed),
+            is_left: by_write.is_left || by_read.is_left || surplus.is_left,
+            is_scan_left,
+        }
+    }
+
+    // Whether it left more.
+    fn leaves_more(self) -> bool
+        ensures { result ≡ (self.is_left || self.is_scan_left) }
+    {
+        self.is_left || self.is_scan_left
+    }
+
+    // Whether another pass is due.
+    fn goes_on(self) -> bool
+        ensures { result ≡ ((self.is_left || self.is_scan_left) && nat_lt 0 self.removed) }
+    {
+        self.leaves_more() && self.removed > 0
+    }
+}
+
 /// Makes passes until one leaves nothing or removes nothing beside its scan, or the limit has passed since the start.
 pub fn make_passes<
     K: Eq + Hash + Drop,
@@ -57,28 +98,25 @@ pub fn make_passes<
     notifier: &mut RemovalNotifier<L>,
     invalidator: &mut Invalidator<P>,
     clock: &mut C,
-    tests: Tests,
-    limit: Option<Duration>,
-    batch: u32,
+    terms: Terms,
 ) -> Ran
-    ensures ran { IsRan L.tells P.says tests C.reads (option_map as_nanos limit) batch store.old.ordered invalidator.old
-        invalidator.new (stock_in store.old) (stock_in store.new) notifier.old notifier.new clock.old clock.new
+    ensures ran { IsRan L.tells P.says terms.tests C.reads (option_map as_nanos terms.limit) terms.batch
+        store.old.ordered invalidator.old invalidator.new (stock_in store.old) (stock_in store.new) notifier.old notifier.new clock.old clock.new
         result.passes result.is_left }
-    ensures none { HasNoneDue tests.now.0 store.new }
-    ensures upkeep { Upkeep store.old store.new }
+    ensures kept { UpkeepAt terms.tests.now.0 store.old store.new }
 {
     // There are no more passes than members, and one.
     let _members = store.member_count();
-    let started = start(limit, clock);
+    let started = start(terms.limit, clock);
     let mut passes = 0u64;
     loop {
         passes += 1;
-        let pass = make_pass(store, notifier, invalidator, tests, batch);
-        if !goes_on(pass) {
-            let is_left = leaves_more(pass);
+        let pass = make_pass(store, notifier, invalidator, terms);
+        if !pass.goes_on() {
+            let is_left = pass.leaves_more();
             return Ran { passes, is_left };
         }
-        if is_late(started, limit, clock) {
+        if is_late(started, terms.limit, clock) {
             let is_left = true;
             return Ran { passes, is_left };
         }
@@ -90,74 +128,57 @@ fn make_pass<K: Eq + Hash + Drop, V: Drop, S: BuildHasher, L: Listener<K, V>, P:
     store: &mut Store<K, V, S>,
     notifier: &mut RemovalNotifier<L>,
     invalidator: &mut Invalidator<P>,
-    tests: Tests,
-    batch: u32,
+    terms: Terms,
 ) -> Pass
 where
     P: PredicateFn<K, V>,
-    ensures pass { IsPass L.tells P.says tests batch store.old.ordered invalidator.old invalidator.new
+    ensures pass { IsPass L.tells P.says terms.tests terms.batch store.old.ordered invalidator.old invalidator.new
         (stock_in store.old) (stock_in store.new) notifier.old notifier.new result.removed result.is_left
         result.is_scan_left }
-    ensures none { HasNoneDue tests.now.0 store.new }
-    ensures upkeep { Upkeep store.old store.new }
+    ensures kept { UpkeepAt terms.tests.now.0 store.old store.new }
 {
-    let due = expire_due(store, notifier, tests);
-    let by_write = take_step(store, notifier, tests, Sweep::Written, batch);
-    let by_read = take_step(store, notifier, tests, Sweep::Read, batch);
-    let is_scan_left = scan(store, notifier, invalidator, batch);
-    let surplus = take_step(store, notifier, tests, Sweep::Surplus, batch);
-    joined(due, by_write, by_read, is_scan_left, surplus)
-}
-
-// What the steps came to, the first of which leaves nothing.
-fn joined(due: u32, by_write: Swept, by_read: Swept, is_scan_left: bool, surplus: Swept) -> Pass
-    ensures removed { result.removed ≡ due + by_write.removed + by_read.removed + surplus.removed }
-    ensures left { result.is_left ≡ (by_write.is_left || by_read.is_left || surplus.is_left) }
-    ensures scan { result.is_scan_left ≡ is_scan_left }
-{
-    let by_moment = u64::from(due) + u64::from(by_write.removed) + u64::from(by_read.removed);
-    Pass {
-        removed: by_moment + u64::from(surplus.removed),
-        is_left: by_write.is_left || by_read.is_left || surplus.is_left,
-        is_scan_left,
-    }
+    let due = expire_due(store, notifier, terms.tests);
+    let by_write = take_step(store, notifier, terms, Sweep::Written);
+    let by_read = take_step(store, notifier, terms, Sweep::Read);
+    let is_scan_left = scan(store, notifier, invalidator, terms.batch);
+    let surplus = take_step(store, notifier, terms, Sweep::Surplus);
+    Pass::joined(due, by_write, by_read, is_scan_left, surplus)
 }
 
 // A step of a pass, where it is to be taken.
 fn take_step<K: Eq + Hash + Drop, V: Drop, S: BuildHasher, L: Listener<K, V>>(
     store: &mut Store<K, V, S>,
     notifier: &mut RemovalNotifier<L>,
-    tests: Tests,
+    terms: Terms,
     sweep: Sweep,
-    batch: u32,
 ) -> Swept
-    ensures swept { IsSwept L.tells tests sweep batch (stock_in store.old) (stock_in store.new) notifier.old notifier.new result.removed result.is_left }
-    ensures idle { batch ≡ 0 → result.is_left ≡ is_taken tests sweep store.old.access }
+    ensures swept { IsSwept L.tells terms.tests sweep terms.batch (stock_in store.old) (stock_in store.new) notifier.old notifier.new
+        result.removed result.is_left }
+    ensures idle { terms.batch ≡ 0 → result.is_left ≡ is_taken terms.tests sweep store.old.access }
     ensures upkeep { SetsNoTimer store.old store.new }
 {
-    if !is_taken(store, tests, sweep) {
+    if !is_taken(store, terms.tests, sweep) {
         return Swept {
             removed: 0,
             is_left: false,
         };
     }
-    read_ahead(store, tests, sweep, batch);
-    sweep_along(store, notifier, tests, sweep, batch)
+    read_ahead(store, terms, sweep);
+    sweep_along(store, notifier, terms.tests, sweep, terms.batch)
 }
 
 // Reads the rows of the members that are about to be evicted. Where entries weigh more than 1 these are fewer, and some
 // rows are read in vain.
 fn read_ahead<K: Eq + Hash, V, S: BuildHasher>(
     store: &mut Store<K, V, S>,
-    tests: Tests,
+    terms: Terms,
     sweep: Sweep,
-    batch: u32,
 )
     ensures { store.new ≡ store.old }
 {
-    if let (Sweep::Surplus, Some(limit)) = (sweep, tests.capacity) {
+    if let (Sweep::Surplus, Some(limit)) = (sweep, terms.tests.capacity) {
         let surplus = store.total_weight().saturating_sub(u128::from(limit));
-        let rows = surplus.min(MOST_AHEAD).min(u128::from(batch));
+        let rows = surplus.min(MOST_AHEAD).min(u128::from(terms.batch));
         store.read_ahead(rows as usize);
     }
 }
@@ -179,21 +200,6 @@ fn is_taken<K: Eq + Hash, V, S: BuildHasher>(
         Sweep::Read => tests.time_to_idle.is_some() || tests.valid_after.is_some(),
         Sweep::Surplus => is_over(tests.capacity, store.total_weight()),
     }
-}
-
-// Whether a pass left more.
-fn leaves_more(pass: Pass) -> bool
-    ensures { result ≡ (pass.is_left || pass.is_scan_left) }
-{
-    pass.is_left || pass.is_scan_left
-}
-
-// Whether another pass is due.
-fn goes_on(pass: Pass) -> bool
-    ensures due { result ≡ true → ((pass.is_left || pass.is_scan_left) ≡ true) × (1 ≤ pass.removed) }
-    ensures over { result ≡ false → (pass.is_left || pass.is_scan_left) ≡ true → pass.removed ≡ 0 }
-{
-    leaves_more(pass) && pass.removed > 0
 }
 
 // Reads the clock where a limit is given.

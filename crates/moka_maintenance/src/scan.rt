@@ -2,15 +2,14 @@
 //! has come to the end, the predicates that cover no record leave.
 //!
 //! moka: `sync::invalidator::Invalidator::scan_and_invalidate`, `Invalidator::remove_predicates_registered_before`.
-ghost use Rattle.std.specs.Prelude.{◌≡◌, ◌≤◌, ◌<◌, ℕ, ◌++◌, ◌⊎◌, ◌==◌, List, true, false, Some, IfSome, IsSome, MatchBool, is_none, length, option_map, slice_get};
+ghost use Rattle.std.specs.Prelude.{◌≡◌, ◌<◌, ℕ, ◌++◌, ◌==◌, List, Some, IfSome, MatchBool, length, option_map, slice_get};
 ghost use Rattle.std.specs.List.{IsDistinct};
 ghost use Rattle.moka_parts.specs.declared.records.Registered.{Registered};
 ghost use Rattle.moka_parts.specs.Maintenance.{CoversNothing};
-ghost use Rattle.moka_parts.specs.Records.{counted_of};
-ghost use Rattle.moka_store.specs.Store.{IsPlaced, IsOrdered};
-ghost use Rattle.moka_maintenance.specs.Scanning.{from_cursor, CoversSome, LooksAt, IsWalked, IsRound, AllDropped, IsScanned};
+ghost use Rattle.moka_store.specs.Store.{IsOrdered};
+ghost use Rattle.moka_maintenance.specs.Handles.{IsMemberAt};
+ghost use Rattle.moka_maintenance.specs.Scanning.{from_cursor, CoversSome, LooksAt, IsWalked, IsStretch, IsRound, AllDropped, IsScanned};
 ghost use Rattle.moka_maintenance.specs.Steps.{contents_in};
-ghost use Rattle.moka_maintenance.specs.Upkeep.{SetsNoTimer};
 
 use crate::expel::expel;
 use moka_parts::closures::PredicateFn;
@@ -18,6 +17,16 @@ use moka_parts::invalidator::Invalidator;
 use moka_parts::notification::{Listener, RemovalCause, RemovalNotifier};
 use moka_store::{Handle, Store};
 use std::hash::{BuildHasher, Hash};
+
+// Where a walk along the order of writing begins, and how far it goes.
+#[derive(Clone, Copy)]
+struct Reach {
+    start: Option<Handle>,
+    // How many members it passes at most.
+    most: usize,
+    // How many settled members it looks at at most.
+    batch: u32,
+}
 
 // What a walk along the order of writing came to.
 #[derive(Clone, Copy)]
@@ -42,8 +51,8 @@ pub(crate) fn scan<K: Eq + Hash + Drop, V: Drop, S: BuildHasher, L: Listener<K, 
 ) -> bool
 where
     P: PredicateFn<K, V>,
-    ensures scanned { IsScanned L.tells P.says invalidator.old batch store.old store.new invalidator.new notifier.old notifier.new result }
-    ensures upkeep { SetsNoTimer store.old store.new }
+    ensures { IsScanned L.tells P.says invalidator.old batch store.old store.new invalidator.new
+        notifier.old notifier.new result }
 {
     if invalidator.is_empty() {
         return false;
@@ -65,19 +74,26 @@ fn go_round<K: Eq + Hash + Drop, V: Drop, S: BuildHasher, L: Listener<K, V>, P>(
 ) -> Stretch
 where
     P: PredicateFn<K, V>,
-    ensures round { IsRound L.tells P.says invalidator.now batch store.old store.new notifier.old notifier.new result.looked result.is_end }
-    ensures upkeep { SetsNoTimer store.old store.new }
+    ensures { IsRound L.tells P.says invalidator.now batch store.old store.new notifier.old notifier.new
+        result.looked result.is_end }
 {
     store.invariant_holds();
     let members = store.member_count();
-    let start = start_of(store);
-    let first = scan_along(store, notifier, invalidator, start, members, batch);
+    let reach = Reach {
+        start: start_of(store),
+        most: members,
+        batch,
+    };
+    let first = scan_along(store, notifier, invalidator, reach);
     if !first.is_end {
         return first;
     }
-    let front = store.front_written();
-    let (most, left) = (members - first.passed, batch - first.looked);
-    let second = scan_along(store, notifier, invalidator, front, most, left);
+    let reach = Reach {
+        start: store.front_written(),
+        most: members - first.passed,
+        batch: batch - first.looked,
+    };
+    let second = scan_along(store, notifier, invalidator, reach);
     Stretch {
         looked: first.looked + second.looked,
         passed: first.passed + second.passed,
@@ -96,33 +112,26 @@ fn start_of<K: Eq + Hash, V, S: BuildHasher>(store: &Store<K, V, S>) -> Option<H
     }
 }
 
-// Walks from a member to the end, until `batch` settled members were looked at or `most` members passed. The cursor is put
-// at the next one.
+// Walks to the end, or until it has looked at as many settled members or passed as many members as it may. The cursor is
+// put at the next one.
 fn scan_along<K: Eq + Hash + Drop, V: Drop, S: BuildHasher, L: Listener<K, V>, P>(
     store: &mut Store<K, V, S>,
     notifier: &mut RemovalNotifier<L>,
     invalidator: &Invalidator<P>,
-    start: Option<Handle>,
-    most: usize,
-    batch: u32,
+    reach: Reach,
 ) -> Stretch
 where
     P: PredicateFn<K, V>,
-    requires ordered { IfSome start (IsOrdered store.old) }
+    requires ordered { IfSome reach.start (IsOrdered store.old) }
     requires once { IsDistinct (◌==◌) store.old.written }
-    ensures walked { (before rest : List ℕ) → store.old.written ≡ before ++ rest → option_map (λ h. h.number) start ≡ slice_get rest 0
+    ensures walked { (before rest : List ℕ) → store.old.written ≡ before ++ rest → option_map (λ h. h.number) reach.start ≡ slice_get rest 0
         → IsWalked L.tells P.says invalidator.now store.old store.new notifier.old notifier.new before rest store.new.cursor result.looked result.passed }
-    ensures end { result.is_end ≡ is_none store.new.cursor }
-    ensures stopped { result.is_end ≡ false → (most ≤ result.passed) ⊎ (batch ≤ result.looked) }
-    ensures few { result.passed ≤ most }
-    ensures looked { result.looked ≤ batch }
-    ensures once { IsDistinct (◌==◌) store.new.written }
-    ensures upkeep { SetsNoTimer store.old store.new }
+    ensures stretch { IsStretch reach.most reach.batch store.old store.new result.looked result.passed result.is_end }
 {
-    let mut next = start;
+    let mut next = reach.start;
     let mut looked = 0;
     let mut passed = 0;
-    while passed < most && looked < batch {
+    while passed < reach.most && looked < reach.batch {
         let Some(handle) = next else {
             break;
         };
@@ -150,8 +159,7 @@ fn look_at<K: Eq + Hash + Drop, V: Drop, S: BuildHasher, L: Listener<K, V>, P>(
 ) -> bool
 where
     P: PredicateFn<K, V>,
-    requires placed { IsPlaced store.old handle }
-    requires member { IsSome (counted_of handle.number store.old.access) }
+    requires { IsMemberAt store.old handle }
     ensures { LooksAt L.tells P.says invalidator.now store.old store.new notifier.old notifier.new handle.number result }
 {
     let Some(found) = store.find(handle) else {

@@ -6,6 +6,7 @@ ghost use Rattle.moka_sketch.specs.Frequency.{size_asked};
 ghost use Rattle.moka_parts.specs.Maintenance.{is_sketch_due, with_sketch};
 ghost use Rattle.moka_maintenance.specs.Steps.{contents_with};
 
+use crate::bounds::Bounds;
 use moka_parts::policy::EvictionPolicy;
 use moka_sketch::frequency_sketch::{FrequencySketch, sketch_capacity};
 use moka_store::Store;
@@ -17,20 +18,18 @@ use std::hash::{BuildHasher, Hash};
 pub fn enable_frequency_sketch<K: Eq + Hash, V, S: BuildHasher>(
     store: &Store<K, V, S>,
     sketch: &mut FrequencySketch,
-    capacity: Option<u64>,
-    policy: EvictionPolicy,
-    has_weigher: bool,
+    bounds: Bounds,
 )
-    ensures { (is_short : Bool) × (contents_with sketch.new store.now ≡ with_sketch capacity policy has_weigher is_short (contents_with sketch.old store.now)) }
+    ensures { (is_short : Bool) × (contents_with sketch.new store.now ≡ with_sketch bounds.capacity bounds.policy bounds.has_weigher is_short (contents_with sketch.old store.now)) }
 {
-    let Some(capacity) = capacity else {
+    let Some(capacity) = bounds.capacity else {
         return;
     };
     let weight = store.total_weight();
-    if !is_due(sketch, capacity, policy, weight) {
+    if !is_due(sketch, capacity, bounds.policy, weight) {
         return;
     }
-    let size = size_asked(has_weigher, capacity, store.member_count(), weight);
+    let size = size_asked(bounds.has_weigher, capacity, store.member_count(), weight);
     let _refused = sketch.ensure_capacity(u64::from(sketch_capacity(size)));
 }
 

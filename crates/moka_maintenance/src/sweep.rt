@@ -2,7 +2,7 @@
 //! is exceeded.
 //!
 //! moka: `sync::base_cache::Inner::remove_expired_wo`, `Inner::remove_expired_ao`, `Inner::evict_lru_entries`.
-ghost use Rattle.std.specs.Prelude.{◌≡◌, ◌&&◌, ℕ, true, false, [], Some, IfSome, IfNone, IsSome, List};
+ghost use Rattle.std.specs.Prelude.{◌≡◌, ◌&&◌, ℕ, true, false, [], Some, IfNone, MatchOption, List};
 ghost use Rattle.std.specs.FinMap as finite;
 ghost use Rattle.moka_parts.specs.declared.notification.RemovalCause.{RemovalCause};
 ghost use Rattle.moka_parts.specs.declared.records.Member.{Member};
@@ -10,8 +10,8 @@ ghost use Rattle.moka_parts.specs.Maintenance.{is_front, is_over, is_past_read, 
 ghost use Rattle.moka_parts.specs.Grounds.{cause_by_read, cause_by_write};
 ghost use Rattle.moka_parts.specs.Exact.{IsWithin};
 ghost use Rattle.moka_parts.specs.Visibility.{is_read_before, is_written_before};
-ghost use Rattle.moka_parts.specs.Records.{counted_of, total_weight};
-ghost use Rattle.moka_store.specs.Store.{IsPlaced};
+ghost use Rattle.moka_parts.specs.Records.{total_weight};
+ghost use Rattle.moka_maintenance.specs.Handles.{IsMemberAt};
 ghost use Rattle.moka_maintenance.specs.Steps.{Stock, stock_in};
 ghost use Rattle.moka_maintenance.specs.Sweeps.{tests_in, LeavesIn, IsNext, IsAtRest, TakesTurn, IsSwept};
 ghost use Rattle.moka_maintenance.specs.Upkeep.{SetsNoTimer};
@@ -34,6 +34,49 @@ pub struct Tests {
     /// Records written or read before this moment are invalid.
     pub valid_after: Option<Instant>,
     pub capacity: Option<u64>,
+}
+
+impl Tests {
+    // Why a sweep removes a settled record that it has come to, if it does.
+    fn cause_of<K, V>(self, sweep: Sweep, found: &Record<K, V>) -> Option<RemovalCause>
+        ensures { MatchOption result
+            ((c : Stock K V) (n : ℕ) → finite.get c.records n ≡ Some found.now → IsNext self sweep c n → IsAtRest self sweep c)
+            (λ cause. (c : Stock K V) (n : ℕ) → IsNext self sweep c n → LeavesIn self sweep c n found.now cause) }
+    {
+        match sweep {
+            Sweep::Written => self.cause_by_write(found),
+            Sweep::Read => self.cause_by_read(found),
+            Sweep::Surplus => Some(RemovalCause::Size),
+        }
+    }
+
+    // Why a record leaves by the moment of its last write, if it does.
+    fn cause_by_write<K, V>(self, found: &Record<K, V>) -> Option<RemovalCause>
+        ensures cause { result ≡ cause_by_write (tests_in self) found.now }
+        ensures none { IfNone result ((is_past_write (tests_in self) found.now ≡ false) × (is_written_before self.valid_after found.now ≡ false)) }
+    {
+        if is_expired_by_ttl(self.time_to_live, found.written, self.now) {
+            return Some(RemovalCause::Expired);
+        }
+        if is_invalid_entry(self.valid_after, found.written) {
+            return Some(RemovalCause::Explicit);
+        }
+        None
+    }
+
+    // Why a record leaves by the moment of its last read, if it does.
+    fn cause_by_read<K, V>(self, found: &Record<K, V>) -> Option<RemovalCause>
+        ensures cause { result ≡ cause_by_read (tests_in self) found.now }
+        ensures none { IfNone result ((is_past_read (tests_in self) found.now ≡ false) × (is_read_before self.valid_after found.now ≡ false)) }
+    {
+        if is_expired_by_tti(self.time_to_idle, found.read, self.now) {
+            return Some(RemovalCause::Expired);
+        }
+        if is_invalid_entry(self.valid_after, found.read) {
+            return Some(RemovalCause::Explicit);
+        }
+        None
+    }
 }
 
 /// By what a sweep removes.
@@ -130,7 +173,7 @@ fn take_turn<K: Eq + Hash + Drop, V: Drop, S: BuildHasher, L: Listener<K, V>>(
     let Some(found) = store.find(handle) else {
         unreachable!()
     };
-    let Some(cause) = cause_of(tests, sweep, found) else {
+    let Some(cause) = tests.cause_of(sweep, found) else {
         return Turn::Ended;
     };
     expel(store, notifier, handle, cause);
@@ -143,10 +186,8 @@ fn next_of<K: Eq + Hash, V, S: BuildHasher>(
     tests: Tests,
     sweep: Sweep,
 ) -> Option<Handle>
-    ensures placed { IfSome result (λ h. IsPlaced store.now h) }
-    ensures member { IfSome result (λ h. IsSome (counted_of h.number store.now.access)) }
-    ensures next { IfSome result (λ h. IsNext tests sweep (stock_in store.now) h.number) }
-    ensures none { IfNone result (IsAtRest tests sweep (stock_in store.now)) }
+    ensures { MatchOption result (IsAtRest tests sweep (stock_in store.now))
+        (λ h. IsMemberAt store.now h × IsNext tests sweep (stock_in store.now) h.number) }
 {
     match sweep {
         Sweep::Written => store.front_written(),
@@ -157,10 +198,8 @@ fn next_of<K: Eq + Hash, V, S: BuildHasher>(
 
 // The front of the access list.
 fn first_of<K: Eq + Hash, V, S: BuildHasher>(store: &Store<K, V, S>) -> Option<Handle>
-    ensures placed { IfSome result (λ h. IsPlaced store.now h) }
-    ensures member { IfSome result (λ h. IsSome (counted_of h.number store.now.access)) }
-    ensures front { IfSome result (λ h. is_front h.number store.now.access ≡ true) }
-    ensures none { IfNone result (store.now.access ≡ []) }
+    ensures { MatchOption result (store.now.access ≡ [])
+        (λ h. IsMemberAt store.now h × (is_front h.number store.now.access ≡ true)) }
 {
     match store.front() {
         Some((handle, _)) => Some(handle),
@@ -173,10 +212,8 @@ fn first_over<K: Eq + Hash, V, S: BuildHasher>(
     store: &Store<K, V, S>,
     capacity: Option<u64>,
 ) -> Option<Handle>
-    ensures placed { IfSome result (λ h. IsPlaced store.now h) }
-    ensures member { IfSome result (λ h. IsSome (counted_of h.number store.now.access)) }
-    ensures front { IfSome result (λ h. (is_front h.number store.now.access && is_over capacity store.now.access) ≡ true) }
-    ensures none { IfNone result (IsWithin capacity store.now.access) }
+    ensures { MatchOption result (IsWithin capacity store.now.access)
+        (λ h. IsMemberAt store.now h × ((is_front h.number store.now.access && is_over capacity store.now.access) ≡ true)) }
 {
     if !is_over(capacity, store.total_weight()) {
         return None;
@@ -192,44 +229,4 @@ pub(crate) fn is_over(capacity: Option<u64>, weight: u128) -> bool
         Some(capacity) => weight > u128::from(capacity),
         None => false,
     }
-}
-
-// Why a sweep removes a settled record that it has come to, if it does.
-fn cause_of<K, V>(tests: Tests, sweep: Sweep, found: &Record<K, V>) -> Option<RemovalCause>
-    ensures leaves { IfSome result (λ cause. (c : Stock K V) (n : ℕ) → IsNext tests sweep c n → LeavesIn tests sweep c n found.now cause) }
-    ensures none { IfNone result ((c : Stock K V) (n : ℕ) → finite.get c.records n ≡ Some found.now → IsNext tests sweep c n → IsAtRest tests sweep c) }
-{
-    match sweep {
-        Sweep::Written => cause_by_write(tests, found),
-        Sweep::Read => cause_by_read(tests, found),
-        Sweep::Surplus => Some(RemovalCause::Size),
-    }
-}
-
-// Why a record leaves by the moment of its last write, if it does.
-fn cause_by_write<K, V>(tests: Tests, found: &Record<K, V>) -> Option<RemovalCause>
-    ensures cause { result ≡ cause_by_write (tests_in tests) found.now }
-    ensures none { IfNone result ((is_past_write (tests_in tests) found.now ≡ false) × (is_written_before tests.valid_after found.now ≡ false)) }
-{
-    if is_expired_by_ttl(tests.time_to_live, found.written, tests.now) {
-        return Some(RemovalCause::Expired);
-    }
-    if is_invalid_entry(tests.valid_after, found.written) {
-        return Some(RemovalCause::Explicit);
-    }
-    None
-}
-
-// Why a record leaves by the moment of its last read, if it does.
-fn cause_by_read<K, V>(tests: Tests, found: &Record<K, V>) -> Option<RemovalCause>
-    ensures cause { result ≡ cause_by_read (tests_in tests) found.now }
-    ensures none { IfNone result ((is_past_read (tests_in tests) found.now ≡ false) × (is_read_before tests.valid_after found.now ≡ false)) }
-{
-    if is_expired_by_tti(tests.time_to_idle, found.read, tests.now) {
-        return Some(RemovalCause::Expired);
-    }
-    if is_invalid_entry(tests.valid_after, found.read) {
-        return Some(RemovalCause::Explicit);
-    }
-    None
 }

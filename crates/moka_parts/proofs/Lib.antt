@@ -47,3 +47,4 @@ pub mod OrderedRuns
 pub mod OrderedDrive
 pub mod PromisedLaws
 pub mod LeftIdle
+pub mod Tested

@@ -30,3 +30,4 @@ pub mod Laws
 pub mod Drives
 pub mod Synchronous
 pub mod Texts
+pub mod KeyTests

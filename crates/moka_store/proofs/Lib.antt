@@ -8,6 +8,7 @@ pub mod Orders
 pub mod Places
 pub mod Slots
 pub mod Steps
+pub mod Tests
 pub mod Ties
 pub mod Timed
 pub mod Weights

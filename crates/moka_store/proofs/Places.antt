@@ -1,5 +1,6 @@
--- Each record and each member has a row.
-use Rattle.std.proofs.Common.{Bor, option_copied, ◌≡◌, ℕ, ◌==◌, Bool, true, false, cond, List, [], ◌∷◌, map, Option, Some, None, IfSome, IsSome, is_some, inl, inr, refl, sym, ap, ◌∙◌, Contains, arith}
+-- Each record and each member has a row, and rows have narrow places.
+use Rattle.std.proofs.Common.{Bor, option_copied, ◌≡◌, ◌+◌, ◌<◌, ◌≤◌, ◌^◌, ℕ, ◌==◌, count_by, nat_le, Bool, true, false, cond, List, [], ◌∷◌, map, Option, Some, None, IfSome, IsSome, is_some, inl, inr, refl, sym, ap, ◌∙◌, Contains, arith}
+use Rattle.std.proofs.lemmas.Bool.{cases_Bool, cond-false, leb-true}
 use Rattle.std.proofs.lemmas.List.Elements.{Contains-append_right}
 use Rattle.std.specs.FinMap.{get}
 use Rattle.std.specs.Option.{option_and_then}
@@ -9,7 +10,7 @@ use Rattle.moka_parts.specs.declared.records.Record.{Record}
 use Rattle.moka_parts.specs.declared.records.Member.{Member}
 use Rattle.moka_parts.specs.Records.{counted_of}
 use Rattle.moka_parts.proofs.Maps.{same_by_test}
-use Rattle.moka_store.specs.StoreRows.{member_at}
+use Rattle.moka_store.specs.StoreRows.{member_at, row_room}
 use Rattle.moka_store.specs.StoreTies.{KeyIndex, IsTied}
 use Rattle.moka_store.proofs.Gets.{option-cases, some_is}
 use Rattle.moka_store.proofs.Nodes.{in-nodes}
@@ -55,3 +56,10 @@ module _ {K V : Type 0} (eq : K → K → Bool) (rows : List (Option (Row (Recor
         let is : row.0.stored ≡ Some b.now = sym (e ∙ ap (option_and_then (λ (row : Row (Record K V)). row.stored)) row.1) in
         ap (get (records_of rows)) (t.named.same place row.0 b.now row.1 is) ∙ get-records rows t.numbered place row.0 row.1 ∙ is
   ]
+
+-- where there is room for a row, all places that fit with no memory have 32 bits
+pub room-narrow : {R : Type 0} (rows : List (Option (Row R))) (room : ℕ) → 0 < row_room rows room → count_by is_some rows + room ≤ 2 ^ 32
+room-narrow rows room some = elim (cases_Bool (nat_le (count_by is_some rows + room) (2 ^ 32))) as (λ _. count_by is_some rows + room ≤ 2 ^ 32) [
+  | inl fits ↦ leb-true _ _ fits
+  | inr past ↦ (let none : row_room rows room ≡ 0 = cond-false (nat_le (count_by is_some rows + room) (2 ^ 32)) room 0 past in absurd (omega arith))
+]

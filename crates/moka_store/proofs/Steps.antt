@@ -26,7 +26,7 @@ use Rattle.moka_store.specs.Timing.{Timing}
 use Rattle.moka_store.specs.declared.store.Handle.{Handle}
 use Rattle.moka_store.specs.Store.{IsOneEach, IsHandle, ChangesRecord}
 use Rattle.moka_store.specs.StoreRows.{key_in, key_at, has_key_at, access_in, access_at, member_in, member_at, written_of, cursor_of, timers_of}
-use Rattle.moka_store.specs.StoreTies.{KeyIndex, IsListed, IsIndex, IsNamed, IsTied, IsWritten, IsTimed, IsStore, kept_of}
+use Rattle.moka_store.specs.StoreTies.{AreNarrow, KeyIndex, IsListed, IsIndex, IsNamed, IsTied, IsWritten, IsTimed, IsStore, kept_of}
 use Rattle.moka_store.specs.Weights.{IsWeighed}
 use Rattle.moka_parts.specs.declared.records.Member.{Member}
 use Rattle.moka_parts.specs.declared.records.Record.{Record}
@@ -450,6 +450,7 @@ module _ {K V S : Type 0} {hasher : S} (eq : K → K → Bool) (laws : IsEquival
           keyed = s.keyed ∙ sym (ap len records ∙ len-kept (records_of old.rows) handle.number r at.stored at.record_is);
           fits = subst (λ n. n ≤ most) (sym rowed) s.fits;
           few = s.few;
+          narrow = subst AreNarrow (sym places) s.narrow;
           weighed = subst (λ members. IsWeighed members weight) (sym access) s.weighed;
         };
         step = λ x there.

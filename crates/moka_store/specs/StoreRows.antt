@@ -22,6 +22,10 @@ module _ {K V : Type 0} where
   abbrev pub has_key_at : (K → K → Bool) → List (Option (Row (Record K V))) → K → ℕ → Bool
   has_key_at eq rows key place = option_map_or (λ r. eq key r.key) (stored_at rows place) false
 
+  -- whether the key of the record at a place passes
+  abbrev pub passes_at : (K → Bool) → List (Option (Row (Record K V))) → ℕ → Bool
+  passes_at passes rows place = option_map_or (λ r. passes r.key) (stored_at rows place) false
+
   -- the slot in the access list of a row
   abbrev pub access_in : Row (Record K V) → Option ℕ
   access_in row = option_map (λ m. m.access) row.membership

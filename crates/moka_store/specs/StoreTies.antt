@@ -54,7 +54,11 @@ pub record IsTimed {K V : Type 0} (rows : List (Option (Row (Record K V)))) (tim
   pub linked : IsLinked (timer_at rows) (λ slot. option_map (λ t. t.number) (get timers slot))
   pub members : (place : ℕ) → IsSome (timer_at rows place) → IsSome (membership_at rows place)
 
--- there is a key for each record, and a node and a timer for each row, and the weight is that of all members
+-- each row's place has 32 bits
+abbrev pub AreNarrow : FinMap nat_cmp ℕ → Type 0
+AreNarrow places = (n place : ℕ) → get places n ≡ Some place → place < 2 ^ 32
+
+-- there is a key for each record, and a node and a timer for each row, the weight is that of all members, and places are narrow
 pub record IsStore {K V : Type 0} (eq : K → K → Bool) (rows : List (Option (Row (Record K V)))) (index : KeyIndex K) (keys : ℕ) (nodes : List (ℕ × ℕ)) (list : Listing) (timing : Timing) (most weight : ℕ) : Type 0 where
   pub tied : IsTied eq rows index nodes
   pub written : IsWritten rows list
@@ -62,10 +66,11 @@ pub record IsStore {K V : Type 0} (eq : K → K → Bool) (rows : List (Option (
   pub keyed : keys ≡ len (records_of rows)
   pub fits : count_by is_some rows ≤ most
   pub few : length nodes < 2 ^ 32
+  pub narrow : AreNarrow (places_of rows)
   pub weighed : IsWeighed (map (member_at rows) nodes) weight
 
 -- for how many rows the nodes of both lists and the timers suffice
-abbrev pub most_of : Order → Listing → Timing → ℕ
+abbrev pub most_of : Order ℕ → Listing → Timing → ℕ
 most_of access list timing = min (length access.members + access.room) (min list.most timing.most)
 
 -- what a contract sees of the parts, where so many places of the index, rows and nodes fit with no memory

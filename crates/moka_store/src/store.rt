@@ -27,6 +27,7 @@ use std::marker::Model;
 mod changes;
 mod hashing;
 mod rows;
+mod tested;
 
 /// A number that has a row, with the row's place.
 #[derive(Clone, Copy, Debug, PartialEq, Eq)]
@@ -52,7 +53,7 @@ pub struct Store<K: Eq + Hash, V, S: BuildHasher> {
     // The place of each record, under the hash of its key.
     index: PlaceIndex,
     table: RecordTable<Record<K, V>>,
-    access: OrderList,
+    access: OrderList<u32>,
     written: WriteList,
     timers: Timers,
     // The sum of the weights that are counted for the members.
@@ -116,7 +117,7 @@ impl<K: Eq + Hash, V, S: BuildHasher> Store<K, V, S> {
           hasher = hasher;
         }) }
     {
-        let access = OrderList::new(alloc)?;
+        let access = OrderList::new(alloc, 0)?;
         let written = WriteList::new(alloc, ordered)?;
         let timers = Timers::new(alloc, timed)?;
         Ok(Store {
@@ -347,8 +348,8 @@ impl<K: Eq + Hash, V, S: BuildHasher> Store<K, V, S> {
         ensures places { self.new.places ≡ self.old.places }
         ensures records { self.new.records ≡ self.old.records }
     {
-        let access = self.access.push_back(handle.place as u64);
-        let written = self.written.push_back(handle.place as u64);
+        let access = self.access.push_back(handle.place as u32);
+        let written = self.written.push_back(handle.place as u32);
         self.weight += weight as u128;
         let _none = self.table.set_membership(
             handle.place,

@@ -15,9 +15,9 @@ use std::marker::Model;
 ///
 /// moka: `common::concurrent::deques::Deques::write_order`, with the cursor that `common::deque::Deque` has.
 pub(crate) struct WriteList {
-    list: Option<OrderList>,
+    list: Option<OrderList<u32>>,
     // The slot and the place where the cursor stands; none is the front.
-    cursor: Option<(u32, u64)>,
+    cursor: Option<(u32, u32)>,
 }
 
 // Written out so that an owner's drop is one call.
@@ -45,7 +45,7 @@ impl WriteList {
         ensures { IfOk result (λ w. w ≡ record { nodes = []; cursor = None; most = w.most; ordered = ordered }) }
     {
         let list = if ordered {
-            Some(OrderList::new(alloc)?)
+            Some(OrderList::new(alloc, 0)?)
         } else {
             None
         };
@@ -67,7 +67,7 @@ impl WriteList {
 
     /// Puts a place behind all others. The answer is its slot.
     #[inline(always)]
-    pub fn push_back(&mut self, place: u64) -> Option<u32>
+    pub fn push_back(&mut self, place: u32) -> Option<u32>
         requires { length self.old.nodes < self.old.most }
         ensures kept { is_some result ≡ self.old.ordered }
         ensures fresh { IfSome result (λ slot. lookup (nat_eq slot) self.old.nodes ≡ None) }
@@ -130,7 +130,7 @@ impl WriteList {
 
     /// The slot of the first place, and that place.
     #[inline(always)]
-    pub fn front(&self) -> Option<(u32, u64)>
+    pub fn front(&self) -> Option<(u32, u32)>
         ensures front { result ≡ slice_get self.now.nodes 0 }
         ensures found { IfSome result (λ m. lookup (nat_eq m.0) self.now.nodes ≡ Some m.1) }
     {
@@ -139,7 +139,7 @@ impl WriteList {
 
     /// The slot of the place behind the one in `slot`, and that place.
     #[inline(always)]
-    pub fn next(&self, slot: Option<u32>) -> Option<(u32, u64)>
+    pub fn next(&self, slot: Option<u32>) -> Option<(u32, u32)>
         requires { IfSome slot (λ s. IsSome (lookup (nat_eq s) self.now.nodes)) }
         ensures next { IfSome slot (λ s. result ≡ next_after s self.now.nodes) }
         ensures found { IfSome result (λ m. lookup (nat_eq m.0) self.now.nodes ≡ Some m.1) }
@@ -150,7 +150,7 @@ impl WriteList {
     }
 
     /// The slot and the place where the cursor stands.
-    pub fn cursor(&self) -> Option<(u32, u64)>
+    pub fn cursor(&self) -> Option<(u32, u32)>
         ensures cursor { result ≡ self.now.cursor }
         ensures found { IfSome result (λ m. lookup (nat_eq m.0) self.now.nodes ≡ Some m.1) }
     {
@@ -158,7 +158,7 @@ impl WriteList {
     }
 
     /// Puts the cursor at the place in a slot, or at the front.
-    pub fn set_cursor(&mut self, node: Option<(u32, u64)>)
+    pub fn set_cursor(&mut self, node: Option<(u32, u32)>)
         requires { IfSome node (λ m. lookup (nat_eq m.0) self.old.nodes ≡ Some m.1) }
         ensures step { self.new ≡ record self.old { cursor = node } }
         ensures cursor { IsCursor self.new.nodes self.new.cursor }
@@ -168,7 +168,7 @@ impl WriteList {
 }
 
 // Where the cursor stands once the place in `slot` has moved or left.
-fn past(list: &OrderList, slot: u32, cursor: Option<(u32, u64)>) -> Option<(u32, u64)>
+fn past(list: &OrderList<u32>, slot: u32, cursor: Option<(u32, u32)>) -> Option<(u32, u32)>
     requires { IsSome (lookup (nat_eq slot) list.now.members) }
     ensures past { result ≡ node_past (Some slot) list.now.members cursor }
     ensures found { IfSome result (λ m. (cursor ≡ Some m) ⊎ (lookup (nat_eq m.0) list.now.members ≡ Some m.1)) }

@@ -1,9 +1,9 @@
-//! An order of numbers as linked nodes in one table.
+//! An order of values as linked nodes in one table.
 ghost use Rattle.std.specs.Prelude.{◌≡◌, ◌≢◌, ◌+◌, ◌^◌, ◌<◌, ◌≤◌, ℕ, [], ◌∷◌, ◌++◌, length, ◌↔◌, OnOk, IfOk, IsOk, IfSome, IsSome, IsNone, None, Some, nat_eq, slice_get, vec_len, if◌then◌else◌};
 ghost use Rattle.std.specs.Map.{lookup, remove_entry, keys_of};
 ghost use Rattle.std.specs.List.{IsDistinct};
 ghost use Rattle.moka_links.specs.Links.{KeepsCapacity};
-ghost use Rattle.moka_structures.specs.Links.{at, detached, attached, with_behind, with_number};
+ghost use Rattle.moka_structures.specs.Links.{at, detached, attached, with_behind, with_value};
 ghost use Rattle.moka_structures.specs.Order.{moved_to_back, next_after};
 
 use moka_links::{Node, attach, detach};
@@ -16,13 +16,15 @@ const MOST_NODES: usize = 1 << 32;
 // The slot where the ring begins and ends.
 const SENTINEL: u32 = 0;
 
+// In the contracts `past` is the value that is read past the last node; they hold whichever it is.
+
 // Takes the node at `slot` out of the ring, and puts it before the free ones.
 #[inline(always)]
-fn release(nodes: &mut Vec<Node<u64>>, slot: u32, free: u32)
+fn release<T>(nodes: &mut Vec<Node<T>>, slot: u32, free: u32)
     requires slot { slot < vec_len nodes.old }
-    requires before { (at nodes.old.items slot).before < vec_len nodes.old }
-    requires behind { (at nodes.old.items slot).behind < vec_len nodes.old }
-    ensures nodes { nodes.new.items ≡ with_behind (detached nodes.old.items slot) slot free }
+    requires before { (past : T) → (at past nodes.old.items slot).before < vec_len nodes.old }
+    requires behind { (past : T) → (at past nodes.old.items slot).behind < vec_len nodes.old }
+    ensures nodes { (past : T) → nodes.new.items ≡ with_behind past (detached past nodes.old.items slot) slot free }
     ensures capacity { KeepsCapacity nodes.old nodes.new }
 {
     let nodes = nodes.as_mut_slice();
@@ -32,10 +34,10 @@ fn release(nodes: &mut Vec<Node<u64>>, slot: u32, free: u32)
 
 // Puts the node at `slot` behind all others.
 #[inline(always)]
-fn append(nodes: &mut Vec<Node<u64>>, slot: u32)
+fn append<T>(nodes: &mut Vec<Node<T>>, slot: u32)
     requires slot { slot < vec_len nodes.old }
-    requires last { (at nodes.old.items 0).before < vec_len nodes.old }
-    ensures nodes { nodes.new.items ≡ attached nodes.old.items slot }
+    requires last { (past : T) → (at past nodes.old.items 0).before < vec_len nodes.old }
+    ensures nodes { (past : T) → nodes.new.items ≡ attached past nodes.old.items slot }
     ensures capacity { KeepsCapacity nodes.old nodes.new }
 {
     attach(nodes.as_mut_slice(), slot, SENTINEL);
@@ -43,12 +45,12 @@ fn append(nodes: &mut Vec<Node<u64>>, slot: u32)
 
 // Takes the node at `slot` out of the ring, and puts it behind all others.
 #[inline(always)]
-fn relink(nodes: &mut Vec<Node<u64>>, slot: u32)
+fn relink<T>(nodes: &mut Vec<Node<T>>, slot: u32)
     requires slot { slot < vec_len nodes.old }
-    requires before { (at nodes.old.items slot).before < vec_len nodes.old }
-    requires behind { (at nodes.old.items slot).behind < vec_len nodes.old }
-    requires last { (at (detached nodes.old.items slot) 0).before < vec_len nodes.old }
-    ensures nodes { nodes.new.items ≡ attached (detached nodes.old.items slot) slot }
+    requires before { (past : T) → (at past nodes.old.items slot).before < vec_len nodes.old }
+    requires behind { (past : T) → (at past nodes.old.items slot).behind < vec_len nodes.old }
+    requires last { (past : T) → (at past (detached past nodes.old.items slot) 0).before < vec_len nodes.old }
+    ensures nodes { (past : T) → nodes.new.items ≡ attached past (detached past nodes.old.items slot) slot }
     ensures capacity { KeepsCapacity nodes.old nodes.new }
 {
     let table = nodes.as_mut_slice();
@@ -56,67 +58,72 @@ fn relink(nodes: &mut Vec<Node<u64>>, slot: u32)
     attach(table, slot, SENTINEL);
 }
 
-// Gives the free node at `slot` a number and attaches it. The answer is the slot that was free behind it.
+// Gives the free node at `slot` a value and attaches it. The answer is the slot that was free behind it.
 #[inline(always)]
-fn reuse(nodes: &mut Vec<Node<u64>>, slot: u32, number: u64) -> u32
+fn reuse<T: Copy>(nodes: &mut Vec<Node<T>>, slot: u32, value: T) -> u32
     requires slot { slot < vec_len nodes.old }
-    requires last { (at nodes.old.items 0).before < vec_len nodes.old }
-    ensures next { result ≡ (at nodes.old.items slot).behind }
-    ensures nodes { nodes.new.items ≡ attached (with_number nodes.old.items slot number) slot }
+    requires last { (past : T) → (at past nodes.old.items 0).before < vec_len nodes.old }
+    ensures next { (past : T) → result ≡ (at past nodes.old.items slot).behind }
+    ensures nodes { (past : T) → nodes.new.items ≡ attached past (with_value past nodes.old.items slot value) slot }
     ensures capacity { KeepsCapacity nodes.old nodes.new }
 {
     let nodes = nodes.as_mut_slice();
     let next = nodes[slot as usize].behind;
-    nodes[slot as usize].value = number;
+    nodes[slot as usize].value = value;
     attach(nodes, slot, SENTINEL);
     next
 }
 
-/// Numbers in an order, each in a slot of its own by which it is found again. At most 2^32 - 1 numbers are in.
+/// Values in an order, each in a slot of its own by which it is found again. At most 2^32 - 1 values are in.
 /// No call takes longer in a longer list, and only `new` and `reserve` ask for memory.
 ///
 /// moka: `common::deque::Deque`, whose nodes are reached by raw pointers; here a slot stands for the pointer.
-pub struct OrderList {
+pub struct OrderList<T: Copy> {
     // The ring, and the free nodes, each of which leads to the next.
-    nodes: Vec<Node<u64>>,
+    nodes: Vec<Node<T>>,
     len: usize,
     free: u32,
+    // What the sentinel holds. Nobody asks for it.
+    blank: T,
 }
 
 // Written out so that an owner's drop is one call.
-impl Drop for OrderList {
+impl<T: Copy> Drop for OrderList<T> {
     fn drop(self) {
         let OrderList {
             nodes: _,
             len: _,
             free: _,
+            blank: _,
         } = self;
     }
 }
 
-impl Model for OrderList {
+impl<T: Copy> Model for OrderList<T> {
     ghost use Rattle.std.specs.Prelude.{◌-◌, ◌^◌, min, vec_capacity};
-    ghost use Rattle.moka_structures.specs.Order.{Order};
+    ghost use Rattle.moka_structures.specs.Order.{Order, order_code};
 
-    ghost Value = { Order };
+    ghost Value = { Order T };
+
+    ghost coded = { order_code T.code };
 
     ghost use Rattle.moka_structures.specs.Links.{members_of, IsOrder};
 
-    ghost view = { λ a. record { members = members_of a.nodes.items a.len; room = min (vec_capacity a.nodes) (2 ^ 32) - 1 - a.len } };
+    ghost view = { λ a. record { members = members_of a.blank a.nodes.items a.len; room = min (vec_capacity a.nodes) (2 ^ 32) - 1 - a.len } };
 
-    ghost invariant = { λ a. IsOrder a.nodes.items a.len a.free };
+    ghost invariant = { λ a. IsOrder a.blank a.nodes.items a.len a.free };
 }
 
-impl OrderList {
-    /// An empty list, or an error where there is no memory for the sentinel.
+impl<T: Copy> OrderList<T> {
+    /// An empty list, or an error where there is no memory for the sentinel, which holds `blank`.
     ///
     /// moka: `Deque::new`.
-    pub fn new(alloc: Global) -> Result<Self, AllocError>
+    pub fn new(alloc: Global, blank: T) -> Result<Self, AllocError>
         ensures { IfOk result (λ o. o.members ≡ []) }
     {
         let mut nodes = Vec::with_capacity(alloc, 1)?;
         nodes.push_reserved(Node {
-            value: 0,
+            value: blank,
             before: SENTINEL,
             behind: SENTINEL,
         });
@@ -124,10 +131,11 @@ impl OrderList {
             nodes,
             len: 0,
             free: 0,
+            blank,
         })
     }
 
-    /// How many numbers are in.
+    /// How many values are in.
     ///
     /// moka: `Deque::len`.
     pub fn len(&self) -> usize
@@ -137,14 +145,14 @@ impl OrderList {
         self.len
     }
 
-    /// Whether no number is in.
+    /// Whether no value is in.
     pub fn is_empty(&self) -> bool
         ensures { result ≡ nat_eq (length self.now.members) 0 }
     {
         self.len == 0
     }
 
-    /// Makes room for `additional` more numbers. An error leaves the list as it was: there is no memory, or the
+    /// Makes room for `additional` more values. An error leaves the list as it was: there is no memory, or the
     /// list would be longer than its slots can tell.
     pub fn reserve(&mut self, additional: usize) -> Result<(), AllocError>
         ensures room { OnOk result (additional ≤ self.new.room) }
@@ -163,31 +171,31 @@ impl OrderList {
         self.nodes.reserve(more)
     }
 
-    /// Puts a number behind all others, where there is room. The answer is its slot, which is not 0, and which no
-    /// other number has while it is in.
+    /// Puts a value behind all others, where there is room. The answer is its slot, which is not 0, and which no
+    /// other value has while it is in.
     ///
     /// moka: `Deque::push_back`.
     #[inline(always)]
-    pub fn push_back(&mut self, number: u64) -> u32
+    pub fn push_back(&mut self, value: T) -> u32
         requires { 0 < self.old.room }
         ensures fresh { lookup (nat_eq result) self.old.members ≡ None }
         ensures positive { 0 < result }
-        ensures members { self.new.members ≡ self.old.members ++ (result, number) ∷ [] }
+        ensures members { self.new.members ≡ self.old.members ++ (result, value) ∷ [] }
         ensures len { length self.new.members ≡ length self.old.members + 1 }
         ensures few { length self.new.members < 2 ^ 32 }
-        ensures lookups { (s : ℕ) → lookup (nat_eq s) self.new.members ≡ (if nat_eq s result then Some number else lookup (nat_eq s) self.old.members) }
+        ensures lookups { (s : ℕ) → lookup (nat_eq s) self.new.members ≡ (if nat_eq s result then Some value else lookup (nat_eq s) self.old.members) }
         ensures distinct { IsDistinct nat_eq (keys_of self.old.members) }
         ensures room { self.new.room + 1 ≡ self.old.room }
     {
         if self.len + 1 < self.nodes.len() {
             let slot = self.free;
-            self.free = reuse(&mut self.nodes, slot, number);
+            self.free = reuse(&mut self.nodes, slot, value);
             self.len += 1;
             return slot;
         }
         let slot = self.nodes.len() as u32;
         self.nodes.push_reserved(Node {
-            value: number,
+            value,
             before: SENTINEL,
             behind: SENTINEL,
         });
@@ -196,13 +204,13 @@ impl OrderList {
         slot
     }
 
-    /// Moves the number in `slot` behind all others. It stays in its slot.
+    /// Moves the value in `slot` behind all others. It stays in its slot.
     ///
     /// moka: `Deque::move_to_back`.
     #[inline(always)]
     pub fn move_to_back(&mut self, slot: u32)
         requires { IsSome (lookup (nat_eq slot) self.old.members) }
-        ensures members { (number : ℕ) → lookup (nat_eq slot) self.old.members ≡ Some number → self.new.members ≡ moved_to_back slot number self.old.members }
+        ensures members { (value : T) → lookup (nat_eq slot) self.old.members ≡ Some value → self.new.members ≡ moved_to_back slot value self.old.members }
         ensures len { length self.new.members ≡ length self.old.members }
         ensures lookups { (s : ℕ) → lookup (nat_eq s) self.new.members ≡ lookup (nat_eq s) self.old.members }
         ensures distinct { IsDistinct nat_eq (keys_of self.old.members) }
@@ -211,31 +219,31 @@ impl OrderList {
         relink(&mut self.nodes, slot);
     }
 
-    /// Takes the number in `slot` out and gives it back. The slot may be given to a later number.
+    /// Takes the value in `slot` out and gives it back. The slot may be given to a later value.
     ///
     /// moka: `Deque::unlink_and_drop`.
     #[inline(always)]
-    pub fn unlink(&mut self, slot: u32) -> u64
+    pub fn unlink(&mut self, slot: u32) -> T
         requires { IsSome (lookup (nat_eq slot) self.old.members) }
-        ensures number { lookup (nat_eq slot) self.old.members ≡ Some result }
+        ensures value { lookup (nat_eq slot) self.old.members ≡ Some result }
         ensures members { self.new.members ≡ remove_entry (nat_eq slot) self.old.members }
         ensures len { length self.new.members + 1 ≡ length self.old.members }
         ensures lookups { (s : ℕ) → lookup (nat_eq s) self.new.members ≡ (if nat_eq slot s then None else lookup (nat_eq s) self.old.members) }
         ensures distinct { IsDistinct nat_eq (keys_of self.old.members) }
         ensures room { self.new.room ≡ self.old.room + 1 }
     {
-        let number = self.nodes[slot as usize].value;
+        let value = self.nodes[slot as usize].value;
         release(&mut self.nodes, slot, self.free);
         self.free = slot;
         self.len -= 1;
-        number
+        value
     }
 
-    /// The slot of the first number, and that number.
+    /// The slot of the first value, and that value.
     ///
     /// moka: `Deque::peek_front`.
     #[inline(always)]
-    pub fn front(&self) -> Option<(u32, u64)>
+    pub fn front(&self) -> Option<(u32, T)>
         ensures front { result ≡ slice_get self.now.members 0 }
         ensures found { IfSome result (λ m. lookup (nat_eq m.0) self.now.members ≡ Some m.1) }
         ensures none { IsNone result ↔ (length self.now.members ≡ 0) }
@@ -248,11 +256,11 @@ impl OrderList {
         Some((slot, self.nodes[slot as usize].value))
     }
 
-    /// The slot of the number behind the one in `slot`, and that number.
+    /// The slot of the value behind the one in `slot`, and that value.
     ///
     /// moka: `DeqNode::next_node_ptr`.
     #[inline(always)]
-    pub fn next(&self, slot: u32) -> Option<(u32, u64)>
+    pub fn next(&self, slot: u32) -> Option<(u32, T)>
         requires { IsSome (lookup (nat_eq slot) self.now.members) }
         ensures next { result ≡ next_after slot self.now.members }
         ensures found { IfSome result (λ m. lookup (nat_eq m.0) self.now.members ≡ Some m.1) }

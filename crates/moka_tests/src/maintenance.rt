@@ -1,4 +1,5 @@
 //! Tests of `moka_maintenance`.
+use moka_maintenance::bounds::Bounds;
 use moka_maintenance::sketch::enable_frequency_sketch;
 use moka_parts::policy::{EvictionPolicy, Instant};
 use moka_parts::records::Record;
@@ -31,13 +32,12 @@ fn length_at_256(alloc: Global) -> Result<usize, AllocError> {
         let handle = store.insert_new(first, hash);
         store.admit(handle, 128);
     }
-    enable_frequency_sketch(
-        &store,
-        &mut sketch,
-        Some(256),
-        EvictionPolicy::TinyLfu,
-        false,
-    );
+    let bounds = Bounds {
+        capacity: Some(256),
+        policy: EvictionPolicy::TinyLfu,
+        has_weigher: false,
+    };
+    enable_frequency_sketch(&store, &mut sketch, bounds);
     Ok(sketch.table_len())
 }
 

@@ -6,6 +6,7 @@
 mod asks;
 mod report;
 mod rounds;
+mod saved;
 mod synchronous;
 
 use crate::report::Texts;
@@ -38,17 +39,12 @@ fn main(rt: HostRuntime) -> Result<()> {
     for number in 0..TEXTS {
         rounds::round(rt.alloc(), &mut out, &mut cache, number)?;
     }
-    let mut cached = match empty_cached(rt.alloc()) {
-        Ok(cached) => cached,
-        Err(_) => {
-            writeln!(out, "refused: Cache::build")?;
-            empty_cached(rt.alloc())?
-        }
-    };
+    let mut cached = new_cached(rt.alloc(), &mut out)?;
     for number in 0..TEXTS {
         synchronous::round(rt.alloc(), &mut out, &mut cached, number)?;
     }
-    Ok(())
+    let mut second = new_cached(rt.alloc(), &mut out)?;
+    saved::save_and_ask(rt.alloc(), &mut out, &mut cached, &mut second, 4)
 }
 
 /// Four texts, with a listener and predicates.
@@ -63,6 +59,17 @@ fn config() -> Config {
 
 fn empty(alloc: Global) -> Result<Texts, OutOfMemory> {
     config().build(alloc, Instant(0))
+}
+
+/// An empty synchronous cache.
+fn new_cached<W: Write>(alloc: Global, out: &mut W) -> Result<Cached> {
+    match empty_cached(alloc) {
+        Ok(cached) => Ok(cached),
+        Err(_) => {
+            writeln!(out, "refused: Cache::build")?;
+            Ok(empty_cached(alloc)?)
+        }
+    }
 }
 
 fn empty_cached(alloc: Global) -> Result<Cached, OutOfMemory> {

@@ -12,12 +12,13 @@ pub type Cached = Cache<String, String, NoExpiry, Report, NoPredicate>;
 
 /// What a synchronous cache tells of itself.
 #[derive(Clone, Copy, Debug, PartialEq, Eq)]
-struct Told {
+pub struct Told {
     state: State,
     stats: Stats,
 }
 
-fn told_by(cache: &Cached) -> Told {
+/// What a cache tells of itself now.
+pub fn told_by(cache: &Cached) -> Told {
     Told {
         state: state_of(cache.engine()),
         stats: cache.stats(),
@@ -95,7 +96,7 @@ impl Removal {
 }
 
 /// Puts a text in.
-fn put<W: Write>(
+pub fn put<W: Write>(
     out: &mut W,
     cache: &mut Cached,
     key: String,

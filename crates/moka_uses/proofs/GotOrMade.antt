@@ -1,5 +1,5 @@
 -- What a get with a maker hands out: a clone of what is there, or of what was made.
-use Rattle.std.proofs.Common.{◌≡◌, refl, ℕ, Bool, true, false, List, [], ◌∷◌, Option, Some, None, Result, Ok, Err, ap, sym, subst, ◌∙◌, inl, inr, ◌⊎◌}
+use Rattle.std.proofs.Common.{◌≡◌, refl, ℕ, Bool, true, false, [], ◌∷◌, Option, Some, None, Result, Ok, Err, ap, sym, subst, ◌∙◌, inl, inr, ◌⊎◌}
 use Rattle.std.specs.Prelude.{MatchBool, IfOk, IfErr}
 use Rattle.moka_engine.specs.parts.Call.{Call}
 use Rattle.moka_engine.specs.parts.Call.TheVariants as call
@@ -16,7 +16,7 @@ use Rattle.moka_engine.specs.Runs.{Cache, PromisedRun}
 use Rattle.moka_engine.specs.State.{State, Meaning, Events, is_disabled}
 use Rattle.moka_drive.specs.declared.error.GetWithRefused.{GetWithRefused}
 use Rattle.moka_drive.specs.declared.error.GetWithRefused.TheVariants.{Lookup, Insert}
-use Rattle.moka_drive.specs.Synchronous.{Made, Makes, GetsValue, GetsThen, InsertsMade, GetsOrInserts, GetsOrInsertsIfNoError, HandsOutMade, HandsOutIfNoError, value_found}
+use Rattle.moka_drive.specs.Synchronous.{Made, Makes, GetsThen, InsertsMade, GetsOrInserts, GetsOrInsertsIfNoError, HandsOutMade, HandsOutIfNoError}
 use Rattle.moka_uses.specs.Handled.{IsCloneOfKept}
 use Rattle.moka_uses.specs.ReadThrough.{ComesBack, FindsNothing}
 use Rattle.moka_uses.proofs.Replied.{finds_kept, only_step, second_step}

@@ -2,7 +2,6 @@
 use Rattle.std.proofs.Common.{◌≡◌, ℕ, Bool, true, false, ◌||◌, ◌==◌, not, Some, sym, subst, inl, inr, nat_le, nat_lt, arith}
 use Rattle.moka_engine.specs.parts.Record.{Record}
 use Rattle.moka_engine.specs.Calls.{ContainsStep}
-use Rattle.moka_engine.specs.Records.{record_of_key}
 use Rattle.moka_engine.specs.State.{State}
 use Rattle.moka_engine.specs.Time.{plus}
 use Rattle.moka_engine.specs.Visibility.{IsShown}

@@ -7,3 +7,6 @@ pub mod Followed
 pub mod Replied
 pub mod GotOrMade
 pub mod Idle
+pub mod Named
+pub mod Among
+pub mod Bound

@@ -16,7 +16,7 @@ use Rattle.moka_engine.specs.Records.{record_of_key}
 use Rattle.moka_engine.specs.Runs.{Cache, CallStep, Step, AreSteps, PromisedRun, calls_of, replies_of, last_state}
 use Rattle.moka_engine.specs.State.{State, Meaning, Events, is_disabled}
 use Rattle.moka_drive.specs.declared.error.NotTold.{NotTold}
-use Rattle.moka_drive.specs.Synchronous.{Made, Makes, GetsValue, RemovesEntry, value_found, removed}
+use Rattle.moka_drive.specs.Synchronous.{Made, Makes, GetsValue, RemovesEntry, removed}
 
 heads : {A : Type 0} (x y : A) (xs ys : List A) → x ∷ xs ≡ y ∷ ys → x ≡ y
 heads x y xs ys e = cc

@@ -4,3 +4,5 @@ pub mod Driven
 pub mod Handled
 pub mod ReadThrough
 pub mod Sessions
+pub mod Borrowed
+pub mod Restarted

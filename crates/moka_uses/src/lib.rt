@@ -2,6 +2,7 @@
 #![tactic(auto)]
 
 pub mod asked;
+pub mod borrowed;
 pub mod bounded;
 pub mod cached;
 pub mod driven;
@@ -16,6 +17,8 @@ pub mod read_through;
 pub mod refused;
 pub mod released;
 pub mod resized;
+pub mod restarted;
 pub mod sessions;
+pub mod shared;
 pub mod texts;
 pub mod weighed;

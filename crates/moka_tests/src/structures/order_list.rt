@@ -3,7 +3,7 @@ use std::test::Fail;
 
 #[test]
 fn a_refused_growth_changes_nothing(rt: HostRuntime) -> Result<(), Fail> {
-    let Ok(mut list) = OrderList::new(rt.alloc()) else {
+    let Ok(mut list) = OrderList::new(rt.alloc(), 0u64) else {
         return Ok(());
     };
     for additional in [1, 2, 100, usize::MAX] {

@@ -11,7 +11,7 @@ use std::test::Fail;
 
 // What `OrderList` promises, but for the room after `unlink`.
 trait Ordered {
-    ghost seen: { Self → Order };
+    ghost seen: { Self → Order ℕ };
 
     fn reserve(&mut self, additional: usize) -> Result<(), AllocError>
         ensures room { OnOk result (additional ≤ (seen self.new).room) }
@@ -55,7 +55,7 @@ trait Ordered {
         ensures { result ≡ length (seen self.now).members };
 }
 
-impl Ordered for OrderList {
+impl Ordered for OrderList<u64> {
     ghost seen = { λ o. o };
 
     fn reserve(&mut self, additional: usize) -> Result<(), AllocError> {
@@ -95,12 +95,12 @@ struct VectorOrder {
 }
 
 impl Model for VectorOrder {
-    ghost use Rattle.std.specs.Prelude.{◌-◌, ◌^◌, ◌<◌, length, min, nat_eq, vec_capacity, All};
+    ghost use Rattle.std.specs.Prelude.{◌-◌, ◌^◌, ◌<◌, ℕ, length, min, nat_eq, vec_capacity, All};
     ghost use Rattle.std.specs.List.{IsDistinct};
     ghost use Rattle.std.specs.Map.{keys_of};
     ghost use Rattle.moka_structures.specs.Order.{Order};
 
-    ghost Value = { Order };
+    ghost Value = { Order ℕ };
 
     ghost view = { λ a. record { members = a.members.items; room = min (vec_capacity a.members - length a.members.items) (2 ^ 32 - 1 - a.given) } };
 
@@ -295,7 +295,7 @@ fn run<L: Ordered>(list: &mut L, log: &mut Vec<u64>) -> Result<(), AllocError> {
 
 #[test]
 fn ten_thousand_steps_agree(rt: HostRuntime) -> Result<(), Fail> {
-    let mut linked = OrderList::new(rt.alloc())?;
+    let mut linked = OrderList::new(rt.alloc(), 0)?;
     let mut linked_log = Vec::new(rt.alloc());
     run(&mut linked, &mut linked_log)?;
     let mut plain = VectorOrder::new(rt.alloc());

@@ -19,18 +19,18 @@ loop-read-preserved g c =
     let split = c.in-Some.ensures.cases.0 in
     record {
       left = rw c.apply_read.ensures.applied (sym (ap (λ (qs : List QueuedRead). after_reads (contents_with c.loop-read.sketch c.loop-read.store) (reads_of qs)) split) ∙ inv.left);
-      rest = c.apply_read.ensures.rest ∙ ap (λ (k : Kept g.row.K.Denot g.row.V.Denot g.row.S.Denot). record k { access = c.apply_read.new.store.access; timers = c.apply_read.new.store.timers }) inv.rest;
+      rest = c.apply_read.ensures.served.rest ∙ ap (λ (k : Kept g.row.K.Denot g.row.V.Denot g.row.S.Denot). record k { access = c.apply_read.new.store.access; timers = c.apply_read.new.store.timers }) inv.rest;
       renewed = λ q n hash there is. elim (inv.renewed q n hash there is) [
         | inl ahead ↦ elim (first_or_rest c.in-Some.read.now q c.in-Some.behind.now (subst (λ (qs : List QueuedRead). Contains qs q) split ahead)) [
-          | inl same ↦ inr (c.apply_read.ensures.renewed n hash (ap (λ (x : QueuedRead). x.read) same ∙ is))
+          | inl same ↦ inr (c.apply_read.ensures.served.renewed n (hash, ap (λ (x : QueuedRead). x.read) same ∙ is))
           | inr behind ↦ inl behind
         ]
-        | inr stands ↦ inr (c.apply_read.ensures.kept n stands)
+        | inr stands ↦ inr (c.apply_read.ensures.served.kept n stands)
       ];
-      kept = λ n stands. c.apply_read.ensures.kept n (inv.kept n stands);
-      timers = keeps-on c.args.store.now c.loop-read.store c.apply_read.new.store inv.timers c.apply_read.ensures.timers;
+      kept = λ n stands. c.apply_read.ensures.served.kept n (inv.kept n stands);
+      timers = keeps-on c.args.store.now c.loop-read.store c.apply_read.new.store inv.timers c.apply_read.ensures.served.timers;
       located = λ q there.
-          subst (λ (k : Kept g.row.K.Denot g.row.V.Denot g.row.S.Denot). IsReadAt k.places q.place q.read) (sym c.apply_read.ensures.rest)
+          subst (λ (k : Kept g.row.K.Denot g.row.V.Denot g.row.S.Denot). IsReadAt k.places q.place q.read) (sym c.apply_read.ensures.served.rest)
           (inv.located q (behind_in c.loop-read.rest.now c.in-Some.read.now q c.in-Some.behind.now split there));
     }
 
@@ -44,13 +44,16 @@ loop-read-init g c = record {
   located = c.requires;
 }
 
-pub returns-clause-renewed : goal.returns-clause-renewed
-returns-clause-renewed g c = λ q n hash there is.
+pub returns-clause-served : goal.returns-clause-served
+returns-clause-served g c =
+    let inv = c.loop-read.invariant in
     let empty = nothing_in c.loop-read.rest.now c.in_default.ensures.cases in
-    elim (c.loop-read.invariant.renewed q n hash there is) [
-      | inl ahead ↦ absurd (nothing_there q (subst (λ (qs : List QueuedRead). Contains qs q) empty ahead))
-      | inr stands ↦ stands
-    ]
-
-pub returns-clause-timers : goal.returns-clause-timers
-returns-clause-timers g c = c.loop-read.invariant.timers
+    record {
+      rest = inv.rest;
+      renewed = λ n is. elim (inv.renewed is.0 n is.2.0 is.1 is.2.1) [
+        | inl ahead ↦ absurd (nothing_there is.0 (subst (λ (qs : List QueuedRead). Contains qs is.0) empty ahead))
+        | inr stands ↦ stands
+      ];
+      kept = inv.kept;
+      timers = inv.timers;
+    }

@@ -12,7 +12,7 @@ use Rattle.moka_maintenance.proofs.admission.apply_each_write.Goals as goal
 pub apply_write-requires : goal.apply_write-requires
 apply_write-requires g c =
     let split = c.in-Some.ensures.cases.0 in
-    record { at = c.loop-sent.invariant.located c.in-Some.sent.now (first_is c.loop-sent.rest.now c.in-Some.sent.now c.in-Some.behind.now split) }
+    c.loop-sent.invariant.located c.in-Some.sent.now (first_is c.loop-sent.rest.now c.in-Some.sent.now c.in-Some.behind.now split)
 
 pub loop-sent-preserved : goal.loop-sent-preserved
 loop-sent-preserved g c =
@@ -23,10 +23,10 @@ loop-sent-preserved g c =
     let split = c.in-Some.ensures.cases.0 in
     record {
       applied = λ d ks m are.
-          (let made_ordered = subst (λ b. IsApplied g.L.Listener.tells c.args.capacity c.args.policy b (contents_with c.args.sketch.now store) (contents_with c.args.sketch.now next) store.written next.written c.in-Some.sent.now.write.operation c.loop-sent.notifier c.apply_write.new.notifier) inv.upkeep.timers.ordered made.applied in
+          (let made_ordered = subst (λ b. IsApplied g.L.Listener.tells c.args.bounds.capacity c.args.bounds.policy b (contents_with c.args.sketch.now store) (contents_with c.args.sketch.now next) store.written next.written c.in-Some.sent.now.write.operation c.loop-sent.notifier c.apply_write.new.notifier) inv.upkeep.timers.ordered made.applied in
           inv.applied d ks m
-          (subst (λ (qs : List QueuedWrite). AreApplied g.L.Listener.tells c.args.capacity c.args.policy c.args.store.now.ordered (contents_with c.args.sketch.now store) d store.written ks (writes_of qs) c.loop-sent.notifier m) (sym split)
-          (applied-then g.L.Listener.tells c.args.capacity c.args.policy c.args.store.now.ordered (contents_with c.args.sketch.now store) (contents_with c.args.sketch.now next) d store.written next.written ks c.in-Some.sent.now.write.operation c.in-Some.sent.now.ticket _ c.loop-sent.notifier c.apply_write.new.notifier m made_ordered are)));
+          (subst (λ (qs : List QueuedWrite). AreApplied g.L.Listener.tells c.args.bounds.capacity c.args.bounds.policy c.args.store.now.ordered (contents_with c.args.sketch.now store) d store.written ks (writes_of qs) c.loop-sent.notifier m) (sym split)
+          (applied-then g.L.Listener.tells c.args.bounds.capacity c.args.bounds.policy c.args.store.now.ordered (contents_with c.args.sketch.now store) (contents_with c.args.sketch.now next) d store.written next.written ks c.in-Some.sent.now.write.operation c.in-Some.sent.now.ticket _ c.loop-sent.notifier c.apply_write.new.notifier m made_ordered are)));
       upkeep = upkeep-on c.args.store.now store next inv.upkeep made.upkeep;
       rows = λ k kept are.
           inv.rows k (places-on store next k made.upkeep.places kept)
@@ -41,22 +41,18 @@ loop-sent-init g c = record {
   applied = λ d ks m are. are;
   upkeep = upkeep-none c.args.store.now;
   rows = λ k kept are. are;
-  located = c.requires.at;
+  located = c.requires;
 }
 
-pub returns-clause-applied : goal.returns-clause-applied
-returns-clause-applied g c =
+pub returns : goal.returns
+returns g c =
     let empty = nothing_in c.loop-sent.rest.now c.in_default.ensures.cases in
-    let k = contents_with c.args.sketch.now c.loop-sent.store in
-    let ks = c.loop-sent.store.written in
-    c.loop-sent.invariant.applied k ks c.loop-sent.notifier
-    (subst (λ (qs : List QueuedWrite). AreApplied g.L.Listener.tells c.args.capacity c.args.policy c.args.store.now.ordered k k ks ks (writes_of qs) c.loop-sent.notifier c.loop-sent.notifier) (sym empty) (applied-none g.L.Listener.tells c.args.capacity c.args.policy c.args.store.now.ordered k ks c.loop-sent.notifier))
-
-pub returns-clause-upkeep : goal.returns-clause-upkeep
-returns-clause-upkeep g c = c.loop-sent.invariant.upkeep
-
-pub returns-clause-rows : goal.returns-clause-rows
-returns-clause-rows g c =
-    let empty = nothing_in c.loop-sent.rest.now c.in_default.ensures.cases in
-    c.loop-sent.invariant.rows c.loop-sent.store (λ n p at. at)
-    (subst (λ (qs : List QueuedWrite). LeavesNoRowBy (writes_of qs) c.loop-sent.store c.loop-sent.store) (sym empty) (rows-none c.loop-sent.store))
+    let store = c.loop-sent.store in
+    let k = contents_with c.args.sketch.now store in
+    let ks = store.written in
+    record {
+      applied = c.loop-sent.invariant.applied k ks c.loop-sent.notifier
+          (subst (λ (qs : List QueuedWrite). AreApplied g.L.Listener.tells c.args.bounds.capacity c.args.bounds.policy c.args.store.now.ordered k k ks ks (writes_of qs) c.loop-sent.notifier c.loop-sent.notifier) (sym empty) (applied-none g.L.Listener.tells c.args.bounds.capacity c.args.bounds.policy c.args.store.now.ordered k ks c.loop-sent.notifier));
+      upkeep = c.loop-sent.invariant.upkeep;
+      rows = c.loop-sent.invariant.rows store (λ n p at. at) (subst (λ (qs : List QueuedWrite). LeavesNoRowBy (writes_of qs) store store) (sym empty) (rows-none store));
+    }

@@ -16,7 +16,7 @@ apply_each_read-requires g c q there =
 
 pub apply_each_read-requires-2 : goal.apply_each_read-requires-2
 apply_each_read-requires-2 g c q there =
-    subst (λ (k : Kept g.row.K.Denot g.row.V.Denot g.row.S.Denot). IsReadAt k.places q.place q.read) (sym c.apply_each_read.ensures.rest)
+    subst (λ (k : Kept g.row.K.Denot g.row.V.Denot g.row.S.Denot). IsReadAt k.places q.place q.read) (sym c.apply_each_read.ensures.served.rest)
     (c.requires q (subst (λ (qs : List QueuedRead). Contains qs q) c.as_slices.ensures (Contains-append_right c.as_slices.result.0.now c.as_slices.result.1.now q there)))
 
 pub returns-clause-applied : goal.returns-clause-applied
@@ -27,14 +27,17 @@ returns-clause-applied g c =
     ∙ sym (reads-both before c.as_slices.result.0.now c.as_slices.result.1.now)
     ∙ ap (λ (qs : List QueuedRead). after_reads before (reads_of qs)) c.as_slices.ensures
 
-pub returns-clause-renewed : goal.returns-clause-renewed
-returns-clause-renewed g c = λ q n hash there is.
-    let then = c.apply_each_read-2.ensures in
-    elim (Contains-append_cases c.as_slices.result.0.now c.as_slices.result.1.now q (subst (λ (qs : List QueuedRead). Contains qs q) (sym c.as_slices.ensures) there)) [
-      | inl here ↦ then.kept n (c.apply_each_read.ensures.renewed q n hash here is)
-      | inr behind ↦ then.renewed q n hash behind is
-    ]
-
-pub returns-clause-timers : goal.returns-clause-timers
-returns-clause-timers g c =
-    keeps-on c.args.store.now c.apply_each_read.new.store c.apply_each_read-2.new.store c.apply_each_read.ensures.timers c.apply_each_read-2.ensures.timers
+pub returns-clause-served : goal.returns-clause-served
+returns-clause-served g c =
+    let new = c.apply_each_read-2.new.store in
+    let made = c.apply_each_read.ensures.served in
+    let then = c.apply_each_read-2.ensures.served in
+    record {
+      rest = then.rest ∙ ap (λ (k : Kept g.row.K.Denot g.row.V.Denot g.row.S.Denot). record k { access = new.access; timers = new.timers }) made.rest;
+      renewed = λ n is. elim (Contains-append_cases c.as_slices.result.0.now c.as_slices.result.1.now is.0 (subst (λ (qs : List QueuedRead). Contains qs is.0) (sym c.as_slices.ensures) is.1)) [
+        | inl here ↦ then.kept n (made.renewed n (is.0, here, is.2))
+        | inr behind ↦ then.renewed n (is.0, behind, is.2)
+      ];
+      kept = λ n stands. then.kept n (made.kept n stands);
+      timers = keeps-on c.args.store.now c.apply_each_read.new.store new made.timers then.timers;
+    }

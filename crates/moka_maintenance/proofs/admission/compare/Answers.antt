@@ -5,23 +5,30 @@ use Rattle.moka_maintenance.proofs.Compared.{still_apart, upkeep-chosen, compare
 use Rattle.moka_maintenance.proofs.Upkeep.{upkeep-on}
 use Rattle.moka_maintenance.proofs.admission.compare.Goals as goal
 
-pub enter-requires-clause-handle : goal.enter-requires-clause-handle
-enter-requires-clause-handle g c =
+pub enter-requires : goal.enter-requires
+enter-requires g c =
     let n = c.args.candidate.handle.number in
     let rest = c.choose-chosen.ensures.rest in
     let others = c.expel_front.ensures.others n (still_apart c.args.sketch.now c.args.store.now c.choose-chosen.new.store n c.args.candidate.generation c.args.candidate.weight c.args.candidate.hash c.choose-chosen.result.victims c.choose-chosen.ensures.chosen rest c.requires.apart) in
     record {
-      placed = others.2 ∙ ap (λ (k : Kept g.row.K.Denot g.row.V.Denot g.row.S.Denot). finite.get k.places n) rest ∙ c.requires.handle.placed;
-      stored = subst IsSome (sym (others.1 ∙ ap (λ (k : Kept g.row.K.Denot g.row.V.Denot g.row.S.Denot). finite.get k.records n) rest)) c.requires.handle.stored;
+      handle = record {
+        placed = others.2 ∙ ap (λ (k : Kept g.row.K.Denot g.row.V.Denot g.row.S.Denot). finite.get k.places n) rest ∙ c.requires.handle.placed;
+        stored = subst IsSome (sym (others.1 ∙ ap (λ (k : Kept g.row.K.Denot g.row.V.Denot g.row.S.Denot). finite.get k.records n) rest)) c.requires.handle.stored;
+      };
+      apart = others.0;
     }
 
-pub enter-requires-clause-apart : goal.enter-requires-clause-apart
-enter-requires-clause-apart g c =
-    (c.expel_front.ensures.others c.args.candidate.handle.number (still_apart c.args.sketch.now c.args.store.now c.choose-chosen.new.store c.args.candidate.handle.number c.args.candidate.generation c.args.candidate.weight c.args.candidate.hash c.choose-chosen.result.victims c.choose-chosen.ensures.chosen c.choose-chosen.ensures.rest c.requires.apart)).0
-
-pub reject-requires-clause-apart : goal.reject-requires-clause-apart
-reject-requires-clause-apart g c =
-    still_apart c.args.sketch.now c.args.store.now c.choose-chosen.new.store c.args.candidate.handle.number c.args.candidate.generation c.args.candidate.weight c.args.candidate.hash c.choose-chosen.result.victims c.choose-chosen.ensures.chosen c.choose-chosen.ensures.rest c.requires.apart
+pub reject-requires : goal.reject-requires
+reject-requires g c =
+    let n = c.args.candidate.handle.number in
+    let rest = c.choose-chosen.ensures.rest in
+    record {
+      handle = record {
+        placed = ap (λ (k : Kept g.row.K.Denot g.row.V.Denot g.row.S.Denot). finite.get k.places n) rest ∙ c.requires.handle.placed;
+        stored = subst IsSome (sym (ap (λ (k : Kept g.row.K.Denot g.row.V.Denot g.row.S.Denot). finite.get k.records n) rest)) c.requires.handle.stored;
+      };
+      apart = still_apart c.args.sketch.now c.args.store.now c.choose-chosen.new.store n c.args.candidate.generation c.args.candidate.weight c.args.candidate.hash c.choose-chosen.result.victims c.choose-chosen.ensures.chosen rest c.requires.apart;
+    }
 
 pub returns-then-chosen-clause-compared : goal.returns-then-chosen-clause-compared
 returns-then-chosen-clause-compared g c = λ r found.

@@ -1,9 +1,9 @@
-use Rattle.std.proofs.Common.{ap, sym, ◌∙◌}
+use Rattle.std.proofs.Common.{ap, ◌∙◌}
 use Rattle.std.specs.FinMap as finite
 use Rattle.moka_parts.specs.Records.{entered_by}
 use Rattle.moka_store.specs.Store.{Kept}
 use Rattle.moka_store.proofs.Gets.{some_is}
-use Rattle.moka_maintenance.proofs.Entered.{entered-rows, entered-room, entered-timers}
+use Rattle.moka_maintenance.proofs.Entered.{entered-upkeep}
 use Rattle.moka_maintenance.proofs.admission.enter.Goals as goal
 
 pub returns-clause-written : goal.returns-clause-written
@@ -14,13 +14,5 @@ returns-clause-written g c =
 pub returns-clause-upkeep : goal.returns-clause-upkeep
 returns-clause-upkeep g c =
     let found = some_is (finite.get c.args.store.now.records c.args.upsert.handle.number) c.requires.handle.stored in
-    let step = c.admit.ensures.step in
-    let places = ap (λ (k : Kept g.row.K.Denot g.row.V.Denot g.row.S.Denot). k.places) c.set_timer.ensures.rest ∙ ap (λ (k : Kept g.row.K.Denot g.row.V.Denot g.row.S.Denot). k.places) step ∙ c.set_applied.ensures.places in
-    record {
-      timers = entered-timers c.args.store.now c.set_applied.new.self c.admit.new.self c.args.upsert.handle.number c.args.upsert.generation c.args.upsert.weight found.0 (c.set_applied.ensures.step found.0 found.1) c.set_timer.new.self
-          c.admit.ensures.records (ap (λ (k : Kept g.row.K.Denot g.row.V.Denot g.row.S.Denot). k.ordered) step) (ap (λ (k : Kept g.row.K.Denot g.row.V.Denot g.row.S.Denot). k.timed) step) (ap (λ (k : Kept g.row.K.Denot g.row.V.Denot g.row.S.Denot). k.hasher) step) (ap (λ (k : Kept g.row.K.Denot g.row.V.Denot g.row.S.Denot). k.timers) step) c.admit.ensures.counted c.set_timer.ensures.step;
-      places = λ n p at. sym (ap (λ m. finite.get m n) places) ∙ at;
-      rows = entered-rows c.args.store.now c.set_applied.new.self c.set_timer.new.self c.args.upsert.handle.number c.args.upsert.generation c.args.upsert.weight found.0 (c.set_applied.ensures.step found.0 found.1) (ap (λ (k : Kept g.row.K.Denot g.row.V.Denot g.row.S.Denot). k.records) c.set_timer.ensures.rest ∙ c.admit.ensures.records);
-      room = entered-room c.args.store.now c.set_applied.new.self c.set_timer.new.self c.args.upsert.handle.number c.args.upsert.generation c.args.upsert.weight found.0 (c.set_applied.ensures.step found.0 found.1)
-          (ap (λ (k : Kept g.row.K.Denot g.row.V.Denot g.row.S.Denot). k.room) c.set_timer.ensures.rest ∙ ap (λ (k : Kept g.row.K.Denot g.row.V.Denot g.row.S.Denot). k.room) c.admit.ensures.step);
-    }
+    entered-upkeep c.args.store.now c.set_applied.new.self c.admit.new.self c.args.upsert.handle.number c.args.upsert.generation c.args.upsert.weight found.0 (c.set_applied.ensures.step found.0 found.1) c.set_timer.new.self
+    c.admit.ensures.step c.admit.ensures.counted c.set_timer.ensures.step

@@ -46,7 +46,7 @@ loop-weights-smaller-in-Some-frequency_of g c =
     let l = c.loop-weights in
     let walk : Walks k c.from-weight.result c.args.hash l.store.access (Some (member c.in-Some.handle.number c.in-Some.counted)) l.victims l.weights l.frequencies l.unsettled l.ahead =
     subst (λ o. Walks k c.from-weight.result c.args.hash l.store.access (named o) l.victims l.weights l.frequencies l.unsettled l.ahead) c.in-Some.is inv.walks in
-    let is = ap (λ (s : Kept g.row.K.Denot g.row.V.Denot g.row.S.Denot). is_settled s.records c.in-Some.handle.number) (sym inv.rest) ∙ c.in-Some-frequency_of.ensures.settled in
+    let is = ap (λ (s : Kept g.row.K.Denot g.row.V.Denot g.row.S.Denot). is_settled s.records c.in-Some.handle.number) (sym inv.rest) ∙ c.in-Some-frequency_of.ensures.0 in
     let some = walks-left k c.from-weight.result c.args.hash c.invariant_holds.ensures.distinct l.store.access (member c.in-Some.handle.number c.in-Some.counted) l.victims l.weights l.frequencies l.unsettled l.ahead walk
     c.loop-weights-test.true c.if-unsettled-lt-MOST_UNSETTLED.true (named c.next-next.result) c.next-next.ensures.next is in
     let less = c.saturating_sub-ahead.ensures in
@@ -60,8 +60,8 @@ loop-weights-preserved-in-Some-frequency_of g c =
     let a = member c.in-Some.handle.number c.in-Some.counted in
     let walk : Walks k c.from-weight.result c.args.hash l.store.access (Some a) l.victims l.weights l.frequencies l.unsettled l.ahead =
     subst (λ o. Walks k c.from-weight.result c.args.hash l.store.access (named o) l.victims l.weights l.frequencies l.unsettled l.ahead) c.in-Some.is inv.walks in
-    let is = ap (λ (s : Kept g.row.K.Denot g.row.V.Denot g.row.S.Denot). is_settled s.records c.in-Some.handle.number) (sym inv.rest) ∙ c.in-Some-frequency_of.ensures.settled in
-    let seen = c.from.ensures ∙ c.in-Some-frequency_of.ensures.seen c.in-Some.counted ∙ ap (λ (s : Kept g.row.K.Denot g.row.V.Denot g.row.S.Denot). frequency c.args.sketch.now (hash_of (contents_with c.args.sketch.now s) a)) inv.rest in
+    let is = ap (λ (s : Kept g.row.K.Denot g.row.V.Denot g.row.S.Denot). is_settled s.records c.in-Some.handle.number) (sym inv.rest) ∙ c.in-Some-frequency_of.ensures.0 in
+    let seen = c.from.ensures ∙ c.in-Some-frequency_of.ensures.1 c.in-Some.counted ∙ ap (λ (s : Kept g.row.K.Denot g.row.V.Denot g.row.S.Denot). frequency c.args.sketch.now (hash_of (contents_with c.args.sketch.now s) a)) inv.rest in
     let some = walks-left k c.from-weight.result c.args.hash c.invariant_holds.ensures.distinct l.store.access a l.victims l.weights l.frequencies l.unsettled l.ahead walk
     c.loop-weights-test.true c.if-unsettled-lt-MOST_UNSETTLED.true (named c.next-next.result) c.next-next.ensures.next is in
     record {
@@ -84,7 +84,7 @@ loop-weights-preserved g c =
     let a = member c.in-Some.handle.number c.in-Some.counted in
     let walk : Walks k c.from-weight.result c.args.hash l.store.access (Some a) l.victims l.weights l.frequencies l.unsettled l.ahead =
     subst (λ o. Walks k c.from-weight.result c.args.hash l.store.access (named o) l.victims l.weights l.frequencies l.unsettled l.ahead) c.in-Some.is inv.walks in
-    let is = ap (λ (s : Kept g.row.K.Denot g.row.V.Denot g.row.S.Denot). is_settled s.records c.in-Some.handle.number) (sym inv.rest) ∙ c.in-None.ensures.unsettled in
+    let is = ap (λ (s : Kept g.row.K.Denot g.row.V.Denot g.row.S.Denot). is_settled s.records c.in-Some.handle.number) (sym inv.rest) ∙ c.in-None.ensures in
     let step = c.move_in_access.ensures.step in
     record {
       walks =

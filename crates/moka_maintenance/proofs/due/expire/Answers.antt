@@ -10,36 +10,30 @@ use Rattle.moka_maintenance.proofs.due.expire.Goals as goal
 pub returns-then-not-is_settled-clause-expired : goal.returns-then-not-is_settled-clause-expired
 returns-then-not-is_settled-clause-expired g c = expires-none g.L.Listener.tells c.args.tests (stock_in c.args.store.now) c.args.notifier.now
 
-pub returns-then-not-is_settled-clause-timers : goal.returns-then-not-is_settled-clause-timers
-returns-then-not-is_settled-clause-timers g c = reset-waiting c.args.tests.now.0 c.args.handle.number c.args.store.now c.args.store.now c.requires.untimed (sym c.is_settled.ensures ∙ c.if-not-is_settled.true)
+pub returns-then-not-is_settled-clause-reset : goal.returns-then-not-is_settled-clause-reset
+returns-then-not-is_settled-clause-reset g c = reset-waiting c.args.tests.now.0 c.args.handle.number c.args.store.now c.args.store.now c.requires.untimed (sym c.is_settled.ensures ∙ c.if-not-is_settled.true)
 
 pub returns-then-is_expired_by_per_entry_ttl-clause-expired : goal.returns-then-is_expired_by_per_entry_ttl-clause-expired
 returns-then-is_expired_by_per_entry_ttl-clause-expired g c =
     let n = c.args.handle.number in
     let r = c.in-Some.found.now in
-    let found = sym (c.in-Some.ensures.found c.requires.placed) in
+    let found = sym (c.in-Some.ensures.found c.requires.member.placed) in
     expires-one g.L.Listener.tells c.args.tests (stock_in c.args.store.now) (stock_in c.expel.new.store) c.args.notifier.now c.expel.new.notifier n
-    (r, found, settled_member c.args.store.now.records c.args.store.now.access n c.requires.member (sym c.is_settled.ensures ∙ c.if-not-is_settled.false), (sym c.is_expired_by_per_entry_ttl.ensures ∙ c.if-is_expired_by_per_entry_ttl.true, refl))
+    (r, found, settled_member c.args.store.now.records c.args.store.now.access n c.requires.member.member (sym c.is_settled.ensures ∙ c.if-not-is_settled.false), (sym c.is_expired_by_per_entry_ttl.ensures ∙ c.if-is_expired_by_per_entry_ttl.true, refl))
     c.expel.ensures.step c.expel.ensures.told
 
-pub returns-then-is_expired_by_per_entry_ttl-clause-timers : goal.returns-then-is_expired_by_per_entry_ttl-clause-timers
-returns-then-is_expired_by_per_entry_ttl-clause-timers g c =
+pub returns-then-is_expired_by_per_entry_ttl-clause-reset : goal.returns-then-is_expired_by_per_entry_ttl-clause-reset
+returns-then-is_expired_by_per_entry_ttl-clause-reset g c =
     let n = c.args.handle.number in
     reset-gone c.args.tests.now.0 n c.args.store.now c.expel.new.store c.requires.untimed
     (ap (λ (s : Stock g.row.K.Denot g.row.V.Denot). finite.get s.records n) c.expel.ensures.step ∙ get-removed c.args.store.now.records n)
-    c.expel.ensures.upkeep.keeps.timers.ordered c.expel.ensures.upkeep.keeps.timers.timed c.expel.ensures.upkeep.keeps.timers.hasher (ap (λ (k : Kept g.row.K.Denot g.row.V.Denot g.row.S.Denot). k.timers) c.expel.ensures.whole)
-
-pub returns-then-is_expired_by_per_entry_ttl-clause-places : goal.returns-then-is_expired_by_per_entry_ttl-clause-places
-returns-then-is_expired_by_per_entry_ttl-clause-places g c = c.expel.ensures.upkeep.keeps.places
-
-pub returns-then-is_expired_by_per_entry_ttl-clause-rows : goal.returns-then-is_expired_by_per_entry_ttl-clause-rows
-returns-then-is_expired_by_per_entry_ttl-clause-rows g c = c.expel.ensures.upkeep.keeps.rows
+    c.expel.ensures.upkeep.keeps (ap (λ (k : Kept g.row.K.Denot g.row.V.Denot g.row.S.Denot). k.timers) c.expel.ensures.whole)
 
 pub returns-clause-expired : goal.returns-clause-expired
 returns-clause-expired g c =
     rw c.set_timer.ensures.rest (expires-none g.L.Listener.tells c.args.tests (stock_in c.args.store.now) c.args.notifier.now)
 
-pub returns-clause-timers : goal.returns-clause-timers
-returns-clause-timers g c =
-    reset-set c.args.tests.now.0 c.args.handle.number c.args.store.now c.set_timer.new.self c.requires.untimed c.in-Some.found.now (sym (c.in-Some.ensures.found c.requires.placed))
-    (sym c.is_expired_by_per_entry_ttl.ensures ∙ c.if-is_expired_by_per_entry_ttl.false) (c.set_timer.ensures.step c.in-Some.found.now (sym (c.in-Some.ensures.found c.requires.placed)))
+pub returns-clause-reset : goal.returns-clause-reset
+returns-clause-reset g c =
+    reset-set c.args.tests.now.0 c.args.handle.number c.args.store.now c.set_timer.new.self c.requires.untimed c.in-Some.found.now (sym (c.in-Some.ensures.found c.requires.member.placed))
+    (sym c.is_expired_by_per_entry_ttl.ensures ∙ c.if-is_expired_by_per_entry_ttl.false) (c.set_timer.ensures.step c.in-Some.found.now (sym (c.in-Some.ensures.found c.requires.member.placed)))

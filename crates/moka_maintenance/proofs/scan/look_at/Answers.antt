@@ -15,8 +15,6 @@ returns-then-apply_predicates g c =
       settled,
       inr (
         (r, found, settled_member old.records old.access n c.requires.member settled, c.if-apply_predicates.ensures, refl),
-        c.expel.ensures.whole,
-        c.expel.ensures.upkeep.keeps.room,
-        c.expel.ensures.told,
+        c.expel.ensures,
       ),
     )

@@ -9,7 +9,7 @@ use Rattle.moka_maintenance.proofs.scan.scan_along.Goals as goal
 
 pub loop-passed-init : goal.loop-passed-init
 loop-passed-init g c = record {
-  walked = λ before rest list at. walked-none g.L.Listener.tells g.P.PredicateFn.says c.args.invalidator.now c.args.store.now c.args.notifier.now before rest (option_map (λ (h : Handle). h.number) c.args.start) list at;
+  walked = λ before rest list at. walked-none g.L.Listener.tells g.P.PredicateFn.says c.args.invalidator.now c.args.store.now c.args.notifier.now before rest (option_map (λ (h : Handle). h.number) c.args.reach.start) list at;
   ordered = c.requires.ordered;
   once = c.requires.once;
   most = omega arith;
@@ -42,7 +42,7 @@ loop-passed-preserved-then-look_at g c =
       once = keeps.once inv.once;
       most = (let some = c.loop-passed-test.true in omega arith);
       few = (let f = inv.few in omega arith);
-      batch = (let some = c.if-looked-batch.true in omega arith);
+      batch = (let some = c.if-looked-reach.true in omega arith);
       upkeep = untimed-on old mid new inv.upkeep keeps.upkeep;
     }
 

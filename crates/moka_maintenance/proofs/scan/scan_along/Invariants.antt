@@ -11,11 +11,11 @@ invariant-loop-passed g l = record {
       → IsWalked g.L.Listener.tells g.P.PredicateFn.says l.invalidator l.initial.store l.store l.initial.notifier l.notifier before rest (option_map (λ h. h.number) l.next) l.looked l.passed;
   ordered : IfSome l.next (IsOrdered l.store);
   once : IsDistinct (◌==◌) l.store.written;
-  most : l.passed ≤ l.most;
+  most : l.passed ≤ l.reach.most;
   few : l.looked ≤ l.passed;
-  batch : l.looked ≤ l.batch;
+  batch : l.looked ≤ l.reach.batch;
   upkeep : SetsNoTimer l.initial.store l.store;
 }
 
 abbrev pub decreases-loop-passed : goal.decreases-loop-passed
-decreases-loop-passed g l = l.most - l.passed
+decreases-loop-passed g l = l.reach.most - l.passed

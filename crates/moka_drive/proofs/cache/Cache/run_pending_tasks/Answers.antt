@@ -1,11 +1,17 @@
 use Rattle.std.proofs.Common.{refl}
 use Rattle.moka_parts.specs.State.{Meaning}
 use Rattle.moka_drive.specs.Synchronous.{meaning_of}
+use Rattle.moka_drive.proofs.Membership.{run_leaves_members}
 use Rattle.moka_drive.proofs.Posting.{made_run}
 use Rattle.moka_drive.proofs.cache.Cache.run_pending_tasks.Goals as goal
 
 pub returns-clause-made : goal.returns-clause-made
 returns-clause-made g c =
     let m : Meaning g.row.K.Denot g.row.V.Denot g.row.X.Denot g.row.L.Denot g.row.P.Denot g.row.W.Denot g.row.C.Denot (Unit {0}) = meaning_of g.K.PartialEq.eq g.L.Listener.tells g.P.PredicateFn.says g.W.Weigher.weighs g.C.Clock.reads g.X.Expiry.created g.X.Expiry.read g.X.Expiry.updated in
-    let run = c.run_pending_tasks.ensures.step in
-    rw (← c.self.view_is) (_, _, (refl, refl), made_run m c.self.inside.engine c.run_pending_tasks.new.self c.args.clock.now c.run_pending_tasks.new.clock c.args.now c.run_pending_tasks.result run.0 run.1 run.2 run.3)
+    let run = c.run_pending_tasks-more.ensures.step in
+    rw (← c.self.view_is) (_, _, (refl, refl), made_run m c.self.inside.engine c.run_pending_tasks-more.new.self c.args.clock.now c.run_pending_tasks-more.new.clock c.args.now c.run_pending_tasks-more.result run.0 run.1 run.2 run.3)
+
+pub returns-clause-members : goal.returns-clause-members
+returns-clause-members g c =
+    let run = c.run_pending_tasks-more.ensures.step in
+    run_leaves_members g.K.PartialEq.eq g.P.PredicateFn.says g.X.Expiry.read c.self.inside.engine.write_list c.run_pending_tasks-more.new.self.write_list c.self.inside.engine.state c.run_pending_tasks-more.new.self.state _ c.run_pending_tasks-more.result run.0 c.self.invariant run.1 c.invariant_holds.ensures.valid

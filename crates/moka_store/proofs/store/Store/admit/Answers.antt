@@ -13,6 +13,7 @@ use Rattle.moka_store.specs.Weights.{IsWeighed}
 use Rattle.moka_store.proofs.Weights.{weighed-pushed, weighed-fits}
 use Rattle.moka_parts.specs.Records.{counted_of}
 use Rattle.std.proofs.lemmas.List.{length-map}
+use Rattle.moka_store.specs.StoreTies.{AreNarrow}
 use Rattle.moka_store.proofs.store.Store.admit.Goals as goal
 
 pub push_back-access-requires : goal.push_back-access-requires
@@ -48,7 +49,7 @@ invariant_of-self g c =
     let room = c.push_back-access.ensures.room in
     let rows = c.set_membership-none.ensures.len in
     let fits = c.self.invariant.fits in
-    record { tied = s.tied; written = order.written; timed = order.timed; keyed = c.self.invariant.keyed ∙ sym (ap finite.len c.set_membership-none.ensures.records); fits = (let most = ap (λ (l : Listing). l.most) p.rest in omega arith); few = c.push_back-access.ensures.few; weighed = subst (λ members. IsWeighed members (c.self.inside.weight + c.args.weight)) (sym s.access) (weighed-pushed w.row.number c.args.weight _ _ c.self.invariant.weighed (ap (λ n. counted_of n (map (member_at c.self.inside.table.rows) c.self.inside.access.members)) w.number_is ∙ (rw (← c.self.view_is) at c.requires.apart)) c.ranges.weight.fits) }
+    record { tied = s.tied; written = order.written; timed = order.timed; keyed = c.self.invariant.keyed ∙ sym (ap finite.len c.set_membership-none.ensures.records); fits = (let most = ap (λ (l : Listing). l.most) p.rest in omega arith); few = c.push_back-access.ensures.few; narrow = subst AreNarrow (sym c.set_membership-none.ensures.places) c.self.invariant.narrow; weighed = subst (λ members. IsWeighed members (c.self.inside.weight + c.args.weight)) (sym s.access) (weighed-pushed w.row.number c.args.weight _ _ c.self.invariant.weighed (ap (λ n. counted_of n (map (member_at c.self.inside.table.rows) c.self.inside.access.members)) w.number_is ∙ (rw (← c.self.view_is) at c.requires.apart)) c.ranges.weight.fits) }
 
 pub returns-clause-step : goal.returns-clause-step
 returns-clause-step g c =

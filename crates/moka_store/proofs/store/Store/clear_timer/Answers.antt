@@ -8,6 +8,7 @@ use Rattle.moka_store.proofs.Steps.{placed, retimed}
 use Rattle.moka_store.proofs.Timed.{timer-held}
 use Rattle.moka_store.specs.Timing.{Timing}
 use Rattle.moka_store.specs.Weights.{IsWeighed}
+use Rattle.moka_store.specs.StoreTies.{AreNarrow}
 use Rattle.moka_store.proofs.store.Store.clear_timer.Goals as goal
 
 pub set_timer-timer-requires : goal.set_timer-timer-requires
@@ -31,7 +32,7 @@ invariant_of-self g c =
     let most = ap (λ (t : Timing). t.most) c.set-none.ensures.rest in
     let rows = c.set_timer-timer.ensures.len in
     let fits = c.self.invariant.fits in
-    record { tied = s.tied; written = order.written; timed = order.timed; keyed = c.self.invariant.keyed ∙ sym (ap finite.len c.set_timer-timer.ensures.records); fits = omega arith; few = c.self.invariant.few; weighed = subst (λ members. IsWeighed members c.self.inside.weight) (sym s.access) c.self.invariant.weighed }
+    record { tied = s.tied; written = order.written; timed = order.timed; keyed = c.self.invariant.keyed ∙ sym (ap finite.len c.set_timer-timer.ensures.records); fits = omega arith; few = c.self.invariant.few; narrow = subst AreNarrow (sym c.set_timer-timer.ensures.places) c.self.invariant.narrow; weighed = subst (λ members. IsWeighed members c.self.inside.weight) (sym s.access) c.self.invariant.weighed }
 
 pub returns : goal.returns
 returns g c =

@@ -6,6 +6,7 @@ use Rattle.moka_store.proofs.Steps.{retimed}
 use Rattle.moka_store.proofs.Timed.{all-ahead, timer-row}
 use Rattle.moka_store.specs.Timing.{Timing}
 use Rattle.moka_store.specs.Weights.{IsWeighed}
+use Rattle.moka_store.specs.StoreTies.{AreNarrow}
 use Rattle.moka_store.proofs.store.Store.due.Goals as goal
 
 pub returns-in_err-due-clause-none : goal.returns-in_err-due-clause-none
@@ -31,7 +32,7 @@ invariant_of-self-2 g c =
     let most = ap (λ (t : Timing). t.most) c.in_ok-due.ensures.rest in
     let rows = c.set_timer-slot.ensures.len in
     let fits = c.self.invariant.fits in
-    record { tied = s.tied; written = order.written; timed = order.timed; keyed = c.self.invariant.keyed ∙ sym (ap finite.len c.set_timer-slot.ensures.records); fits = omega arith; few = c.self.invariant.few; weighed = subst (λ members. IsWeighed members c.self.inside.weight) (sym s.access) c.self.invariant.weighed }
+    record { tied = s.tied; written = order.written; timed = order.timed; keyed = c.self.invariant.keyed ∙ sym (ap finite.len c.set_timer-slot.ensures.records); fits = omega arith; few = c.self.invariant.few; narrow = subst AreNarrow (sym c.set_timer-slot.ensures.places) c.self.invariant.narrow; weighed = subst (λ members. IsWeighed members c.self.inside.weight) (sym s.access) c.self.invariant.weighed }
 
 pub returns-clause-due : goal.returns-clause-due
 returns-clause-due g c =

@@ -3,12 +3,13 @@ use Rattle.std.specs.Option.{option_and_then}
 use Rattle.moka_structures.specs.RecordTable.{Row}
 use Rattle.moka_parts.specs.declared.records.Record.{Record}
 use Rattle.std.specs.FinMap as finite
-use Rattle.std.proofs.Common.{◌≢◌, ◌+◌, refl, sym, ap, ◌∙◌, arith, subst}
+use Rattle.std.proofs.Common.{◌≢◌, ◌+◌, inl, inr, refl, sym, ap, ◌∙◌, arith, subst}
 use Rattle.std.specs.FinMap.{get}
 use Rattle.moka_structures.specs.RecordTable.{records_of, places_of}
-use Rattle.moka_structures.proofs.TableMaps.{get-inserted, get-past_insert}
-use Rattle.moka_store.proofs.Gets.{len-fresh}
+use Rattle.moka_structures.proofs.TableMaps.{row_at-within, get-inserted, get-past_insert}
+use Rattle.moka_store.proofs.Gets.{after_insert, len-fresh}
 use Rattle.moka_store.proofs.Ties.{counted-unplaced}
+use Rattle.moka_store.proofs.Places.{room-narrow}
 use Rattle.moka_store.proofs.Steps.{key-fresh, index-vacant, inserted, unrecorded}
 use Rattle.moka_store.specs.Weights.{IsWeighed}
 use Rattle.moka_store.proofs.store.Store.insert_new.Goals as goal
@@ -24,7 +25,19 @@ invariant_of-self g c =
     let len = c.insert-place.ensures.len in
     let longer = ap finite.len c.insert-place.ensures.records ∙ len-fresh _ _ c.args.stored (unrecorded _ g.met.K.Eq.laws _ _ _ c.self.invariant.tied _ fresh) in
     let more = ap finite.len c.insert.ensures.entries ∙ len-fresh _ _ _ (index-vacant _ g.met.K.Eq.laws _ _ _ c.self.invariant.tied _ c.insert-place.ensures.vacant) in
-    record { tied = rw (c.insert.ensures.entries, hashed) s.tied; written = stay.written; timed = stay.timed; keyed = more ∙ ap (λ n. n + 1) c.self.invariant.keyed ∙ sym longer; fits = omega arith; few = c.self.invariant.few; weighed = subst (λ members. IsWeighed members c.self.inside.weight) (sym s.access) c.self.invariant.weighed }
+    record {
+      tied = rw (c.insert.ensures.entries, hashed) s.tied;
+      written = stay.written;
+      timed = stay.timed;
+      keyed = more ∙ ap (λ n. n + 1) c.self.invariant.keyed ∙ sym longer;
+      fits = omega arith;
+      few = c.self.invariant.few;
+      narrow = λ n place there. elim (after_insert _ _ _ n place (sym (ap (λ places. get places n) c.insert-place.ensures.places) ∙ there)) [
+        | inl new ↦ (let inside = row_at-within c.insert-place.new.self.rows c.insert-place.result _ c.insert-place.ensures.changes.changed in let same = new.1 in let wide = room-narrow c.self.inside.table.rows c.self.inside.table.room (omega arith) in omega (arith, inside, same, wide))
+        | inr old ↦ c.self.invariant.narrow n place old.1
+      ];
+      weighed = subst (λ members. IsWeighed members c.self.inside.weight) (sym s.access) c.self.invariant.weighed;
+    }
 
 pub returns-clause-step : goal.returns-clause-step
 returns-clause-step g c =

@@ -13,6 +13,7 @@ use Rattle.moka_store.specs.StoreRows.{member_at}
 use Rattle.moka_store.specs.Weights.{IsWeighed}
 use Rattle.moka_store.proofs.Weights.{weighed-without, weighed-least}
 use Rattle.moka_parts.specs.Records.{counted_of, without_member, without_number}
+use Rattle.moka_store.specs.StoreTies.{AreNarrow}
 use Rattle.moka_store.proofs.store.Store.leave.Goals as goal
 
 pub clear_membership-requires : goal.clear_membership-requires
@@ -53,7 +54,7 @@ invariant_of-self g c =
     let rows = c.clear_membership.ensures.len in
     let most = ap (λ (l : Listing). l.most) p.rest in
     let fits = c.self.invariant.fits in
-    record { tied = s.tied; written = order.written; timed = order.timed; keyed = c.self.invariant.keyed ∙ sym (ap finite.len c.clear_membership.ensures.records); fits = omega arith; few = (let few = c.self.invariant.few in omega arith); weighed = subst (λ members. IsWeighed members (c.self.inside.weight - c.in-Some.membership.counted)) (sym s.access) (weighed-without w.row.number _ _ _ c.self.invariant.weighed (ap (λ n. counted_of n (map (member_at c.self.inside.table.rows) c.self.inside.access.members)) w.number_is ∙ w.counted_is)) }
+    record { tied = s.tied; written = order.written; timed = order.timed; keyed = c.self.invariant.keyed ∙ sym (ap finite.len c.clear_membership.ensures.records); fits = omega arith; few = (let few = c.self.invariant.few in omega arith); narrow = subst AreNarrow (sym c.clear_membership.ensures.places) c.self.invariant.narrow; weighed = subst (λ members. IsWeighed members (c.self.inside.weight - c.in-Some.membership.counted)) (sym s.access) (weighed-without w.row.number _ _ _ c.self.invariant.weighed (ap (λ n. counted_of n (map (member_at c.self.inside.table.rows) c.self.inside.access.members)) w.number_is ∙ w.counted_is)) }
 
 pub returns-clause-step : goal.returns-clause-step
 returns-clause-step g c =

@@ -22,7 +22,7 @@ invariant_of-self g c =
     let len = c.move_to_back.ensures.len in
     let room = c.move_to_back.ensures.room in
     let fits = c.self.invariant.fits in
-    record { tied = s.tied; written = c.self.invariant.written; timed = c.self.invariant.timed; keyed = c.self.invariant.keyed; fits = omega arith; few = (let few = c.self.invariant.few in omega arith); weighed = subst (λ members. IsWeighed members c.self.inside.weight) (sym s.access) (weighed-to_back w.row.number _ _ c.self.invariant.weighed) }
+    record { tied = s.tied; written = c.self.invariant.written; timed = c.self.invariant.timed; keyed = c.self.invariant.keyed; fits = omega arith; few = (let few = c.self.invariant.few in omega arith); narrow = c.self.invariant.narrow; weighed = subst (λ members. IsWeighed members c.self.inside.weight) (sym s.access) (weighed-to_back w.row.number _ _ c.self.invariant.weighed) }
 
 pub returns-clause-step : goal.returns-clause-step
 returns-clause-step g c =

@@ -1,6 +1,6 @@
 use Rattle.std.specs.FinMap as finite
 use Rattle.std.specs.Ordering.{nat_cmp}
-use Rattle.std.proofs.Common.{ap, arith, refl, sym, ◌∙◌}
+use Rattle.std.proofs.Common.{◌≡◌, ℕ, None, Some, ap, arith, refl, sym, ◌∙◌}
 use Rattle.moka_store.proofs.Weights.{weighed-empty}
 use Rattle.moka_store.specs.Listing.{Listing}
 use Rattle.moka_store.specs.Timing.{Timing}
@@ -17,6 +17,11 @@ invariant_of-result g c =
       keyed = ap finite.len c.new-4.ensures.entries ∙ finite.len-empty nat_cmp _ ∙ sym (ap finite.len c.new-5.ensures.records ∙ finite.len-empty nat_cmp _);
       fits = rw c.new-5.ensures.rows (omega arith);
       few = rw c.in_ok-access.ensures (omega arith);
+      narrow = λ n place there.
+          let none : finite.get (finite.empty {X = ℕ} {R = nat_cmp}) n ≡ None = finite.get-empty nat_cmp n in
+          let same = ap (λ places. finite.get places n) c.new-5.ensures.places in
+          let impossible : None ≡ Some place = sym none ∙ sym same ∙ there in
+          absurd (cc);
       weighed = rw c.in_ok-access.ensures weighed-empty;
     }
 

@@ -11,6 +11,7 @@ use Rattle.moka_store.specs.Weights.{IsWeighed}
 use Rattle.moka_store.proofs.Weights.{weighed-recounted, weighed-least, weighed-fits}
 use Rattle.moka_parts.specs.Records.{counted_of}
 use Rattle.std.proofs.lemmas.List.{length-map}
+use Rattle.moka_store.specs.StoreTies.{AreNarrow}
 use Rattle.moka_store.proofs.store.Store.recount.Goals as goal
 
 pub unreachable-requires : goal.unreachable-requires
@@ -40,7 +41,7 @@ invariant_of-self g c =
     let room = c.move_to_back.ensures.room in
     let rows = c.set_counted.ensures.len in
     let fits = c.self.invariant.fits in
-    record { tied = s.tied; written = order.written; timed = stay.timed; keyed = c.self.invariant.keyed ∙ sym (ap finite.len c.set_counted.ensures.records); fits = (let most = ap (λ (l : Listing). l.most) p.rest in omega arith); few = (let few = c.self.invariant.few in omega arith); weighed = subst (λ members. IsWeighed members (c.self.inside.weight - c.in-Some.before.counted + c.args.weight)) (sym s.access) (weighed-recounted w.row.number _ c.args.weight _ _ c.self.invariant.weighed (ap (λ n. counted_of n (map (member_at c.self.inside.table.rows) c.self.inside.access.members)) w.number_is ∙ w.counted_is) c.ranges.weight.fits) }
+    record { tied = s.tied; written = order.written; timed = stay.timed; keyed = c.self.invariant.keyed ∙ sym (ap finite.len c.set_counted.ensures.records); fits = (let most = ap (λ (l : Listing). l.most) p.rest in omega arith); few = (let few = c.self.invariant.few in omega arith); narrow = subst AreNarrow (sym c.set_counted.ensures.places) c.self.invariant.narrow; weighed = subst (λ members. IsWeighed members (c.self.inside.weight - c.in-Some.before.counted + c.args.weight)) (sym s.access) (weighed-recounted w.row.number _ c.args.weight _ _ c.self.invariant.weighed (ap (λ n. counted_of n (map (member_at c.self.inside.table.rows) c.self.inside.access.members)) w.number_is ∙ w.counted_is) c.ranges.weight.fits) }
 
 pub returns-clause-step : goal.returns-clause-step
 returns-clause-step g c =

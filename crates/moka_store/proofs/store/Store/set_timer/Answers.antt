@@ -11,6 +11,7 @@ use Rattle.moka_store.proofs.Timed.{timer-held}
 use Rattle.moka_store.specs.Timing.{Timing}
 use Rattle.moka_store.specs.StoreRows.{member_at}
 use Rattle.moka_store.specs.Weights.{IsWeighed}
+use Rattle.moka_store.specs.StoreTies.{AreNarrow}
 use Rattle.moka_store.proofs.store.Store.set_timer.Goals as goal
 
 pub set-timer-requires-clause-held : goal.set-timer-requires-clause-held
@@ -43,7 +44,7 @@ invariant_of-self g c =
     let most = ap (λ (t : Timing). t.most) c.set-timer.ensures.rest in
     let rows = c.set_timer-before.ensures.len in
     let fits = c.self.invariant.fits in
-    record { tied = s.tied; written = order.written; timed = order.timed_is; keyed = c.self.invariant.keyed ∙ sym (ap finite.len c.set_timer-before.ensures.records); fits = omega arith; few = c.self.invariant.few; weighed = subst (λ members. IsWeighed members c.self.inside.weight) (sym s.access) c.self.invariant.weighed }
+    record { tied = s.tied; written = order.written; timed = order.timed_is; keyed = c.self.invariant.keyed ∙ sym (ap finite.len c.set_timer-before.ensures.records); fits = omega arith; few = c.self.invariant.few; narrow = subst AreNarrow (sym c.set_timer-before.ensures.places) c.self.invariant.narrow; weighed = subst (λ members. IsWeighed members c.self.inside.weight) (sym s.access) c.self.invariant.weighed }
 
 pub returns-clause-step : goal.returns-clause-step
 returns-clause-step g c r there =

@@ -7,6 +7,7 @@ use Rattle.moka_structures.proofs.TableMaps.{get-removed}
 use Rattle.moka_store.proofs.Gets.{len-removed}
 use Rattle.moka_store.proofs.Steps.{handled, index-of, taken}
 use Rattle.moka_store.specs.Weights.{IsWeighed}
+use Rattle.moka_store.specs.StoreTies.{AreNarrow}
 use Rattle.moka_store.proofs.store.Store.take_record.Goals as goal
 
 pub take-taken-requires : goal.take-taken-requires
@@ -29,7 +30,7 @@ invariant_of-self g c =
     let fits = c.self.invariant.fits in
     let shorter = ap finite.len c.take-taken.ensures.records ∙ ap (λ n. finite.len (remove (records_of c.self.inside.table.rows) n)) h.number_at_is ∙ len-removed _ _ h.stored h.record_is in
     let fewer = ap finite.len c.remove.ensures.entries ∙ len-removed _ _ _ (index-of _ g.met.K.Eq.laws _ _ _ c.self.invariant.tied _ _ h) in
-    record { tied = rw c.remove.ensures.entries s.tied; written = stay.written; timed = stay.timed; keyed = fewer ∙ ap (λ n. n - 1) c.self.invariant.keyed ∙ sym shorter; fits = omega arith; few = c.self.invariant.few; weighed = subst (λ members. IsWeighed members c.self.inside.weight) (sym s.access) c.self.invariant.weighed }
+    record { tied = rw c.remove.ensures.entries s.tied; written = stay.written; timed = stay.timed; keyed = fewer ∙ ap (λ n. n - 1) c.self.invariant.keyed ∙ sym shorter; fits = omega arith; few = c.self.invariant.few; narrow = subst AreNarrow (sym c.take-taken.ensures.places) c.self.invariant.narrow; weighed = subst (λ members. IsWeighed members c.self.inside.weight) (sym s.access) c.self.invariant.weighed }
 
 pub returns-clause-taken : goal.returns-clause-taken
 returns-clause-taken g c =

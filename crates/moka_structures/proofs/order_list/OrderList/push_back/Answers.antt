@@ -2,93 +2,93 @@ use Rattle.std.proofs.Common.{◌≡◌, ◌<◌, ◌^◌, length, nat_eq, arith
 use Rattle.moka_structures.proofs.Orders.{reuse-leaves, fresh-leaves, added-reuse, added-fresh, free-fresh, free-positive, fits, new-fresh, length-members, distinct-members}
 use Rattle.moka_structures.proofs.Lookups.{lookup-pushed}
 use Rattle.std.specs.Map.{lookup}
-use Rattle.moka_structures.specs.Links.{Node}
+use Rattle.moka_links.specs.declared.Node.{Node}
 use Rattle.moka_structures.proofs.order_list.OrderList.push_back.Goals as goal
 
 pub invariant_of-self : goal.invariant_of-self
-invariant_of-self c =
-    rw (c.reuse-self-inside.ensures.nodes, c.reuse-self-inside.ensures.next) (reuse-leaves _ _ _ c.args.number c.self.invariant (omega arith)).order
+invariant_of-self g c =
+    rw (c.reuse-self-inside.ensures.nodes c.self.inside.blank, c.reuse-self-inside.ensures.next c.self.inside.blank) (reuse-leaves _ _ _ _ c.args.value c.self.invariant (omega arith)).order
 
 pub returns-then-self-len-clause-fresh : goal.returns-then-self-len-clause-fresh
-returns-then-self-len-clause-fresh c = rw (← c.self.view_is) (free-fresh _ _ _ c.self.invariant (omega arith))
+returns-then-self-len-clause-fresh g c = rw (← c.self.view_is) (free-fresh _ _ _ _ c.self.invariant (omega arith))
 
 pub returns-then-self-len-clause-members : goal.returns-then-self-len-clause-members
-returns-then-self-len-clause-members c = rw (c.reuse-self-inside.ensures.nodes, ← c.self.view_is) (added-reuse _ _ _ c.args.number c.self.invariant (omega arith))
+returns-then-self-len-clause-members g c = rw (c.reuse-self-inside.ensures.nodes c.self.inside.blank, ← c.self.view_is) (added-reuse _ _ _ _ c.args.value c.self.invariant (omega arith))
 
 pub push_reserved-requires : goal.push_reserved-requires
-push_reserved-requires c =
+push_reserved-requires g c =
     let req = rw (← c.self.view_is) at c.requires in
-    omega (arith, req, length-members _ _ _ c.self.invariant)
+    omega (arith, req, length-members _ _ _ _ c.self.invariant)
 
 pub invariant_of-self-2 : goal.invariant_of-self-2
-invariant_of-self-2 c =
+invariant_of-self-2 g c =
     let req = rw (← c.self.view_is) at c.requires in
     let small : length c.self.inside.nodes.items < 2 ^ 32 = omega arith in
     let slot : c.len-slot.result ≡ length c.self.inside.nodes.items = omega arith in
-    rw (c.append.ensures.nodes, c.push_reserved.ensures.items, slot) (fresh-leaves _ _ _ c.args.number c.self.invariant _ small refl).order
+    rw (c.append.ensures.nodes c.self.inside.blank, c.push_reserved.ensures.items, slot) (fresh-leaves _ _ _ _ c.args.value c.self.invariant _ small refl).order
 
 pub returns-clause-fresh : goal.returns-clause-fresh
-returns-clause-fresh c =
+returns-clause-fresh g c =
     let slot : c.len-slot.result ≡ length c.self.inside.nodes.items = omega arith in
-    rw (slot, ← c.self.view_is) (new-fresh _ _ _ c.self.invariant)
+    rw (slot, ← c.self.view_is) (new-fresh _ _ _ _ c.self.invariant)
 
 pub returns-clause-members : goal.returns-clause-members
-returns-clause-members c =
+returns-clause-members g c =
     let req = rw (← c.self.view_is) at c.requires in
     let small : length c.self.inside.nodes.items < 2 ^ 32 = omega arith in
     let slot : c.len-slot.result ≡ length c.self.inside.nodes.items = omega arith in
-    rw (c.append.ensures.nodes, c.push_reserved.ensures.items, slot, ← c.self.view_is) (added-fresh _ _ _ c.args.number c.self.invariant _ small refl)
+    rw (c.append.ensures.nodes c.self.inside.blank, c.push_reserved.ensures.items, slot, ← c.self.view_is) (added-fresh _ _ _ _ c.args.value c.self.invariant _ small refl)
 
 pub returns-then-self-len-clause-lookups : goal.returns-then-self-len-clause-lookups
-returns-then-self-len-clause-lookups c k =
-    rw (c.reuse-self-inside.ensures.nodes, ← c.self.view_is)
-    (ap (lookup (nat_eq k)) (added-reuse _ _ _ c.args.number c.self.invariant (omega arith)) ∙ lookup-pushed _ _ c.args.number k (free-fresh _ _ _ c.self.invariant (omega arith)))
+returns-then-self-len-clause-lookups g c k =
+    rw (c.reuse-self-inside.ensures.nodes c.self.inside.blank, ← c.self.view_is)
+    (ap (lookup (nat_eq k)) (added-reuse _ _ _ _ c.args.value c.self.invariant (omega arith)) ∙ lookup-pushed _ _ c.args.value k (free-fresh _ _ _ _ c.self.invariant (omega arith)))
 
 pub returns-clause-lookups : goal.returns-clause-lookups
-returns-clause-lookups c k =
+returns-clause-lookups g c k =
     let req = rw (← c.self.view_is) at c.requires in
     let small : length c.self.inside.nodes.items < 2 ^ 32 = omega arith in
     let slot : c.len-slot.result ≡ length c.self.inside.nodes.items = omega arith in
-    rw (c.append.ensures.nodes, c.push_reserved.ensures.items, slot, ← c.self.view_is)
-    (ap (lookup (nat_eq k)) (added-fresh _ _ _ c.args.number c.self.invariant _ small refl) ∙ lookup-pushed _ _ c.args.number k (new-fresh _ _ _ c.self.invariant))
+    rw (c.append.ensures.nodes c.self.inside.blank, c.push_reserved.ensures.items, slot, ← c.self.view_is)
+    (ap (lookup (nat_eq k)) (added-fresh _ _ _ _ c.args.value c.self.invariant _ small refl) ∙ lookup-pushed _ _ c.args.value k (new-fresh _ _ _ _ c.self.invariant))
 
 pub returns-then-self-len-clause-len : goal.returns-then-self-len-clause-len
-returns-then-self-len-clause-len c =
-    rw (c.reuse-self-inside.ensures.nodes, ← c.self.view_is)
-    (omega (arith, length-members _ _ _ (reuse-leaves _ _ _ c.args.number c.self.invariant (omega arith)).order, length-members _ _ _ c.self.invariant))
+returns-then-self-len-clause-len g c =
+    rw (c.reuse-self-inside.ensures.nodes c.self.inside.blank, ← c.self.view_is)
+    (omega (arith, length-members _ _ _ _ (reuse-leaves _ _ _ _ c.args.value c.self.invariant (omega arith)).order, length-members _ _ _ _ c.self.invariant))
 
 pub returns-clause-len : goal.returns-clause-len
-returns-clause-len c =
+returns-clause-len g c =
     let slot : c.len-slot.result ≡ length c.self.inside.nodes.items = omega arith in
     let req = rw (← c.self.view_is) at c.requires in
     let small : length c.self.inside.nodes.items < 2 ^ 32 = omega arith in
-    let v : Node = record { value = c.args.number; before = 0; behind = 0 } in
-    rw (c.append.ensures.nodes, c.push_reserved.ensures.items, slot, ← c.self.view_is)
-    (omega (arith, length-members _ _ _ (fresh-leaves _ _ _ c.args.number c.self.invariant v small refl).order, length-members _ _ _ c.self.invariant))
+    let v : Node g.row.T.Denot = record { value = c.args.value; before = 0; behind = 0 } in
+    rw (c.append.ensures.nodes c.self.inside.blank, c.push_reserved.ensures.items, slot, ← c.self.view_is)
+    (omega (arith, length-members _ _ _ _ (fresh-leaves _ _ _ _ c.args.value c.self.invariant v small refl).order, length-members _ _ _ _ c.self.invariant))
 
 pub returns-then-self-len-clause-distinct : goal.returns-then-self-len-clause-distinct
-returns-then-self-len-clause-distinct c = rw (← c.self.view_is) (distinct-members _ _ _ c.self.invariant)
+returns-then-self-len-clause-distinct g c = rw (← c.self.view_is) (distinct-members _ _ _ _ c.self.invariant)
 
 pub returns-clause-distinct : goal.returns-clause-distinct
-returns-clause-distinct c = rw (← c.self.view_is) (distinct-members _ _ _ c.self.invariant)
+returns-clause-distinct g c = rw (← c.self.view_is) (distinct-members _ _ _ _ c.self.invariant)
 
 pub returns-then-self-len-clause-few : goal.returns-then-self-len-clause-few
-returns-then-self-len-clause-few c =
+returns-then-self-len-clause-few g c =
     let i = c.self.invariant in
-    rw c.reuse-self-inside.ensures.nodes (omega (arith, length-members _ _ _ (reuse-leaves _ _ _ c.args.number i (omega arith)).order, i.counted, i.total, i.bounded))
+    rw (c.reuse-self-inside.ensures.nodes c.self.inside.blank) (omega (arith, length-members _ _ _ _ (reuse-leaves _ _ _ _ c.args.value i (omega arith)).order, i.counted, i.total, i.bounded))
 
 pub returns-clause-few : goal.returns-clause-few
-returns-clause-few c =
+returns-clause-few g c =
     let i = c.self.invariant in
     let slot : c.len-slot.result ≡ length c.self.inside.nodes.items = omega arith in
     let req = rw (← c.self.view_is) at c.requires in
     let small : length c.self.inside.nodes.items < 2 ^ 32 = omega arith in
-    let v : Node = record { value = c.args.number; before = 0; behind = 0 } in
-    rw (c.append.ensures.nodes, c.push_reserved.ensures.items, slot)
-    (omega (arith, small, length-members _ _ _ (fresh-leaves _ _ _ c.args.number i v small refl).order, i.counted, i.total))
+    let v : Node g.row.T.Denot = record { value = c.args.value; before = 0; behind = 0 } in
+    rw (c.append.ensures.nodes c.self.inside.blank, c.push_reserved.ensures.items, slot)
+    (omega (arith, small, length-members _ _ _ _ (fresh-leaves _ _ _ _ c.args.value i v small refl).order, i.counted, i.total))
 
 pub returns-then-self-len-clause-positive : goal.returns-then-self-len-clause-positive
-returns-then-self-len-clause-positive c = free-positive _ _ _ c.self.invariant (omega arith)
+returns-then-self-len-clause-positive g c = free-positive _ _ _ _ c.self.invariant (omega arith)
 
 pub returns-clause-positive : goal.returns-clause-positive
-returns-clause-positive c = omega (arith, fits _ _ _ c.self.invariant)
+returns-clause-positive g c = omega (arith, fits _ _ _ _ c.self.invariant)

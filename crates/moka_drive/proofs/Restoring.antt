@@ -1,0 +1,100 @@
+-- What is put back is there when its ticket was posted, and nothing else comes with it.
+use Rattle.std.proofs.Common.{◌≡◌, refl, ℕ, ◌<◌, Bool, List, [], ◌∷◌, ◌++◌, Some, Ok, ap, sym, subst, ◌∙◌, ◌⊎◌, inl, inr, arith}
+use Rattle.std.specs.Prelude.{Contains}
+use Rattle.std.specs.Cmp.{IsEquivalence}
+use Rattle.std.specs.FinMap.{get, insert}
+use Rattle.std.proofs.lemmas.List.Elements.{Contains-append_left, Contains-append_right, Contains-push}
+use Rattle.moka_parts.specs.declared.calls.Ticket.{Ticket}
+use Rattle.moka_parts.specs.declared.records.Operation.{Operation}
+use Rattle.moka_parts.specs.declared.records.Operation.TheVariants.{Upsert, Removal}
+use Rattle.moka_parts.specs.declared.records.Record.{Record}
+use Rattle.moka_parts.specs.Records.{Records}
+use Rattle.moka_parts.specs.Settling.{IsWaiting, IsValid}
+use Rattle.moka_parts.specs.State.{State}
+use Rattle.moka_parts.proofs.Lookup.{present_key}
+use Rattle.moka_parts.proofs.Maps.{same_or_apart, get_inserted, get_past_insert}
+use Rattle.moka_engine.specs.declared.base_cache.restores.Restored.{Restored}
+use Rattle.moka_engine.specs.Restores.{RestoreStep, restored, restored_record}
+use Rattle.moka_drive.specs.Saved.{AddsOnly, IsOfItem, IsRestored, KeepsRecords}
+use Rattle.moka_drive.specs.Unsent.{IsHeld, IsOlder, AreOlder, HoldsUnsent}
+use Rattle.moka_drive.proofs.Put.{each_older}
+
+-- what stands in the records after an insertion was inserted, or stood there before
+after_insert : {K V : Type 0} (records : Records K V) (n : ℕ) (r : Record K V) (k : ℕ) (q : Record K V) → get (insert records n r) k ≡ Some q → (q ≡ r) ⊎ (get records k ≡ Some q)
+after_insert records n r k q there = elim (same_or_apart k n) [
+  | inl same ↦ (let both : Some r ≡ Some q = sym (get_inserted records n r) ∙ sym (ap (get (insert records n r)) same) ∙ there in inl (cc))
+  | inr apart ↦ inr (sym (get_past_insert records n r k apart) ∙ there)
+]
+
+module _ {K V X P W : Type 0} (eq : K → K → Bool) (laws : IsEquivalence eq) (weighs : W → K → V → ℕ → Type 0) (s t : State K V X P W) (item : Restored K V) (hash : ℕ) (ticket : Ticket) (step : RestoreStep weighs eq s item hash (Ok ticket) t) where
+  -- the record that was put back
+  abbrev record_of : Record K V
+  record_of = restored_record s item hash step.0
+
+  held : IsHeld s.next_number record_of t.records
+  held = subst (λ (u : State K V X P W). IsHeld s.next_number record_of u.records) (sym step.6) (record { applied = 0; there = get_inserted s.records s.next_number record_of; below = omega arith })
+
+  older : IsValid eq s → AreOlder s.next_number record_of t.writes
+  older valid = subst (λ (u : State K V X P W). AreOlder s.next_number record_of u.writes) (sym step.6) (each_older s.next_number record_of s.writes (λ h there. one h.operation (inr (h.ticket, there))))
+    where
+      one : (o : Operation) → IsWaiting s o → IsOlder s.next_number record_of o
+      one (Upsert k g w x) waiting = λ same. let below : k < s.next_number = valid.numbered.numbered.known (Upsert k g w x) waiting in absurd (omega arith)
+      one (Removal k g) waiting = tt
+
+  -- it is there afterwards
+  pub restored_there : (u : State K V X P W) → IsValid eq s → IsValid eq u → HoldsUnsent t u → IsRestored eq u item
+  restored_there u valid valid_after holds =
+      let after = holds s.next_number record_of (older valid) held in
+      record {
+        kept = record record_of { applied = after.applied };
+        found = present_key eq u.records item.key laws valid_after.numbered.numbered.one_each s.next_number (record record_of { applied = after.applied }) after.there (laws.refl item.key);
+        of_item = record { key_is = refl; value_is = refl; written_is = refl; read_is = refl; expires_is = refl };
+      }
+
+  -- and nothing else came
+  pub restored_adds : (u : State K V X P W) → KeepsRecords t u → AddsOnly (item ∷ []) s u
+  restored_adds u keeps n q there =
+      let before = keeps n q there in
+      let mid : get (restored s item hash step.0).records n ≡ Some before.0 = ap (λ (v : State K V X P W). get v.records n) (sym step.6) ∙ before.1 in
+      elim (after_insert s.records s.next_number record_of n before.0 mid) [
+        | inl new ↦ inr (item, Contains-push [] item, of_one before.0 q new before.2.0 before.2.1)
+        | inr old ↦ inl (before.0, old, before.2)
+      ]
+    where
+      of_one : (r q : Record K V) → r ≡ record_of → (g : ℕ) → q ≡ record r { applied = g } → IsOfItem item q
+      of_one r q same g is = record {
+        key_is = ap (λ (x : Record K V). x.key) is ∙ ap (λ (x : Record K V). x.key) same;
+        value_is = ap (λ (x : Record K V). x.value) is ∙ ap (λ (x : Record K V). x.value) same;
+        written_is = ap (λ (x : Record K V). x.written) is ∙ ap (λ (x : Record K V). x.written) same;
+        read_is = ap (λ (x : Record K V). x.read) is ∙ ap (λ (x : Record K V). x.read) same;
+        expires_is = ap (λ (x : Record K V). x.expires) is ∙ ap (λ (x : Record K V). x.expires) same;
+      }
+
+module _ {K V X P W : Type 0} where
+  -- where nothing was put back nothing came
+  pub adds_nothing : (items : List (Restored K V)) (s t : State K V X P W) → t ≡ s → AddsOnly items s t
+  adds_nothing items s t same = subst (AddsOnly items s) (sym same) (λ n q there. inl (q, there, (q.applied, refl)))
+
+  -- one after the other
+  pub adds_then : (first second : List (Restored K V)) (s t u : State K V X P W) → AddsOnly first s t → AddsOnly second t u → AddsOnly (first ++ second) s u
+  adds_then first second s t u before after n q there = go (after n q there)
+    where
+      go : ((r : Record K V) × (get t.records n ≡ Some r) × ((g : ℕ) × (q ≡ record r { applied = g }))) ⊎ ((item : Restored K V) × Contains second item × IsOfItem item q)
+          → ((r : Record K V) × (get s.records n ≡ Some r) × ((g : ℕ) × (q ≡ record r { applied = g }))) ⊎ ((item : Restored K V) × Contains (first ++ second) item × IsOfItem item q)
+      go (inr (item, is_in, of)) = inr (item, Contains-append_right first second item is_in, of)
+      go (inl (r, at, (g, is))) = earlier (before n r at)
+        where
+          earlier : ((o : Record K V) × (get s.records n ≡ Some o) × ((g : ℕ) × (r ≡ record o { applied = g }))) ⊎ ((item : Restored K V) × Contains first item × IsOfItem item r)
+              → ((o : Record K V) × (get s.records n ≡ Some o) × ((g : ℕ) × (q ≡ record o { applied = g }))) ⊎ ((item : Restored K V) × Contains (first ++ second) item × IsOfItem item q)
+          earlier (inl (o, old, (k, same))) = inl (o, old, (g, is ∙ ap (λ (x : Record K V). record x { applied = g }) same))
+          earlier (inr (item, is_in, of)) = inr (
+            item,
+            Contains-append_left first second item is_in,
+            record {
+              key_is = ap (λ (x : Record K V). x.key) is ∙ of.key_is;
+              value_is = ap (λ (x : Record K V). x.value) is ∙ of.value_is;
+              written_is = ap (λ (x : Record K V). x.written) is ∙ of.written_is;
+              read_is = ap (λ (x : Record K V). x.read) is ∙ of.read_is;
+              expires_is = ap (λ (x : Record K V). x.expires) is ∙ of.expires_is;
+            },
+          )

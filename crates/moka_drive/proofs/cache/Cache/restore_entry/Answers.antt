@@ -1,0 +1,17 @@
+use Rattle.std.proofs.Common.{refl, [], ◌∷◌}
+use Rattle.moka_drive.proofs.Restoring.{restored_there, restored_adds, adds_nothing}
+use Rattle.moka_drive.proofs.cache.Cache.restore_entry.Goals as goal
+
+pub returns-then-is_map_disabled-clause-adds : goal.returns-then-is_map_disabled-clause-adds
+returns-then-is_map_disabled-clause-adds g c = adds_nothing (c.args.item ∷ []) c.args.self.now.engine.state c.args.self.now.engine.state refl
+
+pub returns-in-Err-clause-adds : goal.returns-in-Err-clause-adds
+returns-in-Err-clause-adds g c = rw (← c.self.view_is) (adds_nothing (c.args.item ∷ []) c.self.inside.engine.state c.restore.new.self.state c.in-Err.ensures.step.2)
+
+pub returns-clause-kept : goal.returns-clause-kept
+returns-clause-kept g c = λ enabled.
+    restored_there g.K.PartialEq.eq g.met.K.Eq.laws g.W.Weigher.weighs c.self.inside.engine.state c.restore.new.self.state c.args.item _ c.in-Ok.ticket c.in-Ok.ensures.step c.post.new.engine.state c.invariant_holds.ensures.valid c.invariant_holds-2.ensures.valid c.post.ensures.holds
+
+pub returns-clause-adds : goal.returns-clause-adds
+returns-clause-adds g c =
+    rw (← c.self.view_is) (restored_adds g.K.PartialEq.eq g.met.K.Eq.laws g.W.Weigher.weighs c.self.inside.engine.state c.restore.new.self.state c.args.item _ c.in-Ok.ticket c.in-Ok.ensures.step c.post.new.engine.state c.post.ensures.keeps)

@@ -1,0 +1,114 @@
+//! Look-ups and removals by a test of the key in place of a key.
+ghost use Rattle.std.specs.Prelude.{◌≡◌, true, Option, Some, Result, IfOk, IfSome, OnErr, is_some};
+ghost use Rattle.std.specs.List.{fold};
+ghost use Rattle.moka_parts.specs.Calls.{ContainsStep};
+ghost use Rattle.moka_parts.specs.Copies.{IsCopiedAnswer};
+ghost use Rattle.moka_parts.specs.KeyTests.{ContainsByStep, record_by};
+ghost use Rattle.moka_parts.specs.declared.error.OutOfMemory.{OutOfMemory};
+ghost use Rattle.moka_parts.specs.declared.policy.Instant.{Instant};
+ghost use Rattle.moka_parts.specs.declared.records.Record.{Record};
+ghost use Rattle.moka_drive.specs.Counters.{after_look_up};
+ghost use Rattle.moka_drive.specs.Synchronous.{GetsValue, Makes, RemovesEntry, hears_clones, invalidated, meaning_of, removed};
+
+use super::TimedCache;
+use crate::error::NotTold;
+use moka_parts::closures::{PredicateFn, Weigher};
+use moka_parts::error::OutOfMemory;
+use moka_parts::housekeeper::Clock;
+use moka_parts::key_test::KeyTest;
+use moka_parts::notification::Listener;
+use moka_parts::policy::Expiry;
+use std::hash::{BuildHasher, Hash};
+
+impl<
+    K: Eq + Hash,
+    V,
+    C: Clock,
+    X: Expiry<K, V>,
+    L: Listener<K, V>,
+    P: PredicateFn<K, V>,
+    W: Weigher<K, V>,
+    S: BuildHasher,
+> TimedCache<K, V, C, X, L, P, W, S> {
+    /// As `Cache::hash_of`.
+    pub fn hash_of<Q: Hash>(&self, form: &Q) -> u64
+        ensures { result ≡ S.Hasher.finish (fold S.Hasher.write (S.build_hasher self.now.cache.engine.hasher) (Q.hash_input form.now)) }
+    {
+        self.cache.hash_of(form)
+    }
+
+    /// As `contains_key` of the key that passes. `hash` is that of the keys that do, by the cache's hasher.
+    pub fn contains_key_by<T: KeyTest<K>>(&mut self, test: &T, hash: u64) -> bool
+        requires own { (k : K) → T.passes test.now k ≡ true → hash ≡ S.Hasher.finish (fold S.Hasher.write (S.build_hasher self.old.cache.engine.hasher) (K.hash_input k)) }
+        ensures { (now : Instant) × C.reads self.old.clock now self.new.clock
+            × ContainsByStep P.says (T.passes test.now) self.old.cache.engine.state now.0 result
+            × ((key : K) → T.passes test.now key ≡ true → ContainsStep P.says K.eq self.old.cache.engine.state key now.0 result)
+            × (self.new.cache ≡ self.old.cache) }
+    {
+        let now = self.clock.now();
+        self.cache.contains_key_by(test, hash, now)
+    }
+
+    /// As `get` of the key that passes. `hash` is that of the keys that do, by the cache's hasher.
+    ///
+    /// # Errors
+    /// As `get`.
+    pub fn get_by<T: KeyTest<K>>(&mut self, test: &T, hash: u64) -> Result<Option<V>, OutOfMemory>
+    where
+        K: Clone + Drop,
+        V: Clone + Drop,
+        P: Drop,
+        requires own { (k : K) → T.passes test.now k ≡ true → hash ≡ S.Hasher.finish (fold S.Hasher.write (S.build_hasher self.old.cache.engine.hasher) (K.hash_input k)) }
+        ensures made { (now : Instant) × (read : C) × C.reads self.old.clock now read
+            × ((key : K) → T.passes test.now key ≡ true → (own : Result (Option V) OutOfMemory) × IsCopiedAnswer V.is_clone own result
+            × Makes (meaning_of K.eq L.tells P.says W.weighs C.reads X.created X.read X.updated)
+            (GetsValue key hash now own) self.old.cache.engine read self.new.cache.engine self.new.clock)
+            × IfOk result (λ found. ContainsByStep P.says (T.passes test.now) self.old.cache.engine.state now.0 (is_some found)) }
+        ensures value { IfOk result (λ found. IfSome found (λ v. (r : Record K V) × (record_by (T.passes test.now) self.old.cache.engine.state.records ≡ Some r) × V.is_clone r.value v)) }
+        ensures unchanged { OnErr result (self.new.cache.engine.state ≡ self.old.cache.engine.state) }
+        ensures counted { self.new.cache.stats ≡ after_look_up result self.old.cache.stats }
+    {
+        let now = self.clock.now();
+        self.cache.get_by(test, hash, now, &mut self.clock)
+    }
+
+    /// As `remove` of the key that passes. `hash` is that of the keys that do, by the cache's hasher.
+    ///
+    /// # Errors
+    /// As `remove`.
+    pub fn remove_by<T: KeyTest<K>>(&mut self, test: &T, hash: u64) -> Result<Option<V>, NotTold<V>>
+    where
+        K: Clone + Drop,
+        V: Clone + Drop,
+        P: Drop,
+        requires own { (k : K) → T.passes test.now k ≡ true → hash ≡ S.Hasher.finish (fold S.Hasher.write (S.build_hasher self.old.cache.engine.hasher) (K.hash_input k)) }
+        ensures made { (now : Instant) × (read : C) × C.reads self.old.clock now read
+            × ((key : K) → T.passes test.now key ≡ true → (taken : Option (V × Result (Unit {0}) OutOfMemory)) × (result ≡ removed taken)
+            × Makes (meaning_of K.eq (hears_clones K.is_clone V.is_clone L.tells) P.says W.weighs C.reads X.created X.read X.updated)
+            (RemovesEntry key hash now taken) self.old.cache.engine read self.new.cache.engine self.new.clock) }
+        ensures counted { self.new.cache.stats ≡ self.old.cache.stats }
+    {
+        let now = self.clock.now();
+        self.cache.remove_by(test, hash, now, &mut self.clock)
+    }
+
+    /// As `invalidate` of the key that passes. `hash` is that of the keys that do, by the cache's hasher.
+    ///
+    /// # Errors
+    /// As `invalidate`.
+    pub fn invalidate_by<T: KeyTest<K>>(&mut self, test: &T, hash: u64) -> Result<(), NotTold<V>>
+    where
+        K: Clone + Drop,
+        V: Clone + Drop,
+        P: Drop,
+        requires own { (k : K) → T.passes test.now k ≡ true → hash ≡ S.Hasher.finish (fold S.Hasher.write (S.build_hasher self.old.cache.engine.hasher) (K.hash_input k)) }
+        ensures made { (now : Instant) × (read : C) × C.reads self.old.clock now read
+            × ((key : K) → T.passes test.now key ≡ true → (taken : Option (V × Result (Unit {0}) OutOfMemory)) × (result ≡ invalidated taken)
+            × Makes (meaning_of K.eq (hears_clones K.is_clone V.is_clone L.tells) P.says W.weighs C.reads X.created X.read X.updated)
+            (RemovesEntry key hash now taken) self.old.cache.engine read self.new.cache.engine self.new.clock) }
+        ensures counted { self.new.cache.stats ≡ self.old.cache.stats }
+    {
+        let now = self.clock.now();
+        self.cache.invalidate_by(test, hash, now, &mut self.clock)
+    }
+}

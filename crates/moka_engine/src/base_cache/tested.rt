@@ -1,0 +1,197 @@
+//! Look-ups and removals by a test of the key in place of a key.
+ghost use Rattle.std.specs.Prelude.{◌≡◌, Some, length, true, option_map};
+ghost use Rattle.std.specs.List.{fold};
+ghost use Rattle.moka_parts.specs.Calls.{RecordsRead, no_events};
+ghost use Rattle.moka_parts.specs.Copies.{HandsOut, IsEntryCopy};
+ghost use Rattle.moka_parts.specs.Housekeeping.{is_due};
+ghost use Rattle.moka_parts.specs.KeyTests.{ContainsByStep, GetByStep, RemoveByStep, record_by};
+ghost use Rattle.moka_parts.specs.Runs.{Befalls};
+ghost use Rattle.moka_parts.specs.Surroundings.{Leads};
+ghost use Rattle.moka_parts.specs.declared.records.ReadOperation.TheVariants.{Hit};
+ghost use Rattle.moka_store.specs.Hashing.{IsKeyHash};
+ghost use Rattle.moka_engine.specs.LooksBy.{FindsBy};
+ghost use Rattle.moka_engine.specs.Makes.{Takes};
+
+use super::{BaseCache, gets};
+use moka_inner::Inner;
+use moka_parts::calls::{Entry, KvEntry, Ticket};
+use moka_parts::closures::{PredicateFn, Weigher};
+use moka_parts::error::OutOfMemory;
+use moka_parts::expiry::has_lapsed;
+use moka_parts::housekeeper::Clock;
+use moka_parts::invalidator::Invalidator;
+use moka_parts::key_test::KeyTest;
+use moka_parts::notification::Listener;
+use moka_parts::policy::{ExpirationPolicy, Expiry, Instant};
+use moka_parts::records::{ReadOperation, Record};
+use moka_store::{Handle, KeyHash};
+use std::hash::{BuildHasher, Hash};
+
+// The record whose key passes, unless a test by moments hides it or a predicate covers it. The test comes with the hash
+// in the map of the keys that pass.
+#[inline(always)]
+fn find_by<'a, K: Eq + Hash, V, S: BuildHasher, X, P, T: KeyTest<K>>(
+    inner: &'a Inner<K, V, S>,
+    policy: &ExpirationPolicy<X>,
+    valid_after: &Option<Instant>,
+    invalidator: &Invalidator<P>,
+    sought: (&T, KeyHash),
+    now: Instant,
+) -> Option<(Handle, &'a Record<K, V>)>
+where
+    P: PredicateFn<K, V>,
+    requires own { (k : K) → T.passes sought.0.now k ≡ true → IsKeyHash S.build_hasher S.Hasher.finish S.Hasher.write inner.now.kept.hasher (K.hash_input k) sought.1 }
+    ensures { FindsBy inner.now.kept policy.now valid_after.now P.says invalidator.now (T.passes sought.entry.0.now) now.0 (option_map (λ f. (f.0, f.1.now)) result) }
+{
+    let (test, own) = sought;
+    let (handle, found) = inner.find_by(test, own)?;
+    if has_lapsed(found, policy, *valid_after, now) || invalidator.apply_predicates(found) {
+        return None;
+    }
+    Some((handle, found))
+}
+
+impl<
+    K: Eq + Hash,
+    V,
+    S: BuildHasher,
+    X: Expiry<K, V>,
+    L: Listener<K, V>,
+    P: PredicateFn<K, V>,
+    W: Weigher<K, V>,
+> BaseCache<K, V, S, X, L, P, W> {
+    /// The hash of a form of a key by the cache's own hasher. It is the key's where both give the hasher the same, as a
+    /// `&str` and a `String` of the same text do.
+    #[inline(always)]
+    pub fn hash_of<Q: Hash>(&self, form: &Q) -> u64
+        ensures { result ≡ S.Hasher.finish (fold S.Hasher.write (S.build_hasher self.now.hasher) (Q.hash_input form.now)) }
+    {
+        self.inner.hash_of(form)
+    }
+
+    /// As `contains_key_with_own_hash` of the key that passes. `hash` is that of the keys that do, by the cache's own hasher.
+    pub fn contains_by<T: KeyTest<K>>(&self, test: &T, hash: u64, now: Instant) -> bool
+        requires own { (k : K) → T.passes test.now k ≡ true → hash ≡ S.Hasher.finish (fold S.Hasher.write (S.build_hasher self.now.hasher) (K.hash_input k)) }
+        ensures { ContainsByStep P.says (T.passes test.now) self.now.state now.0 result }
+    {
+        let (policy, valid_after) = (&self.expiration_policy, &self.valid_after);
+        let invalidator = &self.invalidator;
+        let sought = (test, KeyHash::of(hash));
+        find_by(&self.inner, policy, valid_after, invalidator, sought, now).is_some()
+    }
+
+    /// As `remove_entry_with_own_hash` of the key that passes. `hash` is that of the keys that do, by the cache's own hasher.
+    pub fn remove_by<T: KeyTest<K>>(
+        &mut self,
+        test: &T,
+        hash: u64,
+    ) -> Option<(KvEntry<K, V>, Ticket)>
+    where
+        K: Drop,
+        requires own { (k : K) → T.passes test.now k ≡ true → hash ≡ S.Hasher.finish (fold S.Hasher.write (S.build_hasher self.old.hasher) (K.hash_input k)) }
+        ensures step { RemoveByStep (T.passes test.now) self.old.state result self.new.state }
+        ensures events { Befalls L.tells no_events self.old self.new }
+    {
+        let own = KeyHash::of(hash);
+        let (handle, _) = self.inner.find_by(test, own)?;
+        let (record, ticket) = self.inner.remove(handle, own);
+        let entry = KvEntry {
+            key: record.key,
+            value: record.value,
+            last_modified: record.written,
+            last_accessed: record.read,
+        };
+        Some((entry, ticket))
+    }
+
+    /// As `get_with_own_hash` of the key that passes. `hash` is that of the keys that do, by the cache's own hasher.
+    ///
+    /// # Errors
+    /// As those of `get_with_hash`.
+    #[inline(always)]
+    pub fn get_by<T: KeyTest<K>, C: Clock>(
+        &mut self,
+        test: &T,
+        hash: u64,
+        need_key: bool,
+        now: Instant,
+        clock: &mut C,
+    ) -> Result<Option<Entry<K, V>>, OutOfMemory>
+    where
+        K: Clone + Drop,
+        V: Clone + Drop,
+        P: Drop,
+        requires own { (k : K) → T.passes test.now k ≡ true → hash ≡ S.Hasher.finish (fold S.Hasher.write (S.build_hasher self.old.hasher) (K.hash_input k)) }
+        ensures { HandsOut (IsEntryCopy K.is_clone V.is_clone)
+            (λ own. Takes P.says X.read L.tells
+            (λ Runs s. GetByStep P.says (T.passes test.now) s X.read Runs hash need_key now.0 own)
+            self.old self.new (λ e. Leads C.reads clock.old e.readings clock.new)) result }
+    {
+        let own = KeyHash::of(hash);
+        let policy = &self.expiration_policy;
+        let (invalidator, valid_after) = (&self.invalidator, &self.valid_after);
+        let shown = find_by(
+            &self.inner,
+            policy,
+            valid_after,
+            invalidator,
+            (test, own),
+            now,
+        );
+        let Some((handle, found)) = shown else {
+            // A disabled map holds nothing, so only a miss has to ask. It queues no reads.
+            if self.is_map_disabled() {
+                return Ok(None);
+            }
+            self.record_miss(hash, now, clock);
+            return Ok(None);
+        };
+        let Ok(entry) = gets::entry_of(found, need_key) else {
+            return Err(OutOfMemory);
+        };
+        let (first_hash, hit) = (found.hash, gets::hit_of(found, policy, now));
+        let Handle { number, place } = handle;
+        let renewed = hit.is_renewed;
+        self.inner
+            .touch(handle, hit.read, hit.expires, hit.is_renewed);
+        let queued = self.inner.read_count();
+        if self.housekeeper.should_apply_reads(queued, hit.read) {
+            self.record_hit_by((test, own), number, first_hash, renewed, hit.read, clock);
+            return Ok(Some(entry));
+        }
+        let read = ReadOperation::Hit {
+            number,
+            hash: first_hash,
+            renewed,
+        };
+        self.inner.queue_read(place, read);
+        Ok(Some(entry))
+    }
+
+    // Makes the run that is due, and queues a hit of the record whose key passes. The run may remove that record, so its
+    // place is looked up again.
+    #[cold]
+    fn record_hit_by<T: KeyTest<K>, C: Clock>(
+        &mut self,
+        sought: (&T, KeyHash),
+        number: u64,
+        hash: u64,
+        renewed: bool,
+        now: Instant,
+        clock: &mut C,
+    )
+    where
+        K: Drop,
+        V: Drop,
+        P: Drop,
+        requires own { (k : K) → T.passes sought.0.now k ≡ true → IsKeyHash S.build_hasher S.Hasher.finish S.Hasher.write self.old.hasher (K.hash_input k) sought.1 }
+        requires due { is_due self.old.state.housekeeping (length self.old.state.reads) now.0 ≡ true }
+        requires found { option_map (λ r. r.number) (record_by (T.passes sought.0.now) self.old.state.records) ≡ Some number }
+        ensures { Takes P.says X.read L.tells (λ Runs s. RecordsRead Runs s now.0 (Hit number hash renewed)) self.old self.new
+            (λ e. Leads C.reads clock.old e.readings clock.new) }
+    {
+        let (test, own) = sought;
+        self.run_by_housekeeper(now, clock);
+        self.inner.queue_hit_by(test, own, number, hash, renewed);
+    }
+}

@@ -1,0 +1,64 @@
+//! Records by tests of their keys.
+ghost use Rattle.std.specs.Prelude.{◌≡◌, ◌++◌, ◌∷◌, [], IfSome, Some, true, if◌then◌else◌, length, nat_lt, option_map};
+ghost use Rattle.std.specs.FinMap as finite;
+ghost use Rattle.std.specs.List.{fold};
+ghost use Rattle.moka_parts.specs.Calls.{queue_length};
+ghost use Rattle.moka_parts.specs.KeyTests.{record_by};
+ghost use Rattle.moka_parts.specs.declared.records.ReadOperation.TheVariants.{Hit};
+ghost use Rattle.moka_store.specs.Hashing.{IsKeyHash};
+ghost use Rattle.moka_store.specs.Store.{IsHandle};
+ghost use Rattle.moka_inner.specs.ReadNumber.{IsReadNumber};
+
+use super::Inner;
+use moka_parts::key_test::KeyTest;
+use moka_parts::records::{ReadOperation, Record};
+use moka_store::{Handle, KeyHash};
+use std::hash::{BuildHasher, Hash};
+
+impl<K: Eq + Hash, V, S: BuildHasher> Inner<K, V, S> {
+    /// The hash of a form of a key by the store's hasher.
+    #[inline(always)]
+    pub fn hash_of<Q: Hash>(&self, form: &Q) -> u64
+        ensures { result ≡ S.Hasher.finish (fold S.Hasher.write (S.build_hasher self.now.kept.hasher) (Q.hash_input form.now)) }
+    {
+        self.store.hash_of(form)
+    }
+
+    /// The record whose key passes, with its handle, under the hash of the keys that do.
+    #[inline(always)]
+    pub fn find_by<T: KeyTest<K>>(&self, test: &T, hash: KeyHash) -> Option<(Handle, &Record<K, V>)>
+        requires hashed { (k : K) → T.passes test.now k ≡ true → IsKeyHash S.build_hasher S.Hasher.finish S.Hasher.write self.now.kept.hasher (K.hash_input k) hash }
+        ensures handle { IfSome result (λ f. IsHandle self.now.kept f.0) }
+        ensures numbered { IfSome result (λ f. finite.get self.now.kept.records f.0.number ≡ Some f.1.now) }
+        ensures passes { IfSome result (λ f. T.passes test.now f.1.now.key ≡ true) }
+        ensures found { option_map (λ f. f.1.now) result ≡ record_by (T.passes test.now) self.now.kept.records }
+    {
+        self.store.find_by(test, hash)
+    }
+
+    /// Queues a hit of the record of this number, whose key passes and which may have left the map since. Its place is
+    /// looked up by the test.
+    #[inline(always)]
+    pub fn queue_hit_by<T: KeyTest<K>>(
+        &mut self,
+        test: &T,
+        own: KeyHash,
+        number: u64,
+        hash: u64,
+        renewed: bool,
+    )
+        requires hashed { (k : K) → T.passes test.now k ≡ true → IsKeyHash S.build_hasher S.Hasher.finish S.Hasher.write self.old.kept.hasher (K.hash_input k) own }
+        requires known { (key : K) × (T.passes test.now key ≡ true) × IsReadNumber K.eq self.old.kept.records self.old.outstanding self.old.writes self.old.next_number key number }
+        ensures { self.new ≡ record self.old { reads = if nat_lt (length self.old.reads) queue_length then self.old.reads ++ Hit number hash renewed ∷ [] else self.old.reads } }
+    {
+        let read = ReadOperation::Hit {
+            number,
+            hash,
+            renewed,
+        };
+        match self.store.find_by(test, own) {
+            Some((Handle { place, .. }, _)) => self.queue_read(place, read),
+            None => self.queue_read(0, read),
+        }
+    }
+}

@@ -1,0 +1,7 @@
+use Rattle.moka_drive.specs.Synchronous.{meaning_of}
+use Rattle.moka_segments.proofs.Within.{whole_within}
+use Rattle.moka_segments.proofs.segmented.SegmentedCache.run_pending_tasks.Goals as goal
+
+pub returns-clause-within : goal.returns-clause-within
+returns-clause-within g c =
+    whole_within (meaning_of g.K.PartialEq.eq g.L.Listener.tells g.P.PredicateFn.says g.W.Weigher.weighs g.C.Clock.reads g.X.Expiry.created g.X.Expiry.read g.X.Expiry.updated) c.args.now c.args.clock.now c.run_all.result c.run_all.new.clock _ _ c.run_all.ensures.each

@@ -1,0 +1,35 @@
+-- The segments of a new cache.
+use Rattle.std.specs.Prelude.{◌≡◌, ℕ, ◌<◌, List, length, Option, Some, None, slice_index_or, ⊤}
+use Rattle.moka_engine.specs.Config.{Config, new_cache}
+use Rattle.moka_drive.specs.Synchronous.{Synchronous, fresh}
+use Rattle.moka_segments.specs.Routing.{Routing, share}
+use Rattle.moka_segments.specs.Segmented.{Segmented}
+use Rattle.moka_segments.specs.Whole.{whole_capacity}
+
+-- a segment's configuration with its share of the capacity, if one is set
+abbrev pub with_share : {X L W : Type 0} → ℕ → ℕ → Option ℕ → Config X L W → Config X L W
+with_share count index None config = config
+with_share count index (Some capacity) config = record config { max_capacity = Some (share count capacity index) }
+
+-- the capacities sum to the one that was shared out, to the unit
+abbrev pub SumsTo : {K V S X L P W : Type 0} → Option ℕ → List (Synchronous K V S X L P W) → Type 0
+SumsTo None segments = ⊤
+SumsTo (Some capacity) segments = whole_capacity segments ≡ Some capacity
+
+module _ {K V S X L P W : Type 0} (routing : Routing S) (whole : Option ℕ) (is_clone : S → S → Type 0) (now : ℕ) where
+  -- a new segment with this configuration but for the capacity, and a clone of the hasher
+  pub record IsBuilt (index : ℕ) (config : Config X L W) (s : Synchronous K V S X L P W) : Type 0 where
+    pub hasher : S
+    pub cloned : is_clone routing.hasher hasher
+    pub is : s ≡ fresh (new_cache (with_share routing.count index whole config) hasher now)
+
+  -- each is one, of a configuration that was made for its index
+  abbrev pub AreBuilt : (ℕ → Config X L W → Type 0) → List (Synchronous K V S X L P W) → Type 0
+  AreBuilt Made segments = (index : ℕ) (d : Synchronous K V S X L P W) → index < length segments → (config : Config X L W) × Made index config × IsBuilt index config (slice_index_or segments index d)
+
+  -- a new cache of as many segments as the router knows
+  pub record IsNew (Made : ℕ → Config X L W → Type 0) (c : Segmented K V S X L P W) : Type 0 where
+    pub routing_is : c.routing ≡ routing
+    pub as_many : length c.segments ≡ routing.count
+    pub built : AreBuilt Made c.segments
+    pub sums : SumsTo whole c.segments

@@ -1,0 +1,6 @@
+pub mod Routing
+pub mod Segmented
+pub mod Steps
+pub mod Whole
+pub mod Laws
+pub mod Built

@@ -1,0 +1,33 @@
+-- Synchronous caches side by side, and what a call makes of one of them.
+use Rattle.std.specs.Prelude.{◌≡◌, ℕ, ◌<◌, List, length, slice_index_or, slice_set}
+use Rattle.moka_drive.specs.Synchronous.{Synchronous}
+use Rattle.moka_segments.specs.Routing.{Routing}
+
+-- the segments, and which keys are whose
+pub record Segmented (K V S X L P W : Type 0) : Type 0 where
+  pub routing : Routing S
+  pub segments : List (Synchronous K V S X L P W)
+
+-- the element at the index is this one
+pub record IsAt {A : Type 0} (xs : List A) (index : ℕ) (x : A) : Type 0 where
+  pub within : index < length xs
+  pub is : (d : A) → slice_index_or xs index d ≡ x
+
+-- the element at the index made a step, and every other is as it was
+pub record StepsAt {A : Type 0} (index : ℕ) (Step : A → A → Type 0) (xs ys : List A) : Type 0 where
+  pub before : A
+  pub after : A
+  pub there : IsAt xs index before
+  pub step : Step before after
+  pub others : ys ≡ slice_set xs index after
+
+-- the same of the segments of a cache
+pub record Steps {K V S X L P W : Type 0} (index : ℕ) (Step : Synchronous K V S X L P W → Synchronous K V S X L P W → Type 0) (old new : Segmented K V S X L P W) : Type 0 where
+  pub routing : new.routing ≡ old.routing
+  pub one : StepsAt index Step old.segments new.segments
+
+-- this is so of the element at the index
+pub record Holds {A : Type 0} (index : ℕ) (Is : A → Type 0) (xs : List A) : Type 0 where
+  pub one : A
+  pub there : IsAt xs index one
+  pub is : Is one

@@ -1,0 +1,122 @@
+//! A new segmented cache. moka: `sync::builder`, `build` with `segments`.
+ghost use Rattle.std.specs.Prelude.{◌≡◌, IfOk, length, max};
+ghost use Rattle.moka_segments.specs.Built.{IsBuilt, IsNew, SumsTo, with_share};
+
+use crate::router::Router;
+use crate::segmented::SegmentedCache;
+use moka_drive::Cache;
+use moka_engine::config::{CacheConfig, DefaultHasher};
+use moka_parts::closures::{PredicateFn, Weigher};
+use moka_parts::error::OutOfMemory;
+use moka_parts::notification::Listener;
+use moka_parts::policy::{Expiry, Instant};
+use std::alloc::Global;
+use std::hash::{BuildHasher, Hash};
+
+impl<
+    K: Eq + Hash + Drop,
+    V: Drop,
+    X: Expiry<K, V> + Drop,
+    L: Listener<K, V> + Drop,
+    P: PredicateFn<K, V> + Drop,
+    W: Weigher<K, V> + Drop,
+    S: BuildHasher + Clone + Drop,
+> SegmentedCache<K, V, X, L, P, W, S> {
+    /// An empty cache of as many segments as the router knows, made at the moment `now`. `make` gives the configuration of
+    /// the segment at each index. If `max_capacity` is set it is shared out among the segments, in place of the
+    /// configurations' own, so it should be no less than their number: a segment whose share is 0 keeps nothing.
+    ///
+    /// # Errors
+    /// As `CacheConfig::build_with_hasher`, and where memory for the segments or for a clone of the hasher is refused.
+    pub fn build_with_router<F: Fn(u32) -> CacheConfig<X, L, P, W>>(
+        router: Router<S>,
+        max_capacity: Option<u64>,
+        make: F,
+        alloc: Global,
+        now: Instant,
+    ) -> Result<Self, OutOfMemory>
+    where
+        F: Drop,
+        requires { F.IsAlwaysCallable make }
+        ensures { IfOk result (λ c. IsNew router max_capacity S.is_clone now.0 (F.post make) c) }
+    {
+        let mut segments = Vec::new(alloc);
+        for index in 0..router.count() {
+            let segment = build_segment(&router, make(index), max_capacity, index, alloc, now)?;
+            let Ok(()) = segments.push(segment) else {
+                return Err(OutOfMemory);
+            };
+        }
+        Ok(SegmentedCache::from_parts(router, segments))
+    }
+}
+
+impl<
+    K: Eq + Hash + Drop,
+    V: Drop,
+    X: Expiry<K, V> + Drop,
+    L: Listener<K, V> + Drop,
+    P: PredicateFn<K, V> + Drop,
+    W: Weigher<K, V> + Drop,
+> SegmentedCache<K, V, X, L, P, W> {
+    /// As `build_with_router`, with the default hasher, and `count` segments; one where that is 0.
+    ///
+    /// # Errors
+    /// As `build_with_router`.
+    pub fn build<F: Fn(u32) -> CacheConfig<X, L, P, W>>(
+        count: u32,
+        max_capacity: Option<u64>,
+        make: F,
+        alloc: Global,
+        now: Instant,
+    ) -> Result<Self, OutOfMemory>
+    where
+        F: Drop,
+        requires { F.IsAlwaysCallable make }
+        ensures { IfOk result (λ c. (length c.segments ≡ max count 1) × SumsTo max_capacity c.segments) }
+    {
+        let router = Router::new(DefaultHasher::new(), count);
+        SegmentedCache::build_with_router(router, max_capacity, make, alloc, now)
+    }
+}
+
+// The configuration of a segment with its share of the capacity, if one is set.
+fn with_share<S, X, L, P, W>(
+    router: &Router<S>,
+    config: CacheConfig<X, L, P, W>,
+    max_capacity: Option<u64>,
+    index: u32,
+) -> CacheConfig<X, L, P, W>
+    ensures { result ≡ with_share router.now.count index max_capacity config }
+{
+    match max_capacity {
+        Some(whole) => config.max_capacity(router.share(whole, index)),
+        None => config,
+    }
+}
+
+// The segment at an index, with its share of the capacity.
+fn build_segment<
+    K: Eq + Hash + Drop,
+    V: Drop,
+    X: Expiry<K, V> + Drop,
+    L: Listener<K, V> + Drop,
+    P: PredicateFn<K, V> + Drop,
+    W: Weigher<K, V> + Drop,
+    S: BuildHasher + Clone + Drop,
+>(
+    router: &Router<S>,
+    config: CacheConfig<X, L, P, W>,
+    max_capacity: Option<u64>,
+    index: u32,
+    alloc: Global,
+    now: Instant,
+) -> Result<Cache<K, V, X, L, P, W, S>, OutOfMemory>
+    ensures { IfOk result (λ s. IsBuilt router.now max_capacity S.is_clone now.0 index config s) }
+{
+    let config = with_share(router, config, max_capacity, index);
+    let Ok(hasher) = router.hasher().clone() else {
+        return Err(OutOfMemory);
+    };
+    Cache::build_with_hasher(config, alloc, hasher, now)
+}

@@ -1,0 +1,11 @@
+//! A cache in segments: synchronous caches side by side, each with the keys that their hashes send to it.
+#![tactic(auto)]
+
+pub mod building;
+pub mod laws;
+pub mod router;
+pub mod segmented;
+pub mod whole;
+
+pub use router::Router;
+pub use segmented::SegmentedCache;

@@ -1,0 +1,263 @@
+//! The segmented cache, and its calls by key. moka: `sync::segment`.
+ghost use Rattle.std.specs.Prelude.{◌≡◌, ◌<◌, false, length, IfErr};
+ghost use Rattle.std.specs.List.{fold};
+ghost use Rattle.moka_parts.specs.Calls.{ContainsStep};
+ghost use Rattle.moka_drive.specs.Synchronous.{meaning_of, removed, invalidated};
+ghost use Rattle.moka_segments.specs.Routing.{segment_of};
+ghost use Rattle.moka_segments.specs.Segmented.{Holds, IsAt, Steps as StepsIn};
+ghost use Rattle.moka_segments.specs.Steps.{Inserts, Gets, Removes, GetsWith};
+
+use crate::router::Router;
+use moka_drive::{Cache, GetWithRefused, NotTold};
+use moka_engine::config::DefaultHasher;
+use moka_parts::closures::{NoPredicate, NoWeigher, PredicateFn, Weigher};
+use moka_parts::error::{InsertRefused, OutOfMemory};
+use moka_parts::housekeeper::Clock;
+use moka_parts::notification::{Listener, NoListener};
+use moka_parts::policy::{Expiry, Instant, NoExpiry};
+use std::hash::{BuildHasher, Hash};
+use std::marker::Model;
+
+/// Synchronous caches side by side. A key's hash names the one that the key belongs to, and each call by key is that
+/// cache's call.
+pub struct SegmentedCache<
+    K: Eq + Hash,
+    V,
+    X: Expiry<K, V> = NoExpiry,
+    L: Listener<K, V> = NoListener,
+    P: PredicateFn<K, V> = NoPredicate,
+    W: Weigher<K, V> = NoWeigher,
+    S: BuildHasher = DefaultHasher,
+> {
+    router: Router<S>,
+    pub(crate) segments: Vec<Cache<K, V, X, L, P, W, S>>,
+}
+
+impl<
+    K: Eq + Hash,
+    V,
+    X: Expiry<K, V>,
+    L: Listener<K, V>,
+    P: PredicateFn<K, V>,
+    W: Weigher<K, V>,
+    S: BuildHasher,
+> Model for SegmentedCache<K, V, X, L, P, W, S> {
+    ghost use Rattle.std.specs.Prelude.{◌≡◌, length};
+    ghost use Rattle.std.specs.Coded.{codes, coded_ℕ};
+    ghost use Rattle.std.specs.FinMap as finite;
+    ghost use Rattle.moka_segments.specs.Segmented.{Segmented};
+
+    ghost Value = { Segmented K V S X L P W };
+
+    ghost coded = { Prim.hlevel (codes, finite.code, coded_ℕ, K.code, V.code, S.code, X.code, L.code, P.code, W.code) };
+
+    ghost view = { λ c. record { routing = c.router; segments = c.segments.items } };
+
+    ghost invariant = { λ c. length c.segments.items ≡ c.router.count };
+}
+
+// A cache that is let go notifies nobody.
+impl<
+    K: Eq + Hash + Drop,
+    V: Drop,
+    X: Expiry<K, V> + Drop,
+    L: Listener<K, V> + Drop,
+    P: PredicateFn<K, V> + Drop,
+    W: Weigher<K, V> + Drop,
+    S: BuildHasher + Drop,
+> Drop for SegmentedCache<K, V, X, L, P, W, S> {
+    fn drop(self) {
+        let SegmentedCache {
+            router: _,
+            segments: _,
+        } = self;
+    }
+}
+
+impl<
+    K: Eq + Hash,
+    V,
+    X: Expiry<K, V>,
+    L: Listener<K, V>,
+    P: PredicateFn<K, V>,
+    W: Weigher<K, V>,
+    S: BuildHasher,
+> SegmentedCache<K, V, X, L, P, W, S> {
+    /// The cache of these segments, as many as the router knows.
+    pub fn from_parts(router: Router<S>, segments: Vec<Cache<K, V, X, L, P, W, S>>) -> Self
+        requires { length segments.items ≡ router.count }
+        ensures { result ≡ record { routing = router; segments = segments.items } }
+    {
+        SegmentedCache { router, segments }
+    }
+
+    /// The router and the segments, so that each segment can have a lock of its own.
+    pub fn into_parts(self) -> (Router<S>, Vec<Cache<K, V, X, L, P, W, S>>)
+        ensures router { result.0 ≡ self.routing }
+        ensures segments { result.1.items ≡ self.segments }
+        ensures as_many { length result.1.items ≡ result.0.count }
+    {
+        let SegmentedCache { router, segments } = self;
+        (router, segments)
+    }
+
+    /// Which keys are whose.
+    pub fn router(&self) -> &Router<S>
+        ensures { result.now ≡ self.now.routing }
+    {
+        &self.router
+    }
+
+    /// The segment at an index.
+    pub fn segment(&self, index: usize) -> &Cache<K, V, X, L, P, W, S>
+        requires { index < length self.now.segments }
+        ensures { IsAt self.now.segments index result.now }
+    {
+        &self.segments[index]
+    }
+
+    /// The segment of a key.
+    pub fn segment_of(&self, key: &K) -> usize
+        ensures place { result ≡ segment_of self.now.routing.count (S.Hasher.finish (fold S.Hasher.write (S.build_hasher self.now.routing.hasher) (K.hash_input key.now))) }
+        ensures within { result < length self.now.segments }
+    {
+        let _ = &self.segments;
+        self.router.segment_of(key)
+    }
+
+    /// Whether a key is there and visible at the moment `now`. Nothing is recorded.
+    pub fn contains_key(&self, key: &K, now: Instant) -> bool
+        ensures { Holds (segment_of self.now.routing.count (S.Hasher.finish (fold S.Hasher.write (S.build_hasher self.now.routing.hasher) (K.hash_input key.now))))
+            (λ s. ContainsStep P.says K.eq s.engine.state key.now now.0 result) self.now.segments }
+    {
+        let index = self.router.segment_of(key);
+        self.segments[index].contains_key(key, now)
+    }
+
+    /// Puts a value under a key at the moment `now`. A segment of capacity 0 lets both go.
+    ///
+    /// # Errors
+    /// `NumbersUsedUp` and `OutOfMemory`, with key and value; nothing has changed.
+    pub fn insert<C: Clock>(
+        &mut self,
+        key: K,
+        value: V,
+        now: Instant,
+        clock: &mut C,
+    ) -> Result<(), InsertRefused<K, V>>
+    where
+        K: Drop,
+        V: Drop,
+        P: Drop,
+        ensures step { StepsIn (segment_of self.old.routing.count (S.Hasher.finish (fold S.Hasher.write (S.build_hasher self.old.routing.hasher) (K.hash_input key))))
+            (Inserts (meaning_of K.eq L.tells P.says W.weighs C.reads X.created X.read X.updated)
+            (λ h k. S.Hasher.finish (fold S.Hasher.write (S.build_hasher h) (K.hash_input k))) key now clock.old clock.new value result)
+            self.old self.new }
+        ensures back { IfErr result (λ refused. (refused.key ≡ key) × (refused.value ≡ value)) }
+    {
+        let index = self.router.segment_of(&key);
+        let segment = &mut self.segments[index];
+        segment.insert(key, value, now, clock)
+    }
+
+    /// A clone of a key's value, if the key is there and visible at the moment `now`. The read is queued.
+    ///
+    /// # Errors
+    /// `OutOfMemory` where memory for the clone is refused. Nothing has changed.
+    pub fn get<C: Clock>(
+        &mut self,
+        key: &K,
+        now: Instant,
+        clock: &mut C,
+    ) -> Result<Option<V>, OutOfMemory>
+    where
+        K: Clone + Drop,
+        V: Clone + Drop,
+        P: Drop,
+        ensures { StepsIn (segment_of self.old.routing.count (S.Hasher.finish (fold S.Hasher.write (S.build_hasher self.old.routing.hasher) (K.hash_input key.now))))
+            (Gets (meaning_of K.eq L.tells P.says W.weighs C.reads X.created X.read X.updated)
+            (λ h k. S.Hasher.finish (fold S.Hasher.write (S.build_hasher h) (K.hash_input k))) key.now now clock.old clock.new V.is_clone result)
+            self.old self.new }
+    {
+        let index = self.router.segment_of(key);
+        let segment = &mut self.segments[index];
+        segment.get(key, now, clock)
+    }
+
+    /// Takes a key out, and hands its value out, expired or not. The listener, if one is set, is told.
+    ///
+    /// # Errors
+    /// `NotTold`, with the value, where a listener is set and memory for a clone is refused. The entry is gone all the
+    /// same.
+    pub fn remove<C: Clock>(
+        &mut self,
+        key: &K,
+        now: Instant,
+        clock: &mut C,
+    ) -> Result<Option<V>, NotTold<V>>
+    where
+        K: Clone + Drop,
+        V: Clone + Drop,
+        P: Drop,
+        ensures { StepsIn (segment_of self.old.routing.count (S.Hasher.finish (fold S.Hasher.write (S.build_hasher self.old.routing.hasher) (K.hash_input key.now))))
+            (Removes (meaning_of K.eq L.tells P.says W.weighs C.reads X.created X.read X.updated)
+            (λ h k. S.Hasher.finish (fold S.Hasher.write (S.build_hasher h) (K.hash_input k))) key.now now clock.old clock.new K.is_clone V.is_clone (λ taken. result ≡ removed taken))
+            self.old self.new }
+    {
+        let index = self.router.segment_of(key);
+        let segment = &mut self.segments[index];
+        segment.remove(key, now, clock)
+    }
+
+    /// As `remove`, without the value.
+    ///
+    /// # Errors
+    /// As `remove`.
+    pub fn invalidate<C: Clock>(
+        &mut self,
+        key: &K,
+        now: Instant,
+        clock: &mut C,
+    ) -> Result<(), NotTold<V>>
+    where
+        K: Clone + Drop,
+        V: Clone + Drop,
+        P: Drop,
+        ensures { StepsIn (segment_of self.old.routing.count (S.Hasher.finish (fold S.Hasher.write (S.build_hasher self.old.routing.hasher) (K.hash_input key.now))))
+            (Removes (meaning_of K.eq L.tells P.says W.weighs C.reads X.created X.read X.updated)
+            (λ h k. S.Hasher.finish (fold S.Hasher.write (S.build_hasher h) (K.hash_input k))) key.now now clock.old clock.new K.is_clone V.is_clone (λ taken. result ≡ invalidated taken))
+            self.old self.new }
+    {
+        let index = self.router.segment_of(key);
+        let segment = &mut self.segments[index];
+        segment.invalidate(key, now, clock)
+    }
+
+    /// A clone of a key's value, if the key is there and visible at the moment `now`, and else the value that `init`
+    /// makes, which is inserted; a clone of it is handed out. `init` is called only if the key is not there.
+    ///
+    /// # Errors
+    /// As the synchronous cache's call of this name.
+    pub fn get_with<F: FnOnce() -> V, C: Clock>(
+        &mut self,
+        key: K,
+        init: F,
+        now: Instant,
+        clock: &mut C,
+    ) -> Result<V, GetWithRefused<K, V>>
+    where
+        K: Clone + Drop,
+        V: Clone + Drop,
+        P: Drop,
+        requires callable { (s : _) → IsAt self.old.segments (segment_of self.old.routing.count (S.Hasher.finish (fold S.Hasher.write (S.build_hasher self.old.routing.hasher) (K.hash_input key)))) s
+            → ContainsStep P.says K.eq s.engine.state key now.0 false → F.pre init }
+        ensures { StepsIn (segment_of self.old.routing.count (S.Hasher.finish (fold S.Hasher.write (S.build_hasher self.old.routing.hasher) (K.hash_input key))))
+            (GetsWith (meaning_of K.eq L.tells P.says W.weighs C.reads X.created X.read X.updated)
+            (λ h k. S.Hasher.finish (fold S.Hasher.write (S.build_hasher h) (K.hash_input k))) key now clock.old clock.new V.is_clone (F.post init) result)
+            self.old self.new }
+    {
+        let index = self.router.segment_of(&key);
+        let segment = &mut self.segments[index];
+        segment.get_with(key, init, now, clock)
+    }
+}

@@ -1,0 +1,45 @@
+use Rattle.std.proofs.Common.{◌≡◌, ℕ, true, false, Some, None, rules, refl, sym, ap, ◌∙◌}
+use Rattle.std.specs.FinMap.{get}
+use Rattle.moka_parts.proofs.Lookup.{present_key}
+use Rattle.moka_parts.proofs.Tested.{record_by_key, record_by_each}
+use Rattle.moka_structures.proofs.TableCalls.{get-records, get-places}
+use Rattle.moka_structures.specs.RecordTable.{records_of}
+use Rattle.moka_store.specs.StoreRows.{passes_at}
+use Rattle.moka_store.proofs.Steps.{record-of-absent, one-each}
+use Rattle.moka_store.proofs.Tests.{passes-as_key}
+use Rattle.moka_store.proofs.store.Store.find_by.Goals as goal
+
+pub returns-in_default-clause-value : goal.returns-in_default-clause-value
+returns-in_default-clause-value g c =
+    let passes = g.T.KeyTest.passes c.args.test.now in
+    let one_key = g.met.T.KeyTest.one_key c.args.test.now in
+    let rows = c.self.inside.table.rows in
+    let hashed = rw (← c.self.view_is) at c.requires.hashed in
+    let none : (p : ℕ) → get c.self.inside.index.entries p ≡ Some c.args.hash.0 → passes_at passes rows p ≡ false = λ p h. (let e = c.in_default.ensures.absent p h in search (rules, e)) in
+    rw (← c.self.view_is) (sym (record_by_each g.K.PartialEq.eq passes one_key (records_of rows) None
+    (λ key passing. record-of-absent _ _ _ _ c.self.invariant.tied key (λ x e. rw (g.met.K.Hash.respects_eq key x e) refl)
+    (λ p h. sym (passes-as_key g.K.PartialEq.eq passes key (λ y. one_key key y passing) rows p) ∙ none p (h ∙ ap Some (sym (hashed key passing)))))
+    (λ r impossible. cc)))
+
+pub returns-clause-handle : goal.returns-clause-handle
+returns-clause-handle g c =
+    let at_is = sym c.in-Some-row.ensures in
+    rw (c.number.ensures, ← c.self.view_is) (record {
+      placed = get-places _ c.self.invariant.tied.numbered _ _ at_is;
+      stored = rw (get-records _ c.self.invariant.tied.numbered _ _ at_is, ← c.in-Some-stored.ensures) refl;
+    })
+
+pub returns-clause-found : goal.returns-clause-found
+returns-clause-found g c =
+    rw (c.number.ensures, ← c.self.view_is) (get-records _ c.self.invariant.tied.numbered _ _ (sym c.in-Some-row.ensures) ∙ sym c.in-Some-stored.ensures)
+
+pub returns-clause-value : goal.returns-clause-value
+returns-clause-value g c =
+    let passes = g.T.KeyTest.passes c.args.test.now in
+    let rows = c.self.inside.table.rows in
+    let key = c.in-Some-stored.stored.now.key in
+    let laws = g.met.K.Eq.laws in
+    let passing : passes key ≡ true = search (rules, c.in-Some.ensures.passes, c.in-Some-row.ensures, c.in-Some-stored.ensures) in
+    let there = get-records _ c.self.invariant.tied.numbered _ _ (sym c.in-Some-row.ensures) ∙ sym c.in-Some-stored.ensures in
+    let own = present_key g.K.PartialEq.eq (records_of rows) key laws (one-each _ _ _ _ c.self.invariant.tied laws).one_each _ _ there (laws.refl key) in
+    rw (← c.self.view_is) (sym (record_by_key g.K.PartialEq.eq passes (g.met.T.KeyTest.one_key c.args.test.now) (records_of rows) key passing ∙ own))

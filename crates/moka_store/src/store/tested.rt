@@ -1,0 +1,67 @@
+//! Records by tests of their keys, and hashes of what is not a key.
+ghost use Rattle.std.specs.Prelude.{◌≡◌, IfSome, Some, false, true, option_map};
+ghost use Rattle.std.specs.FinMap as finite;
+ghost use Rattle.std.specs.List.{fold};
+ghost use Rattle.moka_parts.specs.KeyTests.{record_by};
+ghost use Rattle.moka_parts.specs.declared.records.Record.{Record};
+ghost use Rattle.moka_store.specs.Hashing.{IsKeyHash};
+ghost use Rattle.moka_store.specs.Store.{IsHandle};
+ghost use Rattle.moka_store.specs.StoreRows.{passes_at};
+
+use super::{Handle, KeyHash, Store};
+use moka_parts::key_test::KeyTest;
+use moka_parts::records::Record;
+use moka_structures::RecordTable;
+use std::hash::{BuildHasher, Hash};
+
+// Whether the key of the record at this place passes.
+#[inline(always)]
+fn is_key_at<K: Eq + Hash, V, T: KeyTest<K>>(
+    table: &RecordTable<Record<K, V>>,
+    place: usize,
+    test: &T,
+) -> bool
+    ensures { result ≡ passes_at (T.passes test.now) table.now.rows place }
+{
+    match table.record(place) {
+        Some(stored) => test.is_key(&stored.key),
+        None => false,
+    }
+}
+
+impl<K: Eq + Hash, V, S: BuildHasher> Store<K, V, S> {
+    /// The hash of a form of a key by the store's hasher.
+    #[inline(always)]
+    pub fn hash_of<Q: Hash>(&self, form: &Q) -> u64
+        ensures { result ≡ S.Hasher.finish (fold S.Hasher.write (S.build_hasher self.now.hasher) (Q.hash_input form.now)) }
+    {
+        self.hasher.hash_one(form)
+    }
+
+    /// The record whose key passes, with its handle, under the hash of the keys that do.
+    #[inline(always)]
+    pub fn find_by<T: KeyTest<K>>(&self, test: &T, hash: KeyHash) -> Option<(Handle, &Record<K, V>)>
+        requires hashed { (k : K) → T.passes test.now k ≡ true → IsKeyHash S.build_hasher S.Hasher.finish S.Hasher.write self.now.hasher (K.hash_input k) hash }
+        ensures handle { IfSome result (λ f. IsHandle self.now f.0) }
+        ensures found { IfSome result (λ f. finite.get self.now.records f.0.number ≡ Some f.1.now) }
+        ensures passes { IfSome result (λ f. T.passes test.now f.1.now.key ≡ true) }
+        ensures value { option_map (λ f. f.1.now) result ≡ record_by (T.passes test.now) self.now.records }
+    {
+        let table = &self.table;
+        let is_match = |place| is_key_at(table, place, test);
+        let Some(place) = self.index.find(hash.0, is_match) else {
+            return None;
+        };
+        let Some(row) = table.row(place) else {
+            unreachable!()
+        };
+        let Some(stored) = row.stored() else {
+            unreachable!()
+        };
+        let handle = Handle {
+            number: row.number(),
+            place,
+        };
+        Some((handle, stored))
+    }
+}

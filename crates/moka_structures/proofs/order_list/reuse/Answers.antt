@@ -1,0 +1,18 @@
+use Rattle.std.proofs.Common.{arith, length, length-set, rules, slice_index_or, ap, ◌≡◌, ◌<◌}
+use Rattle.std.proofs.lemmas.List.{get_or_default}
+use Rattle.moka_links.specs.declared.Node.{Node}
+use Rattle.moka_links.proofs.Nodes.{set-keeps}
+use Rattle.moka_structures.specs.Links.{befores, blank}
+use Rattle.moka_structures.proofs.order_list.reuse.Goals as goal
+
+pub attach-requires-clause-last : goal.attach-requires-clause-last
+attach-requires-clause-last g c past =
+    let ns = c.as_mut_slice-nodes.result.now in
+    let same : length ns ≡ c.args.nodes.now.len = search rules in
+    let inside : c.args.slot < length ns = omega (arith, same) in
+    let read = get_or_default ns c.args.slot c.index-nodes-slot-2.result (blank past) inside in
+    let old = slice_index_or ns c.args.slot c.index-nodes-slot-2.result in
+    let v : Node g.row.T.Denot = record { value = c.args.value; before = old.before; behind = old.behind } in
+    let keeps = set-keeps past (λ (n : Node g.row.T.Denot). n.before) ns c.args.slot v 0 inside (ap (λ (n : Node g.row.T.Denot). n.before) read) in
+    let there = ap (λ ns. befores past ns 0) c.as_mut_slice-nodes.ensures.value in
+    omega (arith, c.requires.last past, same, there, keeps, length-set ns c.args.slot v)

@@ -1,0 +1,87 @@
+//! Prices by names, looked up by a text that is no `String`: a look-up copies no name.
+ghost use Rattle.std.specs.Prelude.{IfOk, IfSome, is_some};
+ghost use Rattle.moka_engine.specs.parts.Instant.{Instant};
+ghost use Rattle.moka_uses.specs.Borrowed.{IsFoundAt, IsPriceOf};
+
+use moka_drive::TimedCache;
+use moka_engine::{CacheConfig, Clock, InsertRefused, OutOfMemory};
+use std::alloc::Global;
+use std::time::Duration;
+
+/// Prices by names.
+pub type Prices<C> = TimedCache<String, u64, C>;
+
+/// No prices. One holds for the time `lasting`.
+///
+/// # Errors
+/// `OutOfMemory`
+pub fn start<C: Clock + Drop>(
+    alloc: Global,
+    lasting: Duration,
+    clock: C,
+) -> Result<Prices<C>, OutOfMemory> {
+    TimedCache::build(CacheConfig::default().time_to_live(lasting), alloc, clock)
+}
+
+/// Sets the price of a name.
+///
+/// # Errors
+/// As `TimedCache::insert`.
+pub fn set<C: Clock>(
+    prices: &mut Prices<C>,
+    name: String,
+    price: u64,
+) -> Result<(), InsertRefused<String, u64>> {
+    prices.insert(name, price)
+}
+
+/// The price of a name, if it is set and holds at the clock's moment.
+///
+/// # Errors
+/// `OutOfMemory`
+pub fn price<C: Clock>(prices: &mut Prices<C>, name: &str) -> Result<Option<u64>, OutOfMemory>
+    ensures value { IfOk result (λ found. IfSome found (IsPriceOf prices.old.cache.engine.state name.now)) }
+    ensures found { (now : Instant) × (read : C) × C.reads prices.old.clock now read
+        × IfOk result (λ found. IsFoundAt prices.old.cache.engine.state name.now now.0 (is_some found)) }
+{
+    let hash = prices.hash_of(&name);
+    prices.get_by(&name, hash)
+}
+
+#[cfg(test)]
+mod tests {
+    use super::*;
+    use anyhow::Result;
+    use moka_drive::ManualClock;
+    use moka_engine::Instant;
+
+    #[test]
+    fn finds_a_price_by_a_text(rt: HostRuntime) -> Result<()> {
+        let alloc = rt.alloc();
+        let clock = ManualClock { now: Instant(0) };
+        let mut prices = start(alloc, Duration::from_nanos(100), clock)?;
+        let name = format!(in alloc; "tea")?;
+        set(&mut prices, name, 3)?;
+        assert_eq!(rt; price(&mut prices, "tea")?, Some(3));
+        assert_eq!(rt; price(&mut prices, "te")?, None);
+        assert_eq!(rt; prices.stats().hits, 1);
+        let hash = prices.hash_of(&"tea");
+        assert!(rt; prices.contains_key_by(&"tea", hash));
+        prices.clock.advance(Duration::from_nanos(100));
+        assert_eq!(rt; price(&mut prices, "tea")?, None);
+        Ok(())
+    }
+
+    #[test]
+    fn removes_a_price_by_a_text(rt: HostRuntime) -> Result<()> {
+        let alloc = rt.alloc();
+        let clock = ManualClock { now: Instant(0) };
+        let mut prices = start(alloc, Duration::from_nanos(100), clock)?;
+        let name = format!(in alloc; "tea")?;
+        set(&mut prices, name, 3)?;
+        let hash = prices.hash_of(&"tea");
+        assert_eq!(rt; prices.remove_by(&"tea", hash)?, Some(3));
+        assert_eq!(rt; price(&mut prices, "tea")?, None);
+        Ok(())
+    }
+}
