@@ -24,6 +24,8 @@ mod key;
 mod making;
 mod notices;
 pub mod policy;
+#[cfg(test)]
+mod random_calls;
 mod settings;
 mod shard;
 pub mod sync;

@@ -27,6 +27,7 @@ pub use builder::CacheBuilder;
 pub use entry::{OwnedKeyEntrySelector, RefKeyEntrySelector};
 pub use iter::Iter;
 
+use crate::engine::moka_segments::Router;
 use crate::key::Test;
 use crate::making::Makers;
 use crate::notices::{Notices, locked};
@@ -53,7 +54,8 @@ struct Place<K: 'static, V> {
 
 struct Shared<K: 'static, V, S> {
     places: Box<[Place<K, V>]>,
-    hasher: S,
+    // The hasher of the keys, and which shard a hash belongs to.
+    router: Router<S>,
     settings: Arc<Settings<K, V>>,
     loads: AtomicU64,
     load_failures: AtomicU64,
@@ -163,9 +165,9 @@ where
     S: BuildHasher,
 {
     fn place(&self, hash: u64) -> &Place<K, V> {
-        // The engine's table takes other bits of the hash.
-        let spread = hash.wrapping_mul(0x9E37_79B9_7F4A_7C15) >> 32;
-        &self.0.places[spread as usize & (self.0.places.len() - 1)]
+        // A hasher of the caller's may leave the upper half of its hashes empty, by which the router goes.
+        let spread = hash.wrapping_mul(0x9E37_79B9_7F4A_7C15);
+        &self.0.places[self.0.router.segment_of_hash(spread)]
     }
 
     // Makes a call under the lock of a shard, and tells the listener of what left by it.
@@ -188,7 +190,7 @@ where
         K: Borrow<Q>,
         Q: Eq + Hash + Sync + ?Sized,
     {
-        let hash = self.0.hasher.hash_one(key);
+        let hash = self.0.router.hasher().hash_one(key);
         self.with(self.place(hash), |shard| {
             call(shard, hash, &|kept| kept.borrow() == key)
         })
@@ -249,7 +251,7 @@ where
     /// ```
     #[inline]
     pub fn insert(&self, key: K, value: V) {
-        self.insert_shared(self.0.hasher.hash_one(&key), Arc::new(key), value);
+        self.insert_shared(self.0.router.hasher().hash_one(&key), Arc::new(key), value);
     }
 
     /// Takes a key's value out and hands it out, also one that has expired or was invalidated and has not left yet.

@@ -10,3 +10,4 @@ pub mod moka_maintenance;
 pub mod moka_inner;
 pub mod moka_engine;
 pub mod moka_drive;
+pub mod moka_segments;

@@ -1,6 +1,7 @@
 //! What builds a shared cache.
 
 use super::{Cache, Place, Shared};
+use crate::engine::moka_segments::Router;
 use crate::making::Makers;
 use crate::notices::Notices;
 use crate::settings::{Settings, setters};
@@ -131,12 +132,13 @@ where
     pub fn build_with_hasher<S: BuildHasher>(self, hasher: S) -> Cache<K, V, S> {
         let count = self.count_of_shards();
         let mut settings = self.settings;
-        settings.initial_capacity = settings.initial_capacity.map(|all| all.div_ceil(count));
+        settings.initial_capacity = settings.initial_capacity.map(|all| all.div_ceil(count as usize));
         let (settings, start) = (Arc::new(settings), Instant::now());
-        let places = (0..count).map(|index| {
+        let router = Router::new(hasher, count);
+        let places = (0..router.count()).map(|index| {
             let listener = settings.listener.clone();
             let notices = listener.map(|listener| Arc::new(Notices::new(listener)));
-            let share = settings.max_capacity.map(|all| share(all, index, count));
+            let share = settings.max_capacity.map(|all| router.share(all, index));
             let shard = Shard::new(settings.clone(), share, notices.clone(), start);
             Place {
                 shard: Mutex::new(shard),
@@ -144,9 +146,10 @@ where
                 notices,
             }
         });
+        let places = places.collect();
         Cache(Arc::new(Shared {
-            places: places.collect(),
-            hasher,
+            places,
+            router,
             settings,
             loads: AtomicU64::new(0),
             load_failures: AtomicU64::new(0),
@@ -154,11 +157,12 @@ where
         }))
     }
 
-    fn count_of_shards(&self) -> usize {
+    fn count_of_shards(&self) -> u32 {
         if let Some(asked) = self.shards {
             // A share of 0 would keep nothing.
             let most = self.settings.max_capacity.unwrap_or(u64::MAX).max(1).ilog2();
-            return asked.clamp(1, MOST_ASKED).next_power_of_two().min(1 << most.min(16));
+            let asked = asked.clamp(1, MOST_ASKED).next_power_of_two();
+            return (asked as u32).min(1 << most.min(16));
         }
         if self.settings.weigher.is_some() {
             return 1;
@@ -166,10 +170,4 @@ where
         let wanted = self.settings.max_capacity.map_or(MOST_CHOSEN, |all| all / LEAST_SHARE);
         1 << wanted.clamp(1, MOST_CHOSEN).ilog2()
     }
-}
-
-// The capacity of one of so many shards: all shares together are the whole.
-fn share(all: u64, index: usize, count: usize) -> u64 {
-    let (index, count) = (index as u64, count as u64);
-    all / count + u64::from(index < all % count)
 }

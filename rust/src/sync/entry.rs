@@ -40,7 +40,7 @@ where
     /// assert!(!cache.entry("key".to_string()).or_insert(8).is_fresh());
     /// ```
     pub fn entry(&self, key: K) -> OwnedKeyEntrySelector<'_, K, V, S> {
-        let hash = self.0.hasher.hash_one(&key);
+        let hash = self.0.router.hasher().hash_one(&key);
         OwnedKeyEntrySelector { cache: self, hash, key }
     }
 
@@ -56,7 +56,7 @@ where
         K: Borrow<Q>,
         Q: Eq + Hash + Sync + ToOwned<Owned = K> + ?Sized,
     {
-        let hash = self.0.hasher.hash_one(key);
+        let hash = self.0.router.hasher().hash_one(key);
         RefKeyEntrySelector { cache: self, hash, key }
     }
 

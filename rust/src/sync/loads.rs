@@ -99,7 +99,7 @@ where
 
     // The value of a key that is there, or the outcome of its maker.
     fn get_or_load(&self, key: K, kind: TypeId, make: impl FnOnce() -> Outcome<V>) -> Outcome<V> {
-        let hash = self.0.hasher.hash_one(&key);
+        let hash = self.0.router.hasher().hash_one(&key);
         let found = self.with(self.place(hash), |shard| shard.get(hash, &|kept| *kept == key));
         match found {
             Some(value) => Outcome::Made { value, is_fresh: false },
@@ -113,7 +113,7 @@ where
         K: Borrow<Q>,
         Q: Eq + Hash + Sync + ToOwned<Owned = K> + ?Sized,
     {
-        let hash = self.0.hasher.hash_one(key);
+        let hash = self.0.router.hasher().hash_one(key);
         let found = self.with(self.place(hash), |shard| shard.get(hash, &|kept| kept.borrow() == key));
         match found {
             Some(value) => Outcome::Made { value, is_fresh: false },

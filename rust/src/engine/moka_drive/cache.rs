@@ -16,6 +16,11 @@ use crate::engine::moka_parts::policy::{Expiry, Instant, NoExpiry, Policy};
 use crate::support::alloc::Global;
 use crate::support::hash::{BuildHasher, Hash};
 
+mod saves;
+mod tested;
+
+pub use saves::RestoreManyRefused;
+
 // How often a run of its own may go back to its queues.
 const MAX_LOG_SYNC_REPEATS: u32 = 4;
 
@@ -421,10 +426,16 @@ impl<
 
     /// Runs maintenance without a time limit. The answer tells whether more is left.
     ///
-    /// It leaves count and weight exactly the entries', and the weight within the capacity.
+    /// It leaves count and weight exactly the entries', and the weight within the capacity, and each entry is in the order of
+    /// access.
     pub fn run_pending_tasks<C: Clock>(&mut self, now: Instant, clock: &mut C) -> bool
     {
-        self.engine.run_pending_tasks(now, clock, None, MAX_LOG_SYNC_REPEATS, EVICTION_BATCH_SIZE)
+        let (repeats, batch) = (MAX_LOG_SYNC_REPEATS, EVICTION_BATCH_SIZE);
+        let more = self
+            .engine
+            .run_pending_tasks(now, clock, None, repeats, batch);
+        self.engine.invariant_holds();
+        more
     }
 }
 

@@ -90,3 +90,8 @@ pub fn counts_removals<
     C: Clock,
 >()
 {}
+
+/// What was put back as it was listed answers as before: whenever one of the two records is visible the other is, where the
+/// times are the same, and the second cache has no predicates and no invalidation of all.
+pub fn answers_as_before<K, V, X, P: PredicateFn<K, V>, W>()
+{}

@@ -15,7 +15,7 @@ pub mod removals;
 pub mod stats;
 pub mod timed;
 
-pub use cache::Cache;
+pub use cache::{Cache, RestoreManyRefused};
 pub use clock::{ManualClock, SystemClock};
 pub use compute::{CompResult, ComputeRefused, Op};
 pub use driver::drive;

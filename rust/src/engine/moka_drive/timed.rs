@@ -15,6 +15,8 @@ use crate::engine::moka_parts::policy::{Expiry, NoExpiry, Policy};
 use crate::support::alloc::Global;
 use crate::support::hash::{BuildHasher, Hash};
 
+mod tested;
+
 /// A cache with a clock, which each call that needs the moment reads once at its start.
 pub struct TimedCache<
     K: Eq + Hash,

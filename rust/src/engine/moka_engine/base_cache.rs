@@ -2,7 +2,7 @@
 //! The cache. moka: `sync::base_cache`.
 use crate::support::prelude::*;
 
-use crate::engine::moka_inner::Inner;
+use crate::engine::moka_inner::{Inner, Layout};
 use crate::engine::moka_parts::calls::{Entry, KvEntry, Ticket};
 use crate::engine::moka_parts::closures::{NoTest, PredicateFn, Weigher};
 use crate::engine::moka_parts::error::{CapacityError, InsertRefused, OutOfMemory, SendError};
@@ -20,10 +20,15 @@ mod inserts;
 mod invalidation;
 mod looks;
 mod reports;
+mod restores;
 mod runs;
 mod sights;
+mod snapshot;
+mod tested;
 
+pub use restores::{RestoreError, RestoreRefused, Restored};
 pub use sights::Sight;
+pub use snapshot::{Snapshot, SnapshotEntry};
 
 // How many segments the map has.
 const SEGMENTS: usize = 1;
@@ -121,14 +126,12 @@ impl<
         let initial_capacity = initial_capacity.unwrap_or(0);
         let ordered = needs_write_list(&expiration_policy, invalidator_enabled);
         let timed = needs_timers(&expiration_policy);
-        let Ok(inner) = Inner::new(
-            alloc,
-            build_hasher,
-            first_ticket,
+        let layout = Layout {
             initial_capacity,
             ordered,
             timed,
-        ) else {
+        };
+        let Ok(inner) = Inner::new(alloc, build_hasher, first_ticket, layout) else {
             return Err(OutOfMemory);
         };
         let notifier = RemovalNotifier::new(eviction_listener);

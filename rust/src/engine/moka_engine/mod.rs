@@ -12,7 +12,9 @@ use crate::support::prelude::*;
 pub mod base_cache;
 pub mod config;
 
-pub use base_cache::{BaseCache, Sight};
+pub use base_cache::{
+    BaseCache, RestoreError, RestoreRefused, Restored, Sight, Snapshot, SnapshotEntry,
+};
 pub use config::{CacheConfig, DefaultHasher, Engine};
 pub use crate::engine::moka_parts::calls::{Call, DriveRefused, Entry, KvEntry, Reply, Ticket};
 pub use crate::engine::moka_parts::closures::{
@@ -25,6 +27,7 @@ pub use crate::engine::moka_parts::error::{
 pub use crate::engine::moka_parts::expiry::{deadline_of, has_lapsed, remaining, renewed};
 pub use crate::engine::moka_parts::housekeeper::{Clock, FixedClock, Housekeeper, HousekeeperConfig, InnerSync};
 pub use crate::engine::moka_parts::invalidator::{IdSource, Invalidator, PredicateId};
+pub use crate::engine::moka_parts::key_test::KeyTest;
 pub use crate::engine::moka_parts::notification::{Listener, NoListener, RemovalCause, RemovalNotifier};
 pub use crate::engine::moka_parts::policy::{
     EvictionPolicy, ExpirationPolicy, ExpireAfter, ExpireAfterCreate, ExpireAfterRead,

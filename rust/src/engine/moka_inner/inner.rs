@@ -4,27 +4,39 @@ use crate::support::prelude::*;
 
 use crate::support::circular_buffer::HeapCircularBuffer;
 use crate::engine::moka_maintenance::admission::{apply_reads, apply_writes};
-use crate::engine::moka_maintenance::passes::{Ran, make_passes};
+use crate::engine::moka_maintenance::bounds::Bounds;
+use crate::engine::moka_maintenance::passes::{Ran, Terms, make_passes};
 use crate::engine::moka_maintenance::queued::{PlacedWrite, QueuedRead, QueuedWrite};
 use crate::engine::moka_maintenance::sketch::enable_frequency_sketch;
-use crate::engine::moka_maintenance::sweep::Tests;
 use crate::engine::moka_parts::calls::Ticket;
 use crate::engine::moka_parts::closures::PredicateFn;
 use crate::engine::moka_parts::error::{InsertError, SendError};
 use crate::engine::moka_parts::housekeeper::Clock;
 use crate::engine::moka_parts::invalidator::Invalidator;
 use crate::engine::moka_parts::notification::{Listener, RemovalNotifier};
-use crate::engine::moka_parts::policy::{EvictionPolicy, Instant};
+use crate::engine::moka_parts::policy::Instant;
 use crate::engine::moka_parts::records::{Operation, ReadOperation, Record};
 use crate::engine::moka_sketch::frequency_sketch::FrequencySketch;
 use crate::engine::moka_store::{Handle, KeyHash, Store, Update};
 use crate::engine::moka_structures::outstanding::Outstanding;
 use crate::support::alloc::{AllocError, Global};
 use crate::support::hash::{BuildHasher, Hash};
-use crate::support::time::Duration;
+
+mod members;
+mod tested;
 
 // How many operations and how many reads can be queued. moka: `WRITE_LOG_SIZE`, `READ_LOG_SIZE`.
 const QUEUE_SIZE: usize = 384;
+
+/// What an inner part keeps beside its records, and for how many of them it has room at first.
+#[derive(Clone, Copy)]
+pub struct Layout {
+    pub initial_capacity: usize,
+    /// Whether it keeps the order of writing.
+    pub ordered: bool,
+    /// Whether it keeps timers.
+    pub timed: bool,
+}
 
 /// The inner part of the cache. moka: `sync::base_cache::Inner`.
 pub struct Inner<K: Eq + Hash, V, S: BuildHasher> {
@@ -42,19 +54,16 @@ pub struct Inner<K: Eq + Hash, V, S: BuildHasher> {
 // Written out so that a caller's drop is one call.
 
 impl<K: Eq + Hash, V, S: BuildHasher> Inner<K, V, S> {
-    /// An inner part with no records, with room for `initial_capacity` of them, whose first ticket is `first_ticket`. It keeps
-    /// the order of writing if it is to be `ordered`, and timers if it is to be `timed`.
+    /// An inner part with no records, laid out like this, whose first ticket is `first_ticket`.
     pub fn new(
         alloc: Global,
         hasher: S,
         first_ticket: u64,
-        initial_capacity: usize,
-        ordered: bool,
-        timed: bool,
+        layout: Layout,
     ) -> Result<Self, AllocError>
     {
-        let mut store = Store::new(alloc, hasher, ordered, timed)?;
-        store.reserve(initial_capacity)?;
+        let mut store = Store::new(alloc, hasher, layout.ordered, layout.timed)?;
+        store.reserve(layout.initial_capacity)?;
         let sketch = FrequencySketch::new(alloc)?;
         let outstanding = Outstanding::new(alloc)?;
         let writes = HeapCircularBuffer::with_capacity(alloc, QUEUE_SIZE)?;
@@ -258,30 +267,26 @@ impl<K: Eq + Hash, V, S: BuildHasher> Inner<K, V, S> {
     pub fn apply_queues<L: Listener<K, V>>(
         &mut self,
         notifier: &mut RemovalNotifier<L>,
-        capacity: Option<u64>,
-        policy: EvictionPolicy,
-        has_weigher: bool,
+        bounds: Bounds,
     )
     {
         let (store, sketch) = (&mut self.store, &mut self.sketch);
         apply_reads(store, sketch, &mut self.reads);
-        apply_writes(store, sketch, notifier, capacity, policy, &mut self.writes);
-        enable_frequency_sketch(store, sketch, capacity, policy, has_weigher);
+        apply_writes(store, sketch, notifier, bounds, &mut self.writes);
+        enable_frequency_sketch(store, sketch, bounds);
     }
 
-    /// Removes what the tests find and what registered predicates cover, in passes of at most `batch` turns a step, until the limit is up.
+    /// Removes what the tests find and what registered predicates cover, in passes of at most a batch of turns a step, until
+    /// the limit is up.
     pub fn make_passes<L: Listener<K, V>, P: PredicateFn<K, V>, C: Clock>(
         &mut self,
         notifier: &mut RemovalNotifier<L>,
         invalidator: &mut Invalidator<P>,
         clock: &mut C,
-        tests: Tests,
-        limit: Option<Duration>,
-        batch: u32,
+        terms: Terms,
     ) -> Ran
     {
-        let store = &mut self.store;
-        make_passes(store, notifier, invalidator, clock, tests, limit, batch)
+        make_passes(&mut self.store, notifier, invalidator, clock, terms)
     }
 
     /// Clones of the keys of all records, in no particular order.

@@ -4,6 +4,7 @@
 //! moka: `sync::base_cache::Inner::apply_reads`, `Inner::apply_writes`, `Inner::handle_upsert`.
 use crate::support::prelude::*;
 
+use crate::engine::moka_maintenance::bounds::Bounds;
 use crate::engine::moka_maintenance::choice::{choose, expel_front};
 use crate::engine::moka_maintenance::expel::expel;
 use crate::engine::moka_maintenance::queued::{PlacedWrite, QueuedRead, QueuedWrite};
@@ -82,14 +83,13 @@ pub fn apply_writes<K: Eq + Hash, V, S: BuildHasher, L: Listener<K, V>>(
     store: &mut Store<K, V, S>,
     sketch: &FrequencySketch,
     notifier: &mut RemovalNotifier<L>,
-    capacity: Option<u64>,
-    policy: EvictionPolicy,
+    bounds: Bounds,
     writes: &mut HeapCircularBuffer<QueuedWrite>,
 )
 {
     let (first, second) = writes.as_slices();
-    apply_each_write(store, sketch, notifier, capacity, policy, first);
-    apply_each_write(store, sketch, notifier, capacity, policy, second);
+    apply_each_write(store, sketch, notifier, bounds, first);
+    apply_each_write(store, sketch, notifier, bounds, second);
     writes.clear();
 }
 
@@ -98,14 +98,13 @@ fn apply_each_write<K: Eq + Hash, V, S: BuildHasher, L: Listener<K, V>>(
     store: &mut Store<K, V, S>,
     sketch: &FrequencySketch,
     notifier: &mut RemovalNotifier<L>,
-    capacity: Option<u64>,
-    policy: EvictionPolicy,
+    bounds: Bounds,
     writes: &[QueuedWrite],
 )
 {
     let mut rest = writes;
     while let Some((sent, behind)) = rest.split_first() {
-        apply_write(store, sketch, notifier, capacity, policy, sent.write);
+        apply_write(store, sketch, notifier, bounds, sent.write);
         rest = behind;
     }
 }
@@ -115,8 +114,7 @@ fn apply_write<K: Eq + Hash, V, S: BuildHasher, L: Listener<K, V>>(
     store: &mut Store<K, V, S>,
     sketch: &FrequencySketch,
     notifier: &mut RemovalNotifier<L>,
-    capacity: Option<u64>,
-    policy: EvictionPolicy,
+    bounds: Bounds,
     write: PlacedWrite,
 )
 {
@@ -134,7 +132,7 @@ fn apply_write<K: Eq + Hash, V, S: BuildHasher, L: Listener<K, V>>(
                 weight,
                 hash,
             };
-            apply_upsert(store, sketch, notifier, capacity, policy, upsert);
+            apply_upsert(store, sketch, notifier, bounds, upsert);
         }
         Operation::Removal { number, .. } => apply_removal(store, Handle { number, place }),
     }
@@ -146,8 +144,7 @@ fn apply_upsert<K: Eq + Hash, V, S: BuildHasher, L: Listener<K, V>>(
     store: &mut Store<K, V, S>,
     sketch: &FrequencySketch,
     notifier: &mut RemovalNotifier<L>,
-    capacity: Option<u64>,
-    policy: EvictionPolicy,
+    bounds: Bounds,
     upsert: PlacedUpsert,
 )
 {
@@ -166,7 +163,7 @@ fn apply_upsert<K: Eq + Hash, V, S: BuildHasher, L: Listener<K, V>>(
         store.recount(handle, upsert.weight);
         store.set_timer(handle);
     } else {
-        admit_or_reject(store, sketch, notifier, capacity, policy, upsert);
+        admit_or_reject(store, sketch, notifier, bounds, upsert);
     }
 }
 
@@ -176,17 +173,16 @@ fn admit_or_reject<K: Eq + Hash, V, S: BuildHasher, L: Listener<K, V>>(
     store: &mut Store<K, V, S>,
     sketch: &FrequencySketch,
     notifier: &mut RemovalNotifier<L>,
-    capacity: Option<u64>,
-    policy: EvictionPolicy,
+    bounds: Bounds,
     upsert: PlacedUpsert,
 )
 {
-    if has_room(capacity, store.total_weight(), upsert.weight) {
+    if bounds.has_room(store.total_weight(), upsert.weight) {
         enter(store, upsert);
-    } else if !has_room(capacity, 0, upsert.weight) {
+    } else if !bounds.has_room(0, upsert.weight) {
         reject(store, notifier, upsert.handle, upsert.generation);
     } else {
-        match policy {
+        match bounds.policy {
             // The least recently used will leave for it.
             EvictionPolicy::Lru => enter(store, upsert),
             EvictionPolicy::TinyLfu => compare(store, sketch, notifier, upsert),
@@ -208,18 +204,6 @@ fn compare<K: Eq + Hash, V, S: BuildHasher, L: Listener<K, V>>(
         enter(store, candidate);
     } else {
         reject(store, notifier, candidate.handle, candidate.generation);
-    }
-}
-
-// Whether so much more weight stays within the capacity, if there is one.
-fn has_room(capacity: Option<u64>, total: u128, weight: u32) -> bool
-{
-    match capacity {
-        Some(capacity) => {
-            let capacity = u128::from(capacity);
-            total <= capacity && u128::from(weight) <= capacity - total
-        }
-        None => true,
     }
 }
 

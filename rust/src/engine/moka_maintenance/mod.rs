@@ -3,6 +3,7 @@
 use crate::support::prelude::*;
 
 pub mod admission;
+pub mod bounds;
 mod choice;
 mod due;
 mod expel;

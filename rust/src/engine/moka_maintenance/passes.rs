@@ -19,6 +19,16 @@ use crate::support::time::Duration;
 // How many rows are read ahead at most: as many as a run removes where one is made at each 64th operation.
 const MOST_AHEAD: u128 = 64;
 
+/// What a run goes by.
+#[derive(Clone, Copy)]
+pub struct Terms {
+    pub tests: Tests,
+    /// After this time no further pass is made.
+    pub limit: Option<Duration>,
+    /// How many turns each sweep of a pass makes at most, and at how many records its scan looks.
+    pub batch: u32,
+}
+
 /// What a run came to.
 #[derive(Clone, Copy, Debug, PartialEq, Eq)]
 pub struct Ran {
@@ -39,6 +49,31 @@ struct Pass {
     is_scan_left: bool,
 }
 
+impl Pass {
+    // What the steps came to, the first of which leaves nothing.
+    fn joined(due: u32, by_write: Swept, by_read: Swept, is_scan_left: bool, surplus: Swept) -> Self
+    {
+        let by_moment = u64::from(due) + u64::from(by_write.removed) + u64::from(by_read.removed);
+        Pass {
+            removed: by_moment + u64::from(surplus.removed),
+            is_left: by_write.is_left || by_read.is_left || surplus.is_left,
+            is_scan_left,
+        }
+    }
+
+    // Whether it left more.
+    fn leaves_more(self) -> bool
+    {
+        self.is_left || self.is_scan_left
+    }
+
+    // Whether another pass is due.
+    fn goes_on(self) -> bool
+    {
+        self.leaves_more() && self.removed > 0
+    }
+}
+
 /// Makes passes until one leaves nothing or removes nothing beside its scan, or the limit has passed since the start.
 pub fn make_passes<
     K: Eq + Hash,
@@ -52,23 +87,21 @@ pub fn make_passes<
     notifier: &mut RemovalNotifier<L>,
     invalidator: &mut Invalidator<P>,
     clock: &mut C,
-    tests: Tests,
-    limit: Option<Duration>,
-    batch: u32,
+    terms: Terms,
 ) -> Ran
 {
     // There are no more passes than members, and one.
     let _members = store.member_count();
-    let started = start(limit, clock);
+    let started = start(terms.limit, clock);
     let mut passes = 0u64;
     loop {
         passes += 1;
-        let pass = make_pass(store, notifier, invalidator, tests, batch);
-        if !goes_on(pass) {
-            let is_left = leaves_more(pass);
+        let pass = make_pass(store, notifier, invalidator, terms);
+        if !pass.goes_on() {
+            let is_left = pass.leaves_more();
             return Ran { passes, is_left };
         }
-        if is_late(started, limit, clock) {
+        if is_late(started, terms.limit, clock) {
             let is_left = true;
             return Ran { passes, is_left };
         }
@@ -80,62 +113,48 @@ fn make_pass<K: Eq + Hash, V, S: BuildHasher, L: Listener<K, V>, P>(
     store: &mut Store<K, V, S>,
     notifier: &mut RemovalNotifier<L>,
     invalidator: &mut Invalidator<P>,
-    tests: Tests,
-    batch: u32,
+    terms: Terms,
 ) -> Pass
 where
     P: PredicateFn<K, V>,
 {
-    let due = expire_due(store, notifier, tests);
-    let by_write = take_step(store, notifier, tests, Sweep::Written, batch);
-    let by_read = take_step(store, notifier, tests, Sweep::Read, batch);
-    let is_scan_left = scan(store, notifier, invalidator, batch);
-    let surplus = take_step(store, notifier, tests, Sweep::Surplus, batch);
-    joined(due, by_write, by_read, is_scan_left, surplus)
-}
-
-// What the steps came to, the first of which leaves nothing.
-fn joined(due: u32, by_write: Swept, by_read: Swept, is_scan_left: bool, surplus: Swept) -> Pass
-{
-    let by_moment = u64::from(due) + u64::from(by_write.removed) + u64::from(by_read.removed);
-    Pass {
-        removed: by_moment + u64::from(surplus.removed),
-        is_left: by_write.is_left || by_read.is_left || surplus.is_left,
-        is_scan_left,
-    }
+    let due = expire_due(store, notifier, terms.tests);
+    let by_write = take_step(store, notifier, terms, Sweep::Written);
+    let by_read = take_step(store, notifier, terms, Sweep::Read);
+    let is_scan_left = scan(store, notifier, invalidator, terms.batch);
+    let surplus = take_step(store, notifier, terms, Sweep::Surplus);
+    Pass::joined(due, by_write, by_read, is_scan_left, surplus)
 }
 
 // A step of a pass, where it is to be taken.
 fn take_step<K: Eq + Hash, V, S: BuildHasher, L: Listener<K, V>>(
     store: &mut Store<K, V, S>,
     notifier: &mut RemovalNotifier<L>,
-    tests: Tests,
+    terms: Terms,
     sweep: Sweep,
-    batch: u32,
 ) -> Swept
 {
-    if !is_taken(store, tests, sweep) {
+    if !is_taken(store, terms.tests, sweep) {
         return Swept {
             removed: 0,
             is_left: false,
         };
     }
-    read_ahead(store, tests, sweep, batch);
-    sweep_along(store, notifier, tests, sweep, batch)
+    read_ahead(store, terms, sweep);
+    sweep_along(store, notifier, terms.tests, sweep, terms.batch)
 }
 
 // Reads the rows of the members that are about to be evicted. Where entries weigh more than 1 these are fewer, and some
 // rows are read in vain.
 fn read_ahead<K: Eq + Hash, V, S: BuildHasher>(
     store: &mut Store<K, V, S>,
-    tests: Tests,
+    terms: Terms,
     sweep: Sweep,
-    batch: u32,
 )
 {
-    if let (Sweep::Surplus, Some(limit)) = (sweep, tests.capacity) {
+    if let (Sweep::Surplus, Some(limit)) = (sweep, terms.tests.capacity) {
         let surplus = store.total_weight().saturating_sub(u128::from(limit));
-        let rows = surplus.min(MOST_AHEAD).min(u128::from(batch));
+        let rows = surplus.min(MOST_AHEAD).min(u128::from(terms.batch));
         store.read_ahead(rows as usize);
     }
 }
@@ -156,18 +175,6 @@ fn is_taken<K: Eq + Hash, V, S: BuildHasher>(
         Sweep::Read => tests.time_to_idle.is_some() || tests.valid_after.is_some(),
         Sweep::Surplus => is_over(tests.capacity, store.total_weight()),
     }
-}
-
-// Whether a pass left more.
-fn leaves_more(pass: Pass) -> bool
-{
-    pass.is_left || pass.is_scan_left
-}
-
-// Whether another pass is due.
-fn goes_on(pass: Pass) -> bool
-{
-    leaves_more(pass) && pass.removed > 0
 }
 
 // Reads the clock where a limit is given.

@@ -12,6 +12,16 @@ use crate::engine::moka_parts::notification::{Listener, RemovalCause, RemovalNot
 use crate::engine::moka_store::{Handle, Store};
 use crate::support::hash::{BuildHasher, Hash};
 
+// Where a walk along the order of writing begins, and how far it goes.
+#[derive(Clone, Copy)]
+struct Reach {
+    start: Option<Handle>,
+    // How many members it passes at most.
+    most: usize,
+    // How many settled members it looks at at most.
+    batch: u32,
+}
+
 // What a walk along the order of writing came to.
 #[derive(Clone, Copy)]
 struct Stretch {
@@ -59,14 +69,21 @@ where
 {
     store.invariant_holds();
     let members = store.member_count();
-    let start = start_of(store);
-    let first = scan_along(store, notifier, invalidator, start, members, batch);
+    let reach = Reach {
+        start: start_of(store),
+        most: members,
+        batch,
+    };
+    let first = scan_along(store, notifier, invalidator, reach);
     if !first.is_end {
         return first;
     }
-    let front = store.front_written();
-    let (most, left) = (members - first.passed, batch - first.looked);
-    let second = scan_along(store, notifier, invalidator, front, most, left);
+    let reach = Reach {
+        start: store.front_written(),
+        most: members - first.passed,
+        batch: batch - first.looked,
+    };
+    let second = scan_along(store, notifier, invalidator, reach);
     Stretch {
         looked: first.looked + second.looked,
         passed: first.passed + second.passed,
@@ -83,23 +100,21 @@ fn start_of<K: Eq + Hash, V, S: BuildHasher>(store: &Store<K, V, S>) -> Option<H
     }
 }
 
-// Walks from a member to the end, until `batch` settled members were looked at or `most` members passed. The cursor is put
-// at the next one.
+// Walks to the end, or until it has looked at as many settled members or passed as many members as it may. The cursor is
+// put at the next one.
 fn scan_along<K: Eq + Hash, V, S: BuildHasher, L: Listener<K, V>, P>(
     store: &mut Store<K, V, S>,
     notifier: &mut RemovalNotifier<L>,
     invalidator: &Invalidator<P>,
-    start: Option<Handle>,
-    most: usize,
-    batch: u32,
+    reach: Reach,
 ) -> Stretch
 where
     P: PredicateFn<K, V>,
 {
-    let mut next = start;
+    let mut next = reach.start;
     let mut looked = 0;
     let mut passed = 0;
-    while passed < most && looked < batch {
+    while passed < reach.most && looked < reach.batch {
         let Some(handle) = next else {
             break;
         };

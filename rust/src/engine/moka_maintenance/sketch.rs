@@ -4,6 +4,7 @@
 //! moka: `sync::base_cache::Inner::should_enable_frequency_sketch`, `Inner::enable_frequency_sketch`.
 use crate::support::prelude::*;
 
+use crate::engine::moka_maintenance::bounds::Bounds;
 use crate::engine::moka_parts::policy::EvictionPolicy;
 use crate::engine::moka_sketch::frequency_sketch::{FrequencySketch, sketch_capacity};
 use crate::engine::moka_store::Store;
@@ -15,19 +16,17 @@ use crate::support::hash::{BuildHasher, Hash};
 pub fn enable_frequency_sketch<K: Eq + Hash, V, S: BuildHasher>(
     store: &Store<K, V, S>,
     sketch: &mut FrequencySketch,
-    capacity: Option<u64>,
-    policy: EvictionPolicy,
-    has_weigher: bool,
+    bounds: Bounds,
 )
 {
-    let Some(capacity) = capacity else {
+    let Some(capacity) = bounds.capacity else {
         return;
     };
     let weight = store.total_weight();
-    if !is_due(sketch, capacity, policy, weight) {
+    if !is_due(sketch, capacity, bounds.policy, weight) {
         return;
     }
-    let size = size_asked(has_weigher, capacity, store.member_count(), weight);
+    let size = size_asked(bounds.has_weigher, capacity, store.member_count(), weight);
     let _refused = sketch.ensure_capacity(u64::from(sketch_capacity(size)));
 }
 

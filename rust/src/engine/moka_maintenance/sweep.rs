@@ -25,6 +25,42 @@ pub struct Tests {
     pub capacity: Option<u64>,
 }
 
+impl Tests {
+    // Why a sweep removes a settled record that it has come to, if it does.
+    fn cause_of<K, V>(self, sweep: Sweep, found: &Record<K, V>) -> Option<RemovalCause>
+    {
+        match sweep {
+            Sweep::Written => self.cause_by_write(found),
+            Sweep::Read => self.cause_by_read(found),
+            Sweep::Surplus => Some(RemovalCause::Size),
+        }
+    }
+
+    // Why a record leaves by the moment of its last write, if it does.
+    fn cause_by_write<K, V>(self, found: &Record<K, V>) -> Option<RemovalCause>
+    {
+        if is_expired_by_ttl(self.time_to_live, found.written, self.now) {
+            return Some(RemovalCause::Expired);
+        }
+        if is_invalid_entry(self.valid_after, found.written) {
+            return Some(RemovalCause::Explicit);
+        }
+        None
+    }
+
+    // Why a record leaves by the moment of its last read, if it does.
+    fn cause_by_read<K, V>(self, found: &Record<K, V>) -> Option<RemovalCause>
+    {
+        if is_expired_by_tti(self.time_to_idle, found.read, self.now) {
+            return Some(RemovalCause::Expired);
+        }
+        if is_invalid_entry(self.valid_after, found.read) {
+            return Some(RemovalCause::Explicit);
+        }
+        None
+    }
+}
+
 /// By what a sweep removes.
 #[derive(Clone, Copy)]
 pub(crate) enum Sweep {
@@ -114,7 +150,7 @@ fn take_turn<K: Eq + Hash, V, S: BuildHasher, L: Listener<K, V>>(
     let Some(found) = store.find(handle) else {
         unreachable!()
     };
-    let Some(cause) = cause_of(tests, sweep, found) else {
+    let Some(cause) = tests.cause_of(sweep, found) else {
         return Turn::Ended;
     };
     expel(store, notifier, handle, cause);
@@ -163,38 +199,4 @@ pub(crate) fn is_over(capacity: Option<u64>, weight: u128) -> bool
         Some(capacity) => weight > u128::from(capacity),
         None => false,
     }
-}
-
-// Why a sweep removes a settled record that it has come to, if it does.
-fn cause_of<K, V>(tests: Tests, sweep: Sweep, found: &Record<K, V>) -> Option<RemovalCause>
-{
-    match sweep {
-        Sweep::Written => cause_by_write(tests, found),
-        Sweep::Read => cause_by_read(tests, found),
-        Sweep::Surplus => Some(RemovalCause::Size),
-    }
-}
-
-// Why a record leaves by the moment of its last write, if it does.
-fn cause_by_write<K, V>(tests: Tests, found: &Record<K, V>) -> Option<RemovalCause>
-{
-    if is_expired_by_ttl(tests.time_to_live, found.written, tests.now) {
-        return Some(RemovalCause::Expired);
-    }
-    if is_invalid_entry(tests.valid_after, found.written) {
-        return Some(RemovalCause::Explicit);
-    }
-    None
-}
-
-// Why a record leaves by the moment of its last read, if it does.
-fn cause_by_read<K, V>(tests: Tests, found: &Record<K, V>) -> Option<RemovalCause>
-{
-    if is_expired_by_tti(tests.time_to_idle, found.read, tests.now) {
-        return Some(RemovalCause::Expired);
-    }
-    if is_invalid_entry(tests.valid_after, found.read) {
-        return Some(RemovalCause::Explicit);
-    }
-    None
 }

@@ -10,6 +10,7 @@ pub mod error;
 pub mod expiry;
 pub mod housekeeper;
 pub mod invalidator;
+pub mod key_test;
 pub mod laws;
 pub mod notification;
 pub mod policy;

@@ -17,6 +17,7 @@ use crate::support::hash::{BuildHasher, Hash};
 mod changes;
 mod hashing;
 mod rows;
+mod tested;
 
 /// A number that has a row, with the row's place.
 #[derive(Clone, Copy, Debug, PartialEq, Eq)]
@@ -41,7 +42,7 @@ pub struct Store<K: Eq + Hash, V, S: BuildHasher> {
     // The place of each record, under the hash of its key.
     index: PlaceIndex,
     table: RecordTable<Record<K, V>>,
-    access: OrderList,
+    access: OrderList<u32>,
     written: WriteList,
     timers: Timers,
     // The sum of the weights that are counted for the members.
@@ -56,7 +57,7 @@ impl<K: Eq + Hash, V, S: BuildHasher> Store<K, V, S> {
     /// An empty store, which keeps the order of writing if it is to be `ordered`, and timers if it is to be `timed`.
     pub fn new(alloc: Global, hasher: S, ordered: bool, timed: bool) -> Result<Self, AllocError>
     {
-        let access = OrderList::new(alloc)?;
+        let access = OrderList::new(alloc, 0)?;
         let written = WriteList::new(alloc, ordered)?;
         let timers = Timers::new(alloc, timed)?;
         Ok(Store {
@@ -216,8 +217,8 @@ impl<K: Eq + Hash, V, S: BuildHasher> Store<K, V, S> {
     #[inline(always)]
     pub fn admit(&mut self, handle: Handle, weight: u32)
     {
-        let access = self.access.push_back(handle.place as u64);
-        let written = self.written.push_back(handle.place as u64);
+        let access = self.access.push_back(handle.place as u32);
+        let written = self.written.push_back(handle.place as u32);
         self.weight += weight as u128;
         let _none = self.table.set_membership(
             handle.place,

@@ -11,9 +11,9 @@ use crate::support::alloc::{AllocError, Global};
 ///
 /// moka: `common::concurrent::deques::Deques::write_order`, with the cursor that `common::deque::Deque` has.
 pub(crate) struct WriteList {
-    list: Option<OrderList>,
+    list: Option<OrderList<u32>>,
     // The slot and the place where the cursor stands; none is the front.
-    cursor: Option<(u32, u64)>,
+    cursor: Option<(u32, u32)>,
 }
 
 // Written out so that an owner's drop is one call.
@@ -23,7 +23,7 @@ impl WriteList {
     pub fn new(alloc: Global, ordered: bool) -> Result<Self, AllocError>
     {
         let list = if ordered {
-            Some(OrderList::new(alloc)?)
+            Some(OrderList::new(alloc, 0)?)
         } else {
             None
         };
@@ -41,7 +41,7 @@ impl WriteList {
 
     /// Puts a place behind all others. The answer is its slot.
     #[inline(always)]
-    pub fn push_back(&mut self, place: u64) -> Option<u32>
+    pub fn push_back(&mut self, place: u32) -> Option<u32>
     {
         let list = self.list.as_mut()?;
         Some(list.push_back(place))
@@ -82,34 +82,34 @@ impl WriteList {
 
     /// The slot of the first place, and that place.
     #[inline(always)]
-    pub fn front(&self) -> Option<(u32, u64)>
+    pub fn front(&self) -> Option<(u32, u32)>
     {
         self.list.as_ref()?.front()
     }
 
     /// The slot of the place behind the one in `slot`, and that place.
     #[inline(always)]
-    pub fn next(&self, slot: Option<u32>) -> Option<(u32, u64)>
+    pub fn next(&self, slot: Option<u32>) -> Option<(u32, u32)>
     {
         let slot = slot?;
         self.list.as_ref()?.next(slot)
     }
 
     /// The slot and the place where the cursor stands.
-    pub fn cursor(&self) -> Option<(u32, u64)>
+    pub fn cursor(&self) -> Option<(u32, u32)>
     {
         self.cursor
     }
 
     /// Puts the cursor at the place in a slot, or at the front.
-    pub fn set_cursor(&mut self, node: Option<(u32, u64)>)
+    pub fn set_cursor(&mut self, node: Option<(u32, u32)>)
     {
         self.cursor = node;
     }
 }
 
 // Where the cursor stands once the place in `slot` has moved or left.
-fn past(list: &OrderList, slot: u32, cursor: Option<(u32, u64)>) -> Option<(u32, u64)>
+fn past(list: &OrderList<u32>, slot: u32, cursor: Option<(u32, u32)>) -> Option<(u32, u32)>
 {
     match cursor {
         Some((at, _)) if slot == at => list.next(slot),

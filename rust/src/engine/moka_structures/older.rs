@@ -15,7 +15,7 @@ struct Waiting<T: Copy> {
 
 /// Items under rising tickets, which are taken by their ticket, in any order. Only `new` and `reserve` ask for memory.
 pub struct Older<T: Copy> {
-    order: OrderList,
+    order: OrderList<u64>,
     waiting: HashMap<u64, Waiting<T>>,
 }
 
@@ -26,7 +26,7 @@ impl<T: Copy> Older<T> {
     pub fn new(alloc: Global) -> Result<Self, AllocError>
     {
         Ok(Older {
-            order: OrderList::new(alloc)?,
+            order: OrderList::new(alloc, 0)?,
             waiting: HashMap::new(alloc),
         })
     }

@@ -6,3 +6,7 @@ use crate::support::prelude::*;
 mod cache;
 #[cfg(test)]
 mod entry;
+#[cfg(test)]
+mod saves;
+#[cfg(test)]
+mod segments;

@@ -3,6 +3,7 @@
 use crate::support::prelude::*;
 #[cfg(test)]
 use crate::support::test::prelude::*;
+use crate::engine::moka_maintenance::bounds::Bounds;
 use crate::engine::moka_maintenance::sketch::enable_frequency_sketch;
 use crate::engine::moka_parts::policy::{EvictionPolicy, Instant};
 use crate::engine::moka_parts::records::Record;
@@ -42,8 +43,12 @@ fn store_of(alloc: Global, weight: u32) -> Result<TestStore, Fail> {
 fn length_at(alloc: Global, capacity: u64) -> Result<usize, Fail> {
     let store = store_of(alloc, u32::try_from(capacity / 2)?)?;
     let mut sketch = FrequencySketch::new(alloc)?;
-    let policy = EvictionPolicy::TinyLfu;
-    enable_frequency_sketch(&store, &mut sketch, Some(capacity), policy, false);
+    let bounds = Bounds {
+        capacity: Some(capacity),
+        policy: EvictionPolicy::TinyLfu,
+        has_weigher: false,
+    };
+    enable_frequency_sketch(&store, &mut sketch, bounds);
     Ok(sketch.table_len())
 }
 

@@ -3,6 +3,7 @@
 use crate::support::prelude::*;
 #[cfg(test)]
 use crate::support::test::prelude::*;
+use crate::engine::moka_maintenance::bounds::Bounds;
 use crate::engine::moka_maintenance::sketch::enable_frequency_sketch;
 use crate::engine::moka_parts::policy::{EvictionPolicy, Instant};
 use crate::engine::moka_parts::records::Record;
@@ -35,13 +36,12 @@ fn length_at_256(alloc: Global) -> Result<usize, AllocError> {
         let handle = store.insert_new(first, hash);
         store.admit(handle, 128);
     }
-    enable_frequency_sketch(
-        &store,
-        &mut sketch,
-        Some(256),
-        EvictionPolicy::TinyLfu,
-        false,
-    );
+    let bounds = Bounds {
+        capacity: Some(256),
+        policy: EvictionPolicy::TinyLfu,
+        has_weigher: false,
+    };
+    enable_frequency_sketch(&store, &mut sketch, bounds);
     Ok(sketch.table_len())
 }
 

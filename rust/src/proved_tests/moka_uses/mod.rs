@@ -3,6 +3,7 @@
 use crate::support::prelude::*;
 
 pub mod asked;
+pub mod borrowed;
 pub mod bounded;
 pub mod cached;
 pub mod driven;
@@ -17,6 +18,8 @@ pub mod read_through;
 pub mod refused;
 pub mod released;
 pub mod resized;
+pub mod restarted;
 pub mod sessions;
+pub mod shared;
 pub mod texts;
 pub mod weighed;

@@ -3,6 +3,8 @@
 use crate::support::prelude::*;
 
 use super::BaseCache;
+use crate::engine::moka_maintenance::bounds::Bounds;
+use crate::engine::moka_maintenance::passes::Terms;
 use crate::engine::moka_maintenance::sweep::Tests;
 use crate::engine::moka_parts::closures::{PredicateFn, Weigher};
 use crate::engine::moka_parts::housekeeper::{Clock, InnerSync};
@@ -61,14 +63,20 @@ impl<
             valid_after: self.valid_after,
             capacity: self.max_capacity,
         };
-        let (notifier, invalidator) = (&mut self.notifier, &mut self.invalidator);
-        let (capacity, policy) = (self.max_capacity, self.eviction_policy);
         let has_weigher = self.weigher.is_some();
-        self.inner
-            .apply_queues(notifier, capacity, policy, has_weigher);
-        let ran = self
-            .inner
-            .make_passes(notifier, invalidator, clock, tests, limit, batch);
+        let bounds = Bounds {
+            capacity: self.max_capacity,
+            policy: self.eviction_policy,
+            has_weigher,
+        };
+        let terms = Terms {
+            tests,
+            limit,
+            batch,
+        };
+        let (notifier, invalidator) = (&mut self.notifier, &mut self.invalidator);
+        self.inner.apply_queues(notifier, bounds);
+        let ran = self.inner.make_passes(notifier, invalidator, clock, terms);
         self.entry_count = self.inner.member_count() as u64;
         self.weighted_size = saturated(self.inner.total_weight());
         self.passes = ran.passes;
@@ -125,7 +133,7 @@ impl<
 
     // A run that the housekeeper makes.
     #[cold]
-    fn run_by_housekeeper<C: Clock>(&mut self, now: Instant, clock: &mut C)
+    pub(super) fn run_by_housekeeper<C: Clock>(&mut self, now: Instant, clock: &mut C)
     {
         let mut housekeeper = self.housekeeper.copied();
         housekeeper.run_pending_tasks(self, now, clock);

@@ -145,10 +145,10 @@ pub(crate) fn written_slot<K, V>(table: &RecordTable<Record<K, V>>, place: usize
 pub(crate) fn written_node<K, V>(
     table: &RecordTable<Record<K, V>>,
     place: usize,
-) -> Option<(u32, u64)>
+) -> Option<(u32, u32)>
 {
     let slot = written_slot(table, place)?;
-    Some((slot, place as u64))
+    Some((slot, place as u32))
 }
 
 // The timer of the row at this place, and when its record expires.

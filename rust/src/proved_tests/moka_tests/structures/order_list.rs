@@ -8,7 +8,7 @@ use crate::support::test::test::Fail;
 #[test]
 fn a_refused_growth_changes_nothing() -> Result<(), Fail> {
     let rt = HostRuntime;
-    let Ok(mut list) = OrderList::new(rt.alloc()) else {
+    let Ok(mut list) = OrderList::new(rt.alloc(), 0u64) else {
         return Ok(());
     };
     for additional in [1, 2, 100, usize::MAX] {

@@ -26,7 +26,7 @@ trait Ordered {
     fn len(&self) -> usize;
 }
 
-impl Ordered for OrderList {
+impl Ordered for OrderList<u64> {
 
     fn reserve(&mut self, additional: usize) -> Result<(), AllocError> {
         OrderList::reserve(self, additional)
@@ -235,7 +235,7 @@ fn run<L: Ordered>(list: &mut L, log: &mut Vec<u64>) -> Result<(), AllocError> {
 #[test]
 fn ten_thousand_steps_agree() -> Result<(), Fail> {
     let rt = HostRuntime;
-    let mut linked = OrderList::new(rt.alloc())?;
+    let mut linked = OrderList::new(rt.alloc(), 0)?;
     let mut linked_log = Vec::new(rt.alloc());
     run(&mut linked, &mut linked_log)?;
     let mut plain = VectorOrder::new(rt.alloc());
