@@ -1,4 +1,4 @@
-//! A bounded cache in three lines.
+//! A bounded cache.
 ghost use Rattle.std.specs.Prelude.{◌≡◌, Some, IfOk};
 
 use anyhow::Result;
