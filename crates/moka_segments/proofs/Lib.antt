@@ -6,3 +6,5 @@ pub mod OneSegment
 pub mod Within
 pub mod Shares
 pub mod NewSegments
+pub mod Listed
+pub mod Registered
