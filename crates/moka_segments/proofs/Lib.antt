@@ -8,3 +8,5 @@ pub mod Shares
 pub mod NewSegments
 pub mod Listed
 pub mod Registered
+pub mod Keys
+pub mod Belonging

@@ -1,10 +1,12 @@
 -- Lists of moves: what a cache in segments makes of each of them.
-use Rattle.std.specs.Prelude.{◌≡◌, ℕ, ◌==◌, cond, List, [], ◌∷◌, ◌++◌}
+use Rattle.std.specs.Prelude.{◌≡◌, ℕ, Bool, ◌==◌, cond, List, [], ◌∷◌, ◌++◌}
 use Rattle.moka_parts.specs.declared.calls.Call.{Call}
 use Rattle.moka_parts.specs.declared.calls.Reply.{Reply}
 use Rattle.moka_parts.specs.declared.policy.Instant.{Instant}
 use Rattle.moka_parts.specs.State.{Meaning}
 use Rattle.moka_drive.specs.Synchronous.{Synchronous, Made}
+use Rattle.moka_segments.specs.Keys.{AreInOneSegment, Belongs, InsertsOnly, KeysBelong}
+use Rattle.moka_segments.specs.Routing.{Routing}
 use Rattle.moka_segments.specs.Segmented.{Segmented, IsAt, Steps}
 
 -- the calls that one segment made, with their replies
@@ -45,3 +47,17 @@ module _ {K V S X L P W C : Type 0} (m : Meaning K V X L P W C (Unit {0})) where
 abbrev pub EachRuns : {K V X L P W C : Type 0} → (S : Type 0) → Meaning K V X L P W C (Unit {0}) → Type 0
 EachRuns {K} {V} {X} {L} {P} {W} {C} S m = (moves : List (Move K V P)) (old new : Segmented K V S X L P W) (clock clock_after : C) → MoveAfterMove m moves clock old clock_after new →
     (index : ℕ) (x y : Synchronous K V S X L P W) → IsAt old.segments index x → IsAt new.segments index y → Made (anytime m) (calls_in index moves) (replies_in index moves) x.engine tt y.engine tt
+
+-- each key that is inserted belongs to the segment in which it is
+abbrev pub InsertWhereTheyBelong : {K V S P : Type 0} → (S → K → ℕ) → Routing S → List (Move K V P) → Type 0
+InsertWhereTheyBelong hash_of routing [] = Unit {0}
+InsertWhereTheyBelong hash_of routing (v ∷ vs) = InsertsOnly (Belongs hash_of routing v.index) v.calls × InsertWhereTheyBelong hash_of routing vs
+
+-- if each segment holds only keys that belong to it, and keys are inserted where they belong, it stays so whatever else is called
+abbrev pub KeysStay : {K V X L P W C : Type 0} → (S : Type 0) → (S → K → ℕ) → Meaning K V X L P W C (Unit {0}) → Type 0
+KeysStay {K} {V} {X} {L} {P} {W} {C} S hash_of m = (moves : List (Move K V P)) (old new : Segmented K V S X L P W) (clock clock_after : C) → MoveAfterMove m moves clock old clock_after new →
+    InsertWhereTheyBelong hash_of old.routing moves → KeysBelong hash_of old → KeysBelong hash_of new
+
+-- and then keys that are equal are in one segment at most
+abbrev pub OneSegmentEach : {K : Type 0} → (V S X L P W : Type 0) → (S → K → ℕ) → (K → K → Bool) → Type 0
+OneSegmentEach {K} V S X L P W hash_of eq = (c : Segmented K V S X L P W) → KeysBelong hash_of c → AreInOneSegment eq c

@@ -4,5 +4,6 @@ pub mod Steps
 pub mod Whole
 pub mod Listing
 pub mod Registering
+pub mod Keys
 pub mod Laws
 pub mod Built

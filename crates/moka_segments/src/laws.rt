@@ -1,11 +1,13 @@
 //! Laws of a cache in segments. None of these functions does anything: the contract of each is a law.
+ghost use Rattle.std.specs.List.{fold};
 ghost use Rattle.moka_drive.specs.Synchronous.{meaning_of};
-ghost use Rattle.moka_segments.specs.Laws.{EachRuns};
+ghost use Rattle.moka_segments.specs.Laws.{EachRuns, KeysStay, OneSegmentEach};
 
 use moka_parts::closures::{PredicateFn, Weigher};
 use moka_parts::housekeeper::Clock;
 use moka_parts::notification::Listener;
 use moka_parts::policy::Expiry;
+use std::hash::{BuildHasher, Hash};
 
 /// Whatever calls were made in whichever segments, each segment is one run of the reference cache: of the calls that were
 /// made in it, with their replies, as if it stood alone.
@@ -20,4 +22,33 @@ pub fn each_runs<
     C: Clock,
 >()
     ensures { EachRuns S (meaning_of K.eq L.tells P.says W.weighs C.reads X.created X.read X.updated) }
+{}
+
+/// If each segment holds only keys that belong to it, and keys are inserted only where they belong, then it stays so
+/// whatever else is called.
+pub fn keys_stay<
+    K: Eq + Hash,
+    V,
+    S: BuildHasher,
+    X: Expiry<K, V>,
+    L: Listener<K, V>,
+    P: PredicateFn<K, V>,
+    W: Weigher<K, V>,
+    C: Clock,
+>()
+    ensures { KeysStay S (λ h k. S.Hasher.finish (fold S.Hasher.write (S.build_hasher h) (K.hash_input k)))
+        (meaning_of K.eq L.tells P.says W.weighs C.reads X.created X.read X.updated) }
+{}
+
+/// If each segment holds only keys that belong to it, then keys that are equal are in one segment at most.
+pub fn one_segment_each<
+    K: Eq + Hash,
+    V,
+    S: BuildHasher,
+    X: Expiry<K, V>,
+    L: Listener<K, V>,
+    P: PredicateFn<K, V>,
+    W: Weigher<K, V>,
+>()
+    ensures { OneSegmentEach V S X L P W (λ h k. S.Hasher.finish (fold S.Hasher.write (S.build_hasher h) (K.hash_input k))) K.eq }
 {}
