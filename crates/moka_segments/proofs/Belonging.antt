@@ -1,11 +1,11 @@
 -- Keys stay in the segments that they belong to.
-use Rattle.std.proofs.Common.{◌≡◌, refl, ℕ, ◌<◌, ◌==◌, Bool, true, false, List, [], ◌∷◌, length, ap, sym, subst, ◌∙◌, ◌⊎◌, inl, inr}
+use Rattle.std.proofs.Common.{◌≡◌, refl, ℕ, ◌<◌, ◌==◌, Bool, true, false, List, [], ◌∷◌, ap, sym, subst, ◌∙◌}
 use Rattle.std.proofs.lemmas.Bool.{eqb-true, eqb-false}
 use Rattle.std.proofs.lemmas.List.{get_or-set_other, length-set}
 use Rattle.moka_parts.specs.State.{Meaning}
 use Rattle.moka_drive.specs.Synchronous.{Synchronous}
-use Rattle.moka_segments.specs.Keys.{AreInOneSegment, Belongs, EachKey, InsertsOnly, KeysBelong}
-use Rattle.moka_segments.specs.Laws.{Move, Moves, MoveAfterMove, InsertWhereTheyBelong, KeysStay, OneSegmentEach}
+use Rattle.moka_segments.specs.Keys.{Belongs, EachKey, KeysBelong}
+use Rattle.moka_segments.specs.Laws.{InsertWhereTheyBelong, KeysStay, OneSegmentEach}
 use Rattle.moka_segments.specs.Routing.{Routing, segment_of}
 use Rattle.moka_segments.specs.Segmented.{Segmented, IsAt, StepsAt, Steps}
 use Rattle.moka_segments.proofs.Apart.{one_at, there_after}

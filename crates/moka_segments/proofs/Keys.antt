@@ -1,5 +1,5 @@
 -- What calls leave of the keys of a segment: those that it held, and those that were inserted.
-use Rattle.std.proofs.Common.{◌≡◌, refl, ℕ, Bool, true, false, List, [], ◌∷◌, length, Option, Some, None, Result, Ok, Err, ap, sym, subst, ◌∙◌, ◌⊎◌, inl, inr, MatchBool}
+use Rattle.std.proofs.Common.{◌≡◌, refl, ℕ, Bool, true, false, List, [], ◌∷◌, Option, Some, None, Result, Ok, Err, ap, sym, subst, ◌∙◌, inl, inr, MatchBool}
 use Rattle.std.specs.FinMap.{get, insert, remove}
 use Rattle.moka_parts.specs.declared.policy.Instant.{Instant}
 use Rattle.moka_parts.specs.declared.records.Record.{Record}
@@ -14,7 +14,7 @@ use Rattle.moka_parts.specs.declared.calls.Reply.{Reply}
 use Rattle.moka_parts.specs.declared.calls.Reply.TheVariants as reply
 use Rattle.moka_parts.specs.declared.error.InsertRefused.{InsertRefused}
 use Rattle.moka_parts.specs.declared.error.OutOfMemory.{OutOfMemory}
-use Rattle.moka_parts.specs.Calls.{KeeperRun, RunStep, RunsIfDue, RecordsRead, Unchanged, InsertsAt, RemovesAt, RemoveStep, InvalidateStep, CapacityStep, PeeksAt, PeekStep, GetsAt, GetStep, after_hit, hit_at, hit_operation}
+use Rattle.moka_parts.specs.Calls.{KeeperRun, RunStep, RunsIfDue, RecordsRead, Unchanged, InsertsAt, RemovesAt, InvalidateStep, CapacityStep, PeeksAt, PeekStep, GetsAt, GetStep, after_hit, hit_at, hit_operation}
 use Rattle.moka_parts.specs.Housekeeping.{is_due}
 use Rattle.moka_parts.specs.Listed.{ListedRun, AreListedSteps}
 use Rattle.moka_parts.specs.Maintenance.{Terms, Course}

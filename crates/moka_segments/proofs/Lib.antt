@@ -10,3 +10,4 @@ pub mod Listed
 pub mod Registered
 pub mod Keys
 pub mod Belonging
+pub mod KeptInPlace

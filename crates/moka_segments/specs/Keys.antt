@@ -28,6 +28,10 @@ module _ {K S : Type 0} (hash_of : S → K → ℕ) where
   abbrev pub KeysBelong : {V X L P W : Type 0} → Segmented K V S X L P W → Type 0
   KeysBelong {V} {X} {L} {P} {W} c = (index : ℕ) (x : Synchronous K V S X L P W) → IsAt c.segments index x → EachKey (Belongs c.routing index) x.engine.state.records
 
+  -- what leads from one cache to another leaves keys where they belong
+  abbrev pub KeepsKeys : {V X L P W : Type 0} → (Segmented K V S X L P W → Segmented K V S X L P W → Type 0) → Type 0
+  KeepsKeys {V} {X} {L} {P} {W} Leads = (old new : Segmented K V S X L P W) → Leads old new → KeysBelong old → KeysBelong new
+
 -- keys that are equal are in one segment at most
 abbrev pub AreInOneSegment : {K V S X L P W : Type 0} → (K → K → Bool) → Segmented K V S X L P W → Type 0
 AreInOneSegment {K} {V} {S} {X} {L} {P} {W} eq c = (i j n m : ℕ) (x y : Synchronous K V S X L P W) (r q : Record K V) → IsAt c.segments i x → IsAt c.segments j y →

@@ -1,13 +1,23 @@
 -- Lists of moves: what a cache in segments makes of each of them.
-use Rattle.std.specs.Prelude.{◌≡◌, ℕ, Bool, ◌==◌, cond, List, [], ◌∷◌, ◌++◌}
+use Rattle.std.specs.Prelude.{◌≡◌, ℕ, Bool, ◌==◌, cond, List, [], ◌∷◌, ◌++◌, Option, Result}
+use Rattle.std.specs.List.{AllZip}
+use Rattle.uuid.specs.declared.Uuid.{Uuid}
 use Rattle.moka_parts.specs.declared.calls.Call.{Call}
 use Rattle.moka_parts.specs.declared.calls.Reply.{Reply}
+use Rattle.moka_parts.specs.declared.error.InsertRefused.{InsertRefused}
+use Rattle.moka_parts.specs.declared.error.OutOfMemory.{OutOfMemory}
+use Rattle.moka_parts.specs.declared.error.PredicateRefused.{PredicateRefused}
 use Rattle.moka_parts.specs.declared.policy.Instant.{Instant}
 use Rattle.moka_parts.specs.State.{Meaning}
-use Rattle.moka_drive.specs.Synchronous.{Synchronous, Made}
-use Rattle.moka_segments.specs.Keys.{AreInOneSegment, Belongs, InsertsOnly, KeysBelong}
-use Rattle.moka_segments.specs.Routing.{Routing}
+use Rattle.moka_drive.specs.declared.error.GetWithRefused.{GetWithRefused}
+use Rattle.moka_drive.specs.declared.error.NotTold.{NotTold}
+use Rattle.moka_drive.specs.Synchronous.{Synchronous, Made, removed, invalidated}
+use Rattle.moka_segments.specs.Keys.{AreInOneSegment, Belongs, InsertsOnly, KeepsKeys, KeysBelong}
+use Rattle.moka_segments.specs.Registering.{AllRegister}
+use Rattle.moka_segments.specs.Routing.{Routing, segment_of}
 use Rattle.moka_segments.specs.Segmented.{Segmented, IsAt, Steps}
+use Rattle.moka_segments.specs.Steps.{Inserts, Gets, Removes, GetsWith}
+use Rattle.moka_segments.specs.Whole.{AllRan, Hides}
 
 -- the calls that one segment made, with their replies
 pub record Move (K V P : Type 0) : Type 0 where
@@ -61,3 +71,23 @@ KeysStay {K} {V} {X} {L} {P} {W} {C} S hash_of m = (moves : List (Move K V P)) (
 -- and then keys that are equal are in one segment at most
 abbrev pub OneSegmentEach : {K : Type 0} → (V S X L P W : Type 0) → (S → K → ℕ) → (K → K → Bool) → Type 0
 OneSegmentEach {K} V S X L P W hash_of eq = (c : Segmented K V S X L P W) → KeysBelong hash_of c → AreInOneSegment eq c
+
+module _ {K V S X L P W C : Type 0} (hash_of : S → K → ℕ) (m : Meaning K V X L P W C (Unit {0})) where
+  -- a call by key that is this step of the key's own segment leaves keys where they belong
+  abbrev pub KeepsKeysBy : K → (Synchronous K V S X L P W → Synchronous K V S X L P W → Type 0) → Type 0
+  KeepsKeysBy key Step = KeepsKeys hash_of (λ (old new : Segmented K V S X L P W). Steps (segment_of old.routing.count (hash_of old.routing.hasher key)) Step old new)
+
+  -- so does each call by key
+  pub record CallsByKeyKeepKeys {M : Type 0} (is_key_clone : K → K → Type 0) (is_clone : V → V → Type 0) (makes : M → V → Type 0) : Type 0 where
+    pub insert : (key : K) (now : Instant) (clock clock_after : C) (value : V) (result : Result (Unit {0}) (InsertRefused K V)) → KeepsKeysBy key (Inserts m hash_of key now clock clock_after value result)
+    pub get : (key : K) (now : Instant) (clock clock_after : C) (result : Result (Option V) OutOfMemory) → KeepsKeysBy key (Gets m hash_of key now clock clock_after is_clone result)
+    pub remove : (key : K) (now : Instant) (clock clock_after : C) (result : Result (Option V) (NotTold V)) → KeepsKeysBy key (Removes m hash_of key now clock clock_after is_key_clone is_clone (λ taken. result ≡ removed taken))
+    pub invalidate : (key : K) (now : Instant) (clock clock_after : C) (result : Result (Unit {0}) (NotTold V)) → KeepsKeysBy key (Removes m hash_of key now clock clock_after is_key_clone is_clone (λ taken. result ≡ invalidated taken))
+    pub get_with : (key : K) (now : Instant) (clock clock_after : C) (init : M) (result : Result V (GetWithRefused K V)) → KeepsKeysBy key (GetsWith m hash_of key now clock clock_after is_clone (makes init) result)
+
+  -- and each call that concerns all segments
+  pub record CallsOfAllKeepKeys {I M : Type 0} (gives : I → Uuid → I → Type 0) (makes : M → P → Type 0) : Type 0 where
+    pub invalidate_all : (now : Instant) → KeepsKeys hash_of (λ (old new : Segmented K V S X L P W). (new.routing ≡ old.routing) × AllZip (Hides m.tells now) old.segments new.segments)
+    pub run_pending_tasks : (now : Instant) (clock clock_after : C) (more : Bool) → KeepsKeys hash_of (λ (old new : Segmented K V S X L P W). (new.routing ≡ old.routing) × AllRan m now clock more clock_after old.segments new.segments)
+    pub invalidate_entries_if : (make : M) (now : Instant) (given : List Uuid) (result : Result (Unit {0}) (PredicateRefused P)) (ids ids_after : I) →
+        KeepsKeys hash_of (λ (old new : Segmented K V S X L P W). (new.routing ≡ old.routing) × AllRegister m.tells gives (makes make) now given result ids ids_after old.segments new.segments)

@@ -1,10 +1,15 @@
 //! Laws of a cache in segments. None of these functions does anything: the contract of each is a law.
 ghost use Rattle.std.specs.List.{fold};
 ghost use Rattle.moka_drive.specs.Synchronous.{meaning_of};
-ghost use Rattle.moka_segments.specs.Laws.{EachRuns, KeysStay, OneSegmentEach};
+ghost use Rattle.moka_segments.specs.Built.{IsNew};
+ghost use Rattle.moka_segments.specs.Keys.{KeysBelong};
+ghost use Rattle.moka_segments.specs.Laws.{CallsByKeyKeepKeys, CallsOfAllKeepKeys, EachRuns, KeysStay, OneSegmentEach};
+ghost use Rattle.moka_segments.specs.Segmented.{Segmented};
 
+use moka_engine::CacheConfig;
 use moka_parts::closures::{PredicateFn, Weigher};
 use moka_parts::housekeeper::Clock;
+use moka_parts::invalidator::IdSource;
 use moka_parts::notification::Listener;
 use moka_parts::policy::Expiry;
 use std::hash::{BuildHasher, Hash};
@@ -50,5 +55,44 @@ pub fn one_segment_each<
     P: PredicateFn<K, V>,
     W: Weigher<K, V>,
 >()
-    ensures { OneSegmentEach V S X L P W (λ h k. S.Hasher.finish (fold S.Hasher.write (S.build_hasher h) (K.hash_input k))) K.eq }
+    ensures { OneSegmentEach V S X L P W
+        (λ h k. S.Hasher.finish (fold S.Hasher.write (S.build_hasher h) (K.hash_input k))) K.eq }
+{}
+
+/// Each call of a cache in segments leaves keys in the segments that they belong to. So no key is ever in two segments.
+pub fn calls_keep_keys<
+    K: Eq + Hash + Clone,
+    V: Clone,
+    S: BuildHasher,
+    X: Expiry<K, V>,
+    L: Listener<K, V>,
+    P: PredicateFn<K, V>,
+    W: Weigher<K, V>,
+    C: Clock,
+    I: IdSource,
+    M: FnOnce() -> V,
+    N: Fn() -> P,
+>()
+    ensures by_key { CallsByKeyKeepKeys (λ h k. S.Hasher.finish (fold S.Hasher.write (S.build_hasher h) (K.hash_input k)))
+        (meaning_of K.eq L.tells P.says W.weighs C.reads X.created X.read X.updated)
+        K.is_clone V.is_clone M.post }
+    ensures of_all { CallsOfAllKeepKeys (λ h k. S.Hasher.finish (fold S.Hasher.write (S.build_hasher h) (K.hash_input k)))
+        (meaning_of K.eq L.tells P.says W.weighs C.reads X.created X.read X.updated)
+        I.gives N.post }
+{}
+
+/// A new cache holds no key, so each of its segments holds only keys that belong to it.
+pub fn new_holds_none<
+    K: Eq + Hash,
+    V,
+    S: BuildHasher + Clone,
+    X: Expiry<K, V>,
+    L: Listener<K, V>,
+    P: PredicateFn<K, V>,
+    W: Weigher<K, V>,
+    F: Fn(u32) -> CacheConfig<X, L, P, W>,
+>()
+    ensures { (routing : _) (capacity : _) (now : _) (make : F) (c : Segmented K V S X L P W) →
+        IsNew routing capacity S.is_clone now (F.post make) c →
+        KeysBelong (λ h k. S.Hasher.finish (fold S.Hasher.write (S.build_hasher h) (K.hash_input k))) c }
 {}

@@ -1,5 +1,3 @@
-use Rattle.std.specs.List.{fold}
-use Rattle.moka_drive.specs.Synchronous.{meaning_of}
 use Rattle.moka_segments.proofs.Belonging as belonging
 use Rattle.moka_segments.proofs.laws.keys_stay.Goals as goal
 

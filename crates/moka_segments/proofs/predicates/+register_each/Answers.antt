@@ -1,4 +1,4 @@
-use Rattle.std.proofs.Common.{refl, sym, ◌∙◌, ap, ◌++◌, ◌∷◌, [], inl, inr, arith}
+use Rattle.std.proofs.Common.{refl, ◌∙◌, ap, ◌++◌, ◌∷◌, [], inl, inr, arith}
 use Rattle.moka_segments.proofs.Registered.{registered_nothing, registered_none, registered_first}
 use Rattle.moka_segments.proofs.predicates.+register_each.Goals as goal
 
