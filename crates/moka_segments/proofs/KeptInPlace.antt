@@ -1,9 +1,7 @@
 -- Each call of a cache in segments leaves keys where they belong.
-use Rattle.std.proofs.Common.{◌≡◌, refl, ℕ, zero, suc, Bool, List, [], ◌∷◌, Option, Some, None, Result, Ok, Err, ◌⊎◌, inl, inr, ap, sym, subst, ◌∙◌, arith}
+use Rattle.std.proofs.Common.{◌≡◌, refl, ℕ, zero, suc, Bool, List, [], ◌∷◌, Option, Some, None, Result, Ok, Err, ◌⊎◌, inl, inr, ap, sym, subst, arith}
 use Rattle.std.specs.List.{AllZip}
-use Rattle.std.specs.FinMap.{get}
 use Rattle.uuid.specs.declared.Uuid.{Uuid}
-use Rattle.moka_engine.specs.Config.{Config}
 use Rattle.moka_parts.specs.declared.policy.Instant.{Instant}
 use Rattle.moka_parts.specs.declared.calls.Call.{Call}
 use Rattle.moka_parts.specs.declared.calls.Reply.{Reply}
@@ -14,10 +12,8 @@ use Rattle.moka_parts.specs.declared.error.PredicateRefused.{PredicateRefused}
 use Rattle.moka_parts.specs.declared.notification.RemovalCause.{RemovalCause}
 use Rattle.moka_parts.specs.State.{Meaning}
 use Rattle.moka_parts.specs.Runs.{Cache}
-use Rattle.moka_parts.proofs.Maps.{nothing_at}
 use Rattle.moka_drive.specs.Synchronous.{Synchronous, Makes, Posts, InsertsEntry, GetsValue, RemovesEntry, InsertsMade, GetsOrInserts, hears_clones, removed, invalidated}
 use Rattle.moka_drive.specs.declared.error.GetWithRefused.{GetWithRefused}
-use Rattle.moka_segments.specs.Built.{IsNew}
 use Rattle.moka_segments.specs.Keys.{Belongs, EachKey, InsertsOnly, KeysBelong, KeepsKeys}
 use Rattle.moka_segments.specs.Laws.{CallsByKeyKeepKeys, CallsOfAllKeepKeys}
 use Rattle.moka_segments.specs.Registering.{AllRegister, Registers, HasNoRoom}
@@ -62,13 +58,6 @@ module _ {K V P : Type 0} (Is : K → Type 0) where
   gets_or_inserts_only key hash now (Some made) (Err (Some refused)) calls replies here (later, answers, makes, is, told) = these calls _ is (makes_only key hash now made (Err refused) later answers here makes)
 
 module _ {K V S X L P W : Type 0} (hash_of : S → K → ℕ) where
-  -- a new cache holds no keys
-  pub new_belongs : (routing : Routing S) (whole : Option ℕ) (is_clone : S → S → Type 0) (now : ℕ) (Made : ℕ → Config X L W → Type 0) (c : Segmented K V S X L P W) → IsNew routing whole is_clone now Made c → KeysBelong hash_of c
-  new_belongs routing whole is_clone now Made c new index x at_x n r there =
-      let (config, made, built) = new.built index x at_x.within in
-      let is = sym (at_x.is x) ∙ built.is in
-      absurd (nothing_at n r (subst (λ (s : Synchronous K V S X L P W). get s.engine.state.records n ≡ Some r) is there))
-
   -- each segment leaves only keys that belong to it
   pub zip_belongs : (R : Synchronous K V S X L P W → Synchronous K V S X L P W → Type 0) → ((Is : K → Type 0) (x y : Synchronous K V S X L P W) → R x y → EachKey Is x.engine.state.records → EachKey Is y.engine.state.records)
       → (old new : Segmented K V S X L P W) → new.routing ≡ old.routing → AllZip R old.segments new.segments → KeysBelong hash_of old → KeysBelong hash_of new

@@ -22,11 +22,15 @@ use Rattle.moka_parts.specs.Records.{Notice, Records, record_of_key}
 use Rattle.moka_parts.specs.Runs.{Cache, CallStep, Step, calls_of, last_state}
 use Rattle.moka_parts.specs.State.{State, Meaning, Events, is_disabled}
 use Rattle.moka_parts.proofs.Lookup.{record_of_key_found}
-use Rattle.moka_parts.proofs.Maps.{same_or_apart, get_inserted, get_past_insert}
+use Rattle.moka_parts.proofs.Maps.{same_or_apart, get_inserted, get_past_insert, nothing_at}
 use Rattle.moka_parts.proofs.RunKeeps.{Keeps, keeps_remove}
 use Rattle.moka_drive.specs.Synchronous.{Made}
 use Rattle.moka_drive.proofs.Keeping.{listed_run_keeps, send_keeps}
-use Rattle.moka_segments.specs.Keys.{EachKey, InsertsOnly}
+use Rattle.moka_engine.specs.Config.{Config}
+use Rattle.moka_segments.specs.Built.{IsNew}
+use Rattle.moka_segments.specs.Keys.{EachKey, HoldNone, InsertsOnly, KeysBelong}
+use Rattle.moka_segments.specs.Routing.{Routing}
+use Rattle.moka_segments.specs.Segmented.{Segmented}
 
 same_some : {A : Type 0} (x y : A) → Some x ≡ Some y → x ≡ y
 same_some x y e = cc
@@ -179,3 +183,13 @@ module _ {K V S X L P W C : Type 0} (m : Meaning K V X L P W C (Unit {0})) (Is :
   keys_made calls replies old new clock clock_after made only held =
       subst (λ (c : Cache K V S X L P W). EachKey Is c.state.records) (sym made.is_run.ends)
       (keys_of_steps m Is old.state old.write_list new.write_list made.steps (subst (InsertsOnly Is) (sym made.is_run.calls_made) only) held made.listed)
+
+-- a new cache holds no key
+pub new_holds_none : {K V S X L P W : Type 0} (routing : Routing S) (whole : Option ℕ) (is_clone : S → S → Type 0) (now : ℕ) (Made : ℕ → Config X L W → Type 0) (c : Segmented K V S X L P W) → IsNew routing whole is_clone now Made c → HoldNone c
+new_holds_none routing whole is_clone now Made c new index x at_x =
+    let (config, made, built) = new.built index x at_x.within in
+    ap (λ s. s.engine.state.records) (sym (at_x.is x) ∙ built.is)
+
+-- and so each key where it belongs
+pub none_belong : {K V S X L P W : Type 0} (hash_of : S → K → ℕ) (c : Segmented K V S X L P W) → HoldNone c → KeysBelong hash_of c
+none_belong hash_of c none index x at_x n r there = absurd (nothing_at n r (subst (λ (records : Records _ _). get records n ≡ Some r) (none index x at_x) there))

@@ -1,6 +1,6 @@
 -- Which keys the segments hold.
 use Rattle.std.specs.Prelude.{◌≡◌, ℕ, Bool, true, List, [], ◌∷◌, Some}
-use Rattle.std.specs.FinMap.{get}
+use Rattle.std.specs.FinMap.{empty, get}
 use Rattle.moka_parts.specs.declared.calls.Call.{Call}
 use Rattle.moka_parts.specs.declared.calls.Call.TheVariants as call
 use Rattle.moka_parts.specs.declared.records.Record.{Record}
@@ -18,6 +18,10 @@ abbrev pub InsertsOnly : {K V P : Type 0} → (K → Type 0) → List (Call K V 
 InsertsOnly Is [] = Unit {0}
 InsertsOnly Is (call.Insert key hash value now ∷ calls) = Is key × InsertsOnly Is calls
 InsertsOnly Is (c ∷ calls) = InsertsOnly Is calls
+
+-- no segment holds a key
+abbrev pub HoldNone : {K V S X L P W : Type 0} → Segmented K V S X L P W → Type 0
+HoldNone {K} {V} {S} {X} {L} {P} {W} c = (index : ℕ) (x : Synchronous K V S X L P W) → IsAt c.segments index x → x.engine.state.records ≡ empty
 
 module _ {K S : Type 0} (hash_of : S → K → ℕ) where
   -- the key belongs to the segment at the index

@@ -1,12 +1,10 @@
 //! Laws of a cache in segments. None of these functions does anything: the contract of each is a law.
 ghost use Rattle.std.specs.List.{fold};
 ghost use Rattle.moka_drive.specs.Synchronous.{meaning_of};
-ghost use Rattle.moka_segments.specs.Built.{IsNew};
-ghost use Rattle.moka_segments.specs.Keys.{KeysBelong};
+ghost use Rattle.moka_segments.specs.Keys.{HoldNone, KeysBelong};
 ghost use Rattle.moka_segments.specs.Laws.{CallsByKeyKeepKeys, CallsOfAllKeepKeys, EachRuns, KeysStay, OneSegmentEach};
 ghost use Rattle.moka_segments.specs.Segmented.{Segmented};
 
-use moka_engine::CacheConfig;
 use moka_parts::closures::{PredicateFn, Weigher};
 use moka_parts::housekeeper::Clock;
 use moka_parts::invalidator::IdSource;
@@ -81,18 +79,16 @@ pub fn calls_keep_keys<
         I.gives N.post }
 {}
 
-/// A new cache holds no key, so each of its segments holds only keys that belong to it.
-pub fn new_holds_none<
+/// A cache that holds no key, as a new one, holds each in the segment that it belongs to.
+pub fn none_belong<
     K: Eq + Hash,
     V,
-    S: BuildHasher + Clone,
+    S: BuildHasher,
     X: Expiry<K, V>,
     L: Listener<K, V>,
     P: PredicateFn<K, V>,
     W: Weigher<K, V>,
-    F: Fn(u32) -> CacheConfig<X, L, P, W>,
 >()
-    ensures { (routing : _) (capacity : _) (now : _) (make : F) (c : Segmented K V S X L P W) →
-        IsNew routing capacity S.is_clone now (F.post make) c →
+    ensures { (c : Segmented K V S X L P W) → HoldNone c →
         KeysBelong (λ h k. S.Hasher.finish (fold S.Hasher.write (S.build_hasher h) (K.hash_input k))) c }
 {}
