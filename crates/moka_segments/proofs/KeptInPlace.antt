@@ -15,7 +15,7 @@ use Rattle.moka_parts.specs.Runs.{Cache}
 use Rattle.moka_drive.specs.Synchronous.{Synchronous, Makes, Posts, InsertsEntry, GetsValue, RemovesEntry, InsertsMade, GetsOrInserts, hears_clones, removed, invalidated}
 use Rattle.moka_drive.specs.declared.error.GetWithRefused.{GetWithRefused}
 use Rattle.moka_segments.specs.Keys.{Belongs, EachKey, InsertsOnly, KeysBelong, KeepsKeys}
-use Rattle.moka_segments.specs.Laws.{CallsByKeyKeepKeys, CallsOfAllKeepKeys}
+use Rattle.moka_segments.specs.Laws.{CallsByKeyKeepKeys, CallsOfAllKeepKeys, GetWithKeepsKeys}
 use Rattle.moka_segments.specs.Registering.{AllRegister, Registers, HasNoRoom}
 use Rattle.moka_segments.specs.Routing.{Routing, segment_of}
 use Rattle.moka_segments.specs.Segmented.{Segmented, IsAt, Steps}
@@ -155,18 +155,19 @@ module _ {K V S X L P W C : Type 0} (hash_of : S → K → ℕ) (m : Meaning K V
       (λ Is x y here step held. kept hash_of heard _ Is x.engine y.engine clock clock_after (λ calls replies fits. removes_only Is key _ now step.made.0 calls replies fits) step.made.2 held)
 
 module _ {K V S X L P W C : Type 0} (hash_of : S → K → ℕ) (m : Meaning K V X L P W C (Unit {0})) where
-  pub calls_by_key : {M : Type 0} (is_key_clone : K → K → Type 0) (is_clone : V → V → Type 0) (makes : M → V → Type 0) → CallsByKeyKeepKeys {S = S} hash_of m is_key_clone is_clone makes
-  calls_by_key is_key_clone is_clone makes = record {
+  pub calls_by_key : (is_key_clone : K → K → Type 0) (is_clone : V → V → Type 0) → CallsByKeyKeepKeys {S = S} hash_of m is_key_clone is_clone
+  calls_by_key is_key_clone is_clone = record {
     insert = λ key now clock clock_after value result. insert_keeps hash_of m key now clock clock_after value result;
     get = λ key now clock clock_after result. get_keeps hash_of m key now clock clock_after is_clone result;
     remove = λ key now clock clock_after result. remove_keeps hash_of m key now clock clock_after is_key_clone is_clone (λ taken. result ≡ removed taken);
     invalidate = λ key now clock clock_after result. remove_keeps hash_of m key now clock clock_after is_key_clone is_clone (λ taken. result ≡ invalidated taken);
-    get_with = λ key now clock clock_after init result. get_with_keeps hash_of m key now clock clock_after is_clone (makes init) result;
   }
 
-  pub calls_of_all : {I M : Type 0} (gives : I → Uuid → I → Type 0) (makes : M → P → Type 0) → CallsOfAllKeepKeys {S = S} hash_of m gives makes
-  calls_of_all gives makes = record {
+  pub get_with_too : {M : Type 0} (is_clone : V → V → Type 0) (makes : M → V → Type 0) → GetWithKeepsKeys {S = S} hash_of m is_clone makes
+  get_with_too is_clone makes key now clock clock_after init result = get_with_keeps hash_of m key now clock clock_after is_clone (makes init) result
+
+  pub calls_of_all : CallsOfAllKeepKeys {S = S} hash_of m
+  calls_of_all = record {
     invalidate_all = λ now. hiding_keeps hash_of m.tells now;
     run_pending_tasks = λ now clock clock_after more. running_keeps hash_of m now clock more clock_after;
-    invalidate_entries_if = λ make now given result ids ids_after. registering_keeps hash_of m.tells gives (makes make) now given result ids ids_after;
   }

@@ -7,6 +7,7 @@ use Rattle.moka_parts.specs.declared.calls.Reply.{Reply}
 use Rattle.moka_parts.specs.declared.error.InsertRefused.{InsertRefused}
 use Rattle.moka_parts.specs.declared.error.OutOfMemory.{OutOfMemory}
 use Rattle.moka_parts.specs.declared.error.PredicateRefused.{PredicateRefused}
+use Rattle.moka_parts.specs.declared.notification.RemovalCause.{RemovalCause}
 use Rattle.moka_parts.specs.declared.policy.Instant.{Instant}
 use Rattle.moka_parts.specs.State.{Meaning}
 use Rattle.moka_drive.specs.declared.error.GetWithRefused.{GetWithRefused}
@@ -78,16 +79,22 @@ module _ {K V S X L P W C : Type 0} (hash_of : S → K → ℕ) (m : Meaning K V
   KeepsKeysBy key Step = KeepsKeys hash_of (λ (old new : Segmented K V S X L P W). Steps (segment_of old.routing.count (hash_of old.routing.hasher key)) Step old new)
 
   -- so does each call by key
-  pub record CallsByKeyKeepKeys {M : Type 0} (is_key_clone : K → K → Type 0) (is_clone : V → V → Type 0) (makes : M → V → Type 0) : Type 0 where
+  pub record CallsByKeyKeepKeys (is_key_clone : K → K → Type 0) (is_clone : V → V → Type 0) : Type 0 where
     pub insert : (key : K) (now : Instant) (clock clock_after : C) (value : V) (result : Result (Unit {0}) (InsertRefused K V)) → KeepsKeysBy key (Inserts m hash_of key now clock clock_after value result)
     pub get : (key : K) (now : Instant) (clock clock_after : C) (result : Result (Option V) OutOfMemory) → KeepsKeysBy key (Gets m hash_of key now clock clock_after is_clone result)
     pub remove : (key : K) (now : Instant) (clock clock_after : C) (result : Result (Option V) (NotTold V)) → KeepsKeysBy key (Removes m hash_of key now clock clock_after is_key_clone is_clone (λ taken. result ≡ removed taken))
     pub invalidate : (key : K) (now : Instant) (clock clock_after : C) (result : Result (Unit {0}) (NotTold V)) → KeepsKeysBy key (Removes m hash_of key now clock clock_after is_key_clone is_clone (λ taken. result ≡ invalidated taken))
-    pub get_with : (key : K) (now : Instant) (clock clock_after : C) (init : M) (result : Result V (GetWithRefused K V)) → KeepsKeysBy key (GetsWith m hash_of key now clock clock_after is_clone (makes init) result)
+
+  -- a get with a maker too
+  abbrev pub GetWithKeepsKeys : {M : Type 0} → (V → V → Type 0) → (M → V → Type 0) → Type 0
+  GetWithKeepsKeys {M} is_clone makes = (key : K) (now : Instant) (clock clock_after : C) (init : M) (result : Result V (GetWithRefused K V)) → KeepsKeysBy key (GetsWith m hash_of key now clock clock_after is_clone (makes init) result)
 
   -- and each call that concerns all segments
-  pub record CallsOfAllKeepKeys {I M : Type 0} (gives : I → Uuid → I → Type 0) (makes : M → P → Type 0) : Type 0 where
+  pub record CallsOfAllKeepKeys : Type 0 where
     pub invalidate_all : (now : Instant) → KeepsKeys hash_of (λ (old new : Segmented K V S X L P W). (new.routing ≡ old.routing) × AllZip (Hides m.tells now) old.segments new.segments)
     pub run_pending_tasks : (now : Instant) (clock clock_after : C) (more : Bool) → KeepsKeys hash_of (λ (old new : Segmented K V S X L P W). (new.routing ≡ old.routing) × AllRan m now clock more clock_after old.segments new.segments)
-    pub invalidate_entries_if : (make : M) (now : Instant) (given : List Uuid) (result : Result (Unit {0}) (PredicateRefused P)) (ids ids_after : I) →
-        KeepsKeys hash_of (λ (old new : Segmented K V S X L P W). (new.routing ≡ old.routing) × AllRegister m.tells gives (makes make) now given result ids ids_after old.segments new.segments)
+
+-- a predicate for each segment too
+abbrev pub RegisteringKeepsKeys : {K V L P I M : Type 0} → (S X W : Type 0) → (S → K → ℕ) → (L → K → V → RemovalCause → L → Type 0) → (I → Uuid → I → Type 0) → (M → P → Type 0) → Type 0
+RegisteringKeepsKeys {K} {V} {L} {P} {I} {M} S X W hash_of tells gives makes = (make : M) (now : Instant) (given : List Uuid) (result : Result (Unit {0}) (PredicateRefused P)) (ids ids_after : I) →
+    KeepsKeys hash_of (λ (old new : Segmented K V S X L P W). (new.routing ≡ old.routing) × AllRegister tells gives (makes make) now given result ids ids_after old.segments new.segments)

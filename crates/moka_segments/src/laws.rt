@@ -2,7 +2,7 @@
 ghost use Rattle.std.specs.List.{fold};
 ghost use Rattle.moka_drive.specs.Synchronous.{meaning_of};
 ghost use Rattle.moka_segments.specs.Keys.{HoldNone, KeysBelong};
-ghost use Rattle.moka_segments.specs.Laws.{CallsByKeyKeepKeys, CallsOfAllKeepKeys, EachRuns, KeysStay, OneSegmentEach};
+ghost use Rattle.moka_segments.specs.Laws.{CallsByKeyKeepKeys, CallsOfAllKeepKeys, EachRuns, GetWithKeepsKeys, KeysStay, OneSegmentEach, RegisteringKeepsKeys};
 ghost use Rattle.moka_segments.specs.Segmented.{Segmented};
 
 use moka_parts::closures::{PredicateFn, Weigher};
@@ -57,8 +57,8 @@ pub fn one_segment_each<
         (λ h k. S.Hasher.finish (fold S.Hasher.write (S.build_hasher h) (K.hash_input k))) K.eq }
 {}
 
-/// Each call of a cache in segments leaves keys in the segments that they belong to. So no key is ever in two segments.
-pub fn calls_keep_keys<
+/// Each call by key leaves keys in the segments that they belong to; `get_with_keeps_keys` speaks of those with a maker.
+pub fn calls_by_key_keep_keys<
     K: Eq + Hash + Clone,
     V: Clone,
     S: BuildHasher,
@@ -67,16 +67,58 @@ pub fn calls_keep_keys<
     P: PredicateFn<K, V>,
     W: Weigher<K, V>,
     C: Clock,
-    I: IdSource,
-    M: FnOnce() -> V,
-    N: Fn() -> P,
 >()
-    ensures by_key { CallsByKeyKeepKeys (λ h k. S.Hasher.finish (fold S.Hasher.write (S.build_hasher h) (K.hash_input k)))
+    ensures { CallsByKeyKeepKeys (λ h k. S.Hasher.finish (fold S.Hasher.write (S.build_hasher h) (K.hash_input k)))
         (meaning_of K.eq L.tells P.says W.weighs C.reads X.created X.read X.updated)
-        K.is_clone V.is_clone M.post }
-    ensures of_all { CallsOfAllKeepKeys (λ h k. S.Hasher.finish (fold S.Hasher.write (S.build_hasher h) (K.hash_input k)))
+        K.is_clone V.is_clone }
+{}
+
+/// So does `get_with`, by a maker of this type.
+pub fn get_with_keeps_keys<
+    K: Eq + Hash,
+    V: Clone,
+    S: BuildHasher,
+    X: Expiry<K, V>,
+    L: Listener<K, V>,
+    P: PredicateFn<K, V>,
+    W: Weigher<K, V>,
+    C: Clock,
+    F: FnOnce() -> V,
+>()
+    ensures { GetWithKeepsKeys (λ h k. S.Hasher.finish (fold S.Hasher.write (S.build_hasher h) (K.hash_input k)))
         (meaning_of K.eq L.tells P.says W.weighs C.reads X.created X.read X.updated)
-        I.gives N.post }
+        V.is_clone F.post }
+{}
+
+/// So does each call that concerns all segments; `registering_keeps_keys` speaks of predicates.
+pub fn calls_of_all_keep_keys<
+    K: Eq + Hash,
+    V,
+    S: BuildHasher,
+    X: Expiry<K, V>,
+    L: Listener<K, V>,
+    P: PredicateFn<K, V>,
+    W: Weigher<K, V>,
+    C: Clock,
+>()
+    ensures { CallsOfAllKeepKeys (λ h k. S.Hasher.finish (fold S.Hasher.write (S.build_hasher h) (K.hash_input k)))
+        (meaning_of K.eq L.tells P.says W.weighs C.reads X.created X.read X.updated) }
+{}
+
+/// So does `invalidate_entries_if`, by a maker of this type.
+pub fn registering_keeps_keys<
+    K: Eq + Hash,
+    V,
+    S: BuildHasher,
+    X: Expiry<K, V>,
+    L: Listener<K, V>,
+    P: PredicateFn<K, V>,
+    W: Weigher<K, V>,
+    I: IdSource,
+    F: Fn() -> P,
+>()
+    ensures { RegisteringKeepsKeys S X W (λ h k. S.Hasher.finish (fold S.Hasher.write (S.build_hasher h) (K.hash_input k)))
+        L.tells I.gives F.post }
 {}
 
 /// A cache that holds no key, as a new one, holds each in the segment that it belongs to.
