@@ -276,7 +276,7 @@ fn takes_another_capacity(rt: HostRuntime) -> Result<(), Fail> {
 
 // Says yes to the values below a bound.
 #[derive(Drop)]
-struct Below(u64);
+pub struct Below(pub u64);
 
 impl PredicateFn<u64, u64> for Below {
     ghost use Rattle.std.specs.Prelude.{◌≡◌, nat_lt};
@@ -291,8 +291,9 @@ impl PredicateFn<u64, u64> for Below {
     ghost one_answer = { λ _ _ _ _ _ first second. first ∙ sym second };
 }
 
+// Gives the same identifier always.
 #[derive(Drop)]
-struct OneId;
+pub struct OneId;
 
 impl IdSource for OneId {
     ghost use Rattle.std.specs.Prelude.{⊤};

@@ -1,5 +1,6 @@
 //! Worked calls of a cache in segments.
-use moka_engine::{CacheConfig, FixedClock, Instant};
+use crate::cache::{Below, OneId};
+use moka_engine::{CacheConfig, FixedClock, Instant, NoExpiry, NoListener, PredicateError};
 use moka_segments::SegmentedCache;
 use std::alloc::Global;
 use std::test::Fail;
@@ -88,5 +89,104 @@ fn hides_all(rt: HostRuntime) -> Result<(), Fail> {
     cache.invalidate_all(Instant(5));
     let is_shown = shows_any(&cache, 20, Instant(6));
     assert_eq!(rt; (is_full, is_shown), (true, false));
+    Ok(())
+}
+
+// How many entries are listed, and the sum of their keys.
+fn listed(cache: &SegmentedCache<u64, u64>, now: Instant) -> Option<(u64, u64)> {
+    let Ok(entries) = cache.iter(now) else {
+        return None;
+    };
+    let (mut count, mut sum) = (0_u64, 0_u64);
+    for (key, _) in entries {
+        (count, sum) = (count.wrapping_add(1), sum.wrapping_add(key));
+    }
+    Some((count, sum))
+}
+
+#[test]
+fn lists_all(rt: HostRuntime) -> Result<(), Fail> {
+    let mut cache = four_of(rt.alloc(), 1_000)?;
+    let is_full = fill(&mut cache, 200);
+    let all = listed(&cache, NOW);
+    cache.invalidate_all(Instant(5));
+    let later = Instant(6);
+    let is_put = cache.insert(300, 1, later, &mut FixedClock(later)).is_ok();
+    let visible = listed(&cache, later);
+    assert_eq!(rt;
+        (is_full, all, is_put, visible),
+        (true, Some((200, 19_900)), true, Some((1, 300)))
+    );
+    Ok(())
+}
+
+type Tested = SegmentedCache<u64, u64, NoExpiry, NoListener, Below>;
+
+// Four segments that hold the keys below 40, each as its own value.
+fn four_tested(alloc: Global) -> Result<Tested, Fail> {
+    let make = |_| CacheConfig::default().support_invalidation_closures::<Below>();
+    let Ok(mut cache) = SegmentedCache::build(4, Some(100), make, alloc, NOW) else {
+        return Err("memory".into());
+    };
+    for key in 0..40 {
+        if cache.insert(key, key, NOW, &mut FixedClock(NOW)).is_err() {
+            return Err("memory".into());
+        }
+    }
+    Ok(cache)
+}
+
+// Whether exactly the keys from ten on are shown, and those below that belong to the segments from this one on.
+fn hides_below_ten(cache: &Tested, from: usize) -> bool {
+    for key in 0..40 {
+        let is_hidden = key < 10 && cache.segment_of(&key) < from;
+        if cache.contains_key(&key, NOW) == is_hidden {
+            return false;
+        }
+    }
+    true
+}
+
+#[test]
+fn hides_what_a_predicate_covers(rt: HostRuntime) -> Result<(), Fail> {
+    let mut cache = four_tested(rt.alloc())?;
+    let Ok(ids) = cache.invalidate_entries_if(|| Below(10), NOW, &mut OneId) else {
+        return Err("memory".into());
+    };
+    assert_eq!(rt; (ids.len(), hides_below_ten(&cache, 4)), (4, true));
+    Ok(())
+}
+
+// The third segment has no free identifier.
+fn with_one_taken(cache: Tested) -> Result<Tested, Fail> {
+    let (router, mut segments) = cache.into_parts();
+    let Some(segment) = segments.get_mut(2) else {
+        return Err("too few segments".into());
+    };
+    if segment
+        .invalidate_entries_if(Below(0), NOW, &mut OneId)
+        .is_err()
+    {
+        return Err("memory".into());
+    }
+    Ok(SegmentedCache::from_parts(router, segments))
+}
+
+#[test]
+fn says_which_segments_have_a_predicate(rt: HostRuntime) -> Result<(), Fail> {
+    let mut cache = with_one_taken(four_tested(rt.alloc())?)?;
+    let Err(refused) = cache.invalidate_entries_if(|| Below(10), NOW, &mut OneId) else {
+        return Err("registered".into());
+    };
+    let (error, done) = (refused.refused.error, refused.done.len());
+    assert_eq!(rt;
+        (
+            error,
+            refused.refused.predicate.0,
+            done,
+            hides_below_ten(&cache, 2)
+        ),
+        (PredicateError::NoFreeId, 10, 2, true)
+    );
     Ok(())
 }

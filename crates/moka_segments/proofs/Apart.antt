@@ -1,12 +1,12 @@
 -- Whatever moves were made, each segment is a run of the reference cache.
-use Rattle.std.proofs.Common.{◌≡◌, ℕ, ◌==◌, ◌<◌, Bool, true, false, cond, List, [], ◌∷◌, ◌++◌, length, refl, ap, sym, subst, ◌∙◌}
+use Rattle.std.proofs.Common.{◌≡◌, ℕ, ◌==◌, ◌<◌, Bool, true, false, cond, List, [], ◌∷◌, ◌++◌, refl, sym, subst, ◌∙◌}
 use Rattle.std.proofs.lemmas.Bool.{eqb-true, eqb-false}
 use Rattle.std.proofs.lemmas.List.{get_or-set_same, get_or-set_other, length-set}
 use Rattle.moka_parts.specs.State.{Meaning}
 use Rattle.moka_drive.specs.Synchronous.{Synchronous, Made}
 use Rattle.moka_drive.proofs.Made.{made_nothing, made_then}
-use Rattle.moka_segments.specs.Laws.{Move, Moves, MoveAfterMove, EachRuns, calls_in, replies_in, anytime}
-use Rattle.moka_segments.specs.Segmented.{Segmented, IsAt, StepsAt}
+use Rattle.moka_segments.specs.Laws.{EachRuns, calls_in, replies_in, anytime}
+use Rattle.moka_segments.specs.Segmented.{IsAt, StepsAt}
 use Rattle.moka_segments.proofs.Anytime.{made_anytime}
 
 module _ {A : Type 0} where

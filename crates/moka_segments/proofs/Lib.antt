@@ -6,3 +6,8 @@ pub mod OneSegment
 pub mod Within
 pub mod Shares
 pub mod NewSegments
+pub mod Listed
+pub mod Registered
+pub mod Keys
+pub mod Belonging
+pub mod KeptInPlace

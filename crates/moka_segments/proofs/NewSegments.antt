@@ -1,9 +1,9 @@
 -- The segments of a new cache, one more at a time.
-use Rattle.std.proofs.Common.{◌≡◌, ℕ, ◌+◌, ◌<◌, ◌≤◌, List, [], ◌∷◌, ◌++◌, length, slice_index_or, Option, Some, None, refl, ap, sym, subst, ◌∙◌, inl, inr, length-append, arith}
+use Rattle.std.proofs.Common.{◌≡◌, ℕ, ◌<◌, ◌≤◌, List, [], ◌∷◌, ◌++◌, length, Option, Some, None, refl, ap, sym, subst, ◌∙◌, inl, inr, length-append, arith}
 use Rattle.std.proofs.lemmas.Bool.{cases_lt}
 use Rattle.std.proofs.lemmas.List.{get_or_append_left, get_or_at}
-use Rattle.moka_engine.specs.Config.{Config, new_cache}
-use Rattle.moka_drive.specs.Synchronous.{Synchronous, fresh}
+use Rattle.moka_engine.specs.Config.{Config}
+use Rattle.moka_drive.specs.Synchronous.{Synchronous}
 use Rattle.moka_segments.specs.Routing.{Routing}
 use Rattle.moka_segments.specs.Built.{IsBuilt, AreBuilt, SumsTo, IsNew}
 use Rattle.moka_segments.specs.Segmented.{Segmented}

@@ -1,8 +1,8 @@
 -- Sums over the segments, saturating.
-use Rattle.std.proofs.Common.{◌≡◌, ℕ, ◌+◌, min, List, [], ◌∷◌, length, sum_by, Option, Some, None, refl, ap, sym, ◌∙◌, arith}
+use Rattle.std.proofs.Common.{◌≡◌, ℕ, List, [], ◌∷◌, length, Option, Some, None, refl, ap, sym, ◌∙◌, arith}
 use Rattle.std.specs.List.{IsFirstAndRest}
 use Rattle.std.proofs.lemmas.List.Sums.{sum_by-cons}
-use Rattle.moka_parts.specs.Time.{greatest, plus}
+use Rattle.moka_parts.specs.Time.{plus}
 use Rattle.moka_drive.specs.declared.stats.Stats.{Stats}
 use Rattle.moka_drive.specs.Counters.{no_stats}
 use Rattle.moka_drive.specs.Synchronous.{Synchronous}

@@ -2,5 +2,8 @@ pub mod Routing
 pub mod Segmented
 pub mod Steps
 pub mod Whole
+pub mod Listing
+pub mod Registering
+pub mod Keys
 pub mod Laws
 pub mod Built

@@ -1,5 +1,5 @@
 -- What a call by key makes of the segment that the key belongs to: what the synchronous cache's call of that name promises.
-use Rattle.std.specs.Prelude.{◌≡◌, ℕ, true, false, Option, Some, None, Result, Ok, Err, IfOk, IfSome, OnErr, is_some}
+use Rattle.std.specs.Prelude.{◌≡◌, ℕ, true, false, Option, Some, Result, IfOk, IfSome, OnErr, is_some}
 use Rattle.moka_parts.specs.declared.error.InsertRefused.{InsertRefused}
 use Rattle.moka_parts.specs.declared.error.OutOfMemory.{OutOfMemory}
 use Rattle.moka_parts.specs.declared.policy.Instant.{Instant}
@@ -9,10 +9,9 @@ use Rattle.moka_parts.specs.Copies.{IsCopiedAnswer}
 use Rattle.moka_parts.specs.Records.{record_of_key}
 use Rattle.moka_parts.specs.State.{Meaning, is_disabled}
 use Rattle.moka_drive.specs.declared.error.GetWithRefused.{GetWithRefused}
-use Rattle.moka_drive.specs.declared.error.NotTold.{NotTold}
 use Rattle.moka_drive.specs.Counters.{after_look_up, after_get_with}
 use Rattle.moka_drive.specs.Unsent.{IsThere, ShowsWrites}
-use Rattle.moka_drive.specs.Synchronous.{Synchronous, Makes, hears_clones, InsertsEntry, GetsValue, RemovesEntry, GetsOrInserts, HandsOutMade, removed, invalidated}
+use Rattle.moka_drive.specs.Synchronous.{Synchronous, Makes, hears_clones, InsertsEntry, GetsValue, RemovesEntry, GetsOrInserts, HandsOutMade}
 
 module _ {K V S X L P W C : Type 0} (m : Meaning K V X L P W C (Unit {0})) (hash_of : S → K → ℕ) (key : K) (now : Instant) (clock clock_after : C) where
   -- an insert

@@ -1,6 +1,7 @@
 //! A new segmented cache. moka: `sync::builder`, `build` with `segments`.
 ghost use Rattle.std.specs.Prelude.{◌≡◌, IfOk, length, max};
 ghost use Rattle.moka_segments.specs.Built.{IsBuilt, IsNew, SumsTo, with_share};
+ghost use Rattle.moka_segments.specs.Keys.{HoldNone};
 
 use crate::router::Router;
 use crate::segmented::SegmentedCache;
@@ -38,7 +39,8 @@ impl<
     where
         F: Drop,
         requires { F.IsAlwaysCallable make }
-        ensures { IfOk result (λ c. IsNew router max_capacity S.is_clone now.0 (F.post make) c) }
+        ensures new { IfOk result (λ c. IsNew router max_capacity S.is_clone now.0 (F.post make) c) }
+        ensures empty { IfOk result HoldNone }
     {
         let mut segments = Vec::new(alloc);
         for index in 0..router.count() {
@@ -73,7 +75,8 @@ impl<
     where
         F: Drop,
         requires { F.IsAlwaysCallable make }
-        ensures { IfOk result (λ c. (length c.segments ≡ max count 1) × SumsTo max_capacity c.segments) }
+        ensures shares { IfOk result (λ c. (length c.segments ≡ max count 1) × SumsTo max_capacity c.segments) }
+        ensures empty { IfOk result HoldNone }
     {
         let router = Router::new(DefaultHasher::new(), count);
         SegmentedCache::build_with_router(router, max_capacity, make, alloc, now)

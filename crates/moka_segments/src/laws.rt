@@ -1,11 +1,16 @@
 //! Laws of a cache in segments. None of these functions does anything: the contract of each is a law.
+ghost use Rattle.std.specs.List.{fold};
 ghost use Rattle.moka_drive.specs.Synchronous.{meaning_of};
-ghost use Rattle.moka_segments.specs.Laws.{EachRuns};
+ghost use Rattle.moka_segments.specs.Keys.{HoldNone, KeysBelong};
+ghost use Rattle.moka_segments.specs.Laws.{CallsByKeyKeepKeys, CallsOfAllKeepKeys, EachRuns, GetWithKeepsKeys, KeysStay, OneSegmentEach, RegisteringKeepsKeys};
+ghost use Rattle.moka_segments.specs.Segmented.{Segmented};
 
 use moka_parts::closures::{PredicateFn, Weigher};
 use moka_parts::housekeeper::Clock;
+use moka_parts::invalidator::IdSource;
 use moka_parts::notification::Listener;
 use moka_parts::policy::Expiry;
+use std::hash::{BuildHasher, Hash};
 
 /// Whatever calls were made in whichever segments, each segment is one run of the reference cache: of the calls that were
 /// made in it, with their replies, as if it stood alone.
@@ -20,4 +25,112 @@ pub fn each_runs<
     C: Clock,
 >()
     ensures { EachRuns S (meaning_of K.eq L.tells P.says W.weighs C.reads X.created X.read X.updated) }
+{}
+
+/// If each segment holds only keys that belong to it, and keys are inserted only where they belong, then it stays so
+/// whatever else is called.
+pub fn keys_stay<
+    K: Eq + Hash,
+    V,
+    S: BuildHasher,
+    X: Expiry<K, V>,
+    L: Listener<K, V>,
+    P: PredicateFn<K, V>,
+    W: Weigher<K, V>,
+    C: Clock,
+>()
+    ensures { KeysStay S (λ h k. S.Hasher.finish (fold S.Hasher.write (S.build_hasher h) (K.hash_input k)))
+        (meaning_of K.eq L.tells P.says W.weighs C.reads X.created X.read X.updated) }
+{}
+
+/// If each segment holds only keys that belong to it, then keys that are equal are in one segment at most.
+pub fn one_segment_each<
+    K: Eq + Hash,
+    V,
+    S: BuildHasher,
+    X: Expiry<K, V>,
+    L: Listener<K, V>,
+    P: PredicateFn<K, V>,
+    W: Weigher<K, V>,
+>()
+    ensures { OneSegmentEach V S X L P W
+        (λ h k. S.Hasher.finish (fold S.Hasher.write (S.build_hasher h) (K.hash_input k))) K.eq }
+{}
+
+/// Each call by key leaves keys in the segments that they belong to; `get_with_keeps_keys` speaks of those with a maker.
+pub fn calls_by_key_keep_keys<
+    K: Eq + Hash + Clone,
+    V: Clone,
+    S: BuildHasher,
+    X: Expiry<K, V>,
+    L: Listener<K, V>,
+    P: PredicateFn<K, V>,
+    W: Weigher<K, V>,
+    C: Clock,
+>()
+    ensures { CallsByKeyKeepKeys (λ h k. S.Hasher.finish (fold S.Hasher.write (S.build_hasher h) (K.hash_input k)))
+        (meaning_of K.eq L.tells P.says W.weighs C.reads X.created X.read X.updated)
+        K.is_clone V.is_clone }
+{}
+
+/// So does `get_with`, by a maker of this type.
+pub fn get_with_keeps_keys<
+    K: Eq + Hash,
+    V: Clone,
+    S: BuildHasher,
+    X: Expiry<K, V>,
+    L: Listener<K, V>,
+    P: PredicateFn<K, V>,
+    W: Weigher<K, V>,
+    C: Clock,
+    F: FnOnce() -> V,
+>()
+    ensures { GetWithKeepsKeys (λ h k. S.Hasher.finish (fold S.Hasher.write (S.build_hasher h) (K.hash_input k)))
+        (meaning_of K.eq L.tells P.says W.weighs C.reads X.created X.read X.updated)
+        V.is_clone F.post }
+{}
+
+/// So does each call that concerns all segments; `registering_keeps_keys` speaks of predicates.
+pub fn calls_of_all_keep_keys<
+    K: Eq + Hash,
+    V,
+    S: BuildHasher,
+    X: Expiry<K, V>,
+    L: Listener<K, V>,
+    P: PredicateFn<K, V>,
+    W: Weigher<K, V>,
+    C: Clock,
+>()
+    ensures { CallsOfAllKeepKeys (λ h k. S.Hasher.finish (fold S.Hasher.write (S.build_hasher h) (K.hash_input k)))
+        (meaning_of K.eq L.tells P.says W.weighs C.reads X.created X.read X.updated) }
+{}
+
+/// So does `invalidate_entries_if`, by a maker of this type.
+pub fn registering_keeps_keys<
+    K: Eq + Hash,
+    V,
+    S: BuildHasher,
+    X: Expiry<K, V>,
+    L: Listener<K, V>,
+    P: PredicateFn<K, V>,
+    W: Weigher<K, V>,
+    I: IdSource,
+    F: Fn() -> P,
+>()
+    ensures { RegisteringKeepsKeys S X W (λ h k. S.Hasher.finish (fold S.Hasher.write (S.build_hasher h) (K.hash_input k)))
+        L.tells I.gives F.post }
+{}
+
+/// A cache that holds no key, as a new one, holds each in the segment that it belongs to.
+pub fn none_belong<
+    K: Eq + Hash,
+    V,
+    S: BuildHasher,
+    X: Expiry<K, V>,
+    L: Listener<K, V>,
+    P: PredicateFn<K, V>,
+    W: Weigher<K, V>,
+>()
+    ensures { (c : Segmented K V S X L P W) → HoldNone c →
+        KeysBelong (λ h k. S.Hasher.finish (fold S.Hasher.write (S.build_hasher h) (K.hash_input k))) c }
 {}

@@ -2,10 +2,13 @@
 #![tactic(auto)]
 
 pub mod building;
+pub mod iter;
 pub mod laws;
+pub mod predicates;
 pub mod router;
 pub mod segmented;
 pub mod whole;
 
+pub use predicates::RegisterRefused;
 pub use router::Router;
 pub use segmented::SegmentedCache;

@@ -4,11 +4,13 @@
 #![tactic(auto)]
 
 mod asks;
+mod in_segments;
 mod report;
 mod rounds;
 mod saved;
 mod synchronous;
 
+use crate::in_segments::Segmented;
 use crate::report::Texts;
 use crate::synchronous::Cached;
 use anyhow::Result;
@@ -16,6 +18,7 @@ use moka_drive::Cache;
 use moka_engine::{
     CacheConfig, EvictionPolicy, Instant, NoExpiry, NoPredicate, NoWeigher, OutOfMemory,
 };
+use moka_segments::SegmentedCache;
 use report::Report;
 use std::alloc::Global;
 use std::io::Write;
@@ -44,7 +47,12 @@ fn main(rt: HostRuntime) -> Result<()> {
         synchronous::round(rt.alloc(), &mut out, &mut cached, number)?;
     }
     let mut second = new_cached(rt.alloc(), &mut out)?;
-    saved::save_and_ask(rt.alloc(), &mut out, &mut cached, &mut second, 4)
+    saved::save_and_ask(rt.alloc(), &mut out, &mut cached, &mut second, 4)?;
+    let mut segmented = new_segmented(rt.alloc(), &mut out)?;
+    for number in 0..TEXTS {
+        in_segments::round(rt.alloc(), &mut out, &mut segmented, number)?;
+    }
+    Ok(())
 }
 
 /// Four texts, with a listener and predicates.
@@ -74,4 +82,19 @@ fn new_cached<W: Write>(alloc: Global, out: &mut W) -> Result<Cached> {
 
 fn empty_cached(alloc: Global) -> Result<Cached, OutOfMemory> {
     Cache::build(config(), alloc, Instant(0))
+}
+
+/// An empty cache in segments.
+fn new_segmented<W: Write>(alloc: Global, out: &mut W) -> Result<Segmented> {
+    match empty_segmented(alloc) {
+        Ok(segmented) => Ok(segmented),
+        Err(_) => {
+            writeln!(out, "refused: SegmentedCache::build")?;
+            Ok(empty_segmented(alloc)?)
+        }
+    }
+}
+
+fn empty_segmented(alloc: Global) -> Result<Segmented, OutOfMemory> {
+    SegmentedCache::build(3, Some(6), |_| config(), alloc, Instant(0))
 }

@@ -1,8 +1,14 @@
-//! A cache in segments that keeps its bound.
+//! A cache in segments that keeps its bound, and each key in one segment.
+ghost use Rattle.std.specs.List.{fold};
 ghost use Rattle.std.specs.Prelude.{◌≤◌, IfSome};
+ghost use Rattle.moka_segments.specs.Keys.{AreInOneSegment, KeysBelong};
 
-use moka_engine::{FixedClock, Instant};
+use moka_engine::{
+    Clock, Expiry, FixedClock, InsertRefused, Instant, Listener, PredicateFn, Weigher,
+};
 use moka_segments::SegmentedCache;
+use moka_segments::laws::{calls_by_key_keep_keys, one_segment_each};
+use std::hash::{BuildHasher, Hash};
 
 /// What the segments of a cache keep together.
 #[derive(Clone, Copy, Debug, PartialEq, Eq)]
@@ -22,11 +28,42 @@ pub fn keep_bound(cache: &mut SegmentedCache<u64, u64>, now: Instant) -> Kept
     Kept { weight, most }
 }
 
+/// Puts an entry into a cache each of whose segments holds only keys that belong to it, as a new one. That stays so
+/// (`calls_by_key_keep_keys`), and keys that are equal are in one segment at most (`one_segment_each`).
+///
+/// # Errors
+/// As `SegmentedCache::insert`: key and value come back.
+pub fn put_where_it_belongs<
+    K: Eq + Hash + Clone + Drop,
+    V: Clone + Drop,
+    S: BuildHasher,
+    X: Expiry<K, V>,
+    L: Listener<K, V>,
+    P: PredicateFn<K, V> + Drop,
+    W: Weigher<K, V>,
+    C: Clock,
+>(
+    cache: &mut SegmentedCache<K, V, X, L, P, W, S>,
+    key: K,
+    value: V,
+    now: Instant,
+    clock: &mut C,
+) -> Result<(), InsertRefused<K, V>>
+    requires { KeysBelong (λ h k. S.Hasher.finish (fold S.Hasher.write (S.build_hasher h) (K.hash_input k))) cache.old }
+    ensures belong { KeysBelong (λ h k. S.Hasher.finish (fold S.Hasher.write (S.build_hasher h) (K.hash_input k))) cache.new }
+    ensures apart { AreInOneSegment K.eq cache.new }
+{
+    calls_by_key_keep_keys::<K, V, S, X, L, P, W, C>();
+    one_segment_each::<K, V, S, X, L, P, W>();
+    cache.insert(key, value, now, clock)
+}
+
 #[cfg(test)]
 mod tests {
     use super::*;
     use anyhow::Result;
-    use moka_engine::CacheConfig;
+    use moka_engine::{CacheConfig, DefaultHasher, NoExpiry, NoListener, NoPredicate, NoWeigher};
+    use moka_segments::laws::none_belong;
 
     #[test]
     fn keeps_what_fits(rt: HostRuntime) -> Result<()> {
@@ -39,6 +76,17 @@ mod tests {
         let kept = keep_bound(&mut cache, now);
         assert_eq!(rt; kept.most, Some(42));
         assert!(rt; kept.weight > 0);
+        Ok(())
+    }
+
+    #[test]
+    fn puts_where_it_belongs(rt: HostRuntime) -> Result<()> {
+        let now = Instant(0);
+        let make = |_| CacheConfig::default();
+        let mut cache = SegmentedCache::build(4, None, make, rt.alloc(), now)?;
+        none_belong::<u64, u64, DefaultHasher, NoExpiry, NoListener, NoPredicate, NoWeigher>();
+        put_where_it_belongs(&mut cache, 1, 10, now, &mut FixedClock(now))?;
+        assert!(rt; cache.contains_key(&1, now));
         Ok(())
     }
 }

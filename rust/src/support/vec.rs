@@ -93,7 +93,7 @@ impl<T> Vec<T> {
         &mut self.0
     }
 
-    pub fn extend_from(&mut self, items: impl Iterator<Item = T>) -> Result<(), AllocError> {
+    pub fn extend(&mut self, items: impl Iterator<Item = T>) -> Result<(), AllocError> {
         for item in items {
             self.push(item)?;
         }
@@ -116,7 +116,7 @@ impl Vec<u8> {
 pub trait CollectIn: Iterator + Sized {
     fn collect_in(self, alloc: Global) -> Result<Vec<Self::Item>, AllocError> {
         let mut made = Vec::new(alloc);
-        made.extend_from(self)?;
+        made.extend(self)?;
         Ok(made)
     }
 }

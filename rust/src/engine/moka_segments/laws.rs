@@ -2,10 +2,13 @@
 //! Laws of a cache in segments. None of these functions does anything: the contract of each is a law.
 use crate::support::prelude::*;
 
+use crate::engine::moka_engine::CacheConfig;
 use crate::engine::moka_parts::closures::{PredicateFn, Weigher};
 use crate::engine::moka_parts::housekeeper::Clock;
+use crate::engine::moka_parts::invalidator::IdSource;
 use crate::engine::moka_parts::notification::Listener;
 use crate::engine::moka_parts::policy::Expiry;
+use crate::support::hash::{BuildHasher, Hash};
 
 /// Whatever calls were made in whichever segments, each segment is one run of the reference cache: of the calls that were
 /// made in it, with their replies, as if it stood alone.
@@ -18,5 +21,60 @@ pub fn each_runs<
     P: PredicateFn<K, V>,
     W: Weigher<K, V>,
     C: Clock,
+>()
+{}
+
+/// If each segment holds only keys that belong to it, and keys are inserted only where they belong, then it stays so
+/// whatever else is called.
+pub fn keys_stay<
+    K: Eq + Hash,
+    V,
+    S: BuildHasher,
+    X: Expiry<K, V>,
+    L: Listener<K, V>,
+    P: PredicateFn<K, V>,
+    W: Weigher<K, V>,
+    C: Clock,
+>()
+{}
+
+/// If each segment holds only keys that belong to it, then keys that are equal are in one segment at most.
+pub fn one_segment_each<
+    K: Eq + Hash,
+    V,
+    S: BuildHasher,
+    X: Expiry<K, V>,
+    L: Listener<K, V>,
+    P: PredicateFn<K, V>,
+    W: Weigher<K, V>,
+>()
+{}
+
+/// Each call of a cache in segments leaves keys in the segments that they belong to. So no key is ever in two segments.
+pub fn calls_keep_keys<
+    K: Eq + Hash + Clone,
+    V: Clone,
+    S: BuildHasher,
+    X: Expiry<K, V>,
+    L: Listener<K, V>,
+    P: PredicateFn<K, V>,
+    W: Weigher<K, V>,
+    C: Clock,
+    I: IdSource,
+    M: FnOnce() -> V,
+    N: Fn() -> P,
+>()
+{}
+
+/// A new cache holds no key, so each of its segments holds only keys that belong to it.
+pub fn new_holds_none<
+    K: Eq + Hash,
+    V,
+    S: BuildHasher + Clone,
+    X: Expiry<K, V>,
+    L: Listener<K, V>,
+    P: PredicateFn<K, V>,
+    W: Weigher<K, V>,
+    F: Fn(u32) -> CacheConfig<X, L, P, W>,
 >()
 {}

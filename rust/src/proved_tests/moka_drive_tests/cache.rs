@@ -289,7 +289,7 @@ fn takes_another_capacity() -> Result<(), Fail> {
 }
 
 // Says yes to the values below a bound.
-struct Below(u64);
+pub struct Below(pub u64);
 
 impl PredicateFn<u64, u64> for Below {
 
@@ -299,7 +299,8 @@ impl PredicateFn<u64, u64> for Below {
 
 }
 
-struct OneId;
+// Gives the same identifier always.
+pub struct OneId;
 
 impl IdSource for OneId {
 
