@@ -25,4 +25,4 @@ pub use error::{GetWithRefused, NotTold};
 pub use many::{GetManyRefused, InsertManyRefused, InvalidateManyRefused};
 pub use removals::{CountingListener, Removals};
 pub use stats::Stats;
-pub use timed::TimedCache;
+pub use timed::{TimedCache, TimedEntrySelector};
