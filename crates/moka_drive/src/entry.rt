@@ -1,7 +1,6 @@
 //! Entry calls: a look-up and what follows it in one call. moka: `sync::entry_selector`.
 //!
-//! moka's `cache.entry(key).or_insert(value)` is `cache.get_or_insert(key, value, ..)` here, and so on: each call names
-//! moka's.
+//! `cache.entry(key).or_insert(value, ..)` is `cache.get_or_insert(key, value, ..)`, and so on: each call names moka's.
 ghost use Rattle.std.specs.Prelude.{◌≡◌, true, false, Option, Some, None, Result, Ok, Err, IfOk, IfSome};
 ghost use Rattle.std.specs.List.{fold};
 ghost use Rattle.moka_parts.specs.Calls.{ContainsStep};

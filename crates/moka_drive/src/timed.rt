@@ -29,7 +29,10 @@ use moka_parts::policy::{Expiry, NoExpiry, Policy};
 use std::alloc::Global;
 use std::hash::{BuildHasher, Hash};
 
+mod entry_selector;
 mod tested;
+
+pub use entry_selector::TimedEntrySelector;
 
 /// A cache with a clock, which each call that needs the moment reads once at its start.
 #[derive(Drop)]
