@@ -15,7 +15,10 @@ use crate::engine::moka_parts::policy::{Expiry, NoExpiry, Policy};
 use crate::support::alloc::Global;
 use crate::support::hash::{BuildHasher, Hash};
 
+mod entry_selector;
 mod tested;
+
+pub use entry_selector::TimedEntrySelector;
 
 /// A cache with a clock, which each call that needs the moment reads once at its start.
 pub struct TimedCache<
