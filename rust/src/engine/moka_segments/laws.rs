@@ -2,7 +2,6 @@
 //! Laws of a cache in segments. None of these functions does anything: the contract of each is a law.
 use crate::support::prelude::*;
 
-use crate::engine::moka_engine::CacheConfig;
 use crate::engine::moka_parts::closures::{PredicateFn, Weigher};
 use crate::engine::moka_parts::housekeeper::Clock;
 use crate::engine::moka_parts::invalidator::IdSource;
@@ -50,8 +49,8 @@ pub fn one_segment_each<
 >()
 {}
 
-/// Each call of a cache in segments leaves keys in the segments that they belong to. So no key is ever in two segments.
-pub fn calls_keep_keys<
+/// Each call by key leaves keys in the segments that they belong to; `get_with_keeps_keys` speaks of those with a maker.
+pub fn calls_by_key_keep_keys<
     K: Eq + Hash + Clone,
     V: Clone,
     S: BuildHasher,
@@ -60,21 +59,58 @@ pub fn calls_keep_keys<
     P: PredicateFn<K, V>,
     W: Weigher<K, V>,
     C: Clock,
-    I: IdSource,
-    M: FnOnce() -> V,
-    N: Fn() -> P,
 >()
 {}
 
-/// A new cache holds no key, so each of its segments holds only keys that belong to it.
-pub fn new_holds_none<
+/// So does `get_with`, by a maker of this type.
+pub fn get_with_keeps_keys<
     K: Eq + Hash,
-    V,
-    S: BuildHasher + Clone,
+    V: Clone,
+    S: BuildHasher,
     X: Expiry<K, V>,
     L: Listener<K, V>,
     P: PredicateFn<K, V>,
     W: Weigher<K, V>,
-    F: Fn(u32) -> CacheConfig<X, L, P, W>,
+    C: Clock,
+    F: FnOnce() -> V,
+>()
+{}
+
+/// So does each call that concerns all segments; `registering_keeps_keys` speaks of predicates.
+pub fn calls_of_all_keep_keys<
+    K: Eq + Hash,
+    V,
+    S: BuildHasher,
+    X: Expiry<K, V>,
+    L: Listener<K, V>,
+    P: PredicateFn<K, V>,
+    W: Weigher<K, V>,
+    C: Clock,
+>()
+{}
+
+/// So does `invalidate_entries_if`, by a maker of this type.
+pub fn registering_keeps_keys<
+    K: Eq + Hash,
+    V,
+    S: BuildHasher,
+    X: Expiry<K, V>,
+    L: Listener<K, V>,
+    P: PredicateFn<K, V>,
+    W: Weigher<K, V>,
+    I: IdSource,
+    F: Fn() -> P,
+>()
+{}
+
+/// A cache that holds no key, as a new one, holds each in the segment that it belongs to.
+pub fn none_belong<
+    K: Eq + Hash,
+    V,
+    S: BuildHasher,
+    X: Expiry<K, V>,
+    L: Listener<K, V>,
+    P: PredicateFn<K, V>,
+    W: Weigher<K, V>,
 >()
 {}
