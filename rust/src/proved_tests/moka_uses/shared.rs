@@ -81,7 +81,13 @@ mod tests {
     let rt = HostRuntime;
         let now = Instant(0);
         let make = |_| CacheConfig::default();
-        let mut cache = SegmentedCache::build(4, None, make, rt.alloc(), now)?;
+        let mut cache: SegmentedCache<u64, u64> = SegmentedCache::build(
+            4,
+            None,
+            make,
+            rt.alloc(),
+            now,
+        )?;
         none_belong::<u64, u64, DefaultHasher, NoExpiry, NoListener, NoPredicate, NoWeigher>();
         put_where_it_belongs(&mut cache, 1, 10, now, &mut FixedClock(now))?;
         assert!( cache.contains_key(&1, now));
