@@ -14,8 +14,10 @@ use Rattle.moka_engine.specs.Calls.{GetsAt, InsertsAt, Unchanged}
 use Rattle.moka_engine.specs.Records.{record_of_key}
 use Rattle.moka_engine.specs.Runs.{Cache, PromisedRun}
 use Rattle.moka_engine.specs.State.{State, Meaning, Events, is_disabled}
+use Rattle.moka_drive.specs.declared.entry.CacheEntry.{CacheEntry}
 use Rattle.moka_drive.specs.declared.error.GetWithRefused.{GetWithRefused}
 use Rattle.moka_drive.specs.declared.error.GetWithRefused.TheVariants.{Lookup, Insert}
+use Rattle.moka_drive.specs.Entries.{HandsOutPut, entry_value}
 use Rattle.moka_drive.specs.Synchronous.{Made, Makes, GetsThen, InsertsMade, GetsOrInserts, GetsOrInsertsIfNoError, HandsOutMade, HandsOutIfNoError}
 use Rattle.moka_uses.specs.Handled.{IsCloneOfKept}
 use Rattle.moka_uses.specs.ReadThrough.{ComesBack, FindsNothing}
@@ -41,6 +43,19 @@ module _ {K V S X L P W C : Type 0} (m : Meaning K V X L P W C (Unit {0})) (is_c
       (result : Result V (GetWithRefused K V)) → HandsOutMade {K = K} is_clone key own result → IfOk result (λ value. IsCloneOfKept m.eq is_clone old.state key value ⊎ IsCloneOfMade IsMade value)
   made_given IsMade made own post makes (Ok value) handed = value_given IsMade made own value post handed makes
   made_given IsMade made own post makes (Err refused) handed = tt
+
+  -- the same of an entry call that was given the value
+  pub put_given : (given : V) (put : Option V) (own : Result V (Option (InsertRefused K V))) → ((x : V) → put ≡ Some x → x ≡ given) → Makes m (GetsOrInserts key hash now put own) old clock new clock_after →
+      (result : Result (CacheEntry K V) (InsertRefused K V)) → HandsOutPut is_clone key given own (entry_value result) → IfOk result (λ e. IsCloneOfKept m.eq is_clone old.state key e.value ⊎ is_clone given e.value)
+  put_given given put (Ok v) is_given makes (Ok e) handed = as_given e.value (value_given (λ x. x ≡ given) put (Ok v) e.value is_given handed makes)
+    where
+      as_given : (value : V) → IsCloneOfKept m.eq is_clone old.state key value ⊎ IsCloneOfMade (λ x. x ≡ given) value → IsCloneOfKept m.eq is_clone old.state key value ⊎ is_clone given value
+      as_given value (inl kept) = inl kept
+      as_given value (inr (x, is, clone)) = inr (subst (λ y. is_clone y value) is clone)
+  put_given given put (Err None) is_given makes (Ok e) handed = absurd handed
+  put_given given put (Err (Some r)) is_given makes (Ok e) handed = absurd handed
+  put_given given put (Ok v) is_given makes (Err refused) handed = tt
+  put_given given put (Err r) is_given makes (Err refused) handed = tt
 
   -- an insert of what was made that is refused has the value that was made
   pub refused_value : (x : V) (refused : InsertRefused K V) → Makes m (GetsThen key hash now (InsertsMade key hash now x (Err refused))) old clock new clock_after → (refused.key ≡ key) × (refused.value ≡ x)
