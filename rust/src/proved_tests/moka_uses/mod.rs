@@ -19,6 +19,7 @@ pub mod refused;
 pub mod released;
 pub mod resized;
 pub mod restarted;
+pub mod selected;
 pub mod sessions;
 pub mod shared;
 pub mod texts;
