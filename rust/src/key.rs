@@ -6,8 +6,8 @@ use std::sync::Arc;
 /// Whether a kept key is the one that is sought. It may be asked by any thread that a cache is sent to.
 pub(crate) type Test<'a, K> = &'a (dyn Fn(&K) -> bool + Sync);
 
-/// A key with its hash. The engine keeps each key once, and its calls that change something are asked by that very one.
-/// So the caller's `Eq` runs in look-ups that change nothing, and nowhere else.
+/// A key with its hash. The engine keeps each key once. Calls go by a test of the caller's, or by that very key; so the
+/// caller's `Eq` runs only where nothing is half changed.
 pub(crate) struct Key<'a, K> {
     hash: u64,
     form: Form<'a, K>,
@@ -40,12 +40,6 @@ impl<'a, K> Key<'a, K> {
     pub fn at(hash: u64, address: usize) -> Self {
         let form = Form::At(address);
         Key { hash, form }
-    }
-
-    /// A key that is not kept.
-    #[inline]
-    pub fn nowhere(hash: u64) -> Self {
-        Key::at(hash, 0)
     }
 
     #[inline]

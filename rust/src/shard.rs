@@ -2,9 +2,9 @@
 //!
 //! Each call of the front is one or two of its calls, and what those cannot have:
 //!
-//! - Borrowed forms of keys. Its calls take keys that are owned. So one that changes something is preceded by a look-up,
-//!   which changes nothing and may be asked with a key that only borrows; the call itself then goes by the address of the
-//!   key that was found.
+//! - Panics of the caller's `Eq`. Look-ups and removals go by its calls with a test of the key, which compare keys only
+//!   while nothing is half changed; so a comparison that panics harms nothing (`ByTest`). An insert goes by the address of
+//!   the key that is kept, which is looked up before.
 //! - Makers. Its `get_with` is given one moment, at its start. A caller's maker may take longer than an entry lasts, so
 //!   here the value is put there at a moment after it, by `insert`; nor is a panic of the maker one in mid-call.
 //! - The clock. Where nothing can expire it need not be read in each call, so this is not the cache that owns its clock.
@@ -15,6 +15,7 @@ use crate::engine::moka_engine::{
     BaseCache, Clock, ExpirationPolicy, HousekeeperConfig, IdSource, Instant, PredicateId,
 };
 use crate::engine::moka_parts::error::PredicateError;
+use crate::engine::moka_parts::key_test::KeyTest;
 use crate::key::{Carried, Key, Test, address};
 use crate::notices::{Notices, Teller};
 use crate::policy::Asked;
@@ -26,6 +27,7 @@ use moka_drive::{CountingListener, NotTold};
 use std::convert::Infallible;
 use std::hash::Hash;
 use std::sync::Arc;
+use std::sync::atomic::{AtomicBool, Ordering::Relaxed};
 
 // The listener is there always, since it counts.
 type Told<K, V> = CountingListener<Teller<K, V>>;
@@ -57,6 +59,23 @@ impl IdSource for Chosen {
     }
 }
 
+/// A test of the caller's in the middle of a call. While it runs the mark of the call is taken away: the engine compares
+/// keys only while nothing is half changed.
+struct ByTest<'a, K> {
+    test: Test<'a, K>,
+    is_in_call: &'a AtomicBool,
+}
+
+impl<K: Eq + Hash> KeyTest<Key<'static, K>> for ByTest<'_, K> {
+    #[inline]
+    fn is_key(&self, key: &Key<'static, K>) -> bool {
+        self.is_in_call.store(false, Relaxed);
+        let is_key = key.shared().is_some_and(|kept| (self.test)(kept));
+        self.is_in_call.store(true, Relaxed);
+        is_key
+    }
+}
+
 /// A cache with one owner.
 pub(crate) struct Shard<K: 'static, V> {
     cache: Cache<K, V>,
@@ -65,7 +84,7 @@ pub(crate) struct Shard<K: 'static, V> {
     now: Instant,
     calls_until_reading: u32,
     // Stays set where a caller's own code panicked in the middle of a call.
-    is_in_call: bool,
+    is_in_call: AtomicBool,
     is_timed: bool,
     settings: Arc<Settings<K, V>>,
     capacity: Option<u64>,
@@ -88,7 +107,7 @@ impl<K: Eq + Hash + 'static, V> Shard<K, V> {
             clock,
             now: Instant(0),
             calls_until_reading: 0,
-            is_in_call: false,
+            is_in_call: AtomicBool::new(false),
             is_timed: settings.is_timed(),
             settings,
             capacity,
@@ -100,7 +119,7 @@ impl<K: Eq + Hash + 'static, V> Shard<K, V> {
     /// Empties the shard if a panic left its cache in the middle of a call.
     #[inline]
     pub fn recover(&mut self) {
-        if self.is_in_call {
+        if self.is_broken() {
             self.empty();
         }
     }
@@ -109,20 +128,37 @@ impl<K: Eq + Hash + 'static, V> Shard<K, V> {
     fn empty(&mut self) {
         self.counted = self.stats();
         self.cache = cache(&self.settings, self.capacity, Teller(self.notices.clone()), self.clock);
-        self.is_in_call = false;
+        *self.is_in_call.get_mut() = false;
     }
 
     /// Whether a panic left the cache in the middle of a call, so that the next change empties it.
     pub fn is_broken(&self) -> bool {
-        self.is_in_call
+        self.is_in_call.load(Relaxed)
     }
 
     // Makes a call that changes the cache. A panic of the caller's own code leaves the mark.
     #[inline]
     fn change<R>(&mut self, call: impl FnOnce(&mut Cache<K, V>, &mut Elapsed) -> R) -> R {
-        self.is_in_call = true;
+        *self.is_in_call.get_mut() = true;
         let answer = call(&mut self.cache, &mut self.clock);
-        self.is_in_call = false;
+        *self.is_in_call.get_mut() = false;
+        answer
+    }
+
+    // The same by a test of the caller's, a panic of which leaves no mark.
+    #[inline]
+    fn change_by<R>(
+        &mut self,
+        test: Test<'_, K>,
+        call: impl FnOnce(&mut Cache<K, V>, &ByTest<'_, K>, &mut Elapsed) -> R,
+    ) -> R {
+        *self.is_in_call.get_mut() = true;
+        let by = ByTest {
+            test,
+            is_in_call: &self.is_in_call,
+        };
+        let answer = call(&mut self.cache, &by, &mut self.clock);
+        *self.is_in_call.get_mut() = false;
         answer
     }
 
@@ -162,14 +198,7 @@ impl<K: Eq + Hash + 'static, V> Shard<K, V> {
         found.shared().map(ask)
     }
 
-    // The key that is kept, for one call.
-    #[inline]
-    fn find(&self, hash: u64, test: Test<'_, K>) -> Option<Key<'static, K>> {
-        let address = self.look(hash, test, address)?;
-        Some(Key::at(hash, address))
-    }
-
-    // A look-up of what was found, or of nothing, which counts as a read.
+    // A look-up by the key that is kept, or by none, which counts as a read.
     #[inline]
     fn get_found(&mut self, key: &Key<'static, K>) -> Option<V>
     where
@@ -186,8 +215,9 @@ impl<K: Eq + Hash + 'static, V> Shard<K, V> {
     where
         V: Clone,
     {
-        let key = self.find(hash, test).unwrap_or(Key::nowhere(hash));
-        self.get_found(&key)
+        let now = self.read_clock();
+        let found = self.change_by(test, |cache, by, clock| cache.get_by(by, hash, now, clock));
+        found.ok().flatten()
     }
 
     /// The same with the key that is kept.
@@ -294,8 +324,7 @@ impl<K: Eq + Hash + 'static, V> Shard<K, V> {
         V: Clone,
     {
         let now = self.read_clock();
-        let key = self.find(hash, test)?;
-        let removed = self.change(|cache, clock| cache.remove(&key, now, clock));
+        let removed = self.change_by(test, |cache, by, clock| cache.remove_by(by, hash, now, clock));
         removed.unwrap_or_else(|NotTold { value, .. }| Some(value))
     }
 
@@ -304,9 +333,8 @@ impl<K: Eq + Hash + 'static, V> Shard<K, V> {
     where
         V: Clone,
     {
-        if let Some(key) = self.find(hash, test) {
-            self.invalidate_found(&key);
-        }
+        let now = self.read_clock();
+        let _told = self.change_by(test, |cache, by, clock| cache.invalidate_by(by, hash, now, clock));
     }
 
     /// The same by the key that is kept, if one is.
@@ -314,15 +342,8 @@ impl<K: Eq + Hash + 'static, V> Shard<K, V> {
     where
         V: Clone,
     {
-        self.invalidate_found(&Key::at(hash, address(key)));
-    }
-
-    fn invalidate_found(&mut self, key: &Key<'static, K>)
-    where
-        V: Clone,
-    {
-        let now = self.read_clock();
-        let _told = self.change(|cache, clock| cache.invalidate(key, now, clock));
+        let (key, now) = (Key::at(hash, address(key)), self.read_clock());
+        let _told = self.change(|cache, clock| cache.invalidate(&key, now, clock));
     }
 
     pub fn invalidate_all(&mut self) {
