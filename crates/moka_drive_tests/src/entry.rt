@@ -1,5 +1,5 @@
 //! Worked entry calls.
-use moka_drive::{Cache, CompResult, Op};
+use moka_drive::{Cache, CompResult, ManualClock, Op, TimedCache};
 use moka_engine::{CacheConfig, FixedClock, Instant};
 use std::alloc::Global;
 use std::test::Fail;
@@ -58,6 +58,68 @@ fn computes_of_what_is_there(rt: HostRuntime) -> Result<(), Fail> {
     let taken = cache.compute_with(1, |_| Op::Remove, NOW, clock);
     assert!(rt; matches!(taken, Ok(CompResult::Removed(entry)) if entry.value == 3));
     assert!(rt; !cache.contains_key(&1, NOW));
+    Ok(())
+}
+
+#[test]
+fn selects_a_key_to_insert(rt: HostRuntime) -> Result<(), Fail> {
+    let mut cache = empty(rt.alloc())?;
+    let clock = &mut FixedClock(NOW);
+    let put = cache.entry(1).or_insert(10, NOW, clock);
+    assert!(rt; matches!(put, Ok(entry) if entry.is_fresh));
+    let found = cache.entry(1).or_insert_with(|| 20, NOW, clock);
+    assert!(rt; matches!(found, Ok(entry) if !entry.is_fresh && entry.value == 10));
+    let declined = cache
+        .entry(2)
+        .or_optionally_insert_with(|| None, NOW, clock);
+    assert!(rt; matches!(declined, Ok(None)));
+    let failed = cache.entry(2).or_try_insert_with(|| Err(7), NOW, clock);
+    assert!(rt; matches!(failed, Ok(Err(7))));
+    Ok(())
+}
+
+#[test]
+fn selects_a_key_to_compute(rt: HostRuntime) -> Result<(), Fail> {
+    let mut cache = empty(rt.alloc())?;
+    let clock = &mut FixedClock(NOW);
+    let one_more = |seen: Option<u64>| seen.unwrap_or(0).saturating_add(1);
+    let first = cache.entry(1).and_upsert_with(one_more, NOW, clock);
+    assert!(rt; matches!(first, Ok(entry) if !entry.is_old_value_replaced && entry.value == 1));
+    let taken = cache.entry(1).and_compute_with(|_| Op::Remove, NOW, clock);
+    assert!(rt; matches!(taken, Ok(CompResult::Removed(entry)) if entry.value == 1));
+    assert!(rt; !cache.contains_key(&1, NOW));
+    Ok(())
+}
+
+fn timed(alloc: Global) -> Result<TimedCache<u64, u64, ManualClock>, Fail> {
+    match TimedCache::build(CacheConfig::default(), alloc, ManualClock { now: NOW }) {
+        Ok(cache) => Ok(cache),
+        Err(_) => Err("memory".into()),
+    }
+}
+
+#[test]
+fn selects_a_key_to_insert_by_its_own_clock(rt: HostRuntime) -> Result<(), Fail> {
+    let mut cache = timed(rt.alloc())?;
+    let put = cache.entry(1).or_insert(10);
+    assert!(rt; matches!(put, Ok(entry) if entry.is_fresh));
+    let found = cache.entry(1).or_insert_with(|| 20);
+    assert!(rt; matches!(found, Ok(entry) if !entry.is_fresh && entry.value == 10));
+    let declined = cache.entry(2).or_optionally_insert_with(|| None);
+    assert!(rt; matches!(declined, Ok(None)));
+    let failed = cache.entry(2).or_try_insert_with(|| Err(7));
+    assert!(rt; matches!(failed, Ok(Err(7))));
+    Ok(())
+}
+
+#[test]
+fn selects_a_key_to_compute_by_its_own_clock(rt: HostRuntime) -> Result<(), Fail> {
+    let mut cache = timed(rt.alloc())?;
+    let first = cache.entry(1).and_upsert_with(|_| 5);
+    assert!(rt; matches!(first, Ok(entry) if !entry.is_old_value_replaced && entry.value == 5));
+    let taken = cache.entry(1).and_compute_with(|_| Op::Remove);
+    assert!(rt; matches!(taken, Ok(CompResult::Removed(entry)) if entry.value == 5));
+    assert!(rt; !cache.contains_key(&1));
     Ok(())
 }
 

@@ -3,7 +3,7 @@
 use crate::support::prelude::*;
 #[cfg(test)]
 use crate::support::test::prelude::*;
-use crate::engine::moka_drive::{Cache, CompResult, Op};
+use crate::engine::moka_drive::{Cache, CompResult, ManualClock, Op, TimedCache};
 use crate::engine::moka_engine::{CacheConfig, FixedClock, Instant};
 use crate::support::alloc::Global;
 use crate::support::test::test::Fail;
@@ -65,6 +65,72 @@ fn computes_of_what_is_there() -> Result<(), Fail> {
     let taken = cache.compute_with(1, |_| Op::Remove, NOW, clock);
     assert!( matches!(taken, Ok(CompResult::Removed(entry)) if entry.value == 3));
     assert!( !cache.contains_key(&1, NOW));
+    Ok(())
+}
+
+#[test]
+fn selects_a_key_to_insert() -> Result<(), Fail> {
+    let rt = HostRuntime;
+    let mut cache = empty(rt.alloc())?;
+    let clock = &mut FixedClock(NOW);
+    let put = cache.entry(1).or_insert(10, NOW, clock);
+    assert!( matches!(put, Ok(entry) if entry.is_fresh));
+    let found = cache.entry(1).or_insert_with(|| 20, NOW, clock);
+    assert!( matches!(found, Ok(entry) if !entry.is_fresh && entry.value == 10));
+    let declined = cache
+        .entry(2)
+        .or_optionally_insert_with(|| None, NOW, clock);
+    assert!( matches!(declined, Ok(None)));
+    let failed = cache.entry(2).or_try_insert_with(|| Err(7), NOW, clock);
+    assert!( matches!(failed, Ok(Err(7))));
+    Ok(())
+}
+
+#[test]
+fn selects_a_key_to_compute() -> Result<(), Fail> {
+    let rt = HostRuntime;
+    let mut cache = empty(rt.alloc())?;
+    let clock = &mut FixedClock(NOW);
+    let one_more = |seen: Option<u64>| seen.unwrap_or(0).saturating_add(1);
+    let first = cache.entry(1).and_upsert_with(one_more, NOW, clock);
+    assert!( matches!(first, Ok(entry) if !entry.is_old_value_replaced && entry.value == 1));
+    let taken = cache.entry(1).and_compute_with(|_| Op::Remove, NOW, clock);
+    assert!( matches!(taken, Ok(CompResult::Removed(entry)) if entry.value == 1));
+    assert!( !cache.contains_key(&1, NOW));
+    Ok(())
+}
+
+fn timed(alloc: Global) -> Result<TimedCache<u64, u64, ManualClock>, Fail> {
+    match TimedCache::build(CacheConfig::default(), alloc, ManualClock { now: NOW }) {
+        Ok(cache) => Ok(cache),
+        Err(_) => Err("memory".into()),
+    }
+}
+
+#[test]
+fn selects_a_key_to_insert_by_its_own_clock() -> Result<(), Fail> {
+    let rt = HostRuntime;
+    let mut cache = timed(rt.alloc())?;
+    let put = cache.entry(1).or_insert(10);
+    assert!( matches!(put, Ok(entry) if entry.is_fresh));
+    let found = cache.entry(1).or_insert_with(|| 20);
+    assert!( matches!(found, Ok(entry) if !entry.is_fresh && entry.value == 10));
+    let declined = cache.entry(2).or_optionally_insert_with(|| None);
+    assert!( matches!(declined, Ok(None)));
+    let failed = cache.entry(2).or_try_insert_with(|| Err(7));
+    assert!( matches!(failed, Ok(Err(7))));
+    Ok(())
+}
+
+#[test]
+fn selects_a_key_to_compute_by_its_own_clock() -> Result<(), Fail> {
+    let rt = HostRuntime;
+    let mut cache = timed(rt.alloc())?;
+    let first = cache.entry(1).and_upsert_with(|_| 5);
+    assert!( matches!(first, Ok(entry) if !entry.is_old_value_replaced && entry.value == 5));
+    let taken = cache.entry(1).and_compute_with(|_| Op::Remove);
+    assert!( matches!(taken, Ok(CompResult::Removed(entry)) if entry.value == 5));
+    assert!( !cache.contains_key(&1));
     Ok(())
 }
 
