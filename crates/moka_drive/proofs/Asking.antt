@@ -17,7 +17,7 @@ use Rattle.moka_parts.specs.Causes.{cause_of_removal}
 use Rattle.moka_parts.specs.Maintenance.{Terms, Course}
 use Rattle.moka_parts.specs.Settling.{IsWellNumbered}
 use Rattle.moka_parts.specs.Surroundings.{Leads, Heard}
-use Rattle.moka_parts.specs.Calls.{no_events, only_notices, Unchanged, InsertStep, GetStep, GetsAt, ContainsStep, RemoveStep, RemovesAt, NotifyStep}
+use Rattle.moka_parts.specs.Calls.{no_events, only_notices, Unchanged, InsertStep, GetStep, GetsAt, ContainsStep, RemoveStep, NotifyStep}
 use Rattle.moka_parts.specs.Copies.{IsCopiedAnswer, IsEntryCopy, IsKvEntryCopy, NotifiesOfCopy}
 use Rattle.moka_parts.specs.Visibility.{IsShown}
 use Rattle.moka_parts.specs.Runs.{Cache, Befalls}
@@ -28,6 +28,8 @@ use Rattle.moka_drive.specs.Synchronous.{Made, Makes, Posts, InsertsEntry, GetsV
 use Rattle.moka_drive.proofs.Made.{nothing_befalls, made_one, made_then, made_more, befalls_more}
 use Rattle.moka_drive.proofs.Waiting.{insert_hands_out, insert_hands_back, get_alike}
 use Rattle.moka_drive.proofs.Posting.{listed_run_alike}
+use Rattle.moka_drive.proofs.Limits.{remove_limits}
+use Rattle.moka_drive.proofs.Quiet.{befalls_after}
 
 -- ---- inserts
 
@@ -221,27 +223,6 @@ module _ {K V L : Type 0} (is_key_clone : K → K → Type 0) (is_value_clone : 
         | inr c ↦ one c (subst (λ ns. Heard tells before ns after) told heard)
       ]
 
--- a removal changes no setting
-removal_keeps_settings : {K V X P W : Type 0} (eq : K → K → Bool) (s t : State K V X P W) (key : K) (a : Option (KvEntry K V × Ticket)) → RemoveStep eq s key a t → t.settings ≡ s.settings
-removal_keeps_settings {K} {V} {X} {P} {W} eq s t key a step = at (record_of_key eq s.records key) step
-  where
-    at : (o : Option (Record K V)) → RemovesAt s o a t → t.settings ≡ s.settings
-    at None (none, same) = ap (λ (x : State K V X P W). x.settings) same
-    at (Some r) (entry, same) = ap (λ (x : State K V X P W). x.settings) same
-
-module _ {K V S X L P W : Type 0} (tells : L → K → V → RemovalCause → L → Type 0) where
-  -- where nothing happened before the notices, they are all that befalls the cache
-  befalls_then : (ns : List (Notice K V)) (old mid new : Cache K V S X L P W) → mid.listener ≡ old.listener → Befalls tells no_events old mid → Befalls tells (only_notices ns) mid new → Befalls tells (only_notices ns) old new
-  befalls_then ns old mid new same before after =
-      let name : mid.name ≡ old.name = ap (λ (c : Cache K V S X L P W). c.name) before.kept in
-      let hasher : mid.hasher ≡ old.hasher = ap (λ (c : Cache K V S X L P W). c.hasher) before.kept in
-      record {
-        kept = after.kept ∙ ap (λ n. record mid { name = n; state = new.state; listener = new.listener; write_list = new.write_list; passes = new.passes }) name ∙ ap (λ h. record old { hasher = h; state = new.state; listener = new.listener; write_list = new.write_list; passes = new.passes }) hasher;
-        heard = subst (λ l. Heard tells l ns new.listener) same after.heard;
-        passes = after.passes ∙ before.passes;
-        listed = λ none. after.listed none ∙ before.listed refl;
-      }
-
 module _ {K V S X L P W C : Type 0} (is_key_clone : K → K → Type 0) (is_value_clone : V → V → Type 0) (m : Meaning K V X L P W C (Unit {0})) (key : K) (hash : ℕ) (now : Instant) (old mid : Cache K V S X L P W) (clock : C) where
   abbrev hears : Meaning K V X L P W C (Unit {0})
   hears = record m { tells = hears_clones is_key_clone is_value_clone m.tells }
@@ -260,14 +241,14 @@ module _ {K V S X L P W C : Type 0} (is_key_clone : K → K → Type 0) (is_valu
     -- the removal with its notice
     removed_and_told : Made hears (call.Remove key hash (Some now) ∷ []) (reply.Remove (Some (entry, ticket)) (Some told) ∷ []) old clock third clock
     removed_and_told =
-        let settings = removal_keeps_settings m.eq old.state mid.state key (Some (entry, ticket)) step in
+        let settings = (remove_limits m.eq old.state mid.state key (Some (entry, ticket)) step).settings in
         let h = heard_of_clones is_key_clone is_value_clone m.tells mid.state.settings entry now told mid.listener third.listener notices notified befell_notice.heard in
         let own : NotifyStep old.state.settings entry now told h.notices = subst (λ settings. NotifyStep settings entry now told h.notices) settings h.step in
         let notice : Befalls hears.tells (only_notices h.notices) mid third = record { kept = befell_notice.kept; heard = h.heard; passes = befell_notice.passes; listed = befell_notice.listed } in
         let first = befalls_more m (hears_clones is_key_clone is_value_clone m.tells) (λ l k v cause after step. inl step) no_events old mid befell in
         made_one hears old third clock clock (call.Remove key hash (Some now)) (reply.Remove (Some (entry, ticket)) (Some told)) (only_notices h.notices)
         (subst (RemoveStep m.eq old.state key (Some (entry, ticket))) (sym same) step, own, refl)
-        (befalls_then hears.tells h.notices old mid third (heard_nothing m.tells old.listener mid.listener befell.heard) first notice) refl refl tt
+        (befalls_after hears.tells h.notices old mid third (heard_nothing m.tells old.listener mid.listener befell.heard) first notice) refl refl tt
 
     -- and its ticket posted
     pub took : (new : Cache K V S X L P W) (clock_after : C) → Makes m (Posts now ticket) third clock new clock_after → Makes hears (RemovesEntry key hash now (Some (entry.value, told))) old clock new clock_after

@@ -1,8 +1,11 @@
-pub mod Quiet
 pub mod Made
+pub mod Quiet
+pub mod Limits
 pub mod Waiting
 pub mod Posting
 pub mod Asking
+pub mod Gone
+pub mod Given
 pub mod ByTest
 pub mod Stays
 pub mod Put

@@ -18,6 +18,16 @@ use Rattle.moka_parts.proofs.RunsGoOn.{Leads-append, Heard-append, MakesCalls_pu
 use Rattle.moka_parts.proofs.OrderedDrive.{listed_call_promised}
 use Rattle.moka_drive.specs.Synchronous.{Made, IsSentInOrder, AreSentInOrder}
 
+-- ---- lists that are the same
+
+pub heads : {A : Type 0} (x y : A) (xs ys : List A) → x ∷ xs ≡ y ∷ ys → x ≡ y
+heads x y xs ys e = cc
+
+pub tails : {A : Type 0} (x y : A) (xs ys : List A) → x ∷ xs ≡ y ∷ ys → xs ≡ ys
+tails x y xs ys e = cc
+
+-- ---- calls
+
 -- who is told nothing stays the same
 pub nothing_heard : {K V L : Type 0} (tells : L → K → V → RemovalCause → L → Type 0) (l : Option L) → Heard tells l [] l
 nothing_heard tells None = refl

@@ -11,8 +11,6 @@ use Rattle.moka_parts.specs.declared.error.OutOfMemory.{OutOfMemory}
 use Rattle.moka_parts.specs.declared.notification.RemovalCause.{RemovalCause}
 use Rattle.moka_parts.specs.Records.{Notice, record_of_key}
 use Rattle.moka_parts.specs.declared.calls.Entry.{Entry}
-use Rattle.moka_parts.specs.declared.calls.KvEntry.{KvEntry}
-use Rattle.moka_parts.specs.declared.calls.Ticket.{Ticket}
 use Rattle.moka_parts.specs.declared.records.ReadOperation.{ReadOperation}
 use Rattle.moka_parts.specs.declared.records.ReadOperation.TheVariants.{Miss}
 use Rattle.moka_parts.specs.declared.records.Record.{Record}
@@ -20,25 +18,17 @@ use Rattle.moka_parts.specs.Housekeeping.{is_due}
 use Rattle.moka_parts.specs.State.{State, Events, Meaning, is_disabled}
 use Rattle.moka_parts.specs.Maintenance.{Terms, Course}
 use Rattle.moka_parts.specs.Surroundings.{Heard}
-use Rattle.moka_parts.specs.Calls.{no_events, only_notices, GetsAt, GetStep, after_hit, hit_at, hit_operation, KeeperRun, KeysStep, RecordsRead, RemoveStep, RemovesAt, Unchanged}
+use Rattle.moka_parts.specs.Calls.{no_events, only_notices, GetsAt, GetStep, after_hit, hit_at, hit_operation, KeeperRun, KeysStep, RecordsRead, Unchanged}
 use Rattle.moka_parts.specs.Copies.{ClonesAreEqual, IsCopy}
 use Rattle.moka_parts.specs.Runs.{Cache, Befalls, CallStep, MakesCalls}
 use Rattle.moka_parts.proofs.Copies.{copy-same}
 use Rattle.moka_drive.specs.Replies.{TellsPending}
+use Rattle.moka_drive.proofs.Made.{nothing_heard}
 
 -- a list of no length is empty
 pub empty_of_length : {A : Type 0} (xs : List A) → length xs ≡ 0 → xs ≡ []
 empty_of_length [] e = refl
 empty_of_length (x ∷ xs) e = cc
-
--- who is told nothing stays the same
-nothing_heard : {K V L : Type 0} (tells : L → K → V → RemovalCause → L → Type 0) (l : Option L) → Heard tells l [] l
-nothing_heard tells None = refl
-nothing_heard tells (Some l) = refl
-
--- no event befalls a cache that stays the same
-pub nothing_befalls : {K V S X L P W : Type 0} (tells : L → K → V → RemovalCause → L → Type 0) (c : Cache K V S X L P W) → Befalls tells no_events c c
-nothing_befalls tells c = record { kept = refl; heard = nothing_heard tells c.listener; passes = refl; listed = λ none. refl }
 
 -- before the first call
 pub no_calls : {K V S X L P W C I : Type 0} (m : Meaning K V X L P W C I) (Runs : State K V X P W → Terms → Course → List (Notice K V) → State K V X P W → Type 0) (c : Cache K V S X L P W) (clock : C) (ids : I) → MakesCalls m Runs [] [] [] c clock ids c clock ids
@@ -83,14 +73,6 @@ pub pending_step : {K V X L P W C I : Type 0} (m : Meaning K V X L P W C I) (Run
 pending_step m Runs s (reply.Pending handed oldest writes reads) told = (told.0, told.1, told.2, told.3, (refl, refl))
 pending_step m Runs s r told = absurd told
 
--- a removal changes no setting
-pub removal_keeps_settings : {K V X P W : Type 0} (eq : K → K → Bool) (s t : State K V X P W) (key : K) (a : Option (KvEntry K V × Ticket)) → RemoveStep eq s key a t → t.settings ≡ s.settings
-removal_keeps_settings {K} {V} {X} {P} {W} eq s t key a step = at (record_of_key eq s.records key) step
-  where
-    at : (o : Option (Record K V)) → RemovesAt s o a t → t.settings ≡ s.settings
-    at None (none, same) = ap (λ (x : State K V X P W). x.settings) same
-    at (Some r) (entry, same) = ap (λ (x : State K V X P W). x.settings) same
-
 -- who was told nothing is still the same
 heard_nothing : {K V L : Type 0} (tells : L → K → V → RemovalCause → L → Type 0) (l m : Option L) → Heard tells l [] m → m ≡ l
 heard_nothing tells None None h = refl
@@ -100,9 +82,8 @@ heard_nothing tells (Some l) None h = absurd h
 
 module _ {K V S X L P W : Type 0} (tells : L → K → V → RemovalCause → L → Type 0) where
   -- where nothing happened before the notices, they are all that befalls the cache
-  pub befalls_then : (ns : List (Notice K V)) (old mid new : Cache K V S X L P W) → Befalls tells no_events old mid → Befalls tells (only_notices ns) mid new → Befalls tells (only_notices ns) old new
-  befalls_then ns old mid new before after =
-      let same = heard_nothing tells old.listener mid.listener before.heard in
+  pub befalls_after : (ns : List (Notice K V)) (old mid new : Cache K V S X L P W) → mid.listener ≡ old.listener → Befalls tells no_events old mid → Befalls tells (only_notices ns) mid new → Befalls tells (only_notices ns) old new
+  befalls_after ns old mid new same before after =
       let name : mid.name ≡ old.name = ap (λ (c : Cache K V S X L P W). c.name) before.kept in
       let hasher : mid.hasher ≡ old.hasher = ap (λ (c : Cache K V S X L P W). c.hasher) before.kept in
       record {
@@ -111,3 +92,6 @@ module _ {K V S X L P W : Type 0} (tells : L → K → V → RemovalCause → L 
         passes = after.passes ∙ before.passes;
         listed = λ none. after.listed none ∙ before.listed refl;
       }
+
+  pub befalls_then : (ns : List (Notice K V)) (old mid new : Cache K V S X L P W) → Befalls tells no_events old mid → Befalls tells (only_notices ns) mid new → Befalls tells (only_notices ns) old new
+  befalls_then ns old mid new before after = befalls_after ns old mid new (heard_nothing tells old.listener mid.listener before.heard) before after

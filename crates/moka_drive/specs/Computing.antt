@@ -5,6 +5,8 @@ use Rattle.moka_parts.specs.declared.calls.Reply.{Reply}
 use Rattle.moka_parts.specs.declared.error.InsertRefused.{InsertRefused}
 use Rattle.moka_parts.specs.declared.error.OutOfMemory.{OutOfMemory}
 use Rattle.moka_parts.specs.declared.policy.Instant.{Instant}
+use Rattle.moka_parts.specs.State.{Meaning}
+use Rattle.moka_parts.specs.Copies.{IsCopiedAnswer}
 use Rattle.moka_parts.specs.Texts.{out_of_memory_text, insert_text}
 use Rattle.moka_drive.specs.declared.compute.CompResult.{CompResult}
 use Rattle.moka_drive.specs.declared.compute.CompResult.TheVariants.{Inserted, ReplacedWith, Removed, StillNone, Unchanged}
@@ -15,8 +17,9 @@ use Rattle.moka_drive.specs.declared.compute.Op.TheVariants.{Nop, Put, Remove}
 use Rattle.moka_drive.specs.declared.entry.CacheEntry.{CacheEntry}
 use Rattle.moka_drive.specs.declared.error.GetWithRefused.{GetWithRefused}
 use Rattle.moka_drive.specs.declared.error.GetWithRefused.TheVariants as get_with_refused
+use Rattle.moka_drive.specs.Counters.{after_look_up}
 use Rattle.moka_drive.specs.Entries.{IsFound, IsFresh}
-use Rattle.moka_drive.specs.Synchronous.{GetsValue, InsertsMade, RemovesEntry}
+use Rattle.moka_drive.specs.Synchronous.{Synchronous, Makes, GetsValue, InsertsMade, RemovesEntry}
 
 -- calls that fit the first, and then calls that fit the second
 abbrev pub InTurn : {K V P : Type 0} → (List (Call K V P) → List (Reply K V P) → Type 0) → (List (Call K V P) → List (Reply K V P) → Type 0) → List (Call K V P) → List (Reply K V P) → Type 0
@@ -108,6 +111,29 @@ module _ {K V : Type 0} (is_key_clone : K → K → Type 0) (is_clone : V → V 
   HandsOutComputed (Ok seen) None result = ⊥
   HandsOutComputed (Err refused) None (Err (compute_refused.Lookup k)) = k ≡ key
   HandsOutComputed (Err refused) did result = ⊥
+
+-- ---- what a call that computes promises
+
+module _ {K V S X L P W C : Type 0} (m : Meaning K V X L P W C (Unit {0})) (is_key_clone : K → K → Type 0) (is_clone : V → V → Type 0) (key : K) (hash : ℕ) (now : Instant) (old : Synchronous K V S X L P W) (clock : C) (new : Synchronous K V S X L P W) (clock_after : C) where
+  -- the function sees a clone of what was found, and what it makes of that is put
+  abbrev pub AndUpserts : (Option V → V → Type 0) → Result (CacheEntry K V) (GetWithRefused K V) → Type 0
+  AndUpserts Answers result = (own : Result (Option V) OutOfMemory) × (got : Result (Option V) OutOfMemory)
+      × IsCopiedAnswer is_clone own got
+      × (put : Option (V × Result V (InsertRefused K V)))
+      × IsUpsertOf Answers got put
+      × HandsOutUpserted is_key_clone is_clone key got put result
+      × Makes m (Upserts key hash now own put) old.engine clock new.engine clock_after
+      × (new.stats ≡ after_look_up got old.stats)
+
+  -- the function sees a clone of what was found, and what it answers is done
+  abbrev pub AndComputes : (Option V → Op V → Type 0) → Result (CompResult K V) (ComputeRefused K V) → Type 0
+  AndComputes Answers result = (own : Result (Option V) OutOfMemory) × (got : Result (Option V) OutOfMemory)
+      × IsCopiedAnswer is_clone own got
+      × (done : Option (Computed K V))
+      × IsComputedBy Answers got done
+      × HandsOutComputed is_key_clone is_clone key got done result
+      × Makes m (Computes key hash now own done) old.engine clock new.engine clock_after
+      × (new.stats ≡ after_look_up got old.stats)
 
 -- ---- what refusals print
 

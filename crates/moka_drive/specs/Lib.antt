@@ -6,9 +6,11 @@ pub mod Laws
 pub mod Texts
 pub mod Counters
 pub mod Visible
+pub mod Given
 pub mod Saved
 pub mod Counted
 pub mod Removed
 pub mod Entries
 pub mod Computing
 pub mod Many
+pub mod Limits

@@ -18,7 +18,7 @@ use Rattle.moka_parts.specs.Runs.{Cache, Step, MakesCalls, PromisedRun}
 use Rattle.moka_parts.specs.Listed.{AreListedSteps}
 use Rattle.moka_drive.specs.declared.error.NotTold.{NotTold}
 use Rattle.moka_drive.specs.declared.stats.Stats.{Stats}
-use Rattle.moka_drive.specs.Counters.{no_stats}
+use Rattle.moka_drive.specs.Counters.{no_stats, after_get_with}
 use Rattle.moka_drive.specs.declared.error.GetWithRefused.{GetWithRefused}
 use Rattle.moka_drive.specs.declared.error.GetWithRefused.TheVariants.{Lookup, Insert}
 
@@ -189,3 +189,30 @@ HandsOutIfNoError is_clone key (Ok (Ok own)) (Ok (Ok value)) = is_clone own valu
 HandsOutIfNoError is_clone key (Ok (Err error)) (Ok (Err e)) = e ≡ error
 HandsOutIfNoError is_clone key (Err refused) (Err r) = HandsOutMade is_clone key (Err refused) (Err r)
 HandsOutIfNoError is_clone key own result = ⊥
+
+-- ---- what a call with a maker promises
+
+module _ {K V S X L P W C : Type 0} (m : Meaning K V X L P W C (Unit {0})) (is_clone : V → V → Type 0) (key : K) (hash : ℕ) (now : Instant) (old : Synchronous K V S X L P W) (clock : C) (new : Synchronous K V S X L P W) (clock_after : C) where
+  -- a get, and only where it misses a value is made, as the maker makes it; what is handed out, the calls that were made, and what was counted
+  abbrev pub GetsWith : (V → Type 0) → Result V (GetWithRefused K V) → Type 0
+  GetsWith Answers result = (made : Option V) × (own : Result V (Option (InsertRefused K V)))
+      × ((value : V) → made ≡ Some value → Answers value)
+      × HandsOutMade is_clone key own result
+      × Makes m (GetsOrInserts key hash now made own) old.engine clock new.engine clock_after
+      × (new.stats ≡ after_get_with made own old.stats)
+
+  -- the same where the maker may decline
+  abbrev pub GetsWithIfMade : (Option V → Type 0) → Result (Option V) (GetWithRefused K V) → Type 0
+  GetsWithIfMade Answers result = (made : Option (Option V)) × (own : Result (Option V) (Option (InsertRefused K V)))
+      × ((answer : Option V) → made ≡ Some answer → Answers answer)
+      × HandsOutIfMade is_clone key own result
+      × Makes m (GetsOrInsertsIfMade key hash now made own) old.engine clock new.engine clock_after
+      × (new.stats ≡ after_get_with made own old.stats)
+
+  -- or fail
+  abbrev pub GetsWithIfNoError : {E : Type 0} → (Result V E → Type 0) → Result (Result V E) (GetWithRefused K V) → Type 0
+  GetsWithIfNoError {E} Answers result = (made : Option (Result V E)) × (own : Result (Result V E) (Option (InsertRefused K V)))
+      × ((answer : Result V E) → made ≡ Some answer → Answers answer)
+      × HandsOutIfNoError is_clone key own result
+      × Makes m (GetsOrInsertsIfNoError key hash now made own) old.engine clock new.engine clock_after
+      × (new.stats ≡ after_get_with made own old.stats)

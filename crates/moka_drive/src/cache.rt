@@ -17,9 +17,9 @@ ghost use Rattle.moka_parts.specs.declared.error.OutOfMemory.{OutOfMemory};
 ghost use Rattle.moka_parts.specs.declared.records.Operation.{Operation};
 ghost use Rattle.moka_parts.specs.declared.records.Record.{Record};
 ghost use Rattle.moka_drive.specs.Unsent.{HoldsUnsent, HidesNoMore, IsThere, ShowsWrites};
-ghost use Rattle.moka_drive.specs.Counters.{after_look_up, after_load, after_get_with};
+ghost use Rattle.moka_drive.specs.Counters.{after_look_up, after_load};
 ghost use Rattle.moka_drive.specs.Saved.{AreAllMembers, KeepsRecords};
-ghost use Rattle.moka_drive.specs.Synchronous.{fresh, value_found, InsertsMade, HandsOutOwn, HandsOutIfMade, HandsOutIfNoError, GetsOrInsertsIfMade, GetsOrInsertsIfNoError, Makes, meaning_of, hears_clones, Just, own_run, Posts, InsertsEntry, GetsValue, RemovesEntry, GetsOrInserts, HandsOutMade, removed, invalidated};
+ghost use Rattle.moka_drive.specs.Synchronous.{fresh, value_found, InsertsMade, HandsOutOwn, Makes, meaning_of, hears_clones, Just, own_run, Posts, InsertsEntry, GetsValue, RemovesEntry, removed, invalidated, GetsWith, GetsWithIfMade, GetsWithIfNoError};
 
 use crate::error::{GetWithRefused, NotTold};
 use crate::stats::Stats;
@@ -344,6 +344,7 @@ impl<
             × Makes (meaning_of K.eq (hears_clones K.is_clone V.is_clone L.tells) P.says W.weighs C.reads X.created X.read X.updated)
             (RemovesEntry key.now (S.Hasher.finish (fold S.Hasher.write (S.build_hasher self.old.engine.hasher) (K.hash_input key.now))) now taken)
             self.old.engine clock.old self.new.engine clock.new }
+        ensures gone { record_of_key K.eq self.new.engine.state.records key.now ≡ None }
         ensures counted { self.new.stats ≡ self.old.stats }
     {
         let hash = self.engine.hash(key);
@@ -374,6 +375,7 @@ impl<
             × Makes (meaning_of K.eq (hears_clones K.is_clone V.is_clone L.tells) P.says W.weighs C.reads X.created X.read X.updated)
             (RemovesEntry key.now (S.Hasher.finish (fold S.Hasher.write (S.build_hasher self.old.engine.hasher) (K.hash_input key.now))) now taken)
             self.old.engine clock.old self.new.engine clock.new }
+        ensures gone { record_of_key K.eq self.new.engine.state.records key.now ≡ None }
         ensures counted { self.new.stats ≡ self.old.stats }
     {
         let hash = self.engine.hash(key);
@@ -402,6 +404,7 @@ impl<
         ensures made { Makes (meaning_of K.eq (hears_clones K.is_clone V.is_clone L.tells) P.says W.weighs C.reads X.created X.read X.updated)
             (RemovesEntry key.now (S.Hasher.finish (fold S.Hasher.write (S.build_hasher self.old.engine.hasher) (K.hash_input key.now))) now result)
             self.old.engine clock.old self.new.engine clock.new }
+        ensures gone { record_of_key K.eq self.new.engine.state.records key.now ≡ None }
         ensures counted { self.new.stats ≡ self.old.stats }
     {
         self.engine.invariant_holds();
@@ -432,13 +435,9 @@ impl<
         V: Clone + Drop,
         P: Drop,
         requires callable { ContainsStep P.says K.eq self.old.engine.state key now.0 false → F.pre init }
-        ensures { (made : Option V) × (own : Result V (Option (InsertRefused K V)))
-            × ((value : V) → made ≡ Some value → F.post init value)
-            × HandsOutMade V.is_clone key own result
-            × Makes (meaning_of K.eq L.tells P.says W.weighs C.reads X.created X.read X.updated)
-            (GetsOrInserts key (S.Hasher.finish (fold S.Hasher.write (S.build_hasher self.old.engine.hasher) (K.hash_input key))) now made own)
-            self.old.engine clock.old self.new.engine clock.new
-            × (self.new.stats ≡ after_get_with made own self.old.stats) }
+        ensures { GetsWith (meaning_of K.eq L.tells P.says W.weighs C.reads X.created X.read X.updated)
+            V.is_clone key (S.Hasher.finish (fold S.Hasher.write (S.build_hasher self.old.engine.hasher) (K.hash_input key))) now
+            self.old clock.old self.new clock.new (F.post init) result }
     {
         let hash = self.engine.hash(&key);
         match self.get_hashed(&key, hash, now, clock) {
@@ -470,13 +469,9 @@ impl<
         V: Clone + Drop,
         P: Drop,
         requires callable { ContainsStep P.says K.eq self.old.engine.state key now.0 false → F.pre init }
-        ensures { (made : Option (Option V)) × (own : Result (Option V) (Option (InsertRefused K V)))
-            × ((answer : Option V) → made ≡ Some answer → F.post init answer)
-            × HandsOutIfMade V.is_clone key own result
-            × Makes (meaning_of K.eq L.tells P.says W.weighs C.reads X.created X.read X.updated)
-            (GetsOrInsertsIfMade key (S.Hasher.finish (fold S.Hasher.write (S.build_hasher self.old.engine.hasher) (K.hash_input key))) now made own)
-            self.old.engine clock.old self.new.engine clock.new
-            × (self.new.stats ≡ after_get_with made own self.old.stats) }
+        ensures { GetsWithIfMade (meaning_of K.eq L.tells P.says W.weighs C.reads X.created X.read X.updated)
+            V.is_clone key (S.Hasher.finish (fold S.Hasher.write (S.build_hasher self.old.engine.hasher) (K.hash_input key))) now
+            self.old clock.old self.new clock.new (F.post init) result }
     {
         let hash = self.engine.hash(&key);
         match self.get_hashed(&key, hash, now, clock) {
@@ -510,13 +505,9 @@ impl<
         V: Clone + Drop,
         P: Drop,
         requires callable { ContainsStep P.says K.eq self.old.engine.state key now.0 false → F.pre init }
-        ensures { (made : Option (Result V E)) × (own : Result (Result V E) (Option (InsertRefused K V)))
-            × ((answer : Result V E) → made ≡ Some answer → F.post init answer)
-            × HandsOutIfNoError V.is_clone key own result
-            × Makes (meaning_of K.eq L.tells P.says W.weighs C.reads X.created X.read X.updated)
-            (GetsOrInsertsIfNoError key (S.Hasher.finish (fold S.Hasher.write (S.build_hasher self.old.engine.hasher) (K.hash_input key))) now made own)
-            self.old.engine clock.old self.new.engine clock.new
-            × (self.new.stats ≡ after_get_with made own self.old.stats) }
+        ensures { GetsWithIfNoError (meaning_of K.eq L.tells P.says W.weighs C.reads X.created X.read X.updated)
+            V.is_clone key (S.Hasher.finish (fold S.Hasher.write (S.build_hasher self.old.engine.hasher) (K.hash_input key))) now
+            self.old clock.old self.new clock.new (F.post init) result }
     {
         let hash = self.engine.hash(&key);
         match self.get_hashed(&key, hash, now, clock) {

@@ -1,11 +1,9 @@
 //! Entry calls that compute a key's value from the one that is there. moka: `ops::compute`, `sync::entry_selector`.
-ghost use Rattle.std.specs.Prelude.{◌≡◌, true, false, Option, Some, None, Result, Ok, Err, IfOk, option_copied};
+ghost use Rattle.std.specs.Prelude.{◌≡◌, Option, Some, None, Result, Ok, Err, option_copied};
 ghost use Rattle.std.specs.List.{fold};
-ghost use Rattle.moka_parts.specs.Copies.{IsCopiedAnswer};
 ghost use Rattle.moka_parts.specs.declared.error.InsertRefused.{InsertRefused};
 ghost use Rattle.moka_parts.specs.declared.error.OutOfMemory.{OutOfMemory};
-ghost use Rattle.moka_drive.specs.Computing.{Computed, Computes, HandsOutComputed, HandsOutComputedPut, HandsOutTaken, HandsOutUpserted, IsComputedBy, IsUpsertOf, Upserts};
-ghost use Rattle.moka_drive.specs.Counters.{after_look_up};
+ghost use Rattle.moka_drive.specs.Computing.{HandsOutComputedPut, HandsOutTaken, AndUpserts, AndComputes};
 ghost use Rattle.moka_drive.specs.Synchronous.{InsertsMade, Makes, RemovesEntry, hears_clones, meaning_of};
 
 use crate::cache::Cache;
@@ -103,15 +101,9 @@ impl<
         V: Clone + Drop,
         P: Drop,
         requires callable { F.IsAlwaysCallable f }
-        ensures { (own : Result (Option V) OutOfMemory) × (got : Result (Option V) OutOfMemory)
-            × IsCopiedAnswer V.is_clone own got
-            × (put : Option (V × Result V (InsertRefused K V)))
-            × IsUpsertOf (F.post f) got put
-            × HandsOutUpserted K.is_clone V.is_clone key got put result
-            × Makes (meaning_of K.eq L.tells P.says W.weighs C.reads X.created X.read X.updated)
-            (Upserts key (S.Hasher.finish (fold S.Hasher.write (S.build_hasher self.old.engine.hasher) (K.hash_input key))) now own put)
-            self.old.engine clock.old self.new.engine clock.new
-            × (self.new.stats ≡ after_look_up got self.old.stats) }
+        ensures { AndUpserts (meaning_of K.eq L.tells P.says W.weighs C.reads X.created X.read X.updated)
+            K.is_clone V.is_clone key (S.Hasher.finish (fold S.Hasher.write (S.build_hasher self.old.engine.hasher) (K.hash_input key))) now
+            self.old clock.old self.new clock.new (F.post f) result }
     {
         let hash = self.engine().hash(&key);
         let seen = match self.get_hashed(&key, hash, now, clock) {
@@ -145,15 +137,9 @@ impl<
         V: Clone + Drop,
         P: Drop,
         requires callable { F.IsAlwaysCallable f }
-        ensures { (own : Result (Option V) OutOfMemory) × (got : Result (Option V) OutOfMemory)
-            × IsCopiedAnswer V.is_clone own got
-            × (done : Option (Computed K V))
-            × IsComputedBy (λ seen op. (x : _) × (option_copied x ≡ seen) × F.post f x op) got done
-            × HandsOutComputed K.is_clone V.is_clone key got done result
-            × Makes (meaning_of K.eq (hears_clones K.is_clone V.is_clone L.tells) P.says W.weighs C.reads X.created X.read X.updated)
-            (Computes key (S.Hasher.finish (fold S.Hasher.write (S.build_hasher self.old.engine.hasher) (K.hash_input key))) now own done)
-            self.old.engine clock.old self.new.engine clock.new
-            × (self.new.stats ≡ after_look_up got self.old.stats) }
+        ensures { AndComputes (meaning_of K.eq (hears_clones K.is_clone V.is_clone L.tells) P.says W.weighs C.reads X.created X.read X.updated)
+            K.is_clone V.is_clone key (S.Hasher.finish (fold S.Hasher.write (S.build_hasher self.old.engine.hasher) (K.hash_input key))) now
+            self.old clock.old self.new clock.new (λ seen op. (x : _) × (option_copied x ≡ seen) × F.post f x op) result }
     {
         let hash = self.engine().hash(&key);
         let seen = match self.get_hashed(&key, hash, now, clock) {

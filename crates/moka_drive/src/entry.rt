@@ -1,13 +1,12 @@
 //! Entry calls: a look-up and what follows it in one call. moka: `sync::entry_selector`.
 //!
 //! `cache.entry(key).or_insert(value, ..)` is `cache.get_or_insert(key, value, ..)`, and so on: each call names moka's.
-ghost use Rattle.std.specs.Prelude.{◌≡◌, true, false, Option, Some, None, Result, Ok, Err, IfOk, IfSome};
+ghost use Rattle.std.specs.Prelude.{◌≡◌, true, false, Option, Some, None, Result, Ok, Err, IfOk};
 ghost use Rattle.std.specs.List.{fold};
 ghost use Rattle.moka_parts.specs.Calls.{ContainsStep};
 ghost use Rattle.moka_parts.specs.declared.error.InsertRefused.{InsertRefused};
-ghost use Rattle.moka_drive.specs.Counters.{after_get_with};
-ghost use Rattle.moka_drive.specs.Entries.{entry_value, entry_value_if_made, entry_value_if_no_error, IsEntryOf, IsFresh, HandsOutPut, after_get_or_insert};
-ghost use Rattle.moka_drive.specs.Synchronous.{Makes, meaning_of, InsertsMade, HandsOutOwn, HandsOutMade, HandsOutIfMade, HandsOutIfNoError, GetsOrInserts, GetsOrInsertsIfMade, GetsOrInsertsIfNoError};
+ghost use Rattle.moka_drive.specs.Entries.{entry_value, IsFresh, OrInserts, OrInsertsMade, OrInsertsIfMade, OrInsertsIfNoError};
+ghost use Rattle.moka_drive.specs.Synchronous.{Makes, meaning_of, InsertsMade, HandsOutOwn};
 
 use crate::cache::Cache;
 use crate::error::GetWithRefused;
@@ -57,14 +56,9 @@ impl<
         K: Clone + Drop,
         V: Clone + Drop,
         P: Drop,
-        ensures { (put : Option V) × (own : Result V (Option (InsertRefused K V)))
-            × ((v : V) → put ≡ Some v → v ≡ value)
-            × HandsOutPut V.is_clone key value own (entry_value result)
-            × IfOk result (IsEntryOf K.is_clone key put)
-            × Makes (meaning_of K.eq L.tells P.says W.weighs C.reads X.created X.read X.updated)
-            (GetsOrInserts key (S.Hasher.finish (fold S.Hasher.write (S.build_hasher self.old.engine.hasher) (K.hash_input key))) now put own)
-            self.old.engine clock.old self.new.engine clock.new
-            × (self.new.stats ≡ after_get_or_insert put own self.old.stats) }
+        ensures { OrInserts (meaning_of K.eq L.tells P.says W.weighs C.reads X.created X.read X.updated)
+            K.is_clone V.is_clone key (S.Hasher.finish (fold S.Hasher.write (S.build_hasher self.old.engine.hasher) (K.hash_input key))) now
+            self.old clock.old self.new clock.new value result }
     {
         let hash = self.engine().hash(&key);
         match self.get_hashed(&key, hash, now, clock) {
@@ -97,14 +91,9 @@ impl<
         V: Clone + Drop,
         P: Drop,
         requires callable { ContainsStep P.says K.eq self.old.engine.state key now.0 false → F.pre init }
-        ensures { (made : Option V) × (own : Result V (Option (InsertRefused K V)))
-            × ((value : V) → made ≡ Some value → F.post init value)
-            × HandsOutMade V.is_clone key own (entry_value result)
-            × IfOk result (IsEntryOf K.is_clone key made)
-            × Makes (meaning_of K.eq L.tells P.says W.weighs C.reads X.created X.read X.updated)
-            (GetsOrInserts key (S.Hasher.finish (fold S.Hasher.write (S.build_hasher self.old.engine.hasher) (K.hash_input key))) now made own)
-            self.old.engine clock.old self.new.engine clock.new
-            × (self.new.stats ≡ after_get_with made own self.old.stats) }
+        ensures { OrInsertsMade (meaning_of K.eq L.tells P.says W.weighs C.reads X.created X.read X.updated)
+            K.is_clone V.is_clone key (S.Hasher.finish (fold S.Hasher.write (S.build_hasher self.old.engine.hasher) (K.hash_input key))) now
+            self.old clock.old self.new clock.new (F.post init) result }
     {
         let hash = self.engine().hash(&key);
         match self.get_hashed(&key, hash, now, clock) {
@@ -137,14 +126,9 @@ impl<
         V: Clone + Drop,
         P: Drop,
         requires callable { ContainsStep P.says K.eq self.old.engine.state key now.0 false → F.pre init }
-        ensures { (made : Option (Option V)) × (own : Result (Option V) (Option (InsertRefused K V)))
-            × ((answer : Option V) → made ≡ Some answer → F.post init answer)
-            × HandsOutIfMade V.is_clone key own (entry_value_if_made result)
-            × IfOk result (λ found. IfSome found (IsEntryOf K.is_clone key made))
-            × Makes (meaning_of K.eq L.tells P.says W.weighs C.reads X.created X.read X.updated)
-            (GetsOrInsertsIfMade key (S.Hasher.finish (fold S.Hasher.write (S.build_hasher self.old.engine.hasher) (K.hash_input key))) now made own)
-            self.old.engine clock.old self.new.engine clock.new
-            × (self.new.stats ≡ after_get_with made own self.old.stats) }
+        ensures { OrInsertsIfMade (meaning_of K.eq L.tells P.says W.weighs C.reads X.created X.read X.updated)
+            K.is_clone V.is_clone key (S.Hasher.finish (fold S.Hasher.write (S.build_hasher self.old.engine.hasher) (K.hash_input key))) now
+            self.old clock.old self.new clock.new (F.post init) result }
     {
         let hash = self.engine().hash(&key);
         match self.get_hashed(&key, hash, now, clock) {
@@ -179,14 +163,9 @@ impl<
         V: Clone + Drop,
         P: Drop,
         requires callable { ContainsStep P.says K.eq self.old.engine.state key now.0 false → F.pre init }
-        ensures { (made : Option (Result V E)) × (own : Result (Result V E) (Option (InsertRefused K V)))
-            × ((answer : Result V E) → made ≡ Some answer → F.post init answer)
-            × HandsOutIfNoError V.is_clone key own (entry_value_if_no_error result)
-            × IfOk result (λ found. IfOk found (IsEntryOf K.is_clone key made))
-            × Makes (meaning_of K.eq L.tells P.says W.weighs C.reads X.created X.read X.updated)
-            (GetsOrInsertsIfNoError key (S.Hasher.finish (fold S.Hasher.write (S.build_hasher self.old.engine.hasher) (K.hash_input key))) now made own)
-            self.old.engine clock.old self.new.engine clock.new
-            × (self.new.stats ≡ after_get_with made own self.old.stats) }
+        ensures { OrInsertsIfNoError (meaning_of K.eq L.tells P.says W.weighs C.reads X.created X.read X.updated)
+            K.is_clone V.is_clone key (S.Hasher.finish (fold S.Hasher.write (S.build_hasher self.old.engine.hasher) (K.hash_input key))) now
+            self.old clock.old self.new clock.new (F.post init) result }
     {
         let hash = self.engine().hash(&key);
         match self.get_hashed(&key, hash, now, clock) {

@@ -1,15 +1,12 @@
 //! Entry calls by moka's names: `cache.entry(key)` hands out a selector, and each of its methods is one call of the cache.
 //! moka: `sync::entry_selector`.
-ghost use Rattle.std.specs.Prelude.{◌≡◌, false, Option, Some, None, Result, Ok, Err, IfOk, IfSome, option_copied};
+ghost use Rattle.std.specs.Prelude.{◌≡◌, false, Option, None, Result, option_copied};
 ghost use Rattle.std.specs.List.{fold};
 ghost use Rattle.moka_parts.specs.Calls.{ContainsStep};
-ghost use Rattle.moka_parts.specs.Copies.{IsCopiedAnswer};
 ghost use Rattle.moka_parts.specs.declared.error.InsertRefused.{InsertRefused};
-ghost use Rattle.moka_parts.specs.declared.error.OutOfMemory.{OutOfMemory};
-ghost use Rattle.moka_drive.specs.Computing.{Computed, Computes, HandsOutComputed, HandsOutUpserted, IsComputedBy, IsUpsertOf, Upserts};
-ghost use Rattle.moka_drive.specs.Counters.{after_get_with, after_look_up};
-ghost use Rattle.moka_drive.specs.Entries.{entry_value, entry_value_if_made, entry_value_if_no_error, IsEntryOf, HandsOutPut, after_get_or_insert};
-ghost use Rattle.moka_drive.specs.Synchronous.{Makes, meaning_of, hears_clones, HandsOutMade, HandsOutIfMade, HandsOutIfNoError, GetsOrInserts, GetsOrInsertsIfMade, GetsOrInsertsIfNoError};
+ghost use Rattle.moka_drive.specs.Computing.{AndUpserts, AndComputes};
+ghost use Rattle.moka_drive.specs.Entries.{OrInserts, OrInsertsMade, OrInsertsIfMade, OrInsertsIfNoError};
+ghost use Rattle.moka_drive.specs.Synchronous.{meaning_of, hears_clones};
 
 use crate::cache::Cache;
 use crate::compute::{CompResult, ComputeRefused, Op};
@@ -83,14 +80,9 @@ impl<
         K: Clone + Drop,
         V: Clone + Drop,
         P: Drop,
-        ensures { (put : Option V) × (own : Result V (Option (InsertRefused K V)))
-            × ((v : V) → put ≡ Some v → v ≡ value)
-            × HandsOutPut V.is_clone self.entry.key value own (entry_value result)
-            × IfOk result (IsEntryOf K.is_clone self.entry.key put)
-            × Makes (meaning_of K.eq L.tells P.says W.weighs C.reads X.created X.read X.updated)
-            (GetsOrInserts self.entry.key (S.Hasher.finish (fold S.Hasher.write (S.build_hasher self.entry.cache.now.engine.hasher) (K.hash_input self.entry.key))) now put own)
-            self.entry.cache.now.engine clock.old self.exit.0.now.engine clock.new
-            × (self.exit.0.now.stats ≡ after_get_or_insert put own self.entry.cache.now.stats) }
+        ensures { OrInserts (meaning_of K.eq L.tells P.says W.weighs C.reads X.created X.read X.updated)
+            K.is_clone V.is_clone self.entry.key (S.Hasher.finish (fold S.Hasher.write (S.build_hasher self.entry.cache.now.engine.hasher) (K.hash_input self.entry.key))) now
+            self.entry.cache.now clock.old self.exit.0.now clock.new value result }
     {
         let OwnedKeyEntrySelector { cache, key } = self;
         cache.get_or_insert(key, value, now, clock)
@@ -112,14 +104,9 @@ impl<
         V: Clone + Drop,
         P: Drop,
         requires callable { ContainsStep P.says K.eq self.cache.now.engine.state self.key now.0 false → F.pre init }
-        ensures { (made : Option V) × (own : Result V (Option (InsertRefused K V)))
-            × ((value : V) → made ≡ Some value → F.post init value)
-            × HandsOutMade V.is_clone self.entry.key own (entry_value result)
-            × IfOk result (IsEntryOf K.is_clone self.entry.key made)
-            × Makes (meaning_of K.eq L.tells P.says W.weighs C.reads X.created X.read X.updated)
-            (GetsOrInserts self.entry.key (S.Hasher.finish (fold S.Hasher.write (S.build_hasher self.entry.cache.now.engine.hasher) (K.hash_input self.entry.key))) now made own)
-            self.entry.cache.now.engine clock.old self.exit.0.now.engine clock.new
-            × (self.exit.0.now.stats ≡ after_get_with made own self.entry.cache.now.stats) }
+        ensures { OrInsertsMade (meaning_of K.eq L.tells P.says W.weighs C.reads X.created X.read X.updated)
+            K.is_clone V.is_clone self.entry.key (S.Hasher.finish (fold S.Hasher.write (S.build_hasher self.entry.cache.now.engine.hasher) (K.hash_input self.entry.key))) now
+            self.entry.cache.now clock.old self.exit.0.now clock.new (F.post init) result }
     {
         let OwnedKeyEntrySelector { cache, key } = self;
         cache.get_or_insert_with(key, init, now, clock)
@@ -141,14 +128,9 @@ impl<
         V: Clone + Drop,
         P: Drop,
         requires callable { ContainsStep P.says K.eq self.cache.now.engine.state self.key now.0 false → F.pre init }
-        ensures { (made : Option (Option V)) × (own : Result (Option V) (Option (InsertRefused K V)))
-            × ((answer : Option V) → made ≡ Some answer → F.post init answer)
-            × HandsOutIfMade V.is_clone self.entry.key own (entry_value_if_made result)
-            × IfOk result (λ found. IfSome found (IsEntryOf K.is_clone self.entry.key made))
-            × Makes (meaning_of K.eq L.tells P.says W.weighs C.reads X.created X.read X.updated)
-            (GetsOrInsertsIfMade self.entry.key (S.Hasher.finish (fold S.Hasher.write (S.build_hasher self.entry.cache.now.engine.hasher) (K.hash_input self.entry.key))) now made own)
-            self.entry.cache.now.engine clock.old self.exit.0.now.engine clock.new
-            × (self.exit.0.now.stats ≡ after_get_with made own self.entry.cache.now.stats) }
+        ensures { OrInsertsIfMade (meaning_of K.eq L.tells P.says W.weighs C.reads X.created X.read X.updated)
+            K.is_clone V.is_clone self.entry.key (S.Hasher.finish (fold S.Hasher.write (S.build_hasher self.entry.cache.now.engine.hasher) (K.hash_input self.entry.key))) now
+            self.entry.cache.now clock.old self.exit.0.now clock.new (F.post init) result }
     {
         let OwnedKeyEntrySelector { cache, key } = self;
         cache.get_or_optionally_insert_with(key, init, now, clock)
@@ -170,14 +152,9 @@ impl<
         V: Clone + Drop,
         P: Drop,
         requires callable { ContainsStep P.says K.eq self.cache.now.engine.state self.key now.0 false → F.pre init }
-        ensures { (made : Option (Result V E)) × (own : Result (Result V E) (Option (InsertRefused K V)))
-            × ((answer : Result V E) → made ≡ Some answer → F.post init answer)
-            × HandsOutIfNoError V.is_clone self.entry.key own (entry_value_if_no_error result)
-            × IfOk result (λ found. IfOk found (IsEntryOf K.is_clone self.entry.key made))
-            × Makes (meaning_of K.eq L.tells P.says W.weighs C.reads X.created X.read X.updated)
-            (GetsOrInsertsIfNoError self.entry.key (S.Hasher.finish (fold S.Hasher.write (S.build_hasher self.entry.cache.now.engine.hasher) (K.hash_input self.entry.key))) now made own)
-            self.entry.cache.now.engine clock.old self.exit.0.now.engine clock.new
-            × (self.exit.0.now.stats ≡ after_get_with made own self.entry.cache.now.stats) }
+        ensures { OrInsertsIfNoError (meaning_of K.eq L.tells P.says W.weighs C.reads X.created X.read X.updated)
+            K.is_clone V.is_clone self.entry.key (S.Hasher.finish (fold S.Hasher.write (S.build_hasher self.entry.cache.now.engine.hasher) (K.hash_input self.entry.key))) now
+            self.entry.cache.now clock.old self.exit.0.now clock.new (F.post init) result }
     {
         let OwnedKeyEntrySelector { cache, key } = self;
         cache.get_or_try_insert_with(key, init, now, clock)
@@ -199,15 +176,9 @@ impl<
         V: Clone + Drop,
         P: Drop,
         requires callable { F.IsAlwaysCallable f }
-        ensures { (own : Result (Option V) OutOfMemory) × (got : Result (Option V) OutOfMemory)
-            × IsCopiedAnswer V.is_clone own got
-            × (put : Option (V × Result V (InsertRefused K V)))
-            × IsUpsertOf (F.post f) got put
-            × HandsOutUpserted K.is_clone V.is_clone self.entry.key got put result
-            × Makes (meaning_of K.eq L.tells P.says W.weighs C.reads X.created X.read X.updated)
-            (Upserts self.entry.key (S.Hasher.finish (fold S.Hasher.write (S.build_hasher self.entry.cache.now.engine.hasher) (K.hash_input self.entry.key))) now own put)
-            self.entry.cache.now.engine clock.old self.exit.0.now.engine clock.new
-            × (self.exit.0.now.stats ≡ after_look_up got self.entry.cache.now.stats) }
+        ensures { AndUpserts (meaning_of K.eq L.tells P.says W.weighs C.reads X.created X.read X.updated)
+            K.is_clone V.is_clone self.entry.key (S.Hasher.finish (fold S.Hasher.write (S.build_hasher self.entry.cache.now.engine.hasher) (K.hash_input self.entry.key))) now
+            self.entry.cache.now clock.old self.exit.0.now clock.new (F.post f) result }
     {
         let OwnedKeyEntrySelector { cache, key } = self;
         cache.upsert_with(key, f, now, clock)
@@ -229,15 +200,9 @@ impl<
         V: Clone + Drop,
         P: Drop,
         requires callable { F.IsAlwaysCallable f }
-        ensures { (own : Result (Option V) OutOfMemory) × (got : Result (Option V) OutOfMemory)
-            × IsCopiedAnswer V.is_clone own got
-            × (done : Option (Computed K V))
-            × IsComputedBy (λ seen op. (x : _) × (option_copied x ≡ seen) × F.post f x op) got done
-            × HandsOutComputed K.is_clone V.is_clone self.entry.key got done result
-            × Makes (meaning_of K.eq (hears_clones K.is_clone V.is_clone L.tells) P.says W.weighs C.reads X.created X.read X.updated)
-            (Computes self.entry.key (S.Hasher.finish (fold S.Hasher.write (S.build_hasher self.entry.cache.now.engine.hasher) (K.hash_input self.entry.key))) now own done)
-            self.entry.cache.now.engine clock.old self.exit.0.now.engine clock.new
-            × (self.exit.0.now.stats ≡ after_look_up got self.entry.cache.now.stats) }
+        ensures { AndComputes (meaning_of K.eq (hears_clones K.is_clone V.is_clone L.tells) P.says W.weighs C.reads X.created X.read X.updated)
+            K.is_clone V.is_clone self.entry.key (S.Hasher.finish (fold S.Hasher.write (S.build_hasher self.entry.cache.now.engine.hasher) (K.hash_input self.entry.key))) now
+            self.entry.cache.now clock.old self.exit.0.now clock.new (λ seen op. (x : _) × (option_copied x ≡ seen) × F.post f x op) result }
     {
         let OwnedKeyEntrySelector { cache, key } = self;
         cache.compute_with(key, f, now, clock)

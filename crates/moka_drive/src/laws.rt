@@ -1,6 +1,10 @@
 //! Laws of the calls that a synchronous cache made. None of these functions does anything: the contract of each is a law.
 ghost use Rattle.moka_drive.specs.Removed.{counting, CountsRemovals, PassesOn};
+ghost use Rattle.moka_drive.specs.Given.{GetWithHandsOut, OptionallyGetWithHandsOut, TryGetWithHandsOut};
+ghost use Rattle.moka_drive.specs.Limits.{CallsSetNoCapacity, KeepsLimits};
 ghost use Rattle.moka_drive.specs.Saved.{AnswersAlike};
+ghost use Rattle.moka_parts.specs.declared.policy.Instant.{Instant};
+ghost use Rattle.std.specs.Prelude.{ℕ};
 ghost use Rattle.moka_drive.specs.Synchronous.{meaning_of, hears_clones};
 ghost use Rattle.moka_drive.specs.Counted.{CountsCalls, AddsUp, SumsToLookUps};
 ghost use Rattle.moka_drive.specs.Laws.{GoesOn, KeepsPromises, AgesOut, HearsClones, HearsThemselves};
@@ -109,4 +113,68 @@ pub fn counts_removals<
 /// times are the same, and the second cache has no predicates and no invalidation of all.
 pub fn answers_as_before<K, V, X, P: PredicateFn<K, V>, W>()
     ensures { AnswersAlike {K = K} {V = V} X W P.says }
+{}
+
+/// What `get_with` hands out is a clone of a value that is visible at the moment of the call, or of one that the maker made
+/// since none was.
+pub fn get_with_hands_out<
+    K: Eq,
+    V: Clone,
+    S,
+    X: Expiry<K, V>,
+    L: Listener<K, V>,
+    P: PredicateFn<K, V>,
+    W: Weigher<K, V>,
+    C: Clock,
+    F: FnOnce() -> V,
+>()
+    ensures { GetWithHandsOut (meaning_of K.eq L.tells P.says W.weighs C.reads X.created X.read X.updated) V.is_clone S F.post }
+{}
+
+/// So is what `optionally_get_with` hands out; and nothing is handed out only if the maker declined.
+pub fn optionally_get_with_hands_out<
+    K: Eq,
+    V: Clone,
+    S,
+    X: Expiry<K, V>,
+    L: Listener<K, V>,
+    P: PredicateFn<K, V>,
+    W: Weigher<K, V>,
+    C: Clock,
+    F: FnOnce() -> Option<V>,
+>()
+    ensures { OptionallyGetWithHandsOut (meaning_of K.eq L.tells P.says W.weighs C.reads X.created X.read X.updated) V.is_clone S F.post }
+{}
+
+/// So is what `try_get_with` hands out; and an error within `Ok` is the maker's.
+pub fn try_get_with_hands_out<
+    K: Eq,
+    V: Clone,
+    S,
+    X: Expiry<K, V>,
+    L: Listener<K, V>,
+    P: PredicateFn<K, V>,
+    W: Weigher<K, V>,
+    C: Clock,
+    E,
+    F: FnOnce() -> Result<V, E>,
+>()
+    ensures { TryGetWithHandsOut (meaning_of K.eq L.tells P.says W.weighs C.reads X.created X.read X.updated) V.is_clone S F.post }
+{}
+
+/// Times, policy and the like stay as they were built, and so does the capacity unless a call sets it; and none of the calls
+/// that `insert`, `get`, `remove`, `get_with` and the entry calls stand for does.
+pub fn keeps_limits<
+    K: Eq,
+    V,
+    S,
+    X: Expiry<K, V>,
+    L: Listener<K, V>,
+    P: PredicateFn<K, V>,
+    W: Weigher<K, V>,
+    C: Clock,
+    E,
+>()
+    ensures limits { KeepsLimits S (meaning_of K.eq L.tells P.says W.weighs C.reads X.created X.read X.updated) }
+    ensures calls { (key : K) (hash : ℕ) (now : Instant) → CallsSetNoCapacity K V P E key hash now }
 {}

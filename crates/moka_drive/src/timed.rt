@@ -1,9 +1,10 @@
 //! A synchronous cache that owns its clock.
-ghost use Rattle.std.specs.Prelude.{◌≡◌, true, false, Option, Some, Result, IfOk, IfErr, OnErr, is_some, option_copied};
+ghost use Rattle.std.specs.Prelude.{◌≡◌, true, false, Option, Some, None, Result, IfOk, IfErr, OnErr, is_some, option_copied};
 ghost use Rattle.std.specs.List.{fold};
 ghost use Rattle.moka_parts.specs.Calls.{CapacityStep, ContainsStep, InvalidateStep, no_events, only_ids};
 ghost use Rattle.moka_parts.specs.Copies.{IsCopiedAnswer};
 ghost use Rattle.moka_parts.specs.Exact.{IsExact, IsWithin};
+ghost use Rattle.moka_parts.specs.Records.{record_of_key};
 ghost use Rattle.moka_parts.specs.Runs.{Befalls};
 ghost use Rattle.moka_parts.specs.State.{Events, is_disabled, limits_of};
 ghost use Rattle.moka_parts.specs.Surroundings.{Leads};
@@ -12,9 +13,9 @@ ghost use Rattle.moka_parts.specs.declared.error.InsertRefused.{InsertRefused};
 ghost use Rattle.moka_parts.specs.declared.error.OutOfMemory.{OutOfMemory};
 ghost use Rattle.moka_parts.specs.declared.policy.Instant.{Instant};
 ghost use Rattle.moka_engine.specs.Config.{new_cache};
-ghost use Rattle.moka_drive.specs.Counters.{after_look_up, after_get_with};
+ghost use Rattle.moka_drive.specs.Counters.{after_look_up};
 ghost use Rattle.moka_drive.specs.Unsent.{IsThere, ShowsWrites};
-ghost use Rattle.moka_drive.specs.Synchronous.{fresh, Makes, meaning_of, hears_clones, Just, own_run, InsertsEntry, GetsValue, RemovesEntry, GetsOrInserts, GetsOrInsertsIfMade, GetsOrInsertsIfNoError, HandsOutMade, HandsOutIfMade, HandsOutIfNoError, removed, invalidated};
+ghost use Rattle.moka_drive.specs.Synchronous.{fresh, Makes, meaning_of, hears_clones, Just, own_run, InsertsEntry, GetsValue, RemovesEntry, removed, invalidated, GetsWith, GetsWithIfMade, GetsWithIfNoError};
 
 use crate::cache::Cache;
 use crate::error::{GetWithRefused, NotTold};
@@ -199,6 +200,7 @@ impl<
             × Makes (meaning_of K.eq (hears_clones K.is_clone V.is_clone L.tells) P.says W.weighs C.reads X.created X.read X.updated)
             (RemovesEntry key.now (S.Hasher.finish (fold S.Hasher.write (S.build_hasher self.old.cache.engine.hasher) (K.hash_input key.now))) now taken)
             self.old.cache.engine read self.new.cache.engine self.new.clock) }
+        ensures gone { record_of_key K.eq self.new.cache.engine.state.records key.now ≡ None }
         ensures counted { self.new.cache.stats ≡ self.old.cache.stats }
     {
         let now = self.clock.now();
@@ -219,6 +221,7 @@ impl<
             × Makes (meaning_of K.eq (hears_clones K.is_clone V.is_clone L.tells) P.says W.weighs C.reads X.created X.read X.updated)
             (RemovesEntry key.now (S.Hasher.finish (fold S.Hasher.write (S.build_hasher self.old.cache.engine.hasher) (K.hash_input key.now))) now taken)
             self.old.cache.engine read self.new.cache.engine self.new.clock) }
+        ensures gone { record_of_key K.eq self.new.cache.engine.state.records key.now ≡ None }
         ensures counted { self.new.cache.stats ≡ self.old.cache.stats }
     {
         let now = self.clock.now();
@@ -238,13 +241,9 @@ impl<
         P: Drop,
         requires { (now : Instant) → ContainsStep P.says K.eq self.old.cache.engine.state key now.0 false → F.pre init }
         ensures { (now : Instant) × (read : C) × C.reads self.old.clock now read
-            × ((made : Option V) × (own : Result V (Option (InsertRefused K V)))
-            × ((value : V) → made ≡ Some value → F.post init value)
-            × HandsOutMade V.is_clone key own result
-            × Makes (meaning_of K.eq L.tells P.says W.weighs C.reads X.created X.read X.updated)
-            (GetsOrInserts key (S.Hasher.finish (fold S.Hasher.write (S.build_hasher self.old.cache.engine.hasher) (K.hash_input key))) now made own)
-            self.old.cache.engine read self.new.cache.engine self.new.clock
-            × (self.new.cache.stats ≡ after_get_with made own self.old.cache.stats)) }
+            × GetsWith (meaning_of K.eq L.tells P.says W.weighs C.reads X.created X.read X.updated)
+            V.is_clone key (S.Hasher.finish (fold S.Hasher.write (S.build_hasher self.old.cache.engine.hasher) (K.hash_input key))) now
+            self.old.cache read self.new.cache self.new.clock (F.post init) result }
     {
         let now = self.clock.now();
         self.cache.get_with(key, init, now, &mut self.clock)
@@ -265,13 +264,9 @@ impl<
         P: Drop,
         requires { (now : Instant) → ContainsStep P.says K.eq self.old.cache.engine.state key now.0 false → F.pre init }
         ensures { (now : Instant) × (read : C) × C.reads self.old.clock now read
-            × ((made : Option (Option V)) × (own : Result (Option V) (Option (InsertRefused K V)))
-            × ((answer : Option V) → made ≡ Some answer → F.post init answer)
-            × HandsOutIfMade V.is_clone key own result
-            × Makes (meaning_of K.eq L.tells P.says W.weighs C.reads X.created X.read X.updated)
-            (GetsOrInsertsIfMade key (S.Hasher.finish (fold S.Hasher.write (S.build_hasher self.old.cache.engine.hasher) (K.hash_input key))) now made own)
-            self.old.cache.engine read self.new.cache.engine self.new.clock
-            × (self.new.cache.stats ≡ after_get_with made own self.old.cache.stats)) }
+            × GetsWithIfMade (meaning_of K.eq L.tells P.says W.weighs C.reads X.created X.read X.updated)
+            V.is_clone key (S.Hasher.finish (fold S.Hasher.write (S.build_hasher self.old.cache.engine.hasher) (K.hash_input key))) now
+            self.old.cache read self.new.cache self.new.clock (F.post init) result }
     {
         let now = self.clock.now();
         self.cache
@@ -293,13 +288,9 @@ impl<
         P: Drop,
         requires { (now : Instant) → ContainsStep P.says K.eq self.old.cache.engine.state key now.0 false → F.pre init }
         ensures { (now : Instant) × (read : C) × C.reads self.old.clock now read
-            × ((made : Option (Result V E)) × (own : Result (Result V E) (Option (InsertRefused K V)))
-            × ((answer : Result V E) → made ≡ Some answer → F.post init answer)
-            × HandsOutIfNoError V.is_clone key own result
-            × Makes (meaning_of K.eq L.tells P.says W.weighs C.reads X.created X.read X.updated)
-            (GetsOrInsertsIfNoError key (S.Hasher.finish (fold S.Hasher.write (S.build_hasher self.old.cache.engine.hasher) (K.hash_input key))) now made own)
-            self.old.cache.engine read self.new.cache.engine self.new.clock
-            × (self.new.cache.stats ≡ after_get_with made own self.old.cache.stats)) }
+            × GetsWithIfNoError (meaning_of K.eq L.tells P.says W.weighs C.reads X.created X.read X.updated)
+            V.is_clone key (S.Hasher.finish (fold S.Hasher.write (S.build_hasher self.old.cache.engine.hasher) (K.hash_input key))) now
+            self.old.cache read self.new.cache self.new.clock (F.post init) result }
     {
         let now = self.clock.now();
         self.cache.try_get_with(key, init, now, &mut self.clock)

@@ -9,9 +9,10 @@ use Rattle.moka_parts.specs.Copies.{IsCopiedAnswer}
 use Rattle.moka_parts.specs.Records.{record_of_key}
 use Rattle.moka_parts.specs.State.{Meaning, is_disabled}
 use Rattle.moka_drive.specs.declared.error.GetWithRefused.{GetWithRefused}
-use Rattle.moka_drive.specs.Counters.{after_look_up, after_get_with}
+use Rattle.moka_drive.specs.Counters.{after_look_up}
 use Rattle.moka_drive.specs.Unsent.{IsThere, ShowsWrites}
-use Rattle.moka_drive.specs.Synchronous.{Synchronous, Makes, hears_clones, InsertsEntry, GetsValue, RemovesEntry, GetsOrInserts, HandsOutMade}
+use Rattle.moka_drive.specs.Synchronous.{Synchronous, Makes, hears_clones, InsertsEntry, GetsValue, RemovesEntry}
+use Rattle.moka_drive.specs.Synchronous as own
 
 module _ {K V S X L P W C : Type 0} (m : Meaning K V X L P W C (Unit {0})) (hash_of : S → K → ℕ) (key : K) (now : Instant) (clock clock_after : C) where
   -- an insert
@@ -40,8 +41,4 @@ module _ {K V S X L P W C : Type 0} (m : Meaning K V X L P W C (Unit {0})) (hash
 
   -- a get, and where it misses an insert of the value that the maker made
   abbrev pub GetsWith : (V → V → Type 0) → (V → Type 0) → Result V (GetWithRefused K V) → Synchronous K V S X L P W → Synchronous K V S X L P W → Type 0
-  GetsWith is_clone Made result old new = (made : Option V) × (own : Result V (Option (InsertRefused K V)))
-      × ((value : V) → made ≡ Some value → Made value)
-      × HandsOutMade is_clone key own result
-      × Makes m (GetsOrInserts key (hash_of old.engine.hasher key) now made own) old.engine clock new.engine clock_after
-      × (new.stats ≡ after_get_with made own old.stats)
+  GetsWith is_clone Made result old new = own.GetsWith m is_clone key (hash_of old.engine.hasher key) now old clock new clock_after Made result

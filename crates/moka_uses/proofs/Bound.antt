@@ -1,6 +1,5 @@
 -- What the segments of a cache keep together.
-use Rattle.std.proofs.Common.{◌≡◌, ◌≤◌, ℕ, List, Option, Some, None, IfSome, min, sum_by, arith}
-use Rattle.moka_engine.specs.Time.{greatest}
+use Rattle.std.proofs.Common.{◌≡◌, ◌≤◌, ℕ, List, Option, Some, None, IfSome, arith}
 use Rattle.moka_drive.specs.Synchronous.{Synchronous}
 use Rattle.moka_segments.specs.Whole.{IsWithinWhole, saturated, total, whole_capacity}
 

@@ -38,12 +38,6 @@ module _ {K V S X L P W C : Type 0} (m : Meaning K V X L P W C (Unit {0})) (is_c
   value_given IsMade made (Err None) value post handed makes = absurd handed
   value_given IsMade made (Err (Some r)) value post handed makes = absurd handed
 
-  -- and what any answer promises of it
-  pub made_given : (IsMade : V → Type 0) (made : Option V) (own : Result V (Option (InsertRefused K V))) → ((x : V) → made ≡ Some x → IsMade x) → Makes m (GetsOrInserts key hash now made own) old clock new clock_after →
-      (result : Result V (GetWithRefused K V)) → HandsOutMade {K = K} is_clone key own result → IfOk result (λ value. IsCloneOfKept m.eq is_clone old.state key value ⊎ IsCloneOfMade IsMade value)
-  made_given IsMade made own post makes (Ok value) handed = value_given IsMade made own value post handed makes
-  made_given IsMade made own post makes (Err refused) handed = tt
-
   -- the same of an entry call that was given the value
   pub put_given : (given : V) (put : Option V) (own : Result V (Option (InsertRefused K V))) → ((x : V) → put ≡ Some x → x ≡ given) → Makes m (GetsOrInserts key hash now put own) old clock new clock_after →
       (result : Result (CacheEntry K V) (InsertRefused K V)) → HandsOutPut is_clone key given own (entry_value result) → IfOk result (λ e. IsCloneOfKept m.eq is_clone old.state key e.value ⊎ is_clone given e.value)

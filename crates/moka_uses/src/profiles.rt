@@ -1,10 +1,14 @@
 //! A read-through cache of profiles, each of which lasts a while, with a listener that counts what leaves.
-ghost use Rattle.std.specs.Prelude.{◌≡◌, ◌⊎◌, ◌==◌, IfOk, Some};
+ghost use Rattle.std.specs.Prelude.{◌≡◌, ◌==◌, false, IfOk, Some};
 ghost use Rattle.std.specs.Duration.{as_nanos};
-ghost use Rattle.moka_uses.specs.Handled.{IsCloneOfKept};
+ghost use Rattle.moka_engine.specs.parts.Instant.{Instant};
+ghost use Rattle.moka_drive.specs.Given.{IsHandedOut};
 
+use moka_drive::laws::get_with_hands_out;
 use moka_drive::{CountingListener, GetWithRefused, TimedCache};
-use moka_engine::{CacheConfig, Clock, NoExpiry, NoListener, OutOfMemory};
+use moka_engine::{
+    CacheConfig, Clock, DefaultHasher, NoExpiry, NoListener, NoPredicate, NoWeigher, OutOfMemory,
+};
 use std::alloc::Global;
 use std::time::Duration;
 
@@ -28,7 +32,7 @@ pub fn start<V: Drop, C: Clock + Drop>(
     TimedCache::build(config, alloc, clock)
 }
 
-/// The profile of a user: a clone of the one that is kept, or else of the one that `read` makes, which is kept.
+/// The profile of a user: a clone of the one that is kept and visible, or else of the one that `read` makes, which is kept.
 ///
 /// # Errors
 /// As `TimedCache::get_with`.
@@ -38,9 +42,20 @@ pub fn profile<V: Clone + Drop, C: Clock, F: FnOnce() -> V>(
     read: F,
 ) -> Result<V, GetWithRefused<u64, V>>
     requires { F.pre read }
-    ensures { IfOk result (λ profile. IsCloneOfKept (λ a b. a == b) V.is_clone profiles.old.cache.engine.state user profile
-        ⊎ ((made : V) × F.post read made × V.is_clone made profile)) }
+    ensures { (now : Instant) × (read_clock : C) × C.reads profiles.old.clock now read_clock
+        × IfOk result (λ profile. IsHandedOut (λ a b. a == b) (λ _ _ _ answer. answer ≡ false) V.is_clone profiles.old.cache.engine.state user now.0 (F.post read) profile) }
 {
+    get_with_hands_out::<
+        u64,
+        V,
+        DefaultHasher,
+        NoExpiry,
+        CountingListener<NoListener>,
+        NoPredicate,
+        NoWeigher,
+        C,
+        F,
+    >();
     profiles.get_with(user, read)
 }
 

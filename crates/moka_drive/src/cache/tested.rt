@@ -1,9 +1,10 @@
 //! Look-ups and removals by a test of the key in place of a key.
-ghost use Rattle.std.specs.Prelude.{◌≡◌, true, Option, Some, Result, IfOk, IfSome, OnErr, is_some};
+ghost use Rattle.std.specs.Prelude.{◌≡◌, true, Option, Some, None, Result, IfOk, IfSome, OnErr, is_some};
 ghost use Rattle.std.specs.List.{fold};
 ghost use Rattle.moka_parts.specs.Calls.{ContainsStep};
 ghost use Rattle.moka_parts.specs.Copies.{IsCopiedAnswer};
 ghost use Rattle.moka_parts.specs.KeyTests.{ContainsByStep, record_by};
+ghost use Rattle.moka_parts.specs.Records.{record_of_key};
 ghost use Rattle.moka_parts.specs.declared.error.OutOfMemory.{OutOfMemory};
 ghost use Rattle.moka_parts.specs.declared.records.Record.{Record};
 ghost use Rattle.moka_drive.specs.Counters.{after_look_up};
@@ -95,6 +96,7 @@ impl<
         ensures made { (key : K) → T.passes test.now key ≡ true → (taken : Option (V × Result (Unit {0}) OutOfMemory)) × (result ≡ removed taken)
             × Makes (meaning_of K.eq (hears_clones K.is_clone V.is_clone L.tells) P.says W.weighs C.reads X.created X.read X.updated)
             (RemovesEntry key hash now taken) self.old.engine clock.old self.new.engine clock.new }
+        ensures gone { (key : K) → T.passes test.now key ≡ true → record_of_key K.eq self.new.engine.state.records key ≡ None }
         ensures counted { self.new.stats ≡ self.old.stats }
     {
         let Some((value, told)) = self.take_by(test, hash, now, clock) else {
@@ -125,6 +127,7 @@ impl<
         ensures made { (key : K) → T.passes test.now key ≡ true → (taken : Option (V × Result (Unit {0}) OutOfMemory)) × (result ≡ invalidated taken)
             × Makes (meaning_of K.eq (hears_clones K.is_clone V.is_clone L.tells) P.says W.weighs C.reads X.created X.read X.updated)
             (RemovesEntry key hash now taken) self.old.engine clock.old self.new.engine clock.new }
+        ensures gone { (key : K) → T.passes test.now key ≡ true → record_of_key K.eq self.new.engine.state.records key ≡ None }
         ensures counted { self.new.stats ≡ self.old.stats }
     {
         let Some((value, told)) = self.take_by(test, hash, now, clock) else {
@@ -151,6 +154,7 @@ impl<
         requires own { (k : K) → T.passes test.now k ≡ true → hash ≡ S.Hasher.finish (fold S.Hasher.write (S.build_hasher self.old.engine.hasher) (K.hash_input k)) }
         ensures made { (key : K) → T.passes test.now key ≡ true → Makes (meaning_of K.eq (hears_clones K.is_clone V.is_clone L.tells) P.says W.weighs C.reads X.created X.read X.updated)
             (RemovesEntry key hash now result) self.old.engine clock.old self.new.engine clock.new }
+        ensures gone { (key : K) → T.passes test.now key ≡ true → record_of_key K.eq self.new.engine.state.records key ≡ None }
         ensures counted { self.new.stats ≡ self.old.stats }
     {
         self.engine.invariant_holds();

@@ -1,15 +1,12 @@
 //! Entry calls of the cache that owns its clock, which each reads once, at its start.
-ghost use Rattle.std.specs.Prelude.{◌≡◌, false, Option, Some, None, Result, Ok, Err, IfOk, IfSome, option_copied};
+ghost use Rattle.std.specs.Prelude.{◌≡◌, false, Option, Result, option_copied};
 ghost use Rattle.std.specs.List.{fold};
 ghost use Rattle.moka_parts.specs.Calls.{ContainsStep};
-ghost use Rattle.moka_parts.specs.Copies.{IsCopiedAnswer};
 ghost use Rattle.moka_parts.specs.declared.error.InsertRefused.{InsertRefused};
-ghost use Rattle.moka_parts.specs.declared.error.OutOfMemory.{OutOfMemory};
 ghost use Rattle.moka_parts.specs.declared.policy.Instant.{Instant};
-ghost use Rattle.moka_drive.specs.Computing.{Computed, Computes, HandsOutComputed, HandsOutUpserted, IsComputedBy, IsUpsertOf, Upserts};
-ghost use Rattle.moka_drive.specs.Counters.{after_get_with, after_look_up};
-ghost use Rattle.moka_drive.specs.Entries.{entry_value, entry_value_if_made, entry_value_if_no_error, IsEntryOf, HandsOutPut, after_get_or_insert};
-ghost use Rattle.moka_drive.specs.Synchronous.{Makes, meaning_of, hears_clones, HandsOutMade, HandsOutIfMade, HandsOutIfNoError, GetsOrInserts, GetsOrInsertsIfMade, GetsOrInsertsIfNoError};
+ghost use Rattle.moka_drive.specs.Computing.{AndUpserts, AndComputes};
+ghost use Rattle.moka_drive.specs.Entries.{OrInserts, OrInsertsMade, OrInsertsIfMade, OrInsertsIfNoError};
+ghost use Rattle.moka_drive.specs.Synchronous.{meaning_of, hears_clones};
 
 use super::TimedCache;
 use crate::compute::{CompResult, ComputeRefused, Op};
@@ -80,14 +77,9 @@ impl<
         V: Clone + Drop,
         P: Drop,
         ensures { (now : Instant) × (read : C) × C.reads self.entry.cache.now.clock now read
-            × ((put : Option V) × (own : Result V (Option (InsertRefused K V)))
-            × ((v : V) → put ≡ Some v → v ≡ value)
-            × HandsOutPut V.is_clone self.entry.key value own (entry_value result)
-            × IfOk result (IsEntryOf K.is_clone self.entry.key put)
-            × Makes (meaning_of K.eq L.tells P.says W.weighs C.reads X.created X.read X.updated)
-            (GetsOrInserts self.entry.key (S.Hasher.finish (fold S.Hasher.write (S.build_hasher self.entry.cache.now.cache.engine.hasher) (K.hash_input self.entry.key))) now put own)
-            self.entry.cache.now.cache.engine read self.exit.0.now.cache.engine self.exit.0.now.clock
-            × (self.exit.0.now.cache.stats ≡ after_get_or_insert put own self.entry.cache.now.cache.stats)) }
+            × OrInserts (meaning_of K.eq L.tells P.says W.weighs C.reads X.created X.read X.updated)
+            K.is_clone V.is_clone self.entry.key (S.Hasher.finish (fold S.Hasher.write (S.build_hasher self.entry.cache.now.cache.engine.hasher) (K.hash_input self.entry.key))) now
+            self.entry.cache.now.cache read self.exit.0.now.cache self.exit.0.now.clock value result }
     {
         let TimedEntrySelector { cache: timed, key } = self;
         let now = timed.clock.now();
@@ -108,14 +100,9 @@ impl<
         P: Drop,
         requires callable { (now : Instant) → ContainsStep P.says K.eq self.cache.now.cache.engine.state self.key now.0 false → F.pre init }
         ensures { (now : Instant) × (read : C) × C.reads self.entry.cache.now.clock now read
-            × ((made : Option V) × (own : Result V (Option (InsertRefused K V)))
-            × ((value : V) → made ≡ Some value → F.post init value)
-            × HandsOutMade V.is_clone self.entry.key own (entry_value result)
-            × IfOk result (IsEntryOf K.is_clone self.entry.key made)
-            × Makes (meaning_of K.eq L.tells P.says W.weighs C.reads X.created X.read X.updated)
-            (GetsOrInserts self.entry.key (S.Hasher.finish (fold S.Hasher.write (S.build_hasher self.entry.cache.now.cache.engine.hasher) (K.hash_input self.entry.key))) now made own)
-            self.entry.cache.now.cache.engine read self.exit.0.now.cache.engine self.exit.0.now.clock
-            × (self.exit.0.now.cache.stats ≡ after_get_with made own self.entry.cache.now.cache.stats)) }
+            × OrInsertsMade (meaning_of K.eq L.tells P.says W.weighs C.reads X.created X.read X.updated)
+            K.is_clone V.is_clone self.entry.key (S.Hasher.finish (fold S.Hasher.write (S.build_hasher self.entry.cache.now.cache.engine.hasher) (K.hash_input self.entry.key))) now
+            self.entry.cache.now.cache read self.exit.0.now.cache self.exit.0.now.clock (F.post init) result }
     {
         let TimedEntrySelector { cache: timed, key } = self;
         let now = timed.clock.now();
@@ -138,14 +125,9 @@ impl<
         P: Drop,
         requires callable { (now : Instant) → ContainsStep P.says K.eq self.cache.now.cache.engine.state self.key now.0 false → F.pre init }
         ensures { (now : Instant) × (read : C) × C.reads self.entry.cache.now.clock now read
-            × ((made : Option (Option V)) × (own : Result (Option V) (Option (InsertRefused K V)))
-            × ((answer : Option V) → made ≡ Some answer → F.post init answer)
-            × HandsOutIfMade V.is_clone self.entry.key own (entry_value_if_made result)
-            × IfOk result (λ found. IfSome found (IsEntryOf K.is_clone self.entry.key made))
-            × Makes (meaning_of K.eq L.tells P.says W.weighs C.reads X.created X.read X.updated)
-            (GetsOrInsertsIfMade self.entry.key (S.Hasher.finish (fold S.Hasher.write (S.build_hasher self.entry.cache.now.cache.engine.hasher) (K.hash_input self.entry.key))) now made own)
-            self.entry.cache.now.cache.engine read self.exit.0.now.cache.engine self.exit.0.now.clock
-            × (self.exit.0.now.cache.stats ≡ after_get_with made own self.entry.cache.now.cache.stats)) }
+            × OrInsertsIfMade (meaning_of K.eq L.tells P.says W.weighs C.reads X.created X.read X.updated)
+            K.is_clone V.is_clone self.entry.key (S.Hasher.finish (fold S.Hasher.write (S.build_hasher self.entry.cache.now.cache.engine.hasher) (K.hash_input self.entry.key))) now
+            self.entry.cache.now.cache read self.exit.0.now.cache self.exit.0.now.clock (F.post init) result }
     {
         let TimedEntrySelector { cache: timed, key } = self;
         let now = timed.clock.now();
@@ -168,14 +150,9 @@ impl<
         P: Drop,
         requires callable { (now : Instant) → ContainsStep P.says K.eq self.cache.now.cache.engine.state self.key now.0 false → F.pre init }
         ensures { (now : Instant) × (read : C) × C.reads self.entry.cache.now.clock now read
-            × ((made : Option (Result V E)) × (own : Result (Result V E) (Option (InsertRefused K V)))
-            × ((answer : Result V E) → made ≡ Some answer → F.post init answer)
-            × HandsOutIfNoError V.is_clone self.entry.key own (entry_value_if_no_error result)
-            × IfOk result (λ found. IfOk found (IsEntryOf K.is_clone self.entry.key made))
-            × Makes (meaning_of K.eq L.tells P.says W.weighs C.reads X.created X.read X.updated)
-            (GetsOrInsertsIfNoError self.entry.key (S.Hasher.finish (fold S.Hasher.write (S.build_hasher self.entry.cache.now.cache.engine.hasher) (K.hash_input self.entry.key))) now made own)
-            self.entry.cache.now.cache.engine read self.exit.0.now.cache.engine self.exit.0.now.clock
-            × (self.exit.0.now.cache.stats ≡ after_get_with made own self.entry.cache.now.cache.stats)) }
+            × OrInsertsIfNoError (meaning_of K.eq L.tells P.says W.weighs C.reads X.created X.read X.updated)
+            K.is_clone V.is_clone self.entry.key (S.Hasher.finish (fold S.Hasher.write (S.build_hasher self.entry.cache.now.cache.engine.hasher) (K.hash_input self.entry.key))) now
+            self.entry.cache.now.cache read self.exit.0.now.cache self.exit.0.now.clock (F.post init) result }
     {
         let TimedEntrySelector { cache: timed, key } = self;
         let now = timed.clock.now();
@@ -198,15 +175,9 @@ impl<
         P: Drop,
         requires callable { F.IsAlwaysCallable f }
         ensures { (now : Instant) × (read : C) × C.reads self.entry.cache.now.clock now read
-            × ((own : Result (Option V) OutOfMemory) × (got : Result (Option V) OutOfMemory)
-            × IsCopiedAnswer V.is_clone own got
-            × (put : Option (V × Result V (InsertRefused K V)))
-            × IsUpsertOf (F.post f) got put
-            × HandsOutUpserted K.is_clone V.is_clone self.entry.key got put result
-            × Makes (meaning_of K.eq L.tells P.says W.weighs C.reads X.created X.read X.updated)
-            (Upserts self.entry.key (S.Hasher.finish (fold S.Hasher.write (S.build_hasher self.entry.cache.now.cache.engine.hasher) (K.hash_input self.entry.key))) now own put)
-            self.entry.cache.now.cache.engine read self.exit.0.now.cache.engine self.exit.0.now.clock
-            × (self.exit.0.now.cache.stats ≡ after_look_up got self.entry.cache.now.cache.stats)) }
+            × AndUpserts (meaning_of K.eq L.tells P.says W.weighs C.reads X.created X.read X.updated)
+            K.is_clone V.is_clone self.entry.key (S.Hasher.finish (fold S.Hasher.write (S.build_hasher self.entry.cache.now.cache.engine.hasher) (K.hash_input self.entry.key))) now
+            self.entry.cache.now.cache read self.exit.0.now.cache self.exit.0.now.clock (F.post f) result }
     {
         let TimedEntrySelector { cache: timed, key } = self;
         let now = timed.clock.now();
@@ -227,15 +198,9 @@ impl<
         P: Drop,
         requires callable { F.IsAlwaysCallable f }
         ensures { (now : Instant) × (read : C) × C.reads self.entry.cache.now.clock now read
-            × ((own : Result (Option V) OutOfMemory) × (got : Result (Option V) OutOfMemory)
-            × IsCopiedAnswer V.is_clone own got
-            × (done : Option (Computed K V))
-            × IsComputedBy (λ seen op. (x : _) × (option_copied x ≡ seen) × F.post f x op) got done
-            × HandsOutComputed K.is_clone V.is_clone self.entry.key got done result
-            × Makes (meaning_of K.eq (hears_clones K.is_clone V.is_clone L.tells) P.says W.weighs C.reads X.created X.read X.updated)
-            (Computes self.entry.key (S.Hasher.finish (fold S.Hasher.write (S.build_hasher self.entry.cache.now.cache.engine.hasher) (K.hash_input self.entry.key))) now own done)
-            self.entry.cache.now.cache.engine read self.exit.0.now.cache.engine self.exit.0.now.clock
-            × (self.exit.0.now.cache.stats ≡ after_look_up got self.entry.cache.now.cache.stats)) }
+            × AndComputes (meaning_of K.eq (hears_clones K.is_clone V.is_clone L.tells) P.says W.weighs C.reads X.created X.read X.updated)
+            K.is_clone V.is_clone self.entry.key (S.Hasher.finish (fold S.Hasher.write (S.build_hasher self.entry.cache.now.cache.engine.hasher) (K.hash_input self.entry.key))) now
+            self.entry.cache.now.cache read self.exit.0.now.cache self.exit.0.now.clock (λ seen op. (x : _) × (option_copied x ≡ seen) × F.post f x op) result }
     {
         let TimedEntrySelector { cache: timed, key } = self;
         let now = timed.clock.now();

@@ -1,9 +1,10 @@
 //! Look-ups and removals by a test of the key in place of a key.
-ghost use Rattle.std.specs.Prelude.{◌≡◌, true, Option, Some, Result, IfOk, IfSome, OnErr, is_some};
+ghost use Rattle.std.specs.Prelude.{◌≡◌, true, Option, Some, None, Result, IfOk, IfSome, OnErr, is_some};
 ghost use Rattle.std.specs.List.{fold};
 ghost use Rattle.moka_parts.specs.Calls.{ContainsStep};
 ghost use Rattle.moka_parts.specs.Copies.{IsCopiedAnswer};
 ghost use Rattle.moka_parts.specs.KeyTests.{ContainsByStep, record_by};
+ghost use Rattle.moka_parts.specs.Records.{record_of_key};
 ghost use Rattle.moka_parts.specs.declared.error.OutOfMemory.{OutOfMemory};
 ghost use Rattle.moka_parts.specs.declared.policy.Instant.{Instant};
 ghost use Rattle.moka_parts.specs.declared.records.Record.{Record};
@@ -86,6 +87,7 @@ impl<
             × ((key : K) → T.passes test.now key ≡ true → (taken : Option (V × Result (Unit {0}) OutOfMemory)) × (result ≡ removed taken)
             × Makes (meaning_of K.eq (hears_clones K.is_clone V.is_clone L.tells) P.says W.weighs C.reads X.created X.read X.updated)
             (RemovesEntry key hash now taken) self.old.cache.engine read self.new.cache.engine self.new.clock) }
+        ensures gone { (key : K) → T.passes test.now key ≡ true → record_of_key K.eq self.new.cache.engine.state.records key ≡ None }
         ensures counted { self.new.cache.stats ≡ self.old.cache.stats }
     {
         let now = self.clock.now();
@@ -106,6 +108,7 @@ impl<
             × ((key : K) → T.passes test.now key ≡ true → (taken : Option (V × Result (Unit {0}) OutOfMemory)) × (result ≡ invalidated taken)
             × Makes (meaning_of K.eq (hears_clones K.is_clone V.is_clone L.tells) P.says W.weighs C.reads X.created X.read X.updated)
             (RemovesEntry key hash now taken) self.old.cache.engine read self.new.cache.engine self.new.clock) }
+        ensures gone { (key : K) → T.passes test.now key ≡ true → record_of_key K.eq self.new.cache.engine.state.records key ≡ None }
         ensures counted { self.new.cache.stats ≡ self.old.cache.stats }
     {
         let now = self.clock.now();

@@ -95,3 +95,62 @@ pub fn counts_removals<
 /// times are the same, and the second cache has no predicates and no invalidation of all.
 pub fn answers_as_before<K, V, X, P: PredicateFn<K, V>, W>()
 {}
+
+/// What `get_with` hands out is a clone of a value that is visible at the moment of the call, or of one that the maker made
+/// since none was.
+pub fn get_with_hands_out<
+    K: Eq,
+    V: Clone,
+    S,
+    X: Expiry<K, V>,
+    L: Listener<K, V>,
+    P: PredicateFn<K, V>,
+    W: Weigher<K, V>,
+    C: Clock,
+    F: FnOnce() -> V,
+>()
+{}
+
+/// So is what `optionally_get_with` hands out; and nothing is handed out only if the maker declined.
+pub fn optionally_get_with_hands_out<
+    K: Eq,
+    V: Clone,
+    S,
+    X: Expiry<K, V>,
+    L: Listener<K, V>,
+    P: PredicateFn<K, V>,
+    W: Weigher<K, V>,
+    C: Clock,
+    F: FnOnce() -> Option<V>,
+>()
+{}
+
+/// So is what `try_get_with` hands out; and an error within `Ok` is the maker's.
+pub fn try_get_with_hands_out<
+    K: Eq,
+    V: Clone,
+    S,
+    X: Expiry<K, V>,
+    L: Listener<K, V>,
+    P: PredicateFn<K, V>,
+    W: Weigher<K, V>,
+    C: Clock,
+    E,
+    F: FnOnce() -> Result<V, E>,
+>()
+{}
+
+/// Times, policy and the like stay as they were built, and so does the capacity unless a call sets it; and none of the calls
+/// that `insert`, `get`, `remove`, `get_with` and the entry calls stand for does.
+pub fn keeps_limits<
+    K: Eq,
+    V,
+    S,
+    X: Expiry<K, V>,
+    L: Listener<K, V>,
+    P: PredicateFn<K, V>,
+    W: Weigher<K, V>,
+    C: Clock,
+    E,
+>()
+{}

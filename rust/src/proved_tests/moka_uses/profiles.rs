@@ -2,8 +2,11 @@
 //! A read-through cache of profiles, each of which lasts a while, with a listener that counts what leaves.
 use crate::support::prelude::*;
 
+use crate::engine::moka_drive::laws::get_with_hands_out;
 use crate::engine::moka_drive::{CountingListener, GetWithRefused, TimedCache};
-use crate::engine::moka_engine::{CacheConfig, Clock, NoExpiry, NoListener, OutOfMemory};
+use crate::engine::moka_engine::{
+    CacheConfig, Clock, DefaultHasher, NoExpiry, NoListener, NoPredicate, NoWeigher, OutOfMemory,
+};
 use crate::support::alloc::Global;
 use crate::support::time::Duration;
 
@@ -26,7 +29,7 @@ pub fn start<V, C: Clock>(
     TimedCache::build(config, alloc, clock)
 }
 
-/// The profile of a user: a clone of the one that is kept, or else of the one that `read` makes, which is kept.
+/// The profile of a user: a clone of the one that is kept and visible, or else of the one that `read` makes, which is kept.
 ///
 /// # Errors
 /// As `TimedCache::get_with`.
@@ -36,6 +39,17 @@ pub fn profile<V: Clone, C: Clock, F: FnOnce() -> V>(
     read: F,
 ) -> Result<V, GetWithRefused<u64, V>>
 {
+    get_with_hands_out::<
+        u64,
+        V,
+        DefaultHasher,
+        NoExpiry,
+        CountingListener<NoListener>,
+        NoPredicate,
+        NoWeigher,
+        C,
+        F,
+    >();
     profiles.get_with(user, read)
 }
 

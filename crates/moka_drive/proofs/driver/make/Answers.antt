@@ -6,7 +6,8 @@ use Rattle.moka_parts.specs.State.{Events}
 use Rattle.moka_parts.specs.Surroundings.{Leads}
 use Rattle.moka_parts.proofs.Copies.{answer-same, entry-same}
 use Rattle.moka_drive.specs.Meanings.{meaning_of}
-use Rattle.moka_drive.proofs.Quiet.{nothing_befalls, get_asks_nothing, keys_step, pending_step}
+use Rattle.moka_drive.proofs.Made.{nothing_befalls}
+use Rattle.moka_drive.proofs.Quiet.{get_asks_nothing, keys_step, pending_step}
 use Rattle.moka_drive.proofs.driver.make.Goals as goal
 
 pub returns-in-Insert : goal.returns-in-Insert

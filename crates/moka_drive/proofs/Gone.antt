@@ -1,0 +1,162 @@
+-- A key that was removed has no record, also after the ticket of its removal was posted.
+use Rattle.std.proofs.Common.{◌≡◌, refl, ℕ, Bool, true, false, true≢false, List, [], ◌∷◌, Option, Some, None, Result, Ok, Err, ap, sym, subst, ◌∙◌, inl, inr}
+use Rattle.std.specs.Prelude.{MatchBool, ⊤, length}
+use Rattle.std.specs.Cmp.{IsEquivalence}
+use Rattle.std.specs.FinMap.{get, remove}
+use Rattle.moka_parts.specs.declared.calls.Call.{Call}
+use Rattle.moka_parts.specs.declared.calls.Call.TheVariants as call
+use Rattle.moka_parts.specs.declared.policy.Instant.{Instant}
+use Rattle.moka_parts.specs.declared.calls.KvEntry.{KvEntry}
+use Rattle.moka_parts.specs.declared.records.Operation.{Operation}
+use Rattle.moka_parts.specs.declared.error.OutOfMemory.{OutOfMemory}
+use Rattle.moka_parts.specs.declared.records.Record.{Record}
+use Rattle.moka_parts.specs.declared.calls.Reply.{Reply}
+use Rattle.moka_parts.specs.declared.calls.Reply.TheVariants as reply
+use Rattle.moka_parts.specs.declared.error.SendError.{SendError}
+use Rattle.moka_parts.specs.declared.error.SendError.TheVariants.{UnknownTicket, QueueFull}
+use Rattle.moka_parts.specs.declared.calls.Ticket.{Ticket}
+use Rattle.moka_parts.specs.Bounds.{IsBounded}
+use Rattle.moka_parts.specs.Calls.{RemovesAt, RunStep, KeeperRun, RunsIfDue, SendsAt, SendStep, Unchanged}
+use Rattle.moka_parts.specs.Housekeeping.{is_due}
+use Rattle.moka_parts.specs.Maintenance.{Terms, Course, Freedom, RunsBy, DoesNothing, at_end}
+use Rattle.moka_parts.specs.Records.{Records, Notice, record_of_key}
+use Rattle.moka_parts.specs.Runs.{Cache, CallStep, Step, AreSteps, PromisedRun, calls_of, replies_of, last_state}
+use Rattle.moka_parts.specs.Settling.{IsValid}
+use Rattle.moka_parts.specs.State.{State, Meaning, Events, is_disabled}
+use Rattle.moka_parts.proofs.Lookup.{record_of_key_found, absent_key, present_key}
+use Rattle.moka_parts.proofs.Maps.{same_or_apart, get_removed, get_past_remove}
+use Rattle.moka_parts.proofs.RunKeeps.{Keeps, run_keeps}
+use Rattle.moka_drive.specs.Synchronous.{Made, Makes, RemovesEntry, Posts}
+use Rattle.moka_drive.proofs.Made.{heads, tails}
+
+-- ---- records
+
+module _ {K V : Type 0} (eq : K → K → Bool) (key : K) where
+  -- no record has the key
+  abbrev pub HasNone : Records K V → Type 0
+  HasNone records = (n : ℕ) (r : Record K V) → get records n ≡ Some r → eq key r.key ≡ true → ⊥
+
+  none_found : (records : Records K V) → HasNone records → record_of_key eq records key ≡ None
+  none_found records none = go (record_of_key eq records key) refl
+    where
+      go : (o : Option (Record K V)) → record_of_key eq records key ≡ o → o ≡ None
+      go None e = refl
+      go (Some r) e = let at = record_of_key_found eq records key r e in absurd (none at.0 r at.1 at.2)
+
+  kept_none : (old new : Records K V) → Keeps old new → HasNone old → HasNone new
+  kept_none old new keeps none n q there same =
+      let was = keeps n q there in
+      none n was.0 was.1 (sym (ap (λ (x : Record K V). eq key x.key) was.2.1) ∙ same)
+
+-- ---- steps
+
+module _ {K V X P W : Type 0} (eq : K → K → Bool) (key : K) where
+  none_alike : (s t : State K V X P W) → t ≡ s → HasNone eq key s.records → HasNone eq key t.records
+  none_alike s t same none = subst (λ (x : State K V X P W). HasNone eq key x.records) (sym same) none
+
+  removed_none : (s t : State K V X P W) (a : Option (KvEntry K V × Ticket)) → IsEquivalence eq → IsValid eq s → RemovesAt s (record_of_key eq s.records key) a t → HasNone eq key t.records
+  removed_none s t a laws valid step = go (record_of_key eq s.records key) refl step
+    where
+      without : (r : Record K V) → record_of_key eq s.records key ≡ Some r → HasNone eq key (remove s.records r.number)
+      without r found n q there same = elim (same_or_apart n r.number) [
+        | inl at ↦ let no : None ≡ Some q = sym (get_removed s.records r.number) ∙ sym (ap (get (remove s.records r.number)) at) ∙ there in absurd (cc)
+        | inr apart ↦
+            let here : get s.records n ≡ Some q = sym (get_past_remove s.records r.number n apart) ∙ there in
+            let both : Some r ≡ Some q = sym found ∙ present_key eq s.records key laws valid.numbered.numbered.one_each n q here same in
+            let one : r ≡ q = cc in
+            let at : n ≡ r.number = sym ((valid.numbered.numbered.numbered n q here).0) ∙ ap (λ (x : Record K V). x.number) (sym one) in
+            let no : None ≡ Some q = sym (get_removed s.records r.number) ∙ sym (ap (get (remove s.records r.number)) at) ∙ there in
+            absurd (cc)
+      ]
+
+      go : (o : Option (Record K V)) → record_of_key eq s.records key ≡ o → RemovesAt s o a t → HasNone eq key t.records
+      go None found h = none_alike s t h.1 (λ n r there same. true≢false (sym same ∙ absent_key eq s.records key found n r there))
+      go (Some r) found h = subst (λ (x : State K V X P W). HasNone eq key x.records) (sym h.1) (without r found)
+
+  sent_none : (s t : State K V X P W) (ticket : ℕ) (a : Result (Unit {0}) SendError) → SendStep s ticket a t → HasNone eq key s.records → HasNone eq key t.records
+  sent_none s t ticket a step none = go (get s.outstanding ticket) a step
+    where
+      go : (o : Option Operation) (a : Result (Unit {0}) SendError) → SendsAt s ticket o a t → HasNone eq key t.records
+      go (Some o) (Ok x) h = subst (λ (x : State K V X P W). HasNone eq key x.records) (sym h.1) none
+      go (Some o) (Err QueueFull) h = none_alike s t h.1 none
+      go (Some o) (Err UnknownTicket) h = absurd h
+      go None (Err UnknownTicket) h = none_alike s t h none
+      go None (Err QueueFull) h = absurd h
+      go None (Ok x) h = absurd h
+
+  module _ (says : P → K → V → Bool → Type 0) (read : X → K → V → ℕ → Option ℕ → ℕ → Option ℕ) where
+    run_none : (s t : State K V X P W) (terms : Terms) (course : Course) (notices : List (Notice K V)) → PromisedRun says read s terms course notices t → HasNone eq key s.records → HasNone eq key t.records
+    run_none s t terms course notices run none = go (is_disabled s.capacity) run.0
+      where
+        go : (b : Bool) → MatchBool b (DoesNothing s course notices t) ((ch : Freedom) × RunsBy says s terms ch course notices t × IsBounded s terms ch course) → HasNone eq key t.records
+        go true h = none_alike s t h.0 none
+        go false (ch, by, detail) = subst (λ (x : State K V X P W). HasNone eq key x.records) (sym by.1) (kept_none eq key s.records (at_end s ch).records (run_keeps s ch) none)
+
+    asked_none : (s t : State K V X P W) (terms : Terms) (answer : Bool) (e : Events K V) → RunStep (PromisedRun says read) s terms answer e t → HasNone eq key s.records → HasNone eq key t.records
+    asked_none s t terms answer e (course, run, same, events) none = run_none s t terms course e.notices run none
+
+    due_none : (s t : State K V X P W) (queued now : ℕ) (e : Events K V) → RunsIfDue (PromisedRun says read) s queued now e t → HasNone eq key s.records → HasNone eq key t.records
+    due_none s t queued now e step none = go (is_due s.housekeeping queued now) step
+      where
+        go : (b : Bool) → MatchBool b (KeeperRun (PromisedRun says read) s now e t) (Unchanged s e t) → HasNone eq key t.records
+        go true (answer, mid, run, same) = subst (λ (x : State K V X P W). HasNone eq key x.records) (sym same) (asked_none s mid _ answer e run none)
+        go false h = none_alike s t h.0 none
+
+-- ---- lists of calls
+
+module _ {K V P : Type 0} where
+  -- the call is one of those that post a ticket
+  abbrev IsPosting : Call K V P → Type 0
+  IsPosting (call.Send ticket) = ⊤
+  IsPosting (call.RunIfDue now) = ⊤
+  IsPosting (call.Run now limit repeats batch) = ⊤
+  IsPosting c = ⊥
+
+  -- the same of each
+  abbrev ArePosting : List (Call K V P) → Type 0
+  ArePosting [] = Unit {0}
+  ArePosting (c ∷ cs) = IsPosting c × ArePosting cs
+
+  posts_post : (now : Instant) (ticket : Ticket) (calls : List (Call K V P)) (replies : List (Reply K V P)) → Posts now ticket calls replies → ArePosting calls
+  posts_post now ticket calls replies (inl (is, replied)) = subst ArePosting (sym is) (tt, (tt, tt))
+  posts_post now ticket calls replies (inr (more, is, replied)) = subst ArePosting (sym is) (tt, (tt, (tt, (tt, tt))))
+
+module _ {K V X L P W C : Type 0} (m : Meaning K V X L P W C (Unit {0})) (key : K) where
+  step_none : (s t : State K V X P W) (c : Call K V P) (r : Reply K V P) (e : Events K V) → IsPosting c → CallStep m (PromisedRun m.says m.read) s c r e t → HasNone m.eq key s.records → HasNone m.eq key t.records
+  step_none s t (call.Send ticket) (reply.Send a) e posting step none = sent_none m.eq key s t ticket.0 a step.0 none
+  step_none s t (call.RunIfDue now) reply.RunIfDue e posting step none = due_none m.eq key m.says m.read s t (length s.writes) now.0 e step none
+  step_none s t (call.Run now limit repeats batch) (reply.Run more) e posting step none = asked_none m.eq key m.says m.read s t _ more e step none
+  step_none s t (call.Send ticket) r e posting step none = absurd step
+  step_none s t (call.RunIfDue now) r e posting step none = absurd step
+  step_none s t (call.Run now limit repeats batch) r e posting step none = absurd step
+  step_none s t c r e posting step none = absurd posting
+
+  steps_none : (s : State K V X P W) (steps : List (Step K V X P W)) → ArePosting (calls_of steps) → AreSteps m (PromisedRun m.says m.read) s steps → HasNone m.eq key s.records → HasNone m.eq key (last_state s steps).records
+  steps_none s [] posting are none = none
+  steps_none s (x ∷ xs) posting are none = steps_none x.after xs posting.1 are.1 (step_none s x.after x.call x.reply x.events posting.0 are.0 none)
+
+  module _ {S : Type 0} (laws : IsEquivalence m.eq) (hash : ℕ) (now : Instant) (old new : Cache K V S X L P W) (clock clock_after : C) (valid : IsValid m.eq old.state) where
+    after_removal : (a : Option (KvEntry K V × Ticket)) (told : Option (Result (Unit {0}) OutOfMemory)) (posting : List (Call K V P)) (posted : List (Reply K V P)) → ArePosting posting → Made m (call.Remove key hash (Some now) ∷ posting) (reply.Remove a told ∷ posted) old clock new clock_after → record_of_key m.eq new.state.records key ≡ None
+    after_removal a told posting posted quiet made = none_found m.eq key new.state.records (go made.steps made.is_run.calls_made made.is_run.replies_given made.is_run.are_steps (ap (λ x. x.state) made.is_run.ends))
+      where
+        c : Call K V P
+        c = call.Remove key hash (Some now)
+
+        r : Reply K V P
+        r = reply.Remove a told
+
+        go : (steps : List (Step K V X P W)) → calls_of steps ≡ c ∷ posting → replies_of steps ≡ r ∷ posted → AreSteps m (PromisedRun m.says m.read) old.state steps → new.state ≡ last_state old.state steps → HasNone m.eq key new.state.records
+        go [] calls replies are ends = (let impossible : [] ≡ c ∷ posting = calls in absurd (cc))
+        go (x ∷ xs) calls replies are ends =
+            let step : CallStep m (PromisedRun m.says m.read) old.state c r x.events x.after =
+            subst (λ c. CallStep m (PromisedRun m.says m.read) old.state c r x.events x.after) (heads x.call c (calls_of xs) posting calls) (subst (λ r. CallStep m (PromisedRun m.says m.read) old.state x.call r x.events x.after) (heads x.reply r (replies_of xs) posted replies) are.0) in
+            none_alike m.eq key (last_state x.after xs) new.state ends
+            (steps_none x.after xs (subst ArePosting (sym (tails x.call c (calls_of xs) posting calls)) quiet) are.1 (removed_none m.eq key old.state x.after a laws valid step.0))
+
+    -- after a removal no record has the key
+    pub has_left : (taken : Option (V × Result (Unit {0}) OutOfMemory)) → Makes m (RemovesEntry key hash now taken) old clock new clock_after → record_of_key m.eq new.state.records key ≡ None
+    has_left None (calls, replies, (calls_are, replies_are), made) =
+        after_removal None None [] [] tt (subst (λ rs. Made m (call.Remove key hash (Some now) ∷ []) rs old clock new clock_after) replies_are (subst (λ cs. Made m cs replies old clock new clock_after) calls_are made))
+    has_left (Some (value, told)) (calls, replies, (k, written, read, ticket, posting, posted, posts, calls_are, replies_are), made) =
+        after_removal (Some (record { key = k; value = value; last_modified = written; last_accessed = read }, ticket)) (Some told) posting posted (posts_post now ticket posting posted posts)
+        (subst (λ rs. Made m (call.Remove key hash (Some now) ∷ posting) rs old clock new clock_after) replies_are (subst (λ cs. Made m cs replies old clock new clock_after) calls_are made))

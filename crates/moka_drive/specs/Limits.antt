@@ -1,0 +1,42 @@
+-- What limits a cache stays as it is: its times and its policy always, and its capacity until it is set.
+use Rattle.std.specs.Prelude.{◌≡◌, ℕ, List, [], ◌∷◌, Option, Result, ⊤}
+use Rattle.moka_parts.specs.declared.calls.Call.{Call}
+use Rattle.moka_parts.specs.declared.calls.Call.TheVariants as call
+use Rattle.moka_parts.specs.declared.calls.Reply.{Reply}
+use Rattle.moka_parts.specs.declared.error.InsertRefused.{InsertRefused}
+use Rattle.moka_parts.specs.declared.error.OutOfMemory.{OutOfMemory}
+use Rattle.moka_parts.specs.declared.policy.Instant.{Instant}
+use Rattle.moka_parts.specs.Runs.{Cache}
+use Rattle.moka_parts.specs.State.{State, Meaning}
+use Rattle.moka_drive.specs.Computing.{Computed, Computes, Upserts}
+use Rattle.moka_drive.specs.Synchronous.{Made, InsertsEntry, GetsValue, RemovesEntry, GetsOrInserts, GetsOrInsertsIfMade, GetsOrInsertsIfNoError}
+
+-- the settings and the capacity are as they were
+pub record HasSameLimits {K V X P W : Type 0} (s t : State K V X P W) : Type 0 where
+  pub settings : t.settings ≡ s.settings
+  pub capacity : t.capacity ≡ s.capacity
+
+-- the call sets no capacity
+abbrev pub SetsNoCapacity : {K V P : Type 0} → Call K V P → Type 0
+SetsNoCapacity (call.SetCapacity capacity) = ⊥
+SetsNoCapacity c = ⊤
+
+-- nor does any other
+abbrev pub SetNoCapacity : {K V P : Type 0} → List (Call K V P) → Type 0
+SetNoCapacity [] = Unit {0}
+SetNoCapacity (c ∷ cs) = SetsNoCapacity c × SetNoCapacity cs
+
+-- over any list of calls that set no capacity the limits stay
+abbrev pub KeepsLimits : {K V X L P W C : Type 0} → Type 0 → Meaning K V X L P W C (Unit {0}) → Type 0
+KeepsLimits {K} {V} {X} {L} {P} {W} {C} S m = (calls : List (Call K V P)) (replies : List (Reply K V P)) (old new : Cache K V S X L P W) (clock clock_after : C) → Made m calls replies old clock new clock_after → SetNoCapacity calls → HasSameLimits old.state new.state
+
+-- what each call of the synchronous cache stands for sets none
+pub record CallsSetNoCapacity (K V P E : Type 0) (key : K) (hash : ℕ) (now : Instant) : Type 0 where
+  pub insert : (value : V) (a : Result (Unit {0}) (InsertRefused K V)) (calls : List (Call K V P)) (replies : List (Reply K V P)) → InsertsEntry key hash value now a calls replies → SetNoCapacity calls
+  pub get : (a : Result (Option V) OutOfMemory) (calls : List (Call K V P)) (replies : List (Reply K V P)) → GetsValue key hash now a calls replies → SetNoCapacity calls
+  pub remove : (taken : Option (V × Result (Unit {0}) OutOfMemory)) (calls : List (Call K V P)) (replies : List (Reply K V P)) → RemovesEntry key hash now taken calls replies → SetNoCapacity calls
+  pub get_with : (made : Option V) (own : Result V (Option (InsertRefused K V))) (calls : List (Call K V P)) (replies : List (Reply K V P)) → GetsOrInserts key hash now made own calls replies → SetNoCapacity calls
+  pub optionally_get_with : (made : Option (Option V)) (own : Result (Option V) (Option (InsertRefused K V))) (calls : List (Call K V P)) (replies : List (Reply K V P)) → GetsOrInsertsIfMade key hash now made own calls replies → SetNoCapacity calls
+  pub try_get_with : (made : Option (Result V E)) (own : Result (Result V E) (Option (InsertRefused K V))) (calls : List (Call K V P)) (replies : List (Reply K V P)) → GetsOrInsertsIfNoError key hash now made own calls replies → SetNoCapacity calls
+  pub upsert_with : (own : Result (Option V) OutOfMemory) (put : Option (V × Result V (InsertRefused K V))) (calls : List (Call K V P)) (replies : List (Reply K V P)) → Upserts key hash now own put calls replies → SetNoCapacity calls
+  pub compute_with : (own : Result (Option V) OutOfMemory) (done : Option (Computed K V)) (calls : List (Call K V P)) (replies : List (Reply K V P)) → Computes key hash now own done calls replies → SetNoCapacity calls
