@@ -109,6 +109,38 @@ fn a_comparison_or_hash_that_panics_changes_nothing() {
     assert_eq!(cache.entry_count(), 10);
 }
 
+/// A key whose hash panics while it is told to.
+struct Fickle(&'static AtomicBool);
+
+impl PartialEq for Fickle {
+    fn eq(&self, _: &Self) -> bool {
+        true
+    }
+}
+
+impl Eq for Fickle {}
+
+impl Hash for Fickle {
+    fn hash<H: Hasher>(&self, state: &mut H) {
+        assert!(!self.0.load(Ordering::SeqCst), "a hash that panics");
+        state.write_u32(0);
+    }
+}
+
+#[test]
+fn a_hash_that_panics_keeps_no_making_from_ending() {
+    static BREAKS: AtomicBool = AtomicBool::new(false);
+    let cache = sync::Cache::new(100);
+    let make = || {
+        BREAKS.store(true, Ordering::SeqCst);
+        7
+    };
+    assert!(!panics(|| cache.get_with(Fickle(&BREAKS), make)));
+    BREAKS.store(false, Ordering::SeqCst);
+    cache.invalidate(&Fickle(&BREAKS));
+    assert_eq!(cache.get_with(Fickle(&BREAKS), || 8), 8);
+}
+
 #[test]
 fn a_maker_that_panics_harms_nobody() {
     let (cache, calls) = (sync::Cache::new(100), AtomicU32::new(0));

@@ -91,7 +91,7 @@ where
         decide: impl FnOnce(Option<Entry<K, V>>) -> Result<Op<V>, E>,
     ) -> Result<CompResult<K, V>, E> {
         let place = self.place(hash);
-        place.makers.alone(Arc::clone(&key), || {
+        place.makers.alone(hash, Arc::clone(&key), || {
             let there = self.with(place, |shard| shard.peek(hash, &|kept| *kept == *key));
             let there = there.map(|(key, value)| Entry::found(key, value));
             let op = decide(there.clone())?;

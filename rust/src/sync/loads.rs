@@ -1,7 +1,7 @@
 //! Values that are made where they are not there.
 
 use super::Cache;
-use crate::making::Outcome;
+use crate::making::{Outcome, Wanted};
 use std::any::TypeId;
 use std::borrow::Borrow;
 use std::hash::{BuildHasher, Hash};
@@ -75,9 +75,11 @@ where
         make: impl FnOnce() -> Outcome<V>,
     ) -> Outcome<V> {
         let place = self.place(hash);
-        place.makers.once(Arc::clone(&key), kind, || {
+        let wanted = Wanted { hash, key, kind };
+        let key = &wanted.key;
+        place.makers.once(&wanted, || {
             // Another may have put it there since the caller looked.
-            let there = self.with(place, |shard| shard.peek(hash, &|kept| *kept == *key));
+            let there = self.with(place, |shard| shard.peek(hash, &|kept| *kept == **key));
             if let Some((_, value)) = there
                 && !replaces(&value)
             {
@@ -89,7 +91,7 @@ where
             };
             let outcome = make();
             if let Outcome::Made { value, .. } = &outcome {
-                self.insert_shared(hash, Arc::clone(&key), value.clone());
+                self.insert_shared(hash, Arc::clone(key), value.clone());
                 self.0.loads.fetch_add(1, Ordering::Relaxed);
                 load.is_done = true;
             }
