@@ -52,6 +52,23 @@ struct Place<K: 'static, V> {
     notices: Option<Arc<Notices<K, V>>>,
 }
 
+impl<K: Eq + Hash, V> Place<K, V> {
+    // Makes a call under the lock of the shard. The listener is still to be told of what left by it.
+    #[inline]
+    fn with_shard<R>(&self, call: impl FnOnce(&mut Shard<K, V>) -> R) -> R {
+        let mut shard = locked(&self.shard);
+        shard.recover();
+        call(&mut shard)
+    }
+
+    #[inline]
+    fn deliver(&self) {
+        if let Some(notices) = &self.notices {
+            notices.deliver();
+        }
+    }
+}
+
 struct Shared<K: 'static, V, S> {
     places: Box<[Place<K, V>]>,
     // The hasher of the keys, and which shard a hash belongs to.
@@ -173,13 +190,8 @@ where
     // Makes a call under the lock of a shard, and tells the listener of what left by it.
     #[inline]
     fn with<R>(&self, place: &Place<K, V>, call: impl FnOnce(&mut Shard<K, V>) -> R) -> R {
-        let mut shard = locked(&place.shard);
-        shard.recover();
-        let answer = call(&mut shard);
-        drop(shard);
-        if let Some(notices) = &place.notices {
-            notices.deliver();
-        }
+        let answer = place.with_shard(call);
+        place.deliver();
         answer
     }
 

@@ -77,9 +77,9 @@ where
         let place = self.place(hash);
         let wanted = Wanted { hash, key, kind };
         let key = &wanted.key;
-        place.makers.once(&wanted, || {
+        let outcome = place.makers.once(&wanted, || {
             // Another may have put it there since the caller looked.
-            let there = self.with(place, |shard| shard.peek(hash, &|kept| *kept == **key));
+            let there = place.with_shard(|shard| shard.peek(hash, &|kept| *kept == **key));
             if let Some((_, value)) = there
                 && !replaces(&value)
             {
@@ -91,12 +91,16 @@ where
             };
             let outcome = make();
             if let Outcome::Made { value, .. } = &outcome {
-                self.insert_shared(hash, Arc::clone(key), value.clone());
+                let value = value.clone();
+                place.with_shard(|shard| shard.insert(hash, Arc::clone(key), value));
                 self.0.loads.fetch_add(1, Ordering::Relaxed);
                 load.is_done = true;
             }
             outcome
-        })
+        });
+        // Not before the making has ended: the listener may ask for its key.
+        place.deliver();
+        outcome
     }
 
     // The value of a key that is there, or the outcome of its maker.
