@@ -1,6 +1,6 @@
 //! Values that are being made: one maker for all that wait on a key.
 
-use crate::notices::locked;
+use crate::notices::{Awaited, locked};
 use std::any::{Any, TypeId};
 use std::sync::{Arc, Condvar, Mutex, PoisonError};
 
@@ -76,6 +76,18 @@ impl<K, V> Default for Makers<K, V> {
 struct Ending<'a, K, V> {
     makers: &'a Makers<K, V>,
     making: Arc<Making<K, V>>,
+    _awaited: Awaited,
+}
+
+impl<'a, K, V> Ending<'a, K, V> {
+    fn of(makers: &'a Makers<K, V>, making: Arc<Making<K, V>>) -> Self {
+        let _awaited = Awaited::new();
+        Ending {
+            makers,
+            making,
+            _awaited,
+        }
+    }
 }
 
 impl<K, V> Drop for Ending<'_, K, V> {
@@ -111,7 +123,7 @@ impl<K: Eq, V: Clone> Makers<K, V> {
         loop {
             let (making, is_maker) = self.join(wanted);
             if is_maker {
-                let ending = Ending { makers: self, making };
+                let ending = Ending::of(self, making);
                 let outcome = make();
                 let told = outcome.told();
                 *locked(&ending.making.state) = State::Done(told);
@@ -132,7 +144,7 @@ impl<K: Eq, V: Clone> Makers<K, V> {
         loop {
             let (making, is_maker) = self.join(&wanted);
             if is_maker {
-                let _ending = Ending { makers: self, making };
+                let _ending = Ending::of(self, making);
                 return change();
             }
             let state = locked(&making.state);

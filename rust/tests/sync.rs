@@ -217,6 +217,27 @@ fn a_listener_may_make_the_value_that_it_is_told_of() {
 }
 
 #[test]
+fn a_listener_may_wait_for_a_maker_that_lets_many_values_go() {
+    static OWN: OnceLock<Cache<u32, u32>> = OnceLock::new();
+    static IS_TOLD: Barrier = Barrier::new(2);
+    let listener = |key: Arc<u32>, _, _| {
+        if *key == 1 {
+            IS_TOLD.wait();
+            OWN.get().unwrap().get_with(2, || 0);
+        }
+    };
+    let cache = OWN.get_or_init(|| Cache::builder().max_capacity(10).eviction_listener(listener).build());
+    cache.insert(1, 1);
+    let make = move || {
+        thread::spawn(move || cache.invalidate(&1));
+        IS_TOLD.wait();
+        (0..5000).for_each(|value| cache.insert(3, value));
+        7
+    };
+    assert!(ends(move || assert_eq!(cache.get_with(2, make), 7)));
+}
+
+#[test]
 fn borrowed_forms_find_the_key() {
     let cache = Cache::<String, u32>::new(100);
     cache.insert("key".to_string(), 1);
