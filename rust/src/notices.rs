@@ -53,17 +53,18 @@ pub(crate) struct Notices<K, V> {
     // How many wait: written under that lock, so a thread that puts one there sees it, or that another took it out.
     count: AtomicUsize,
     turn: Mutex<()>,
-    has_panicked: AtomicBool,
+    // Whether the listener has, for whichever shard of the cache.
+    has_panicked: Arc<AtomicBool>,
 }
 
 impl<K, V> Notices<K, V> {
-    pub fn new(listener: Told<K, V>) -> Self {
+    pub fn new(listener: Told<K, V>, has_panicked: Arc<AtomicBool>) -> Self {
         Notices {
             listener,
             waiting: Mutex::new(VecDeque::new()),
             count: AtomicUsize::new(0),
             turn: Mutex::new(()),
-            has_panicked: AtomicBool::new(false),
+            has_panicked,
         }
     }
 

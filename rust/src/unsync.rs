@@ -135,7 +135,7 @@ impl<K: Eq + Hash + Sync + 'static, V: Clone + 'static> CacheBuilder<K, V> {
         let notices = settings
             .listener
             .clone()
-            .map(|listener| Arc::new(Notices::new(listener)));
+            .map(|listener| Arc::new(Notices::new(listener, Arc::default())));
         let capacity = settings.max_capacity;
         Cache {
             shard: Shard::new(settings.clone(), capacity, notices.clone(), Instant::now()),

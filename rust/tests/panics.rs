@@ -211,16 +211,17 @@ fn a_listener_that_panics_is_told_no_more() {
     let counts = Arc::clone(&told);
     let cache = sync::Cache::builder()
         .max_capacity(100)
+        .shards(8)
         .eviction_listener(move |_, _, _| {
             counts.fetch_add(1, Ordering::SeqCst);
             panic!("a listener that panics");
         })
         .build();
-    for value in 0..10 {
-        cache.insert(1, value);
+    for value in 0..50 {
+        cache.insert(value % 10, value);
     }
     assert_eq!(
-        (cache.get(&1), told.load(Ordering::SeqCst), cache.stats().replaced),
-        (Some(9), 1, 9)
+        (cache.get(&9), told.load(Ordering::SeqCst), cache.stats().replaced),
+        (Some(49), 1, 40)
     );
 }

@@ -135,9 +135,10 @@ where
         settings.initial_capacity = settings.initial_capacity.map(|all| all.div_ceil(count as usize));
         let (settings, start) = (Arc::new(settings), Instant::now());
         let router = Router::new(hasher, count);
+        let has_panicked = Arc::default();
         let places = (0..router.count()).map(|index| {
             let listener = settings.listener.clone();
-            let notices = listener.map(|listener| Arc::new(Notices::new(listener)));
+            let notices = listener.map(|listener| Arc::new(Notices::new(listener, Arc::clone(&has_panicked))));
             let share = settings.max_capacity.map(|all| router.share(all, index));
             let shard = Shard::new(settings.clone(), share, notices.clone(), start);
             Place {
