@@ -107,10 +107,21 @@ impl<K, V, S> Clone for Cache<K, V, S> {
     }
 }
 
-impl<K, V, S> fmt::Debug for Cache<K, V, S> {
+impl<K, V, S> fmt::Debug for Cache<K, V, S>
+where
+    K: fmt::Debug + Eq + Hash + Send + Sync + 'static,
+    V: fmt::Debug + Clone + Send + Sync + 'static,
+    S: BuildHasher,
+{
+    /// A map of the entries that [`iter`](Cache::iter) gives.
+    ///
+    /// ```
+    /// let cache = ravulemis::sync::Cache::new(100);
+    /// cache.insert(1, 'a');
+    /// assert_eq!(format!("{cache:?}"), "{1: 'a'}");
+    /// ```
     fn fmt(&self, f: &mut fmt::Formatter<'_>) -> fmt::Result {
-        let name = &self.0.settings.name;
-        f.debug_struct("Cache").field("name", name).finish_non_exhaustive()
+        f.debug_map().entries(self).finish()
     }
 }
 

@@ -147,10 +147,21 @@ impl<K: Eq + Hash + Sync + 'static, V: Clone + 'static> CacheBuilder<K, V> {
     }
 }
 
-impl<K, V, S> fmt::Debug for Cache<K, V, S> {
+impl<K, V, S> fmt::Debug for Cache<K, V, S>
+where
+    K: fmt::Debug + Eq + Hash + Sync + 'static,
+    V: fmt::Debug + Clone + 'static,
+    S: BuildHasher,
+{
+    /// A map of the entries that [`iter`](Cache::iter) gives.
+    ///
+    /// ```
+    /// let mut cache = ravulemis::unsync::Cache::new(100);
+    /// cache.insert(1, 'a');
+    /// assert_eq!(format!("{cache:?}"), "{1: 'a'}");
+    /// ```
     fn fmt(&self, f: &mut fmt::Formatter<'_>) -> fmt::Result {
-        let name = &self.settings.name;
-        f.debug_struct("Cache").field("name", name).finish_non_exhaustive()
+        f.debug_map().entries(self).finish()
     }
 }
 
