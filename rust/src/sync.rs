@@ -84,7 +84,12 @@ struct Shared<K: 'static, V, S> {
 ///
 /// Each shard is a cache of its own behind a lock, and has its share of the capacity; the builder says how many there
 /// are. The listener is called by the thread whose call found something to tell, or another's that is telling, after
-/// the lock was released, in the order in which values left the shard. So it may call the cache.
+/// the lock was released, in the order in which values left the shard. So it may call the cache. If a maker or a
+/// closure of an entry calls the cache, the listener may be called within it: then it must not have a value made or
+/// computed for that key.
+///
+/// The weigher, the expiry and predicates, `Eq` of keys, and `Clone` and `Drop` of values may be called under the lock
+/// of a shard, so they must not call the cache.
 ///
 /// # Panics of the caller's own code
 /// If the weigher, the expiry, a predicate or a clone of a value panics in the middle of a call, the shard is
