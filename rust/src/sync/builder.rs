@@ -91,8 +91,9 @@ where
         self
     }
 
-    /// The number of shards, made a power of two, from 1 to 65,536 and to the capacity. Each has its share of the capacity, so an entry that
-    /// weighs more than a share is not kept, and a shard whose keys come often evicts before the whole is full.
+    /// The number of shards, made a power of two, from 1 to 65,536, and at most the capacity. Each has its share of the
+    /// capacity, so an entry that weighs more than a share is not kept, and a shard whose keys come often evicts before
+    /// the whole is full.
     ///
     /// By default a cache with a weigher has one shard, another one for each 1,024 entries of its capacity, up to 64.
     ///
