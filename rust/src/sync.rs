@@ -92,10 +92,10 @@ struct Shared<K: 'static, V, S> {
 /// of a shard, so they must not call the cache.
 ///
 /// # Panics of the caller's own code
-/// If the weigher, the expiry, a predicate or a clone of a value panics in the middle of a call, the shard is
-/// **emptied** by the next call for it: its entries are gone, and the listener is not told of them. The panic goes on
-/// to the caller whose call it was. A panic of `Eq` or `Hash`, of a maker of `get_with`, of a closure of an entry or of
-/// the listener changes nothing; after its first the listener is told no more.
+/// If the weigher, the expiry, a predicate, or a clone or a drop of a value panics in the middle of a call, the shard
+/// is **emptied** by the next call for it: its entries are gone, and the listener is not told of them. The panic goes
+/// on to the caller whose call it was. A panic of `Eq` or `Hash`, of a maker of `get_with`, of a closure of an entry or
+/// of the listener changes nothing; after its first the listener is told no more.
 pub struct Cache<K: 'static, V, S = RandomState>(Arc<Shared<K, V, S>>);
 
 impl<K, V, S> Clone for Cache<K, V, S> {

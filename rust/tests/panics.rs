@@ -70,6 +70,27 @@ fn a_weigher_that_panics_empties_the_cache() {
     );
 }
 
+/// A value whose drop panics if it is 13.
+#[derive(Clone)]
+struct Brittle(u32);
+
+impl Drop for Brittle {
+    fn drop(&mut self) {
+        assert!(self.0 != 13, "a drop that panics");
+    }
+}
+
+#[test]
+fn a_drop_that_panics_empties_the_cache() {
+    let mut cache = unsync::Cache::new(100);
+    cache.insert(1, Brittle(13));
+    cache.insert(2, Brittle(2));
+    assert!(panics(|| cache.insert(1, Brittle(1))));
+    assert_eq!((cache.contains_key(&2), cache.entry_count()), (false, 0));
+    cache.insert(3, Brittle(3));
+    assert!(cache.get(&3).is_some());
+}
+
 /// A key whose comparison panics if one of the two is 13.
 #[derive(Debug)]
 struct Moody(u32);
