@@ -44,6 +44,13 @@ use std::sync::atomic::{AtomicU64, Ordering};
 /// Names a predicate that was registered.
 pub type PredicateId = String;
 
+// A hash for the router, which goes by the upper half: a hasher of the caller's may leave that empty. The factor is
+// none of the engine's, which spreads the same hash anew: by one of those the keys of a shard would meet in a part of
+// its index.
+fn spread(hash: u64) -> u64 {
+    hash.wrapping_mul(0xD1B5_4A32_D192_ED03)
+}
+
 /// A shard, what is being made for it, and what its listener is still to be told. No two shards share a cache line.
 #[repr(align(128))]
 struct Place<K: 'static, V> {
@@ -198,9 +205,7 @@ where
     S: BuildHasher,
 {
     fn place(&self, hash: u64) -> &Place<K, V> {
-        // A hasher of the caller's may leave the upper half of its hashes empty, by which the router goes.
-        let spread = hash.wrapping_mul(0x9E37_79B9_7F4A_7C15);
-        &self.0.places[self.0.router.segment_of_hash(spread)]
+        &self.0.places[self.0.router.segment_of_hash(spread(hash))]
     }
 
     // Makes a call under the lock of a shard, and tells the listener of what left by it.
@@ -447,5 +452,34 @@ where
 
     fn into_iter(self) -> Self::IntoIter {
         self.iter()
+    }
+}
+
+#[cfg(test)]
+mod tests {
+    use super::*;
+    use crate::engine::moka_store::KeyHash;
+    use std::collections::HashSet;
+
+    const SHARDS: usize = 64;
+
+    // The parts of its index that the keys of each shard take, of as many as there are shards.
+    fn parts(hash_of: impl Fn(u64) -> u64) -> Vec<HashSet<u32>> {
+        let router = Router::new((), SHARDS as u32);
+        let mut parts = vec![HashSet::new(); SHARDS];
+        for key in 0..100_000 {
+            let hash = hash_of(key);
+            let part = KeyHash::of(hash).0 >> 26;
+            parts[router.segment_of_hash(spread(hash))].insert(part);
+        }
+        parts
+    }
+
+    #[test]
+    fn keys_of_a_shard_lie_all_over_its_index() {
+        let hasher = RandomState::new();
+        for parts in [parts(|key| hasher.hash_one(key)), parts(|key| key)] {
+            assert!(parts.iter().all(|parts| parts.len() == SHARDS), "{parts:?}");
+        }
     }
 }
