@@ -1,9 +1,7 @@
 //! Values that are being made: one maker for all that wait on a key.
 
-use crate::notices::locked;
+use crate::notices::{Awaited, locked};
 use std::any::{Any, TypeId};
-use std::collections::HashMap;
-use std::hash::Hash;
 use std::sync::{Arc, Condvar, Mutex, PoisonError};
 
 /// What a maker came to.
@@ -37,15 +35,36 @@ enum State<V> {
     Left,
 }
 
-struct Making<V> {
+/// What is made: for a key, with its hash, by makers of one kind. An error of one type is not shared with those who ask
+/// for another.
+pub(crate) struct Wanted<K> {
+    pub hash: u64,
+    pub key: Arc<K>,
+    pub kind: TypeId,
+}
+
+impl<K> Clone for Wanted<K> {
+    fn clone(&self) -> Self {
+        let key = Arc::clone(&self.key);
+        Wanted { key, ..*self }
+    }
+}
+
+impl<K: Eq> Wanted<K> {
+    fn is(&self, other: &Self) -> bool {
+        (self.hash, self.kind) == (other.hash, other.kind) && self.key == other.key
+    }
+}
+
+struct Making<K, V> {
+    wanted: Wanted<K>,
     state: Mutex<State<V>>,
     ended: Condvar,
 }
 
-/// The makers of a shard, by key and kind: an error of one type is not shared with those who ask for another.
-pub(crate) struct Makers<K, V>(Mutex<HashMap<KeyAndKind<K>, Arc<Making<V>>>>);
-
-type KeyAndKind<K> = (Arc<K>, TypeId);
+/// The makers of a shard that are on their way: few, so they are in no order. The caller's `Eq` runs only where one
+/// joins, and its `Hash` never, so that a panic of either cannot keep a making from ending.
+pub(crate) struct Makers<K, V>(Mutex<Vec<Arc<Making<K, V>>>>);
 
 impl<K, V> Default for Makers<K, V> {
     fn default() -> Self {
@@ -54,15 +73,26 @@ impl<K, V> Default for Makers<K, V> {
 }
 
 /// Ends a making, also where the maker panics.
-struct Ending<'a, K: Eq + Hash, V> {
+struct Ending<'a, K, V> {
     makers: &'a Makers<K, V>,
-    key: KeyAndKind<K>,
-    making: Arc<Making<V>>,
+    making: Arc<Making<K, V>>,
+    _awaited: Awaited,
 }
 
-impl<K: Eq + Hash, V> Drop for Ending<'_, K, V> {
+impl<'a, K, V> Ending<'a, K, V> {
+    fn of(makers: &'a Makers<K, V>, making: Arc<Making<K, V>>) -> Self {
+        let _awaited = Awaited::new();
+        Ending {
+            makers,
+            making,
+            _awaited,
+        }
+    }
+}
+
+impl<K, V> Drop for Ending<'_, K, V> {
     fn drop(&mut self) {
-        locked(&self.makers.0).remove(&self.key);
+        locked(&self.makers.0).retain(|making| !Arc::ptr_eq(making, &self.making));
         let mut state = locked(&self.making.state);
         if matches!(*state, State::Going) {
             *state = State::Left;
@@ -71,33 +101,29 @@ impl<K: Eq + Hash, V> Drop for Ending<'_, K, V> {
     }
 }
 
-impl<K: Eq + Hash, V: Clone> Makers<K, V> {
-    // The making of a key, and whether the caller is its maker.
-    fn join(&self, key: &KeyAndKind<K>) -> (Arc<Making<V>>, bool) {
+impl<K: Eq, V: Clone> Makers<K, V> {
+    // The making of what is wanted, and whether the caller is its maker.
+    fn join(&self, wanted: &Wanted<K>) -> (Arc<Making<K, V>>, bool) {
         let mut makers = locked(&self.0);
-        if let Some(making) = makers.get(key) {
+        if let Some(making) = makers.iter().find(|making| making.wanted.is(wanted)) {
             return (Arc::clone(making), false);
         }
         let making = Arc::new(Making {
+            wanted: wanted.clone(),
             state: Mutex::new(State::Going),
             ended: Condvar::new(),
         });
-        makers.insert(key.clone(), Arc::clone(&making));
+        makers.push(Arc::clone(&making));
         (making, true)
     }
 
-    /// The outcome of `make`, which is called by one of those who ask for the key at a time; the others wait for it. If
-    /// it panics, one of them is the next to make.
-    pub fn once(&self, key: Arc<K>, kind: TypeId, make: impl FnOnce() -> Outcome<V>) -> Outcome<V> {
-        let key = (key, kind);
+    /// The outcome of `make`, which is called by one of those who want it at a time; the others wait for it. If it
+    /// panics, one of them is the next to make.
+    pub fn once(&self, wanted: &Wanted<K>, make: impl FnOnce() -> Outcome<V>) -> Outcome<V> {
         loop {
-            let (making, is_maker) = self.join(&key);
+            let (making, is_maker) = self.join(wanted);
             if is_maker {
-                let ending = Ending {
-                    makers: self,
-                    key,
-                    making,
-                };
+                let ending = Ending::of(self, making);
                 let outcome = make();
                 let told = outcome.told();
                 *locked(&ending.making.state) = State::Done(told);
@@ -112,16 +138,13 @@ impl<K: Eq + Hash, V: Clone> Makers<K, V> {
     }
 
     /// Calls `change` when no other that was called by this for the key is on its way.
-    pub fn alone<R>(&self, key: Arc<K>, change: impl FnOnce() -> R) -> R {
-        let key = (key, TypeId::of::<Makers<(), ()>>());
+    pub fn alone<R>(&self, hash: u64, key: Arc<K>, change: impl FnOnce() -> R) -> R {
+        let kind = TypeId::of::<Makers<(), ()>>();
+        let wanted = Wanted { hash, key, kind };
         loop {
-            let (making, is_maker) = self.join(&key);
+            let (making, is_maker) = self.join(&wanted);
             if is_maker {
-                let _ending = Ending {
-                    makers: self,
-                    key,
-                    making,
-                };
+                let _ending = Ending::of(self, making);
                 return change();
             }
             let state = locked(&making.state);

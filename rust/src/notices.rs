@@ -23,8 +23,26 @@ pub(crate) fn locked<T>(mutex: &Mutex<T>) -> MutexGuard<'_, T> {
 const MOST_WAITING: usize = 1024;
 
 thread_local! {
-    // Whether this thread is in a listener.
-    static IS_TELLING: Cell<bool> = const { Cell::new(false) };
+    // Whether this thread is in a listener or a maker.
+    static IS_AWAITED: Cell<bool> = const { Cell::new(false) };
+}
+
+/// While it is there this thread waits for no turn: in a listener or a maker others may wait for it.
+pub(crate) struct Awaited {
+    was_awaited: bool,
+}
+
+impl Awaited {
+    pub fn new() -> Self {
+        let was_awaited = IS_AWAITED.replace(true);
+        Awaited { was_awaited }
+    }
+}
+
+impl Drop for Awaited {
+    fn drop(&mut self) {
+        IS_AWAITED.set(self.was_awaited);
+    }
 }
 
 /// Notices that wait until the lock of their shard is released, and the listener that is then told of them, in order.
@@ -35,17 +53,18 @@ pub(crate) struct Notices<K, V> {
     // How many wait: written under that lock, so a thread that puts one there sees it, or that another took it out.
     count: AtomicUsize,
     turn: Mutex<()>,
-    has_panicked: AtomicBool,
+    // Whether the listener has, for whichever shard of the cache.
+    has_panicked: Arc<AtomicBool>,
 }
 
 impl<K, V> Notices<K, V> {
-    pub fn new(listener: Told<K, V>) -> Self {
+    pub fn new(listener: Told<K, V>, has_panicked: Arc<AtomicBool>) -> Self {
         Notices {
             listener,
             waiting: Mutex::new(VecDeque::new()),
             count: AtomicUsize::new(0),
             turn: Mutex::new(()),
-            has_panicked: AtomicBool::new(false),
+            has_panicked,
         }
     }
 
@@ -74,15 +93,14 @@ impl<K, V> Notices<K, V> {
     fn deliver_waiting(&self) {
         let mut waiting = locked(&self.waiting).len();
         while waiting > 0 {
-            let is_inner = IS_TELLING.get();
             let turn = match self.turn.try_lock() {
                 Ok(turn) => turn,
                 Err(TryLockError::Poisoned(turn)) => turn.into_inner(),
-                Err(TryLockError::WouldBlock) if is_inner || waiting < MOST_WAITING => return,
+                Err(TryLockError::WouldBlock) if IS_AWAITED.get() || waiting < MOST_WAITING => return,
                 Err(TryLockError::WouldBlock) => locked(&self.turn),
             };
             while let Some(notice) = self.pop() {
-                self.tell(notice, is_inner);
+                self.tell(notice);
             }
             drop(turn);
             // One that came after the last look, while the turn was taken.
@@ -91,13 +109,12 @@ impl<K, V> Notices<K, V> {
     }
 
     // A listener that panicked is told no more.
-    fn tell(&self, (key, value, cause): Notice<K, V>, is_inner: bool) {
+    fn tell(&self, (key, value, cause): Notice<K, V>) {
         if self.has_panicked.load(Ordering::Relaxed) {
             return;
         }
-        IS_TELLING.set(true);
+        let _awaited = Awaited::new();
         let told = catch_unwind(AssertUnwindSafe(|| (self.listener)(key, value, cause)));
-        IS_TELLING.set(is_inner);
         if told.is_err() {
             self.has_panicked.store(true, Ordering::Relaxed);
         }

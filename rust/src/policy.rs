@@ -114,7 +114,7 @@ pub struct Stats {
     pub misses: u64,
     /// Values that were made by `get_with` and its like, and put there.
     pub loads: u64,
-    /// Makers that gave no value, by an error or a panic.
+    /// Makers that gave no value, by `None`, an error or a panic.
     pub load_failures: u64,
     /// Values that left since their time was over.
     pub expired: u64,

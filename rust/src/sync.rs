@@ -44,12 +44,36 @@ use std::sync::atomic::{AtomicU64, Ordering};
 /// Names a predicate that was registered.
 pub type PredicateId = String;
 
+// A hash for the router, which goes by the upper half: a hasher of the caller's may leave that empty. The factor is
+// none of the engine's, which spreads the same hash anew: by one of those the keys of a shard would meet in a part of
+// its index.
+fn spread(hash: u64) -> u64 {
+    hash.wrapping_mul(0xD1B5_4A32_D192_ED03)
+}
+
 /// A shard, what is being made for it, and what its listener is still to be told. No two shards share a cache line.
 #[repr(align(128))]
 struct Place<K: 'static, V> {
     shard: Mutex<Shard<K, V>>,
     makers: Makers<K, V>,
     notices: Option<Arc<Notices<K, V>>>,
+}
+
+impl<K: Eq + Hash, V> Place<K, V> {
+    // Makes a call under the lock of the shard. The listener is still to be told of what left by it.
+    #[inline]
+    fn with_shard<R>(&self, call: impl FnOnce(&mut Shard<K, V>) -> R) -> R {
+        let mut shard = locked(&self.shard);
+        shard.recover();
+        call(&mut shard)
+    }
+
+    #[inline]
+    fn deliver(&self) {
+        if let Some(notices) = &self.notices {
+            notices.deliver();
+        }
+    }
 }
 
 struct Shared<K: 'static, V, S> {
@@ -67,13 +91,18 @@ struct Shared<K: 'static, V, S> {
 ///
 /// Each shard is a cache of its own behind a lock, and has its share of the capacity; the builder says how many there
 /// are. The listener is called by the thread whose call found something to tell, or another's that is telling, after
-/// the lock was released, in the order in which values left the shard. So it may call the cache.
+/// the lock was released, in the order in which values left the shard. So it may call the cache. If a maker or a
+/// closure of an entry calls the cache, the listener may be called within it: then it must not have a value made or
+/// computed for that key.
+///
+/// The weigher, the expiry and predicates, `Eq` of keys, and `Clone` and `Drop` of values may be called under the lock
+/// of a shard, so they must not call the cache.
 ///
 /// # Panics of the caller's own code
-/// If the weigher, the expiry, a predicate or a clone of a value panics in the middle of a call, the shard is
-/// **emptied** by the next call for it: its entries are gone, and the listener is not told of them. The panic goes on
-/// to the caller whose call it was. A panic of `Eq` or `Hash`, of a maker of `get_with`, of a closure of an entry or of
-/// the listener changes nothing; after its first the listener is told no more.
+/// If the weigher, the expiry, a predicate, or a clone or a drop of a value panics in the middle of a call, the shard
+/// is **emptied** by the next call for it: its entries are gone, and the listener is not told of them. The panic goes
+/// on to the caller whose call it was. A panic of `Eq` or `Hash`, of a maker of `get_with`, of a closure of an entry or
+/// of the listener changes nothing; after its first the listener is told no more.
 pub struct Cache<K: 'static, V, S = RandomState>(Arc<Shared<K, V, S>>);
 
 impl<K, V, S> Clone for Cache<K, V, S> {
@@ -90,10 +119,21 @@ impl<K, V, S> Clone for Cache<K, V, S> {
     }
 }
 
-impl<K, V, S> fmt::Debug for Cache<K, V, S> {
+impl<K, V, S> fmt::Debug for Cache<K, V, S>
+where
+    K: fmt::Debug + Eq + Hash + Send + Sync + 'static,
+    V: fmt::Debug + Clone + Send + Sync + 'static,
+    S: BuildHasher,
+{
+    /// A map of the entries that [`iter`](Cache::iter) gives.
+    ///
+    /// ```
+    /// let cache = ravulemis::sync::Cache::new(100);
+    /// cache.insert(1, 'a');
+    /// assert_eq!(format!("{cache:?}"), "{1: 'a'}");
+    /// ```
     fn fmt(&self, f: &mut fmt::Formatter<'_>) -> fmt::Result {
-        let name = &self.0.settings.name;
-        f.debug_struct("Cache").field("name", name).finish_non_exhaustive()
+        f.debug_map().entries(self).finish()
     }
 }
 
@@ -165,21 +205,14 @@ where
     S: BuildHasher,
 {
     fn place(&self, hash: u64) -> &Place<K, V> {
-        // A hasher of the caller's may leave the upper half of its hashes empty, by which the router goes.
-        let spread = hash.wrapping_mul(0x9E37_79B9_7F4A_7C15);
-        &self.0.places[self.0.router.segment_of_hash(spread)]
+        &self.0.places[self.0.router.segment_of_hash(spread(hash))]
     }
 
     // Makes a call under the lock of a shard, and tells the listener of what left by it.
     #[inline]
     fn with<R>(&self, place: &Place<K, V>, call: impl FnOnce(&mut Shard<K, V>) -> R) -> R {
-        let mut shard = locked(&place.shard);
-        shard.recover();
-        let answer = call(&mut shard);
-        drop(shard);
-        if let Some(notices) = &place.notices {
-            notices.deliver();
-        }
+        let answer = place.with_shard(call);
+        place.deliver();
         answer
     }
 
@@ -419,5 +452,34 @@ where
 
     fn into_iter(self) -> Self::IntoIter {
         self.iter()
+    }
+}
+
+#[cfg(test)]
+mod tests {
+    use super::*;
+    use crate::engine::moka_store::KeyHash;
+    use std::collections::HashSet;
+
+    const SHARDS: usize = 64;
+
+    // The parts of its index that the keys of each shard take, of as many as there are shards.
+    fn parts(hash_of: impl Fn(u64) -> u64) -> Vec<HashSet<u32>> {
+        let router = Router::new((), SHARDS as u32);
+        let mut parts = vec![HashSet::new(); SHARDS];
+        for key in 0..100_000 {
+            let hash = hash_of(key);
+            let part = KeyHash::of(hash).0 >> 26;
+            parts[router.segment_of_hash(spread(hash))].insert(part);
+        }
+        parts
+    }
+
+    #[test]
+    fn keys_of_a_shard_lie_all_over_its_index() {
+        let hasher = RandomState::new();
+        for parts in [parts(|key| hasher.hash_one(key)), parts(|key| key)] {
+            assert!(parts.iter().all(|parts| parts.len() == SHARDS), "{parts:?}");
+        }
     }
 }

@@ -33,8 +33,8 @@ pub type PredicateId = String;
 /// The listener is called at the end of the call that found something to tell, in the order in which values left.
 ///
 /// # Panics of the caller's own code
-/// If the weigher, the expiry, a predicate or a clone of a value panics in the middle of a call, the cache is
-/// **emptied** by the next call that changes it: its entries are gone, and the listener is not told of them. A panic of
+/// If the weigher, the expiry, a predicate, or a clone or a drop of a value panics in the middle of a call, the cache
+/// is **emptied** by the next call that changes it: its entries are gone, and the listener is not told of them. A panic of
 /// `Eq` or `Hash`, of a maker of `get_with` or of the listener changes nothing; after its first the listener is told no
 /// more.
 pub struct Cache<K: 'static, V, S = RandomState> {
@@ -135,7 +135,7 @@ impl<K: Eq + Hash + Sync + 'static, V: Clone + 'static> CacheBuilder<K, V> {
         let notices = settings
             .listener
             .clone()
-            .map(|listener| Arc::new(Notices::new(listener)));
+            .map(|listener| Arc::new(Notices::new(listener, Arc::default())));
         let capacity = settings.max_capacity;
         Cache {
             shard: Shard::new(settings.clone(), capacity, notices.clone(), Instant::now()),
@@ -147,10 +147,21 @@ impl<K: Eq + Hash + Sync + 'static, V: Clone + 'static> CacheBuilder<K, V> {
     }
 }
 
-impl<K, V, S> fmt::Debug for Cache<K, V, S> {
+impl<K, V, S> fmt::Debug for Cache<K, V, S>
+where
+    K: fmt::Debug + Eq + Hash + Sync + 'static,
+    V: fmt::Debug + Clone + 'static,
+    S: BuildHasher,
+{
+    /// A map of the entries that [`iter`](Cache::iter) gives.
+    ///
+    /// ```
+    /// let mut cache = ravulemis::unsync::Cache::new(100);
+    /// cache.insert(1, 'a');
+    /// assert_eq!(format!("{cache:?}"), "{1: 'a'}");
+    /// ```
     fn fmt(&self, f: &mut fmt::Formatter<'_>) -> fmt::Result {
-        let name = &self.settings.name;
-        f.debug_struct("Cache").field("name", name).finish_non_exhaustive()
+        f.debug_map().entries(self).finish()
     }
 }
 

@@ -70,6 +70,27 @@ fn a_weigher_that_panics_empties_the_cache() {
     );
 }
 
+/// A value whose drop panics if it is 13.
+#[derive(Clone)]
+struct Brittle(u32);
+
+impl Drop for Brittle {
+    fn drop(&mut self) {
+        assert!(self.0 != 13, "a drop that panics");
+    }
+}
+
+#[test]
+fn a_drop_that_panics_empties_the_cache() {
+    let mut cache = unsync::Cache::new(100);
+    cache.insert(1, Brittle(13));
+    cache.insert(2, Brittle(2));
+    assert!(panics(|| cache.insert(1, Brittle(1))));
+    assert_eq!((cache.contains_key(&2), cache.entry_count()), (false, 0));
+    cache.insert(3, Brittle(3));
+    assert!(cache.get(&3).is_some());
+}
+
 /// A key whose comparison panics if one of the two is 13.
 #[derive(Debug)]
 struct Moody(u32);
@@ -107,6 +128,38 @@ fn a_comparison_or_hash_that_panics_changes_nothing() {
     }
     cache.run_pending_tasks();
     assert_eq!(cache.entry_count(), 10);
+}
+
+/// A key whose hash panics while it is told to.
+struct Fickle(&'static AtomicBool);
+
+impl PartialEq for Fickle {
+    fn eq(&self, _: &Self) -> bool {
+        true
+    }
+}
+
+impl Eq for Fickle {}
+
+impl Hash for Fickle {
+    fn hash<H: Hasher>(&self, state: &mut H) {
+        assert!(!self.0.load(Ordering::SeqCst), "a hash that panics");
+        state.write_u32(0);
+    }
+}
+
+#[test]
+fn a_hash_that_panics_keeps_no_making_from_ending() {
+    static BREAKS: AtomicBool = AtomicBool::new(false);
+    let cache = sync::Cache::new(100);
+    let make = || {
+        BREAKS.store(true, Ordering::SeqCst);
+        7
+    };
+    assert!(!panics(|| cache.get_with(Fickle(&BREAKS), make)));
+    BREAKS.store(false, Ordering::SeqCst);
+    cache.invalidate(&Fickle(&BREAKS));
+    assert_eq!(cache.get_with(Fickle(&BREAKS), || 8), 8);
 }
 
 #[test]
@@ -179,16 +232,17 @@ fn a_listener_that_panics_is_told_no_more() {
     let counts = Arc::clone(&told);
     let cache = sync::Cache::builder()
         .max_capacity(100)
+        .shards(8)
         .eviction_listener(move |_, _, _| {
             counts.fetch_add(1, Ordering::SeqCst);
             panic!("a listener that panics");
         })
         .build();
-    for value in 0..10 {
-        cache.insert(1, value);
+    for value in 0..50 {
+        cache.insert(value % 10, value);
     }
     assert_eq!(
-        (cache.get(&1), told.load(Ordering::SeqCst), cache.stats().replaced),
-        (Some(9), 1, 9)
+        (cache.get(&9), told.load(Ordering::SeqCst), cache.stats().replaced),
+        (Some(49), 1, 40)
     );
 }

@@ -1,9 +1,10 @@
 //! The cache that threads share.
 
+use ravulemis::ops::compute::Op;
 use ravulemis::sync::Cache;
 use ravulemis::{EvictionPolicy, RemovalCause};
 use std::sync::atomic::{AtomicU32, AtomicU64, Ordering};
-use std::sync::{Arc, Barrier, Mutex};
+use std::sync::{Arc, Barrier, Mutex, OnceLock, mpsc};
 use std::thread;
 use std::time::Duration;
 
@@ -172,6 +173,68 @@ fn a_listener_may_call_the_cache() {
     cache.invalidate(&1);
     assert_eq!((cache.get(&1), cache.get(&101)), (None, Some(7)));
     *own.lock().unwrap() = None;
+}
+
+/// Whether a call comes back. One that does not is left behind.
+fn ends<R>(call: impl FnOnce() -> R + Send + 'static) -> bool {
+    let (sender, ended) = mpsc::channel();
+    thread::spawn(move || {
+        call();
+        sender.send(())
+    });
+    ended.recv_timeout(Duration::from_secs(10)).is_ok()
+}
+
+#[test]
+fn a_listener_may_compute_the_entry_that_it_is_told_of() {
+    static OWN: OnceLock<Cache<u32, u32>> = OnceLock::new();
+    let listener = |key: Arc<u32>, value: u32, cause| {
+        if let (Some(cache), RemovalCause::Explicit) = (OWN.get(), cause) {
+            cache.entry(*key).and_upsert_with(|_| value + 1);
+        }
+    };
+    let cache = OWN.get_or_init(|| Cache::builder().max_capacity(10).eviction_listener(listener).build());
+    cache.insert(1, 7);
+    assert!(ends(move || cache.entry(1).and_compute_with(|_| Op::Remove)));
+    assert_eq!(cache.get(&1), Some(8));
+}
+
+#[test]
+fn a_listener_may_make_the_value_that_it_is_told_of() {
+    static OWN: OnceLock<Cache<u32, u32>> = OnceLock::new();
+    static TOLD: AtomicU32 = AtomicU32::new(0);
+    let listener = |key: Arc<u32>, _, _| {
+        if TOLD.fetch_add(1, Ordering::SeqCst) == 0 {
+            OWN.get().unwrap().get_with(*key, || 9);
+        }
+    };
+    // Each value has expired when it is put there, so each look-up is a miss.
+    let builder = Cache::builder().time_to_live(Duration::ZERO);
+    let cache = OWN.get_or_init(|| builder.eviction_listener(listener).build());
+    cache.insert(1, 7);
+    assert!(ends(move || cache.get_with(1, || 8)));
+    assert_eq!(cache.stats().loads, 2);
+}
+
+#[test]
+fn a_listener_may_wait_for_a_maker_that_lets_many_values_go() {
+    static OWN: OnceLock<Cache<u32, u32>> = OnceLock::new();
+    static IS_TOLD: Barrier = Barrier::new(2);
+    let listener = |key: Arc<u32>, _, _| {
+        if *key == 1 {
+            IS_TOLD.wait();
+            OWN.get().unwrap().get_with(2, || 0);
+        }
+    };
+    let cache = OWN.get_or_init(|| Cache::builder().max_capacity(10).eviction_listener(listener).build());
+    cache.insert(1, 1);
+    let make = move || {
+        thread::spawn(move || cache.invalidate(&1));
+        IS_TOLD.wait();
+        (0..5000).for_each(|value| cache.insert(3, value));
+        7
+    };
+    assert!(ends(move || assert_eq!(cache.get_with(2, make), 7)));
 }
 
 #[test]

@@ -200,10 +200,11 @@ fn counts_loads() {
     assert_eq!(cache.get_with(1, || 1), 1);
     assert_eq!(cache.try_get_with(2, || Err("no")), Err("no"));
     assert_eq!(cache.optionally_get_with(1, || None), Some(1));
+    assert_eq!(cache.optionally_get_with(2, || None), None);
     let stats = cache.stats();
     assert_eq!(
         (stats.hits, stats.misses, stats.loads, stats.load_failures),
-        (1, 2, 1, 1)
+        (1, 3, 1, 2)
     );
 }
 

@@ -55,6 +55,8 @@ class Cache:
 def main(path):
     library = ctypes.CDLL(path)
     library.ravulemis_message.restype = ctypes.c_char_p
+    # Without these a text would pass for bytes, by the address of its characters.
+    library.ravulemis_insert.argtypes = [c_void_p, ctypes.c_char_p, c_size_t, ctypes.c_char_p, c_size_t]
     library.ravulemis_get.argtypes = [c_void_p, ctypes.c_char_p, c_size_t, ctypes.c_char_p, c_size_t, POINTER(c_size_t)]
     told = []
     cache = Cache(library, 10, lambda *notice: told.append(notice))
@@ -62,6 +64,12 @@ def main(path):
     cache[b"key"] = b"v" * 100
     assert cache.get(b"key") == b"v" * 100 and cache.get(b"another") is None
     assert told == [(b"key", b"value", "replaced")], told
+    try:
+        cache["key"] = b"value"
+    except ctypes.ArgumentError:
+        pass
+    else:
+        sys.exit("a text was taken for bytes")
     cache.close()
     for wrong in (cache.close, lambda: cache.get(b"key"), lambda: Cache.get(Cache(library, 1), b"")):
         try:

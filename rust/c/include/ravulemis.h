@@ -59,7 +59,8 @@ typedef struct ravulemis_settings {
   uint64_t max_capacity;
   /* One of `enum ravulemis_weigher`. */
   int32_t weigher;
-  /* The number of shards, made a power of two, at most 65536; 0 lets the library choose. */
+  /* The number of shards, made a power of two, at most 65536, and no more than the capacity; 0 lets the library choose.
+     Each has its share of the capacity: an entry that weighs more than a share is not kept. */
   uint32_t shards;
   /* The number of entries that room is made for at once, at most 2^24. */
   uint64_t initial_capacity;

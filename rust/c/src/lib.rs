@@ -102,16 +102,21 @@ unsafe fn key_of<'a>(at: *const u8, length: usize) -> Result<&'a [u8], i32> {
     if key.is_empty() { Err(BAD_ARGUMENT) } else { Ok(key) }
 }
 
-// SAFETY: there is room for as many bytes, or the pointer is null; the length's pointer is null or may be written
-// through.
+// Writes where the caller wants it. What is there may never have been set, so no reference is made to it.
+// SAFETY: the pointer is null or may be written through.
+unsafe fn hand_to<T>(at: *mut T, it: T) {
+    if !at.is_null() {
+        unsafe { at.write(it) };
+    }
+}
+
+// SAFETY: there is room for as many bytes, or the pointer is null; the length's pointer is as of `hand_to`.
 unsafe fn hand_out(value: &[u8], buffer: *mut u8, room: usize, length: *mut usize) -> i32 {
     let count = value.len().min(room);
     if count > 0 {
         unsafe { buffer.copy_from_nonoverlapping(value.as_ptr(), count) };
     }
-    if let Some(length) = unsafe { length.as_mut() } {
-        *length = value.len();
-    }
+    unsafe { hand_to(length, value.len()) };
     if count < value.len() { TRUNCATED } else { OK }
 }
 
@@ -185,8 +190,11 @@ pub unsafe extern "C" fn ravulemis_settings_default(settings: *mut Settings) -> 
 pub unsafe extern "C" fn ravulemis_create(settings: *const Settings, cache: *mut *mut Handle) -> i32 {
     coded(|| {
         let settings = unsafe { settings.as_ref() }.ok_or(BAD_ARGUMENT)?;
-        let cache = unsafe { cache.as_mut() }.ok_or(BAD_ARGUMENT)?;
-        *cache = Box::into_raw(Box::new(Handle(RwLock::new(Some(built(settings)?)))));
+        if cache.is_null() {
+            return Err(BAD_ARGUMENT);
+        }
+        let made = Handle(RwLock::new(Some(built(settings)?)));
+        unsafe { cache.write(Box::into_raw(Box::new(made))) };
         Ok(OK)
     })
 }
@@ -313,11 +321,9 @@ pub unsafe extern "C" fn ravulemis_run_pending_tasks(cache: *mut Handle) -> i32 
 #[unsafe(no_mangle)]
 pub unsafe extern "C" fn ravulemis_size(cache: *mut Handle, entry_count: *mut u64, weighted_size: *mut u64) -> i32 {
     let call = |cache: &Cache<Vec<u8>, Bytes>| {
-        if let Some(count) = unsafe { entry_count.as_mut() } {
-            *count = cache.entry_count();
-        }
-        if let Some(weight) = unsafe { weighted_size.as_mut() } {
-            *weight = cache.weighted_size();
+        unsafe {
+            hand_to(entry_count, cache.entry_count());
+            hand_to(weighted_size, cache.weighted_size());
         }
         Ok(OK)
     };

@@ -91,8 +91,9 @@ where
         self
     }
 
-    /// The number of shards, made a power of two, from 1 to 65,536 and to the capacity. Each has its share of the capacity, so an entry that
-    /// weighs more than a share is not kept, and a shard whose keys come often evicts before the whole is full.
+    /// The number of shards, made a power of two, from 1 to 65,536, and at most the capacity. Each has its share of the
+    /// capacity, so an entry that weighs more than a share is not kept, and a shard whose keys come often evicts before
+    /// the whole is full.
     ///
     /// By default a cache with a weigher has one shard, another one for each 1,024 entries of its capacity, up to 64.
     ///
@@ -135,9 +136,10 @@ where
         settings.initial_capacity = settings.initial_capacity.map(|all| all.div_ceil(count as usize));
         let (settings, start) = (Arc::new(settings), Instant::now());
         let router = Router::new(hasher, count);
+        let has_panicked = Arc::default();
         let places = (0..router.count()).map(|index| {
             let listener = settings.listener.clone();
-            let notices = listener.map(|listener| Arc::new(Notices::new(listener)));
+            let notices = listener.map(|listener| Arc::new(Notices::new(listener, Arc::clone(&has_panicked))));
             let share = settings.max_capacity.map(|all| router.share(all, index));
             let shard = Shard::new(settings.clone(), share, notices.clone(), start);
             Place {

@@ -91,15 +91,20 @@ where
         decide: impl FnOnce(Option<Entry<K, V>>) -> Result<Op<V>, E>,
     ) -> Result<CompResult<K, V>, E> {
         let place = self.place(hash);
-        place.makers.alone(Arc::clone(&key), || {
-            let there = self.with(place, |shard| shard.peek(hash, &|kept| *kept == *key));
+        let answer = place.makers.alone(hash, Arc::clone(&key), || {
+            let there = place.with_shard(|shard| shard.peek(hash, &|kept| *kept == *key));
             let there = there.map(|(key, value)| Entry::found(key, value));
             let op = decide(there.clone())?;
-            Ok(computed(Arc::clone(&key), op, there, |value| match value {
-                Some(value) => self.insert_shared(hash, key, value),
-                None => self.with(place, |shard| shard.invalidate(hash, &|kept| *kept == *key)),
+            Ok(computed(Arc::clone(&key), op, there, |value| {
+                place.with_shard(|shard| match value {
+                    Some(value) => shard.insert(hash, key, value),
+                    None => shard.invalidate(hash, &|kept| *kept == *key),
+                })
             }))
-        })
+        });
+        // As after a load.
+        place.deliver();
+        answer
     }
 }
 

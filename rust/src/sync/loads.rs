@@ -1,7 +1,7 @@
 //! Values that are made where they are not there.
 
 use super::Cache;
-use crate::making::Outcome;
+use crate::making::{Outcome, Wanted};
 use std::any::TypeId;
 use std::borrow::Borrow;
 use std::hash::{BuildHasher, Hash};
@@ -75,9 +75,11 @@ where
         make: impl FnOnce() -> Outcome<V>,
     ) -> Outcome<V> {
         let place = self.place(hash);
-        place.makers.once(Arc::clone(&key), kind, || {
+        let wanted = Wanted { hash, key, kind };
+        let key = &wanted.key;
+        let outcome = place.makers.once(&wanted, || {
             // Another may have put it there since the caller looked.
-            let there = self.with(place, |shard| shard.peek(hash, &|kept| *kept == *key));
+            let there = place.with_shard(|shard| shard.peek(hash, &|kept| *kept == **key));
             if let Some((_, value)) = there
                 && !replaces(&value)
             {
@@ -89,12 +91,16 @@ where
             };
             let outcome = make();
             if let Outcome::Made { value, .. } = &outcome {
-                self.insert_shared(hash, Arc::clone(&key), value.clone());
+                let value = value.clone();
+                place.with_shard(|shard| shard.insert(hash, Arc::clone(key), value));
                 self.0.loads.fetch_add(1, Ordering::Relaxed);
                 load.is_done = true;
             }
             outcome
-        })
+        });
+        // Not before the making has ended: the listener may ask for its key.
+        place.deliver();
+        outcome
     }
 
     // The value of a key that is there, or the outcome of its maker.
@@ -123,7 +129,8 @@ where
 
     /// A clone of a key's value, which is made and put there if it is missing. Of all who ask for a key at once one
     /// makes the value, and the others wait for it. If the maker panics, the panic is its caller's, and one of the
-    /// others is the next to make. A maker may call the cache, but not for its own key.
+    /// others is the next to make. A maker may call the cache, but not for its own key, nor may two makers wait for
+    /// each other.
     ///
     /// ```
     /// let cache = ravulemis::sync::Cache::new(100);
