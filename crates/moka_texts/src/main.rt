@@ -4,7 +4,9 @@
 #![tactic(auto)]
 
 mod asks;
+mod entries;
 mod in_segments;
+mod many;
 mod report;
 mod rounds;
 mod saved;
@@ -45,6 +47,13 @@ fn main(rt: HostRuntime) -> Result<()> {
     let mut cached = new_cached(rt.alloc(), &mut out)?;
     for number in 0..TEXTS {
         synchronous::round(rt.alloc(), &mut out, &mut cached, number)?;
+    }
+    for number in 0..TEXTS {
+        entries::round(rt.alloc(), &mut out, &mut cached, number)?;
+    }
+    let mut first = new_cached(rt.alloc(), &mut out)?;
+    for number in 0..TEXTS {
+        many::round(rt.alloc(), &mut out, &mut first, number)?;
     }
     let mut second = new_cached(rt.alloc(), &mut out)?;
     saved::save_and_ask(rt.alloc(), &mut out, &mut cached, &mut second, 4)?;

@@ -26,19 +26,40 @@ pub fn told_by(cache: &Cached) -> Told {
 }
 
 impl Told {
-    /// After a look-up that missed, and a value that was made and not inserted.
-    fn after_load(self) -> Told {
+    /// After so many look-ups that hit, and that missed.
+    pub fn after_look_ups(self, hits: u64, misses: u64) -> Told {
         let mut after = self;
-        after.state.reads = self.state.reads.wrapping_add(1);
-        after.stats.misses = self.stats.misses.wrapping_add(1);
+        let reads = hits.wrapping_add(misses) as usize;
+        after.state.reads = self.state.reads.wrapping_add(reads);
+        after.stats.hits = self.stats.hits.wrapping_add(hits);
+        after.stats.misses = self.stats.misses.wrapping_add(misses);
+        after
+    }
+
+    /// After a value was made.
+    pub fn after_load(self) -> Told {
+        let mut after = self;
         after.stats.loads = self.stats.loads.wrapping_add(1);
         after
     }
 
-    /// After a removal of which the listener was not told.
-    fn after_removal(self) -> Told {
+    /// After so many inserts and removals of which the listener was not told.
+    pub fn after_writes(self, writes: usize) -> Told {
         let mut after = self;
-        after.state.writes = self.state.writes.wrapping_add(1);
+        after.state.writes = self.state.writes.wrapping_add(writes);
+        after
+    }
+
+    /// After so many notices of texts with so many bytes.
+    pub fn after_notices(self, notices: u64, bytes: usize) -> Told {
+        let mut after = self;
+        after.state.report = match self.state.report {
+            Some(report) => Some(Report {
+                notices: report.notices.wrapping_add(notices),
+                bytes: report.bytes.wrapping_add(bytes),
+            }),
+            None => None,
+        };
         after
     }
 }
@@ -81,7 +102,7 @@ impl Maker {
 
 /// How a text is taken out.
 #[derive(Clone, Copy, Debug, PartialEq, Eq)]
-enum Removal {
+pub enum Removal {
     Remove,
     Invalidate,
 }
@@ -147,8 +168,8 @@ fn get_or_make(
     }
 }
 
-/// Inserts what came back of a get with a maker, and hands a clone of it out.
-fn insert_made(
+/// Inserts what came back of a call that was to hand out its value, and hands a clone of it out.
+pub fn insert_made(
     cache: &mut Cached,
     refused: InsertRefused<String, String>,
     now: Instant,
@@ -182,7 +203,7 @@ fn made_by<W: Write>(
             tell_refused(
                 out,
                 maker.at_insert(),
-                &before.after_load(),
+                &before.after_look_ups(0, 1).after_load(),
                 &told_by(cache),
             )?;
             insert_made(cache, refused, now)
@@ -219,7 +240,7 @@ fn remove_by(
 }
 
 /// Takes a text out. If the listener was not told of it, the value that came back is put in and taken out again.
-fn take_out<W: Write>(
+pub fn take_out<W: Write>(
     out: &mut W,
     cache: &mut Cached,
     removal: Removal,
@@ -231,7 +252,7 @@ fn take_out<W: Write>(
         tell_refused(
             out,
             removal.name(),
-            &before.after_removal(),
+            &before.after_writes(1),
             &told_by(cache),
         )?;
         cache.insert(key.clone()?, refused.value, now, &mut FixedClock(now))?;
