@@ -5,17 +5,19 @@ use Rattle.std.specs.Cmp.{IsEquivalence}
 use Rattle.std.specs.FinMap.{get, insert}
 use Rattle.std.proofs.lemmas.List.Elements.{Contains-append_left, Contains-append_right, Contains-push}
 use Rattle.moka_parts.specs.declared.calls.Ticket.{Ticket}
+use Rattle.moka_parts.specs.declared.policy.Instant.{Instant}
 use Rattle.moka_parts.specs.declared.records.Operation.{Operation}
 use Rattle.moka_parts.specs.declared.records.Operation.TheVariants.{Upsert, Removal}
 use Rattle.moka_parts.specs.declared.records.Record.{Record}
 use Rattle.moka_parts.specs.Records.{Records}
 use Rattle.moka_parts.specs.Settling.{IsWaiting, IsValid}
-use Rattle.moka_parts.specs.State.{State}
+use Rattle.moka_parts.specs.Runs.{Cache}
+use Rattle.moka_parts.specs.State.{State, Meaning}
 use Rattle.moka_parts.proofs.Lookup.{present_key}
 use Rattle.moka_parts.proofs.Maps.{same_or_apart, get_inserted, get_past_insert}
 use Rattle.moka_engine.specs.declared.base_cache.restores.Restored.{Restored}
 use Rattle.moka_engine.specs.Restores.{RestoreStep, restored, restored_record}
-use Rattle.moka_drive.specs.Saved.{AddsOnly, IsOfItem, IsRestored, KeepsRecords}
+use Rattle.moka_drive.specs.Saved.{AddsOnly, IsOfItem, IsRestored, KeepsRecords, PutsBack, PutsAllBack}
 use Rattle.moka_drive.specs.Unsent.{IsHeld, IsOlder, AreOlder, HoldsUnsent}
 use Rattle.moka_drive.proofs.Put.{each_older}
 
@@ -98,3 +100,14 @@ module _ {K V X P W : Type 0} where
               expires_is = ap (λ (x : Record K V). x.expires) is ∙ of.expires_is;
             },
           )
+
+module _ {K V S X L P W C : Type 0} (m : Meaning K V X L P W C (Unit {0})) (hash_of : S → K → ℕ) (now : Instant) where
+  -- one more is put back
+  pub put_next : (done : List (Restored K V)) (item : Restored K V) (old mid new : Cache K V S X L P W) (c1 c2 c3 : C) → PutsAllBack m hash_of now done old c1 mid c2 → PutsBack m hash_of now item (Ok tt) mid c2 new c3 → PutsAllBack m hash_of now (done ++ item ∷ []) old c1 new c3
+  put_next [] item old mid new c1 c2 c3 (same, still) put = (
+    new,
+    c3,
+    subst (λ (c : Cache K V S X L P W). PutsBack m hash_of now item (Ok tt) c c1 new c3) same (subst (λ (c : C). PutsBack m hash_of now item (Ok tt) mid c new c3) still put),
+    (refl, refl),
+  )
+  put_next (x ∷ xs) item old mid new c1 c2 c3 (after, between, first, rest) put = (after, between, first, put_next xs item after mid new between c2 c3 rest put)

@@ -1,13 +1,22 @@
 -- Entries that are saved, and put back into another cache.
-use Rattle.std.specs.Prelude.{◌≡◌, ℕ, Bool, true, List, [], ◌∷◌, Some, ◌⊎◌, ◌↔◌, None, Contains}
+use Rattle.std.specs.Prelude.{◌≡◌, ℕ, Bool, true, false, List, [], ◌∷◌, ◌++◌, Some, ◌⊎◌, ◌↔◌, None, Result, Ok, Err, Contains}
 use Rattle.std.specs.FinMap.{get}
+use Rattle.std.specs.Vec.Iter.{into_iter_items}
+use Rattle.moka_parts.specs.declared.calls.Ticket.{Ticket}
+use Rattle.moka_parts.specs.declared.policy.Instant.{Instant}
 use Rattle.moka_parts.specs.declared.records.Member.{Member}
 use Rattle.moka_parts.specs.declared.records.Record.{Record}
+use Rattle.moka_parts.specs.Calls.{no_events}
 use Rattle.moka_parts.specs.Records.{is_member, record_of_key}
-use Rattle.moka_parts.specs.State.{State}
+use Rattle.moka_parts.specs.Runs.{Cache, Befalls}
+use Rattle.moka_parts.specs.State.{State, Meaning, is_disabled}
 use Rattle.moka_parts.specs.Visibility.{IsVisible}
 use Rattle.moka_engine.specs.declared.base_cache.restores.Restored.{Restored}
+use Rattle.moka_engine.specs.declared.base_cache.restores.RestoreRefused.{RestoreRefused}
+use Rattle.moka_engine.specs.Restores.{RestoreStep}
 use Rattle.moka_engine.specs.Snapshots.{Scene, Seen, IsListed, IsPassed}
+use Rattle.moka_drive.specs.declared.cache.saves.RestoreManyRefused.{RestoreManyRefused}
+use Rattle.moka_drive.specs.Synchronous.{Makes, Posts}
 
 -- each record is a member of the access list
 abbrev pub AreAllMembers : {K V X P W : Type 0} → State K V X P W → Type 0
@@ -51,6 +60,31 @@ abbrev pub AddsOnly : {K V X P W : Type 0} → List (Restored K V) → State K V
 AddsOnly {K} {V} items s t = (n : ℕ) (q : Record K V) → get t.records n ≡ Some q →
     ((r : Record K V) × (get s.records n ≡ Some r) × ((g : ℕ) × (q ≡ record r { applied = g })))
     ⊎ ((item : Restored K V) × Contains items item × IsOfItem item q)
+
+module _ {K V S X L P W C : Type 0} (m : Meaning K V X L P W C (Unit {0})) (hash_of : S → K → ℕ) (now : Instant) where
+  -- an entry is put back, and its ticket posted; a disabled map lets it go, and one that is refused comes back for that reason
+  abbrev pub PutsBack : Restored K V → Result (Unit {0}) (RestoreRefused K V) → Cache K V S X L P W → C → Cache K V S X L P W → C → Type 0
+  PutsBack item (Ok done) old clock new clock_after =
+      ((is_disabled old.state.capacity ≡ true) × (new ≡ old) × (clock_after ≡ clock))
+      ⊎ ((is_disabled old.state.capacity ≡ false) × (mid : Cache K V S X L P W) × (ticket : Ticket)
+      × RestoreStep m.weighs m.eq old.state item (hash_of old.hasher item.key) (Ok ticket) mid.state × Befalls m.tells no_events old mid
+      × Makes m (Posts now ticket) mid clock new clock_after)
+  PutsBack item (Err refused) old clock new clock_after =
+      (is_disabled old.state.capacity ≡ false) × RestoreStep m.weighs m.eq old.state item (hash_of old.hasher item.key) (Err refused) new.state
+      × Befalls m.tells no_events old new × (clock_after ≡ clock)
+
+  -- each is put back, one after the other
+  abbrev pub PutsAllBack : List (Restored K V) → Cache K V S X L P W → C → Cache K V S X L P W → C → Type 0
+  PutsAllBack [] old clock new clock_after = (new ≡ old) × (clock_after ≡ clock)
+  PutsAllBack (item ∷ items) old clock new clock_after =
+      (mid : Cache K V S X L P W) × (between : C) × PutsBack item (Ok tt) old clock mid between × PutsAllBack items mid between new clock_after
+
+  -- each is put back; or those before the one that is refused, and those after it come back
+  abbrev pub PutsManyBack : List (Restored K V) → Result (Unit {0}) (RestoreManyRefused K V) → Cache K V S X L P W → C → Cache K V S X L P W → C → Type 0
+  PutsManyBack items (Ok all) old clock new clock_after = PutsAllBack items old clock new clock_after
+  PutsManyBack items (Err e) old clock new clock_after =
+      (done : List (Restored K V)) × (item : Restored K V) × (items ≡ done ++ item ∷ into_iter_items e.rest)
+      × (mid : Cache K V S X L P W) × (between : C) × PutsAllBack done old clock mid between × PutsBack item (Err e.refused) mid between new clock_after
 
 -- a record that was visible at one moment, and one with the same value, moments and expiry in a cache with the same times and no invalidation: whenever one is visible the other is
 abbrev pub AnswersAlike : {K V P : Type 0} → (X W : Type 0) → (P → K → V → Bool → Type 0) → Type 0

@@ -1,6 +1,7 @@
 //! Entry calls that compute a key's value from the one that is there. moka: `ops::compute`, `sync::entry_selector`.
-ghost use Rattle.std.specs.Prelude.{◌≡◌, Option, Some, None, Result, Ok, Err, option_copied};
+ghost use Rattle.std.specs.Prelude.{◌≡◌, Option, Some, None, Result, Ok, Err, is_some, option_copied};
 ghost use Rattle.std.specs.List.{fold};
+ghost use Rattle.moka_parts.specs.Calls.{ContainsStep};
 ghost use Rattle.moka_parts.specs.declared.error.InsertRefused.{InsertRefused};
 ghost use Rattle.moka_parts.specs.declared.error.OutOfMemory.{OutOfMemory};
 ghost use Rattle.moka_drive.specs.Computing.{HandsOutComputedPut, HandsOutTaken, AndUpserts, AndComputes};
@@ -100,7 +101,7 @@ impl<
         K: Clone + Drop,
         V: Clone + Drop,
         P: Drop,
-        requires callable { F.IsAlwaysCallable f }
+        requires callable { (seen : Option V) → ContainsStep P.says K.eq self.old.engine.state key now.0 (is_some seen) → F.pre f seen }
         ensures { AndUpserts (meaning_of K.eq L.tells P.says W.weighs C.reads X.created X.read X.updated)
             K.is_clone V.is_clone key (S.Hasher.finish (fold S.Hasher.write (S.build_hasher self.old.engine.hasher) (K.hash_input key))) now
             self.old clock.old self.new clock.new (F.post f) result }
@@ -136,7 +137,7 @@ impl<
         K: Clone + Drop,
         V: Clone + Drop,
         P: Drop,
-        requires callable { F.IsAlwaysCallable f }
+        requires callable { (seen : _) → ContainsStep P.says K.eq self.old.engine.state key now.0 (is_some (option_copied seen)) → F.pre f seen }
         ensures { AndComputes (meaning_of K.eq (hears_clones K.is_clone V.is_clone L.tells) P.says W.weighs C.reads X.created X.read X.updated)
             K.is_clone V.is_clone key (S.Hasher.finish (fold S.Hasher.write (S.build_hasher self.old.engine.hasher) (K.hash_input key))) now
             self.old clock.old self.new clock.new (λ seen op. (x : _) × (option_copied x ≡ seen) × F.post f x op) result }

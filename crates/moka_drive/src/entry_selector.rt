@@ -1,6 +1,6 @@
 //! Entry calls by moka's names: `cache.entry(key)` hands out a selector, and each of its methods is one call of the cache.
 //! moka: `sync::entry_selector`.
-ghost use Rattle.std.specs.Prelude.{◌≡◌, false, Option, None, Result, option_copied};
+ghost use Rattle.std.specs.Prelude.{◌≡◌, false, Option, None, Result, is_some, option_copied};
 ghost use Rattle.std.specs.List.{fold};
 ghost use Rattle.moka_parts.specs.Calls.{ContainsStep};
 ghost use Rattle.moka_parts.specs.declared.error.InsertRefused.{InsertRefused};
@@ -175,7 +175,7 @@ impl<
         K: Clone + Drop,
         V: Clone + Drop,
         P: Drop,
-        requires callable { F.IsAlwaysCallable f }
+        requires callable { (seen : Option V) → ContainsStep P.says K.eq self.cache.now.engine.state self.key now.0 (is_some seen) → F.pre f seen }
         ensures { AndUpserts (meaning_of K.eq L.tells P.says W.weighs C.reads X.created X.read X.updated)
             K.is_clone V.is_clone self.entry.key (S.Hasher.finish (fold S.Hasher.write (S.build_hasher self.entry.cache.now.engine.hasher) (K.hash_input self.entry.key))) now
             self.entry.cache.now clock.old self.exit.0.now clock.new (F.post f) result }
@@ -199,7 +199,7 @@ impl<
         K: Clone + Drop,
         V: Clone + Drop,
         P: Drop,
-        requires callable { F.IsAlwaysCallable f }
+        requires callable { (seen : _) → ContainsStep P.says K.eq self.cache.now.engine.state self.key now.0 (is_some (option_copied seen)) → F.pre f seen }
         ensures { AndComputes (meaning_of K.eq (hears_clones K.is_clone V.is_clone L.tells) P.says W.weighs C.reads X.created X.read X.updated)
             K.is_clone V.is_clone self.entry.key (S.Hasher.finish (fold S.Hasher.write (S.build_hasher self.entry.cache.now.engine.hasher) (K.hash_input self.entry.key))) now
             self.entry.cache.now clock.old self.exit.0.now clock.new (λ seen op. (x : _) × (option_copied x ≡ seen) × F.post f x op) result }

@@ -1,13 +1,14 @@
 //! The visible entries in the order of access, and a cache made again from them.
 ghost use Rattle.std.specs.Prelude.{◌≡◌, ◌∷◌, ◌++◌, [], Bool, false, List, IfOk, IfErr, OnErr, option_map};
 ghost use Rattle.std.specs.Duration.{as_nanos};
+ghost use Rattle.std.specs.List.{fold};
 ghost use Rattle.std.specs.Vec.Iter.{into_iter_items};
 ghost use Rattle.moka_parts.specs.State.{is_disabled};
 ghost use Rattle.moka_parts.specs.declared.calls.Reply.TheVariants as reply;
 ghost use Rattle.moka_parts.specs.declared.policy.Instant.{Instant};
 ghost use Rattle.moka_engine.specs.Snapshots.{scene_of};
 ghost use Rattle.moka_engine.specs.declared.base_cache.restores.Restored.{Restored};
-ghost use Rattle.moka_drive.specs.Saved.{AddsOnly, AreAllMembers, AreSaved, IsRestored, IsSaved};
+ghost use Rattle.moka_drive.specs.Saved.{AddsOnly, AreAllMembers, AreSaved, IsRestored, IsSaved, PutsBack, PutsManyBack};
 ghost use Rattle.moka_drive.specs.Synchronous.{Just, Makes, meaning_of, own_run};
 ghost use Rattle.moka_drive.specs.Unsent.{HidesNoMore};
 
@@ -91,6 +92,9 @@ impl<
         K: Drop,
         V: Drop,
         P: Drop,
+        ensures made { PutsBack (meaning_of K.eq L.tells P.says W.weighs C.reads X.created X.read X.updated)
+            (λ h k. S.Hasher.finish (fold S.Hasher.write (S.build_hasher h) (K.hash_input k))) now item result
+            self.old.engine clock.old self.new.engine clock.new }
         ensures kept { IfOk result (λ _. is_disabled self.old.engine.state.capacity ≡ false → IsRestored K.eq self.new.engine.state item) }
         ensures adds { AddsOnly (item ∷ []) self.old.engine.state self.new.engine.state }
         ensures hides { HidesNoMore self.old.engine.state self.new.engine.state }
@@ -129,6 +133,9 @@ impl<
         K: Drop,
         V: Drop,
         P: Drop,
+        ensures made { PutsManyBack (meaning_of K.eq L.tells P.says W.weighs C.reads X.created X.read X.updated)
+            (λ h k. S.Hasher.finish (fold S.Hasher.write (S.build_hasher h) (K.hash_input k))) now items.items result
+            self.old.engine clock.old self.new.engine clock.new }
         ensures adds { AddsOnly items.items self.old.engine.state self.new.engine.state }
         ensures hides { HidesNoMore self.old.engine.state self.new.engine.state }
         ensures back { IfErr result (λ e. (done : List (Restored K V)) × (items.items ≡ done ++ e.refused.item ∷ into_iter_items e.rest)) }
@@ -166,7 +173,9 @@ impl<
         P: Drop,
         ensures saved { (now : Instant) × (read : C) × C.reads self.old.clock now read
             × IfOk result (λ items. AreSaved P.says K.is_clone V.is_clone
-            (scene_of self.new.cache.engine.state now.0) self.new.cache.engine.state.access items.items) }
+            (scene_of self.new.cache.engine.state now.0) self.new.cache.engine.state.access items.items)
+            × ((more : Bool) × Makes (meaning_of K.eq L.tells P.says W.weighs C.reads X.created X.read X.updated)
+            (Just (own_run now) (reply.Run more)) self.old.cache.engine read self.new.cache.engine self.new.clock) }
         ensures members { AreAllMembers self.new.cache.engine.state }
         ensures counted { self.new.cache.stats ≡ self.old.cache.stats }
     {
@@ -183,6 +192,10 @@ impl<
         K: Drop,
         V: Drop,
         P: Drop,
+        ensures made { (now : Instant) × (read : C) × C.reads self.old.clock now read
+            × PutsManyBack (meaning_of K.eq L.tells P.says W.weighs C.reads X.created X.read X.updated)
+            (λ h k. S.Hasher.finish (fold S.Hasher.write (S.build_hasher h) (K.hash_input k))) now items.items result
+            self.old.cache.engine read self.new.cache.engine self.new.clock }
         ensures adds { AddsOnly items.items self.old.cache.engine.state self.new.cache.engine.state }
         ensures hides { HidesNoMore self.old.cache.engine.state self.new.cache.engine.state }
         ensures back { IfErr result (λ e. (done : List (Restored K V)) × (items.items ≡ done ++ e.refused.item ∷ into_iter_items e.rest)) }

@@ -1,5 +1,5 @@
 //! Entry calls of the cache that owns its clock, which each reads once, at its start.
-ghost use Rattle.std.specs.Prelude.{◌≡◌, false, Option, Result, option_copied};
+ghost use Rattle.std.specs.Prelude.{◌≡◌, false, Option, Result, is_some, option_copied};
 ghost use Rattle.std.specs.List.{fold};
 ghost use Rattle.moka_parts.specs.Calls.{ContainsStep};
 ghost use Rattle.moka_parts.specs.declared.error.InsertRefused.{InsertRefused};
@@ -173,7 +173,7 @@ impl<
         K: Clone + Drop,
         V: Clone + Drop,
         P: Drop,
-        requires callable { F.IsAlwaysCallable f }
+        requires callable { (now : Instant) → (seen : Option V) → ContainsStep P.says K.eq self.cache.now.cache.engine.state self.key now.0 (is_some seen) → F.pre f seen }
         ensures { (now : Instant) × (read : C) × C.reads self.entry.cache.now.clock now read
             × AndUpserts (meaning_of K.eq L.tells P.says W.weighs C.reads X.created X.read X.updated)
             K.is_clone V.is_clone self.entry.key (S.Hasher.finish (fold S.Hasher.write (S.build_hasher self.entry.cache.now.cache.engine.hasher) (K.hash_input self.entry.key))) now
@@ -196,7 +196,7 @@ impl<
         K: Clone + Drop,
         V: Clone + Drop,
         P: Drop,
-        requires callable { F.IsAlwaysCallable f }
+        requires callable { (now : Instant) → (seen : _) → ContainsStep P.says K.eq self.cache.now.cache.engine.state self.key now.0 (is_some (option_copied seen)) → F.pre f seen }
         ensures { (now : Instant) × (read : C) × C.reads self.entry.cache.now.clock now read
             × AndComputes (meaning_of K.eq (hears_clones K.is_clone V.is_clone L.tells) P.says W.weighs C.reads X.created X.read X.updated)
             K.is_clone V.is_clone self.entry.key (S.Hasher.finish (fold S.Hasher.write (S.build_hasher self.entry.cache.now.cache.engine.hasher) (K.hash_input self.entry.key))) now

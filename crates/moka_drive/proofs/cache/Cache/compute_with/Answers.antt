@@ -70,3 +70,6 @@ returns g c =
     let hash_by : g.row.S.Denot → ℕ = λ h. g.S.Hasher.Hasher.finish (fold g.S.Hasher.Hasher.write (g.S.BuildHasher.build_hasher h) (g.K.Hash.hash_input c.args.key)) in
     let got = c.in-Ok.ensures.made in
     (got.0, Ok c.in-Ok.seen, got.1, Some LeftNone, (c.as_ref.result, c.as_ref.ensures.value, c.in-Remove.ensures), (none_there c.in-Ok.seen (sym c.is_some-is_there.ensures ∙ c.if-is_there.false), refl), heard g.K.Clone.is_clone g.V.Clone.is_clone m (GetsValue c.args.key (hash_by c.args.self.now.engine.hasher) c.args.now got.0) c.args.self.now.engine c.get_hashed.new.self.engine c.args.clock.now c.get_hashed.new.clock got.2, c.in-Ok.ensures.counted)
+
+pub f-requires : goal.f-requires
+f-requires g c = c.requires.callable c.as_ref.result (rw c.as_ref.ensures.value c.in-Ok.ensures.shown)

@@ -1,4 +1,4 @@
-use Rattle.std.proofs.Common.{refl, [], ◌∷◌}
+use Rattle.std.proofs.Common.{refl, sym, ◌∙◌, inl, inr, [], ◌∷◌}
 use Rattle.moka_drive.proofs.Restoring.{restored_there, restored_adds, adds_nothing}
 use Rattle.moka_drive.proofs.cache.Cache.restore_entry.Goals as goal
 
@@ -15,3 +15,13 @@ returns-clause-kept g c = λ enabled.
 pub returns-clause-adds : goal.returns-clause-adds
 returns-clause-adds g c =
     rw (← c.self.view_is) (restored_adds g.K.PartialEq.eq g.met.K.Eq.laws g.W.Weigher.weighs c.self.inside.engine.state c.restore.new.self.state c.args.item _ c.in-Ok.ticket c.in-Ok.ensures.step c.post.new.engine.state c.post.ensures.keeps)
+
+pub returns-then-is_map_disabled-clause-made : goal.returns-then-is_map_disabled-clause-made
+returns-then-is_map_disabled-clause-made g c = rw (← c.self.view_is) (inl (sym c.is_map_disabled.ensures ∙ c.if-is_map_disabled.true, refl, refl))
+
+pub returns-in-Err-clause-made : goal.returns-in-Err-clause-made
+returns-in-Err-clause-made g c = rw (← c.self.view_is) (sym c.is_map_disabled.ensures ∙ c.if-is_map_disabled.false, c.in-Err.ensures.step, c.restore.ensures.events, refl)
+
+pub returns-clause-made : goal.returns-clause-made
+returns-clause-made g c =
+    rw (← c.self.view_is) (inr (sym c.is_map_disabled.ensures ∙ c.if-is_map_disabled.false, c.restore.new.self, c.in-Ok.ticket, c.in-Ok.ensures.step, c.restore.ensures.events, c.post.ensures.made))

@@ -20,3 +20,6 @@ returns-in-Err-insert_entry g c =
     let got = c.in-Ok.ensures.made in
     let put = upserted g.K.Clone.is_clone g.V.Clone.is_clone m c.args.key hash_by c.args.now c.args.self.now.engine c.get_hashed.new.self.engine c.insert_entry.new.self.engine c.args.clock.now c.get_hashed.new.clock c.insert_entry.new.clock got.0 c.in-Ok.seen c.is_some-is_there.result c.f-value.result (Err c.in-Err-insert_entry.refused) got.2 c.is_some-is_there.ensures c.in-Err-insert_entry.ensures.made c.in-Err-insert_entry.ensures.entry in
     (got.0, Ok c.in-Ok.seen, got.1, Some (c.f-value.result, put.0), c.f-value.ensures, put.1, put.2, c.in-Err-insert_entry.ensures.counted ∙ c.in-Ok.ensures.counted)
+
+pub f-value-requires : goal.f-value-requires
+f-value-requires g c = c.requires.callable c.in-Ok.seen c.in-Ok.ensures.shown
