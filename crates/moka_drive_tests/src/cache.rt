@@ -169,6 +169,21 @@ fn reads_the_system_clock(rt: HostRuntime) -> Result<(), Fail> {
 }
 
 #[test]
+fn expires_by_the_system_clock(rt: HostRuntime) -> Result<(), Fail> {
+    let config = CacheConfig::default().time_to_live(Duration::from_nanos(1));
+    let Ok(mut cache) = TimedCache::build(config, rt.alloc(), SystemClock::new(&rt)) else {
+        return Err("memory".into());
+    };
+    assert!(rt; cache.insert(1, 10).is_ok());
+    for _ in 0..1_000_000 {
+        if !cache.contains_key(&1) {
+            return Ok(());
+        }
+    }
+    Err("time stands still".into())
+}
+
+#[test]
 fn counts_look_ups(rt: HostRuntime) -> Result<(), Fail> {
     let mut cache = plain(rt.alloc(), None, true)?;
     let clock = &mut FixedClock(NOW);

@@ -177,6 +177,22 @@ fn reads_the_system_clock() -> Result<(), Fail> {
 }
 
 #[test]
+fn expires_by_the_system_clock() -> Result<(), Fail> {
+    let rt = HostRuntime;
+    let config = CacheConfig::default().time_to_live(Duration::from_nanos(1));
+    let Ok(mut cache) = TimedCache::build(config, rt.alloc(), SystemClock::new(&rt)) else {
+        return Err("memory".into());
+    };
+    assert!( cache.insert(1, 10).is_ok());
+    for _ in 0..1_000_000 {
+        if !cache.contains_key(&1) {
+            return Ok(());
+        }
+    }
+    Err("time stands still".into())
+}
+
+#[test]
 fn counts_look_ups() -> Result<(), Fail> {
     let rt = HostRuntime;
     let mut cache = plain(rt.alloc(), None, true)?;
