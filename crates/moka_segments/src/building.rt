@@ -75,11 +75,13 @@ impl<
     where
         F: Drop,
         requires { F.IsAlwaysCallable make }
+        ensures new { IfOk result (λ c. (c.routing.count ≡ max count 1) × IsNew c.routing max_capacity (λ a b. b.initial ≡ a.initial) now.0 (F.post make) c) }
         ensures shares { IfOk result (λ c. (length c.segments ≡ max count 1) × SumsTo max_capacity c.segments) }
         ensures empty { IfOk result HoldNone }
     {
         let router = Router::new(DefaultHasher::new(), count);
-        SegmentedCache::build_with_router(router, max_capacity, make, alloc, now)
+        let cache = SegmentedCache::build_with_router(router, max_capacity, make, alloc, now)?;
+        Ok(cache)
     }
 }
 

@@ -68,7 +68,8 @@ impl<
     ) -> Result<Self, OutOfMemory>
     {
         let router = Router::new(DefaultHasher::new(), count);
-        SegmentedCache::build_with_router(router, max_capacity, make, alloc, now)
+        let cache = SegmentedCache::build_with_router(router, max_capacity, make, alloc, now)?;
+        Ok(cache)
     }
 }
 
