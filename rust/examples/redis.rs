@@ -1,6 +1,6 @@
 //! Two processes, played by one program, that each keep a cache in front of the same Redis server. A miss asks the
-//! server, and the server only if it has nothing asks the database. What the server announces as changed is invalidated;
-//! after a lost connection everything is.
+//! server, and the server only if it has nothing asks the database. What the server announces as changed is
+//! invalidated; after a lost connection everything is.
 //!
 //! `examples/redis.sh` starts a server and runs this; or `cargo run --release --example redis HOST:PORT`.
 

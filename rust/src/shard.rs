@@ -3,11 +3,11 @@
 //! Each call of the front is one or two of its calls, and what those cannot have:
 //!
 //! - Panics of the caller's `Eq`. Look-ups and removals go by its calls with a test of the key, which compare keys only
-//!   while nothing is half changed; so a comparison that panics harms nothing (`ByTest`). An insert goes by the address of
-//!   the key that is kept, which is looked up before.
+//!   while nothing is half changed; so a comparison that panics harms nothing (`ByTest`). An insert goes by the address
+//!   of the key that is kept, which is looked up before.
 //! - Makers. Its `get_with` is given one moment, at its start. A caller's maker may take longer than an entry lasts, so
 //!   here the value is put there at a moment after it, by `insert`; nor is a panic of the maker one in mid-call.
-//! - The clock. Where nothing can expire it need not be read in each call, so this is not the cache that owns its clock.
+//! - The clock. Where nothing can expire no call need read it, so this is not the cache that owns its clock.
 //! - Scans. Its `iter` hands out all entries at once; here a lock is held for one at a time, so its engine makes them.
 
 use crate::engine::moka_drive;
@@ -59,8 +59,8 @@ impl IdSource for Chosen {
     }
 }
 
-/// A test of the caller's in the middle of a call. While it runs the mark of the call is taken away: the engine compares
-/// keys only while nothing is half changed.
+/// A test of the caller's in the middle of a call. While it runs the mark of the call is taken away: the engine
+/// compares keys only while nothing is half changed.
 struct ByTest<'a, K> {
     test: Test<'a, K>,
     is_in_call: &'a AtomicBool,

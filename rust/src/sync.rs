@@ -336,8 +336,8 @@ where
     /// and the predicate with them. It has to answer equal arguments equally.
     ///
     /// # Errors
-    /// `InvalidationClosuresDisabled` where the builder was not told `support_invalidation_closures`; `OutOfMemory` where
-    /// a shard had no memory for one more predicate: then some shards may have it already.
+    /// `InvalidationClosuresDisabled` where the builder was not told `support_invalidation_closures`; `OutOfMemory`
+    /// where a shard had no memory for one more predicate: then some shards may have it already.
     ///
     /// ```
     /// # use ravulemis::sync::Cache;

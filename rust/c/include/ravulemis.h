@@ -1,8 +1,8 @@
 /* A bounded in-memory cache of byte strings by byte strings.
 
    Every function may be called by any thread at any time. A cache that is destroyed while calls for it are on their way
-   goes with the last of them. Keys and values are copied in and out: the caller keeps what it passes, and nothing that a
-   call hands out belongs to the cache, but what the listener is lent for the time of its call. Durations are in
+   goes with the last of them. Keys and values are copied in and out: the caller keeps what it passes, and nothing that
+   a call hands out belongs to the cache, but what the listener is lent for the time of its call. Durations are in
    nanoseconds, lengths in bytes; a weight is 1 for an entry, or the lengths of its key and value together.
 
    Every function but `ravulemis_message` answers a code of `enum ravulemis_code`. One below 0 is a wrong call, which
@@ -93,8 +93,8 @@ int32_t ravulemis_insert(ravulemis_cache *cache, const void *key, size_t key_len
                          size_t value_length);
 
 /* Copies the key's value to a buffer of `room` bytes, as much as fits, and tells its whole length where `value_length`
-   is not null. The buffer may be null where `room` is 0. Answers RAVULEMIS_OK, RAVULEMIS_TRUNCATED or RAVULEMIS_NOT_FOUND.
-   Errors: RAVULEMIS_BAD_ARGUMENT, RAVULEMIS_DESTROYED, RAVULEMIS_FAULT. */
+   is not null. The buffer may be null where `room` is 0. Answers RAVULEMIS_OK, RAVULEMIS_TRUNCATED or
+   RAVULEMIS_NOT_FOUND. Errors: RAVULEMIS_BAD_ARGUMENT, RAVULEMIS_DESTROYED, RAVULEMIS_FAULT. */
 int32_t ravulemis_get(ravulemis_cache *cache, const void *key, size_t key_length, void *buffer, size_t room,
                       size_t *value_length);
 
