@@ -57,28 +57,29 @@ impl Entry {
     }
 }
 
-/// What an entry call is made with.
+/// An entry call with texts of this number, and with which word its value begins.
 #[derive(Clone, Copy)]
 struct Asked {
     entry: Entry,
-    is_there: bool,
-    now: Instant,
+    number: u64,
+    word: &'static str,
 }
 
 impl Asked {
     /// The entry. If `or_insert` is refused and the key is there, it was so at the look-up.
     fn ask(
-        &self,
+        self,
         cache: &mut Cached,
         key: String,
         made: String,
     ) -> Result<Option<CacheEntry<String, String>>, GetWithRefused<String, String>> {
-        let (now, clock) = (self.now, &mut FixedClock(self.now));
+        let (now, clock) = (Instant(self.number), &mut FixedClock(Instant(self.number)));
+        let is_there = cache.contains_key(&key, now);
         let selected = cache.entry(key);
         match self.entry {
             Entry::OrInsert => match selected.or_insert(made, now, clock) {
                 Ok(entry) => Ok(Some(entry)),
-                Err(refused) if self.is_there => Err(GetWithRefused::Lookup(refused.key)),
+                Err(refused) if is_there => Err(GetWithRefused::Lookup(refused.key)),
                 Err(refused) => Err(GetWithRefused::Insert(refused)),
             },
             Entry::OrInsertWith => Ok(Some(selected.or_insert_with(|| made, now, clock)?)),
@@ -93,14 +94,19 @@ impl Asked {
         }
     }
 
-    /// Whether the entry is the one that is expected.
-    fn is_right(&self, found: Option<CacheEntry<String, String>>, expected: &String) -> bool {
+    /// Whether the entry is the one that is expected, if its key was there or not.
+    fn is_right(
+        self,
+        found: Option<CacheEntry<String, String>>,
+        is_there: bool,
+        expected: &String,
+    ) -> bool {
         let Some(found) = found else {
             return false;
         };
-        let is_replaced = self.is_there && self.entry.replaces();
+        let is_replaced = is_there && self.entry.replaces();
         found.value == *expected
-            && found.is_fresh == (!self.is_there || is_replaced)
+            && found.is_fresh == (!is_there || is_replaced)
             && found.is_old_value_replaced == is_replaced
     }
 }
@@ -111,31 +117,26 @@ fn is_asked<W: Write>(
     alloc: Global,
     out: &mut W,
     cache: &mut Cached,
-    entry: Entry,
-    number: u64,
-    word: &str,
+    asked: Asked,
 ) -> Result<bool> {
+    let Asked {
+        entry,
+        number,
+        word,
+    } = asked;
     let now = Instant(number);
     let key = text(alloc, "entry", number)?;
     let is_there = cache.contains_key(&key, now);
-    let asked = Asked {
-        entry,
-        is_there,
-        now,
-    };
-    let kept = if is_there && !entry.replaces() {
-        "made"
-    } else {
-        word
-    };
-    let (made, expected) = (text(alloc, word, number)?, text(alloc, kept, number)?);
+    let is_kept = is_there && !entry.replaces();
+    let expected = text(alloc, if is_kept { "made" } else { word }, number)?;
+    let made = text(alloc, word, number)?;
     let before = told_by(cache);
     match asked.ask(cache, key, made) {
-        Ok(found) => Ok(asked.is_right(found, &expected)),
+        Ok(found) => Ok(asked.is_right(found, is_there, &expected)),
         Err(GetWithRefused::Lookup(key)) => {
             tell_refused(out, entry.at_look_up(), &before, &told_by(cache))?;
             let found = asked.ask(cache, key, text(alloc, word, number)?)?;
-            Ok(asked.is_right(found, &expected))
+            Ok(asked.is_right(found, is_there, &expected))
         }
         Err(GetWithRefused::Insert(refused)) => {
             let looked_up = before.after_look_ups(u64::from(is_there), u64::from(!is_there));
@@ -240,7 +241,12 @@ pub fn round<W: Write>(alloc: Global, out: &mut W, cache: &mut Cached, number: u
     let mut is_right = true;
     for entry in ENTRIES {
         for word in ["made", "other"] {
-            is_right = is_asked(alloc, out, cache, entry, number, word)? && is_right;
+            let asked = Asked {
+                entry,
+                number,
+                word,
+            };
+            is_right = is_asked(alloc, out, cache, asked)? && is_right;
         }
         take_out(
             out,
