@@ -4,9 +4,6 @@ ghost use Rattle.std.specs.Int.{IsPowerOfTwo};
 ghost use Rattle.moka_sketch.specs.Frequency.{group_of, place_of, places_of, least_at, raised, can_rise, counted_once};
 ghost use Rattle.moka_sketch.specs.Packing.{counter_at, counters_of, table_of};
 
-#[cfg(test)]
-mod tests;
-
 /// The greatest count.
 const GREATEST: u64 = 15;
 

@@ -8,9 +8,6 @@ use crate::nodes::HEADS;
 use std::alloc::{AllocError, Global};
 use std::marker::Model;
 
-#[cfg(test)]
-mod tests;
-
 /// Slots have 32 bits, so there are never more nodes.
 const MOST: usize = 1 << 32;
 

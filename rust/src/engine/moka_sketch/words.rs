@@ -2,9 +2,6 @@
 //! Words of sixteen counters of four bits, in a table whose length is a power of two.
 use crate::support::prelude::*;
 
-#[cfg(test)]
-mod tests;
-
 /// The greatest count.
 const GREATEST: u64 = 15;
 

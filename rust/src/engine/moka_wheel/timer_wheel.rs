@@ -6,9 +6,6 @@ use crate::engine::moka_wheel::buckets::Buckets;
 use crate::engine::moka_wheel::nodes::HEADS;
 use crate::support::alloc::{AllocError, Global};
 
-#[cfg(test)]
-mod tests;
-
 /// Slots have 32 bits, so there are never more nodes.
 const MOST: usize = 1 << 32;
 
