@@ -1,6 +1,7 @@
 -- What the definitions compute on worked cases.
-use Rattle.std.proofs.Common.{◌≡◌, ℕ, true, false, List, [], ◌∷◌, ◌++◌, Option, Some, None, replicate, refl, ◌^◌, ◌-◌}
+use Rattle.std.proofs.Common.{◌≡◌, ℕ, true, false, List, [], ◌∷◌, ◌++◌, Option, Some, None, replicate, map, refl, ◌^◌, ◌-◌, ◌/◌}
 use Rattle.moka_sketch.specs.Frequency.{Table, table_after, places_of, frequency, counted_once, table_length_for, sketch_capacity_for, size_asked}
+use Rattle.moka_sketch.specs.Packing.{counters_of}
 
 -- ---- the counters of a hash
 
@@ -114,3 +115,15 @@ size_without_weigher = refl
 -- the size fits 64 bits
 pub greatest_size : size_asked true 1 (2 ^ 64) (2 ^ 64) ≡ 2 ^ 64 - 1
 greatest_size = refl
+
+-- ---- words whose sixteen counters are all different, and what halving leaves of them
+
+-- 0xFEDCBA9876543210 and 0x7766554433221100
+pub rising_counters_halved : map (λ c. c / 2) (counters_of (18364758544493064720 ∷ [])) ≡ counters_of (8603657889541918976 ∷ [])
+unfolding counters_of
+rising_counters_halved = refl
+
+-- 0x0123456789ABCDEF and 0x0011223344556677
+pub falling_counters_halved : map (λ c. c / 2) (counters_of (81985529216486895 ∷ [])) ≡ counters_of (4822678189205111 ∷ [])
+unfolding counters_of
+falling_counters_halved = refl

@@ -12,3 +12,4 @@ pub mod SlotMaps
 pub mod Maps
 pub mod Upkeep
 pub mod Heads
+pub mod Examples
