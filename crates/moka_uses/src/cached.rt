@@ -16,14 +16,3 @@ pub fn put_and_get(alloc: Global, key: u64, value: u64) -> Result<Option<u64>>
     cache.insert(key, value, now, &mut clock)?;
     Ok(cache.get(&key, now, &mut clock)?)
 }
-
-#[cfg(test)]
-mod tests {
-    use super::*;
-
-    #[test]
-    fn finds_what_was_put(rt: HostRuntime) -> Result<()> {
-        assert_eq!(rt; put_and_get(rt.alloc(), 1, 10)?, Some(10));
-        Ok(())
-    }
-}

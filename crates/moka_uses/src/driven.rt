@@ -48,33 +48,3 @@ pub fn make_calls<
     cache.invariant_holds();
     drive(alloc, cache, calls, ids, clock)
 }
-
-#[cfg(test)]
-mod tests {
-    use super::*;
-    use crate::invalidated::{Below, CountedIds, Numbers};
-    use anyhow::Result;
-    use moka_engine::{CacheConfig, FixedClock, Instant};
-
-    #[test]
-    fn answers_each_call(rt: HostRuntime) -> Result<()> {
-        let config = CacheConfig::default().support_invalidation_closures::<Below>();
-        let mut numbers: Numbers = config.build(rt.alloc(), Instant(0))?;
-        let mut calls = Vec::new(rt.alloc());
-        calls.push(Call::InvalidateIf {
-            predicate: Below(10),
-            now: Instant(0),
-        })?;
-        calls.push(Call::Run {
-            now: Instant(0),
-            limit: None,
-            repeats: 1,
-            batch: 384,
-        })?;
-        let (mut ids, mut clock) = (CountedIds(0), FixedClock(Instant(0)));
-        let replies = make_calls(rt.alloc(), &mut numbers, calls, &mut ids, &mut clock)?;
-        assert_eq!(rt; replies.len(), 2);
-        assert_eq!(rt; numbers.invalidation_predicate_count(), 0);
-        Ok(())
-    }
-}

@@ -68,18 +68,3 @@ pub fn is_open_at(
     sessions.send(ticket)?;
     Ok(sessions.contains_key_with_hash(&user, hash, asked))
 }
-
-#[cfg(test)]
-mod tests {
-    use super::*;
-
-    #[test]
-    fn ends_at_the_very_moment(rt: HostRuntime) -> Result<()> {
-        let lasts = Duration::from_nanos(100);
-        for (asked, is_open) in [(5, true), (104, true), (105, false), (106, false)] {
-            let found = is_open_at(rt.alloc(), lasts, 1, 10, Instant(5), Instant(asked))?;
-            assert_eq!(rt; found, is_open, "{asked}");
-        }
-        Ok(())
-    }
-}

@@ -21,15 +21,3 @@ pub fn send_in_other_order(alloc: Global) -> Result<Engine<u64, u64>>
     cache.run_pending_tasks(now, &mut FixedClock(now), None, 1, 384);
     Ok(cache)
 }
-
-#[cfg(test)]
-mod tests {
-    use super::*;
-
-    #[test]
-    fn counts_both(rt: HostRuntime) -> Result<()> {
-        let cache = send_in_other_order(rt.alloc())?;
-        assert_eq!(rt; (cache.entry_count(), cache.weighted_size()), (2, 2));
-        Ok(())
-    }
-}

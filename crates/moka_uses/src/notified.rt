@@ -41,15 +41,3 @@ pub fn replace(
     cache.send(replaced)?;
     Ok(cache)
 }
-
-#[cfg(test)]
-mod tests {
-    use super::*;
-
-    #[test]
-    fn counts_the_replaced_value(rt: HostRuntime) -> Result<()> {
-        let cache = replace(rt.alloc(), 1, 10, 20)?;
-        assert_eq!(rt; cache.listener(), Some(&Counter { count: 1 }));
-        Ok(())
-    }
-}

@@ -58,28 +58,3 @@ pub fn profile<V: Clone + Drop, C: Clock, F: FnOnce() -> V>(
     >();
     profiles.get_with(user, read)
 }
-
-#[cfg(test)]
-mod tests {
-    use super::*;
-    use anyhow::Result;
-    use moka_drive::ManualClock;
-    use moka_engine::Instant;
-
-    #[test]
-    fn reads_again_what_has_expired(rt: HostRuntime) -> Result<()> {
-        let clock = ManualClock { now: Instant(0) };
-        let mut profiles: Profiles<u64, ManualClock> = start(
-            rt.alloc(),
-            Duration::from_secs(5),
-            clock,
-        )?;
-        assert_eq!(rt; profile(&mut profiles, 1, || 10)?, 10);
-        profiles.clock.advance(Duration::from_secs(4));
-        assert_eq!(rt; profile(&mut profiles, 1, || 11)?, 10);
-        profiles.clock.advance(Duration::from_secs(1));
-        assert_eq!(rt; profile(&mut profiles, 1, || 12)?, 12);
-        assert_eq!(rt; profiles.removals().expired, 1);
-        Ok(())
-    }
-}

@@ -49,36 +49,3 @@ pub fn start_again<C: Clock + Drop>(
         Err(_) => Err(OutOfMemory),
     }
 }
-
-#[cfg(test)]
-mod tests {
-    use super::*;
-    use crate::sessions::{log_in, log_out, start, touch};
-    use anyhow::Result;
-    use moka_drive::ManualClock;
-    use moka_engine::Instant;
-
-    #[test]
-    fn sessions_go_on(rt: HostRuntime) -> Result<()> {
-        let idle = Duration::from_nanos(100);
-        let clock = ManualClock { now: Instant(0) };
-        let mut sessions = start(rt.alloc(), idle, clock)?;
-        for user in 1..4 {
-            if sessions.cache.engine().is_map_disabled() {
-                return Ok(());
-            }
-            log_in(&mut sessions, user, user * 10)?;
-            sessions.clock.advance(Duration::from_nanos(20));
-        }
-        assert_eq!(rt; log_out(&mut sessions, 2), Some(20));
-        let saved = save(rt.alloc(), &mut sessions)?;
-        let clock = ManualClock { now: Instant(99) };
-        let mut again = start_again(rt.alloc(), idle, clock, saved)?;
-        assert!(rt; again.contains_key(&1));
-        again.clock.advance(Duration::from_nanos(1));
-        for (user, token) in [(1, None), (2, None), (3, Some(30))] {
-            assert_eq!(rt; touch(&mut again, user)?, token);
-        }
-        Ok(())
-    }
-}

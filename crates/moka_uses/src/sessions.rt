@@ -67,32 +67,3 @@ pub fn log_out<C: Clock>(sessions: &mut Sessions<C>, user: u64) -> Option<u64>
         Err(refused) => Some(refused.value),
     }
 }
-
-#[cfg(test)]
-mod tests {
-    use super::*;
-    use anyhow::Result;
-    use moka_drive::ManualClock;
-    use moka_engine::Instant;
-
-    #[test]
-    fn lasts_while_it_is_used(rt: HostRuntime) -> Result<()> {
-        let clock = ManualClock { now: Instant(0) };
-        let mut sessions = start(rt.alloc(), Duration::from_nanos(100), clock)?;
-        if sessions.cache.engine().is_map_disabled() {
-            return Ok(());
-        }
-        log_in(&mut sessions, 1, 10)?;
-        for (later, token) in [(99, Some(10)), (99, Some(10)), (100, None)] {
-            sessions.clock.advance(Duration::from_nanos(later));
-            assert_eq!(rt; touch(&mut sessions, 1)?, token);
-        }
-        if sessions.cache.engine().is_map_disabled() {
-            return Ok(());
-        }
-        log_in(&mut sessions, 2, 20)?;
-        assert_eq!(rt; log_out(&mut sessions, 2), Some(20));
-        assert_eq!(rt; touch(&mut sessions, 2)?, None);
-        Ok(())
-    }
-}

@@ -27,19 +27,3 @@ pub fn put_and_get(
     let found = cache.get_with_hash(&asked, hash, false, now, &mut FixedClock(now))?;
     Ok(found)
 }
-
-#[cfg(test)]
-mod tests {
-    use super::*;
-
-    #[test]
-    fn finds_the_text(rt: HostRuntime) -> Result<()> {
-        let alloc = rt.alloc();
-        let text = format!(in alloc; "{:20}", 1)?;
-        let key = format!(in alloc; "key")?;
-        let found = put_and_get(alloc, key, text)?;
-        let text = format!(in alloc; "{:20}", 1)?;
-        assert_eq!(rt; found.map(|entry| entry.value), Some(text));
-        Ok(())
-    }
-}

@@ -48,19 +48,3 @@ pub fn keep_two(alloc: Global, one: String, other: String) -> Result<u64>
     cache.run_pending_tasks(now, &mut FixedClock(now), None, 1, 384);
     Ok(cache.weighted_size())
 }
-
-#[cfg(test)]
-mod tests {
-    use super::*;
-
-    #[test]
-    fn keeps_what_fits(rt: HostRuntime) -> Result<()> {
-        let alloc = rt.alloc();
-        for (width, kept) in [(500, 1000), (501, 501), (1001, 0)] {
-            let one = format!(in alloc; "{:width$}", 1)?;
-            let other = format!(in alloc; "{:width$}", 2)?;
-            assert_eq!(rt; keep_two(alloc, one, other)?, kept, "{width}");
-        }
-        Ok(())
-    }
-}

@@ -3,3 +3,4 @@ pub mod moka_tests;
 pub mod moka_engine_tests;
 pub mod moka_drive_tests;
 pub mod moka_uses;
+pub mod moka_uses_tests;

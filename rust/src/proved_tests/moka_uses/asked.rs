@@ -23,24 +23,3 @@ pub fn ask_twice(
     let found = cache.get_with_hash(&key, hash, false, now, &mut FixedClock(now))?;
     Ok((is_contained, found.is_some()))
 }
-
-#[cfg(test)]
-mod tests {
-    use crate::support::test::prelude::*;
-    use super::*;
-    use crate::support::anyhow::Result;
-    use crate::engine::moka_engine::CacheConfig;
-
-    #[test]
-    fn agrees() -> Result<()> {
-    let rt = HostRuntime;
-        let mut cache: Engine<u64, u64> = CacheConfig::default().build(rt.alloc(), Instant(0))?;
-        if !cache.is_map_disabled() {
-            let hash = cache.hash(&1);
-            cache.do_insert_with_hash(1, hash, 10, Instant(0))?;
-        }
-        assert_eq!( ask_twice(&mut cache, 1, Instant(0)), Ok((true, true)));
-        assert_eq!( ask_twice(&mut cache, 2, Instant(0)), Ok((false, false)));
-        Ok(())
-    }
-}

@@ -22,17 +22,3 @@ pub fn put_and_get(alloc: Global, key: u64, value: u64) -> Result<Option<Entry<u
     cache.run_pending_tasks(now, &mut FixedClock(now), None, 1, 384);
     Ok(found)
 }
-
-#[cfg(test)]
-mod tests {
-    use crate::support::test::prelude::*;
-    use super::*;
-
-    #[test]
-    fn finds_what_was_put() -> Result<()> {
-    let rt = HostRuntime;
-        let found = put_and_get(rt.alloc(), 1, 10)?;
-        assert_eq!( found.map(|entry| entry.value), Some(10));
-        Ok(())
-    }
-}

@@ -41,35 +41,3 @@ pub fn make_calls<
     cache.invariant_holds();
     drive(alloc, cache, calls, ids, clock)
 }
-
-#[cfg(test)]
-mod tests {
-    use crate::support::test::prelude::*;
-    use super::*;
-    use crate::proved_tests::moka_uses::invalidated::{Below, CountedIds, Numbers};
-    use crate::support::anyhow::Result;
-    use crate::engine::moka_engine::{CacheConfig, FixedClock, Instant};
-
-    #[test]
-    fn answers_each_call() -> Result<()> {
-    let rt = HostRuntime;
-        let config = CacheConfig::default().support_invalidation_closures::<Below>();
-        let mut numbers: Numbers = config.build(rt.alloc(), Instant(0))?;
-        let mut calls = Vec::new(rt.alloc());
-        calls.push(Call::InvalidateIf {
-            predicate: Below(10),
-            now: Instant(0),
-        })?;
-        calls.push(Call::Run {
-            now: Instant(0),
-            limit: None,
-            repeats: 1,
-            batch: 384,
-        })?;
-        let (mut ids, mut clock) = (CountedIds(0), FixedClock(Instant(0)));
-        let replies = make_calls(rt.alloc(), &mut numbers, calls, &mut ids, &mut clock)?;
-        assert_eq!( replies.len(), 2);
-        assert_eq!( numbers.invalidation_predicate_count(), 0);
-        Ok(())
-    }
-}

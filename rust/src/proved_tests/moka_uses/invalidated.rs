@@ -47,37 +47,3 @@ pub fn hide_below<I: IdSource>(
 {
     numbers.invalidate_entries_if(Below(bound), now, ids)
 }
-
-#[cfg(test)]
-mod tests {
-    use crate::support::test::prelude::*;
-    use super::*;
-    use crate::support::anyhow::Result;
-    use crate::engine::moka_engine::{CacheConfig, PredicateError};
-
-    fn has(numbers: &Numbers, key: u64) -> bool {
-        numbers.contains_key_with_hash(&key, numbers.hash(&key), Instant(1))
-    }
-
-    #[test]
-    fn hides_what_lies_below() -> Result<()> {
-    let rt = HostRuntime;
-        let config = CacheConfig::default().support_invalidation_closures::<Below>();
-        let mut numbers: Numbers = config.build(rt.alloc(), Instant(0))?;
-        for (key, value) in [(1, 9), (2, 10)] {
-            if !numbers.is_map_disabled() {
-                let hash = numbers.hash(&key);
-                numbers.do_insert_with_hash(key, hash, value, Instant(0))?;
-            }
-        }
-        let mut ids = CountedIds(u128::MAX);
-        hide_below(&mut numbers, 10, Instant(0), &mut ids)?;
-        assert_eq!( (has(&numbers, 1), has(&numbers, 2)), (false, true));
-
-        let refused = hide_below(&mut numbers, 11, Instant(0), &mut ids).err();
-        let back = refused.map(|refused| (refused.error, refused.predicate));
-        assert_eq!( back, Some((PredicateError::NoFreeId, Below(11))));
-        assert!( has(&numbers, 2));
-        Ok(())
-    }
-}

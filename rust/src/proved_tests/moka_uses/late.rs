@@ -20,17 +20,3 @@ pub fn send_in_other_order(alloc: Global) -> Result<Engine<u64, u64>>
     cache.run_pending_tasks(now, &mut FixedClock(now), None, 1, 384);
     Ok(cache)
 }
-
-#[cfg(test)]
-mod tests {
-    use crate::support::test::prelude::*;
-    use super::*;
-
-    #[test]
-    fn counts_both() -> Result<()> {
-    let rt = HostRuntime;
-        let cache = send_in_other_order(rt.alloc())?;
-        assert_eq!( (cache.entry_count(), cache.weighted_size()), (2, 2));
-        Ok(())
-    }
-}

@@ -37,17 +37,3 @@ pub fn replace(
     cache.send(replaced)?;
     Ok(cache)
 }
-
-#[cfg(test)]
-mod tests {
-    use crate::support::test::prelude::*;
-    use super::*;
-
-    #[test]
-    fn counts_the_replaced_value() -> Result<()> {
-    let rt = HostRuntime;
-        let cache = replace(rt.alloc(), 1, 10, 20)?;
-        assert_eq!( cache.listener(), Some(&Counter { count: 1 }));
-        Ok(())
-    }
-}

@@ -44,28 +44,3 @@ pub fn age_out(cache: &mut Engine<u64, u64>, now: Instant) -> bool
     cache.invariant_holds();
     cache.run_pending_tasks(now, &mut FixedClock(now), None, 1, 384)
 }
-
-#[cfg(test)]
-mod tests {
-    use crate::support::test::prelude::*;
-    use super::*;
-    use crate::support::anyhow::Result;
-    use crate::engine::moka_engine::CacheConfig;
-    use crate::support::time::Duration;
-
-    #[test]
-    fn leaves_nothing_past_its_time() -> Result<()> {
-    let rt = HostRuntime;
-        let config = CacheConfig::default().time_to_live(Duration::from_nanos(10));
-        let mut cache: Engine<u64, u64> = config.build(rt.alloc(), Instant(0))?;
-        for key in 0..4 {
-            if !cache.is_map_disabled() {
-                let (ticket, _) = put_last(&mut cache, key, 10 * key, Instant(key))?;
-                cache.send(ticket)?;
-            }
-        }
-        assert!( !age_out(&mut cache, Instant(11)));
-        assert_eq!( cache.entry_count(), 2);
-        Ok(())
-    }
-}

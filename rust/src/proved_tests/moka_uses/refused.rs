@@ -58,37 +58,3 @@ pub fn may_put_again(refused: &InsertRefused<u64, u64>) -> bool
         InsertError::NumbersUsedUp => false,
     }
 }
-
-#[cfg(test)]
-mod tests {
-    use crate::support::test::prelude::*;
-    use super::*;
-    use crate::support::anyhow::Result;
-    use crate::engine::moka_engine::CacheConfig;
-
-    #[test]
-    fn puts_more_than_the_queue_holds() -> Result<()> {
-    let rt = HostRuntime;
-        let mut cache: Engine<u64, u64> = CacheConfig::default().build(rt.alloc(), Instant(0))?;
-        for key in 0..1_000 {
-            if cache.is_map_disabled() {
-                break;
-            }
-            assert!( put(&mut cache, key, key, Instant(0)).is_ok());
-        }
-        cache.run_pending_tasks(Instant(0), &mut FixedClock(Instant(0)), None, 1, 384);
-        assert_eq!( cache.entry_count(), 1_000);
-        Ok(())
-    }
-
-    #[test]
-    fn hands_back_what_is_refused() -> Result<()> {
-    let rt = HostRuntime;
-        let config = CacheConfig::default().first_ticket(u64::MAX);
-        let mut cache: Engine<u64, u64> = config.build(rt.alloc(), Instant(0))?;
-        let refused = put(&mut cache, 1, 10, Instant(0)).err();
-        let back = refused.map(|refused| (refused.key, refused.value, may_put_again(&refused)));
-        assert_eq!( back, Some((1, 10, false)));
-        Ok(())
-    }
-}

@@ -39,38 +39,3 @@ pub fn start_again<C: Clock>(
         Err(_) => Err(OutOfMemory),
     }
 }
-
-#[cfg(test)]
-mod tests {
-    use crate::support::test::prelude::*;
-    use super::*;
-    use crate::proved_tests::moka_uses::sessions::{log_in, log_out, start, touch};
-    use crate::support::anyhow::Result;
-    use crate::engine::moka_drive::ManualClock;
-    use crate::engine::moka_engine::Instant;
-
-    #[test]
-    fn sessions_go_on() -> Result<()> {
-    let rt = HostRuntime;
-        let idle = Duration::from_nanos(100);
-        let clock = ManualClock { now: Instant(0) };
-        let mut sessions = start(rt.alloc(), idle, clock)?;
-        for user in 1..4 {
-            if sessions.cache.engine().is_map_disabled() {
-                return Ok(());
-            }
-            log_in(&mut sessions, user, user * 10)?;
-            sessions.clock.advance(Duration::from_nanos(20));
-        }
-        assert_eq!( log_out(&mut sessions, 2), Some(20));
-        let saved = save(rt.alloc(), &mut sessions)?;
-        let clock = ManualClock { now: Instant(99) };
-        let mut again = start_again(rt.alloc(), idle, clock, saved)?;
-        assert!( again.contains_key(&1));
-        again.clock.advance(Duration::from_nanos(1));
-        for (user, token) in [(1, None), (2, None), (3, Some(30))] {
-            assert_eq!( touch(&mut again, user)?, token);
-        }
-        Ok(())
-    }
-}

@@ -29,23 +29,3 @@ pub fn put_if_absent<
 {
     cache.entry(key).or_insert(value, now, clock)
 }
-
-#[cfg(test)]
-mod tests {
-    use crate::support::test::prelude::*;
-    use super::*;
-    use crate::support::anyhow::Result;
-    use crate::engine::moka_engine::{CacheConfig, FixedClock};
-
-    #[test]
-    fn puts_only_the_first() -> Result<()> {
-    let rt = HostRuntime;
-        let (now, mut clock) = (Instant(0), FixedClock(Instant(0)));
-        let mut cache: Cache<u64, u64> = Cache::build(CacheConfig::default(), rt.alloc(), now)?;
-        let first = put_if_absent(&mut cache, 1, 10, now, &mut clock)?;
-        assert_eq!( (first.value, first.is_fresh), (10, true));
-        let second = put_if_absent(&mut cache, 1, 20, now, &mut clock)?;
-        assert_eq!( (second.value, second.is_fresh), (10, false));
-        Ok(())
-    }
-}

@@ -26,21 +26,3 @@ pub fn put_and_get(
     let found = cache.get_with_hash(&asked, hash, false, now, &mut FixedClock(now))?;
     Ok(found)
 }
-
-#[cfg(test)]
-mod tests {
-    use crate::support::test::prelude::*;
-    use super::*;
-
-    #[test]
-    fn finds_the_text() -> Result<()> {
-    let rt = HostRuntime;
-        let alloc = rt.alloc();
-        let text = crate::support::test::text!("{:20}", 1)?;
-        let key = crate::support::test::text!("key")?;
-        let found = put_and_get(alloc, key, text)?;
-        let text = crate::support::test::text!("{:20}", 1)?;
-        assert_eq!( found.map(|entry| entry.value), Some(text));
-        Ok(())
-    }
-}

@@ -1,0 +1,27 @@
+//! Tests of `moka_uses::sessions`.
+use anyhow::Result;
+use moka_drive::ManualClock;
+use moka_engine::Instant;
+use moka_uses::sessions::{log_in, log_out, start, touch};
+use std::time::Duration;
+
+#[test]
+fn lasts_while_it_is_used(rt: HostRuntime) -> Result<()> {
+    let clock = ManualClock { now: Instant(0) };
+    let mut sessions = start(rt.alloc(), Duration::from_nanos(100), clock)?;
+    if sessions.cache.engine().is_map_disabled() {
+        return Ok(());
+    }
+    log_in(&mut sessions, 1, 10)?;
+    for (later, token) in [(99, Some(10)), (99, Some(10)), (100, None)] {
+        sessions.clock.advance(Duration::from_nanos(later));
+        assert_eq!(rt; touch(&mut sessions, 1)?, token);
+    }
+    if sessions.cache.engine().is_map_disabled() {
+        return Ok(());
+    }
+    log_in(&mut sessions, 2, 20)?;
+    assert_eq!(rt; log_out(&mut sessions, 2), Some(20));
+    assert_eq!(rt; touch(&mut sessions, 2)?, None);
+    Ok(())
+}
