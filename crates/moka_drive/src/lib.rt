@@ -2,7 +2,6 @@
 #![tactic(auto)]
 
 pub mod cache;
-pub mod clock;
 pub mod compute;
 pub mod driver;
 pub mod entry;
@@ -13,10 +12,8 @@ pub mod laws;
 pub mod many;
 pub mod removals;
 pub mod stats;
-pub mod timed;
 
 pub use cache::{Cache, RestoreManyRefused};
-pub use clock::{ManualClock, SystemClock};
 pub use compute::{CompResult, ComputeRefused, Op};
 pub use driver::drive;
 pub use entry::CacheEntry;
@@ -25,4 +22,3 @@ pub use error::{GetWithRefused, NotTold};
 pub use many::{GetManyRefused, InsertManyRefused, InvalidateManyRefused};
 pub use removals::{CountingListener, Removals};
 pub use stats::Stats;
-pub use timed::{TimedCache, TimedEntrySelector};

@@ -3,7 +3,6 @@ ghost use Rattle.std.specs.Prelude.{◌≡◌};
 ghost use Rattle.moka_drive.specs.Removed.{after_removal, no_removals, removals_of};
 
 use crate::cache::Cache;
-use crate::timed::TimedCache;
 use moka_parts::closures::{PredicateFn, Weigher};
 use moka_parts::notification::{Listener, RemovalCause};
 use moka_parts::policy::Expiry;
@@ -97,23 +96,5 @@ impl<
             Some(counted) => counted.removals,
             None => Removals::new(),
         }
-    }
-}
-
-impl<
-    K: Eq + Hash,
-    V,
-    C,
-    X: Expiry<K, V>,
-    L: Listener<K, V>,
-    P: PredicateFn<K, V>,
-    W: Weigher<K, V>,
-    S: BuildHasher,
-> TimedCache<K, V, C, X, CountingListener<L>, P, W, S> {
-    /// How many values left, by cause, as `Cache::removals` tells it.
-    pub fn removals(&self) -> Removals
-        ensures { result ≡ removals_of self.now.cache.engine.listener }
-    {
-        self.cache.removals()
     }
 }

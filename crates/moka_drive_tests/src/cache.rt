@@ -1,9 +1,10 @@
 //! Worked calls of the synchronous cache.
-use moka_drive::{Cache, CountingListener, ManualClock, Removals, Stats, SystemClock, TimedCache};
+use moka_drive::{Cache, CountingListener, Removals, Stats};
 use moka_engine::{
     CacheConfig, FixedClock, IdSource, Instant, Listener, NoListener, PredicateFn, PredicateId,
     RemovalCause,
 };
+use moka_timed::{ManualClock, SystemClock, TimedCache};
 use std::alloc::Global;
 use std::cell::Cell;
 use std::test::Fail;

@@ -1,6 +1,7 @@
 //! Worked entry calls.
-use moka_drive::{Cache, CompResult, ManualClock, Op, TimedCache};
+use moka_drive::{Cache, CompResult, Op};
 use moka_engine::{CacheConfig, FixedClock, Instant};
+use moka_timed::{ManualClock, TimedCache};
 use std::alloc::Global;
 use std::test::Fail;
 

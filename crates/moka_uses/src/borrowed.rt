@@ -3,8 +3,8 @@ ghost use Rattle.std.specs.Prelude.{IfOk, IfSome, is_some};
 ghost use Rattle.moka_engine.specs.parts.Instant.{Instant};
 ghost use Rattle.moka_uses.specs.Borrowed.{IsFoundAt, IsPriceOf};
 
-use moka_drive::TimedCache;
 use moka_engine::{CacheConfig, Clock, InsertRefused, OutOfMemory};
+use moka_timed::TimedCache;
 use std::alloc::Global;
 use std::time::Duration;
 

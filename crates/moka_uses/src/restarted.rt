@@ -7,8 +7,8 @@ ghost use Rattle.moka_drive.specs.Saved.{AreAllMembers, AreSaved};
 ghost use Rattle.moka_uses.specs.Restarted.{AreAmong};
 
 use crate::sessions::Sessions;
-use moka_drive::TimedCache;
 use moka_engine::{CacheConfig, Clock, OutOfMemory, Restored};
+use moka_timed::TimedCache;
 use std::alloc::Global;
 use std::time::Duration;
 

@@ -7,8 +7,8 @@ ghost use Rattle.moka_engine.specs.State.{is_disabled};
 ghost use Rattle.moka_drive.specs.Unsent.{IsThere};
 ghost use Rattle.moka_uses.specs.Sessions.{IsFoundWithin};
 
-use moka_drive::TimedCache;
 use moka_engine::{CacheConfig, Clock, InsertRefused, OutOfMemory};
+use moka_timed::TimedCache;
 use std::alloc::Global;
 use std::time::Duration;
 

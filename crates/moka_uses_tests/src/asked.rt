@@ -1,4 +1,5 @@
 //! Tests of `moka_uses::asked`.
+use crate::equal::assert_equal;
 use anyhow::Result;
 use moka_engine::{CacheConfig, Engine, Instant};
 use moka_uses::asked::ask_twice;
@@ -10,7 +11,11 @@ fn agrees(rt: HostRuntime) -> Result<()> {
         let hash = cache.hash(&1);
         cache.do_insert_with_hash(1, hash, 10, Instant(0))?;
     }
-    assert_eq!(rt; ask_twice(&mut cache, 1, Instant(0)), Ok((true, true)));
-    assert_eq!(rt; ask_twice(&mut cache, 2, Instant(0)), Ok((false, false)));
+    assert_equal(&rt, ask_twice(&mut cache, 1, Instant(0)), Ok((true, true)));
+    assert_equal(
+        &rt,
+        ask_twice(&mut cache, 2, Instant(0)),
+        Ok((false, false)),
+    );
     Ok(())
 }

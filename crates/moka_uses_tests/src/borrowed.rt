@@ -1,7 +1,8 @@
 //! Tests of `moka_uses::borrowed`.
+use crate::equal::assert_equal;
 use anyhow::Result;
-use moka_drive::ManualClock;
 use moka_engine::Instant;
+use moka_timed::ManualClock;
 use moka_uses::borrowed::{price, set, start};
 use std::time::Duration;
 
@@ -12,13 +13,13 @@ fn finds_a_price_by_a_text(rt: HostRuntime) -> Result<()> {
     let mut prices = start(alloc, Duration::from_nanos(100), clock)?;
     let name = format!(in alloc; "tea")?;
     set(&mut prices, name, 3)?;
-    assert_eq!(rt; price(&mut prices, "tea")?, Some(3));
-    assert_eq!(rt; price(&mut prices, "te")?, None);
-    assert_eq!(rt; prices.stats().hits, 1);
+    assert_equal(&rt, price(&mut prices, "tea")?, Some(3));
+    assert_equal(&rt, price(&mut prices, "te")?, None);
+    assert_equal(&rt, prices.stats().hits, 1);
     let hash = prices.hash_of(&"tea");
     assert!(rt; prices.contains_key_by(&"tea", hash));
     prices.clock.advance(Duration::from_nanos(100));
-    assert_eq!(rt; price(&mut prices, "tea")?, None);
+    assert_equal(&rt, price(&mut prices, "tea")?, None);
     Ok(())
 }
 
@@ -30,7 +31,7 @@ fn removes_a_price_by_a_text(rt: HostRuntime) -> Result<()> {
     let name = format!(in alloc; "tea")?;
     set(&mut prices, name, 3)?;
     let hash = prices.hash_of(&"tea");
-    assert_eq!(rt; prices.remove_by(&"tea", hash)?, Some(3));
-    assert_eq!(rt; price(&mut prices, "tea")?, None);
+    assert_equal(&rt, prices.remove_by(&"tea", hash)?, Some(3));
+    assert_equal(&rt, price(&mut prices, "tea")?, None);
     Ok(())
 }

@@ -1,4 +1,5 @@
 //! Tests of `moka_uses::driven`.
+use crate::equal::assert_equal;
 use anyhow::Result;
 use moka_engine::{CacheConfig, Call, FixedClock, Instant};
 use moka_uses::driven::make_calls;
@@ -21,7 +22,7 @@ fn answers_each_call(rt: HostRuntime) -> Result<()> {
     })?;
     let (mut ids, mut clock) = (CountedIds(0), FixedClock(Instant(0)));
     let replies = make_calls(rt.alloc(), &mut numbers, calls, &mut ids, &mut clock)?;
-    assert_eq!(rt; replies.len(), 2);
-    assert_eq!(rt; numbers.invalidation_predicate_count(), 0);
+    assert_equal(&rt, replies.len(), 2);
+    assert_equal(&rt, numbers.invalidation_predicate_count(), 0);
     Ok(())
 }

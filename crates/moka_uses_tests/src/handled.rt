@@ -1,4 +1,5 @@
 //! Tests of `moka_uses::handled`.
+use crate::equal::assert_equal;
 use anyhow::Result;
 use moka_drive::Cache;
 use moka_engine::{
@@ -27,17 +28,17 @@ fn hands_out_what_cannot_be_cloned(rt: HostRuntime) -> Result<()> {
     let config = CacheConfig::default().eviction_listener(Counter { count: 0 });
     let mut told: Cache<u64, Unique, NoExpiry, Counter> = Cache::build(config, rt.alloc(), NOW)?;
     told.insert(1, Unique(10), NOW, clock)?;
-    assert_eq!(rt; take(&mut told, 1, NOW, clock), Some(Unique(10)));
-    assert_eq!(rt; take(&mut told, 1, NOW, clock), None);
-    assert_eq!(rt; told.engine().listener(), Some(&Counter { count: 0 }));
+    assert_equal(&rt, take(&mut told, 1, NOW, clock), Some(Unique(10)));
+    assert_equal(&rt, take(&mut told, 1, NOW, clock), None);
+    assert_equal(&rt, told.engine().listener(), Some(&Counter { count: 0 }));
 
     let config = CacheConfig::default();
     let mut cache: Cache<u64, Unique> = Cache::build(config, rt.alloc(), NOW)?;
     let made = value_or_made(&mut cache, 1, || Unique(10), NOW, clock);
-    assert_eq!(rt; made, Ok(Unique(10)));
+    assert_equal(&rt, made, Ok(Unique(10)));
     cache.insert(1, Unique(11), NOW, clock)?;
     let refused = value_or_made(&mut cache, 1, || Unique(12), NOW, clock);
-    assert_eq!(rt; refused, Err(OutOfMemory));
+    assert_equal(&rt, refused, Err(OutOfMemory));
     Ok(())
 }
 
@@ -51,9 +52,9 @@ fn does_the_next_best(rt: HostRuntime) -> Result<()> {
     if !cache.engine().is_map_disabled() {
         let refused = put(&mut cache, 1, 10, NOW, clock).err();
         let back = refused.map(|refused| (refused.error, refused.key, refused.value));
-        assert_eq!(rt; back, Some((InsertError::NumbersUsedUp, 1, 10)));
+        assert_equal(&rt, back, Some((InsertError::NumbersUsedUp, 1, 10)));
     }
-    assert_eq!(rt; (resize(&mut cache, 0), resize(&mut cache, 8)), (1, 8));
+    assert_equal(&rt, (resize(&mut cache, 0), resize(&mut cache, 8)), (1, 8));
 
     let mut cache: Cache<u64, u64> = Cache::build(CacheConfig::default(), rt.alloc(), NOW)?;
     cache.insert(1, 10, NOW, clock)?;
@@ -62,6 +63,6 @@ fn does_the_next_best(rt: HostRuntime) -> Result<()> {
 
     let config = CacheConfig::default().max_capacity(0);
     let mut cache: Cache<u64, u64> = Cache::build(config, rt.alloc(), NOW)?;
-    assert_eq!(rt; resize(&mut cache, 8), 0);
+    assert_equal(&rt, resize(&mut cache, 8), 0);
     Ok(())
 }

@@ -1,4 +1,5 @@
 //! Tests of `moka_uses::invalidated`.
+use crate::equal::assert_equal;
 use anyhow::Result;
 use moka_engine::{CacheConfig, Instant, PredicateError};
 use moka_uses::invalidated::{Below, CountedIds, Numbers, hide_below};
@@ -19,11 +20,11 @@ fn hides_what_lies_below(rt: HostRuntime) -> Result<()> {
     }
     let mut ids = CountedIds(u128::MAX);
     hide_below(&mut numbers, 10, Instant(0), &mut ids)?;
-    assert_eq!(rt; (has(&numbers, 1), has(&numbers, 2)), (false, true));
+    assert_equal(&rt, (has(&numbers, 1), has(&numbers, 2)), (false, true));
 
     let refused = hide_below(&mut numbers, 11, Instant(0), &mut ids).err();
     let back = refused.map(|refused| (refused.error, refused.predicate));
-    assert_eq!(rt; back, Some((PredicateError::NoFreeId, Below(11))));
+    assert_equal(&rt, back, Some((PredicateError::NoFreeId, Below(11))));
     assert!(rt; has(&numbers, 2));
     Ok(())
 }

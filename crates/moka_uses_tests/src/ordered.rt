@@ -1,4 +1,5 @@
 //! Tests of `moka_uses::ordered`.
+use crate::equal::assert_equal;
 use anyhow::Result;
 use moka_engine::{CacheConfig, Engine, Instant};
 use moka_uses::ordered::{age_out, put_last};
@@ -15,6 +16,6 @@ fn leaves_nothing_past_its_time(rt: HostRuntime) -> Result<()> {
         }
     }
     assert!(rt; !age_out(&mut cache, Instant(11)));
-    assert_eq!(rt; cache.entry_count(), 2);
+    assert_equal(&rt, cache.entry_count(), 2);
     Ok(())
 }

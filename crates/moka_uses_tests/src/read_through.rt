@@ -1,4 +1,5 @@
 //! Tests of `moka_uses::read_through`.
+use crate::equal::assert_equal;
 use anyhow::Result;
 use moka_drive::Cache;
 use moka_engine::{CacheConfig, FixedClock, Instant};
@@ -21,7 +22,7 @@ fn asks_the_source_until_it_answers(rt: HostRuntime) -> Result<()> {
             answer
         };
         let found = look_up(&mut cache, 1, ask, now, &mut FixedClock(now));
-        assert_eq!(rt; (found.ok(), asked.get()), (Some(expected), last));
+        assert_equal(&rt, (found.ok(), asked.get()), (Some(expected), last));
     }
     Ok(())
 }

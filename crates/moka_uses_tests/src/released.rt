@@ -1,4 +1,5 @@
 //! Tests of `moka_uses::released`.
+use crate::equal::assert_equal;
 use anyhow::Result;
 use moka_drive::Cache;
 use moka_engine::{CacheConfig, FixedClock, Instant};
@@ -14,10 +15,18 @@ fn gives_each_place_back_once(rt: HostRuntime) -> Result<()> {
     connections.insert(2, 20, now, clock)?;
     // The first connection of user 1 is replaced.
     connections.insert(1, 11, now, clock)?;
-    assert_eq!(rt; connections.engine().listener(), Some(&Places { free: 1 }));
+    assert_equal(
+        &rt,
+        connections.engine().listener(),
+        Some(&Places { free: 1 }),
+    );
     close(&mut connections, &1, now, clock)?;
     close(&mut connections, &1, now, clock)?;
     connections.run_pending_tasks(now, clock);
-    assert_eq!(rt; connections.engine().listener(), Some(&Places { free: 2 }));
+    assert_equal(
+        &rt,
+        connections.engine().listener(),
+        Some(&Places { free: 2 }),
+    );
     Ok(())
 }

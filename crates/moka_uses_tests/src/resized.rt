@@ -1,4 +1,5 @@
 //! Tests of `moka_uses::resized`.
+use crate::equal::assert_equal;
 use anyhow::Result;
 use moka_engine::{CacheConfig, CapacityError, Engine, EvictionPolicy, FixedClock, Instant};
 use moka_uses::resized::shrink_and_grow;
@@ -22,11 +23,11 @@ fn evicts_down_to_fewer(rt: HostRuntime) -> Result<()> {
         .eviction_policy(EvictionPolicy::lru());
     let mut cache: Engine<u64, u64> = config.build(rt.alloc(), Instant(0))?;
     fill(&mut cache)?;
-    assert_eq!(rt; cache.entry_count(), 4);
-    assert_eq!(rt; shrink_and_grow(&mut cache, 2, 8, Instant(0)), Ok(2));
+    assert_equal(&rt, cache.entry_count(), 4);
+    assert_equal(&rt, shrink_and_grow(&mut cache, 2, 8, Instant(0)), Ok(2));
     fill(&mut cache)?;
-    assert_eq!(rt; cache.entry_count(), 4);
+    assert_equal(&rt, cache.entry_count(), 4);
     let refused = shrink_and_grow(&mut cache, 0, 8, Instant(0));
-    assert_eq!(rt; refused, Err(CapacityError::ZeroCapacity));
+    assert_equal(&rt, refused, Err(CapacityError::ZeroCapacity));
     Ok(())
 }

@@ -1,7 +1,8 @@
 //! Tests of `moka_uses::restarted`.
+use crate::equal::assert_equal;
 use anyhow::Result;
-use moka_drive::ManualClock;
 use moka_engine::Instant;
+use moka_timed::ManualClock;
 use moka_uses::restarted::{save, start_again};
 use moka_uses::sessions::{log_in, log_out, start, touch};
 use std::time::Duration;
@@ -18,14 +19,14 @@ fn sessions_go_on(rt: HostRuntime) -> Result<()> {
         log_in(&mut sessions, user, user * 10)?;
         sessions.clock.advance(Duration::from_nanos(20));
     }
-    assert_eq!(rt; log_out(&mut sessions, 2), Some(20));
+    assert_equal(&rt, log_out(&mut sessions, 2), Some(20));
     let saved = save(rt.alloc(), &mut sessions)?;
     let clock = ManualClock { now: Instant(99) };
     let mut again = start_again(rt.alloc(), idle, clock, saved)?;
     assert!(rt; again.contains_key(&1));
     again.clock.advance(Duration::from_nanos(1));
     for (user, token) in [(1, None), (2, None), (3, Some(30))] {
-        assert_eq!(rt; touch(&mut again, user)?, token);
+        assert_equal(&rt, touch(&mut again, user)?, token);
     }
     Ok(())
 }

@@ -1,7 +1,8 @@
 //! Tests of `moka_uses::sessions`.
+use crate::equal::assert_equal;
 use anyhow::Result;
-use moka_drive::ManualClock;
 use moka_engine::Instant;
+use moka_timed::ManualClock;
 use moka_uses::sessions::{log_in, log_out, start, touch};
 use std::time::Duration;
 
@@ -15,13 +16,13 @@ fn lasts_while_it_is_used(rt: HostRuntime) -> Result<()> {
     log_in(&mut sessions, 1, 10)?;
     for (later, token) in [(99, Some(10)), (99, Some(10)), (100, None)] {
         sessions.clock.advance(Duration::from_nanos(later));
-        assert_eq!(rt; touch(&mut sessions, 1)?, token);
+        assert_equal(&rt, touch(&mut sessions, 1)?, token);
     }
     if sessions.cache.engine().is_map_disabled() {
         return Ok(());
     }
     log_in(&mut sessions, 2, 20)?;
-    assert_eq!(rt; log_out(&mut sessions, 2), Some(20));
-    assert_eq!(rt; touch(&mut sessions, 2)?, None);
+    assert_equal(&rt, log_out(&mut sessions, 2), Some(20));
+    assert_equal(&rt, touch(&mut sessions, 2)?, None);
     Ok(())
 }

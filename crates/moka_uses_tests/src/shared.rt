@@ -1,4 +1,5 @@
 //! Tests of `moka_uses::shared`.
+use crate::equal::assert_equal;
 use anyhow::Result;
 use moka_engine::{
     CacheConfig, DefaultHasher, FixedClock, Instant, NoExpiry, NoListener, NoPredicate, NoWeigher,
@@ -16,7 +17,7 @@ fn keeps_what_fits(rt: HostRuntime) -> Result<()> {
         cache.insert(key, key, now, &mut FixedClock(now))?;
     }
     let kept = keep_bound(&mut cache, now);
-    assert_eq!(rt; kept.most, Some(42));
+    assert_equal(&rt, kept.most, Some(42));
     assert!(rt; kept.weight > 0);
     Ok(())
 }

@@ -1,4 +1,5 @@
 //! Tests of `moka_uses::texts`.
+use crate::equal::assert_equal;
 use anyhow::Result;
 use moka_uses::texts::put_and_get;
 
@@ -9,6 +10,6 @@ fn finds_the_text(rt: HostRuntime) -> Result<()> {
     let key = format!(in alloc; "key")?;
     let found = put_and_get(alloc, key, text)?;
     let text = format!(in alloc; "{:20}", 1)?;
-    assert_eq!(rt; found.map(|entry| entry.value), Some(text));
+    assert_equal(&rt, found.map(|entry| entry.value), Some(text));
     Ok(())
 }

@@ -3,7 +3,6 @@
 use crate::support::prelude::*;
 
 use crate::engine::moka_drive::cache::Cache;
-use crate::engine::moka_drive::timed::TimedCache;
 use crate::engine::moka_engine::base_cache::BaseCache;
 use crate::engine::moka_parts::closures::{PredicateFn, Weigher};
 use crate::engine::moka_parts::error::OutOfMemory;
@@ -37,30 +36,6 @@ impl<
             Some(keys) => Ok(look_up_all(self.engine(), keys, now)?.into_iter()),
             None => Err(OutOfMemory),
         }
-    }
-}
-
-impl<
-    K: Eq + Hash,
-    V,
-    C: Clock,
-    X: Expiry<K, V>,
-    L: Listener<K, V>,
-    P: PredicateFn<K, V>,
-    W: Weigher<K, V>,
-    S: BuildHasher,
-> TimedCache<K, V, C, X, L, P, W, S> {
-    /// The entries that are visible, each once, in no particular order: clones of key and value. Nothing is recorded.
-    ///
-    /// # Errors
-    /// As `Cache::iter`.
-    pub fn iter(&mut self) -> Result<IntoIter<(K, V)>, OutOfMemory>
-    where
-        K: Clone,
-        V: Clone,
-    {
-        let now = self.clock.now();
-        self.cache.iter(now)
     }
 }
 

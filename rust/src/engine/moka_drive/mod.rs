@@ -3,7 +3,6 @@
 use crate::support::prelude::*;
 
 pub mod cache;
-pub mod clock;
 pub mod compute;
 pub mod driver;
 pub mod entry;
@@ -14,10 +13,8 @@ pub mod laws;
 pub mod many;
 pub mod removals;
 pub mod stats;
-pub mod timed;
 
 pub use cache::{Cache, RestoreManyRefused};
-pub use clock::{ManualClock, SystemClock};
 pub use compute::{CompResult, ComputeRefused, Op};
 pub use driver::drive;
 pub use entry::CacheEntry;
@@ -26,4 +23,3 @@ pub use error::{GetWithRefused, NotTold};
 pub use many::{GetManyRefused, InsertManyRefused, InvalidateManyRefused};
 pub use removals::{CountingListener, Removals};
 pub use stats::Stats;
-pub use timed::{TimedCache, TimedEntrySelector};

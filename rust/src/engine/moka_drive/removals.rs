@@ -3,7 +3,6 @@
 use crate::support::prelude::*;
 
 use crate::engine::moka_drive::cache::Cache;
-use crate::engine::moka_drive::timed::TimedCache;
 use crate::engine::moka_parts::closures::{PredicateFn, Weigher};
 use crate::engine::moka_parts::notification::{Listener, RemovalCause};
 use crate::engine::moka_parts::policy::Expiry;
@@ -89,22 +88,5 @@ impl<
             Some(counted) => counted.removals,
             None => Removals::new(),
         }
-    }
-}
-
-impl<
-    K: Eq + Hash,
-    V,
-    C,
-    X: Expiry<K, V>,
-    L: Listener<K, V>,
-    P: PredicateFn<K, V>,
-    W: Weigher<K, V>,
-    S: BuildHasher,
-> TimedCache<K, V, C, X, CountingListener<L>, P, W, S> {
-    /// How many values left, by cause, as `Cache::removals` tells it.
-    pub fn removals(&self) -> Removals
-    {
-        self.cache.removals()
     }
 }

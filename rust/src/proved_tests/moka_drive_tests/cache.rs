@@ -3,11 +3,12 @@
 use crate::support::prelude::*;
 #[cfg(test)]
 use crate::support::test::prelude::*;
-use crate::engine::moka_drive::{Cache, CountingListener, ManualClock, Removals, Stats, SystemClock, TimedCache};
+use crate::engine::moka_drive::{Cache, CountingListener, Removals, Stats};
 use crate::engine::moka_engine::{
     CacheConfig, FixedClock, IdSource, Instant, Listener, NoListener, PredicateFn, PredicateId,
     RemovalCause,
 };
+use crate::proved_tests::moka_timed::{ManualClock, SystemClock, TimedCache};
 use crate::support::alloc::Global;
 use std::cell::Cell;
 use crate::support::test::test::Fail;

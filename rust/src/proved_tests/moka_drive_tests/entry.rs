@@ -3,8 +3,9 @@
 use crate::support::prelude::*;
 #[cfg(test)]
 use crate::support::test::prelude::*;
-use crate::engine::moka_drive::{Cache, CompResult, ManualClock, Op, TimedCache};
+use crate::engine::moka_drive::{Cache, CompResult, Op};
 use crate::engine::moka_engine::{CacheConfig, FixedClock, Instant};
+use crate::proved_tests::moka_timed::{ManualClock, TimedCache};
 use crate::support::alloc::Global;
 use crate::support::test::test::Fail;
 

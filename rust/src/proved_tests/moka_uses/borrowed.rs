@@ -2,8 +2,8 @@
 //! Prices by names, looked up by a text that is no `String`: a look-up copies no name.
 use crate::support::prelude::*;
 
-use crate::engine::moka_drive::TimedCache;
 use crate::engine::moka_engine::{CacheConfig, Clock, InsertRefused, OutOfMemory};
+use crate::proved_tests::moka_timed::TimedCache;
 use crate::support::alloc::Global;
 use crate::support::time::Duration;
 

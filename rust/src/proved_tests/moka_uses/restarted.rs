@@ -3,8 +3,8 @@
 use crate::support::prelude::*;
 
 use crate::proved_tests::moka_uses::sessions::Sessions;
-use crate::engine::moka_drive::TimedCache;
 use crate::engine::moka_engine::{CacheConfig, Clock, OutOfMemory, Restored};
+use crate::proved_tests::moka_timed::TimedCache;
 use crate::support::alloc::Global;
 use crate::support::time::Duration;
 

@@ -2,8 +2,8 @@
 //! Sessions that end when they are not used.
 use crate::support::prelude::*;
 
-use crate::engine::moka_drive::TimedCache;
 use crate::engine::moka_engine::{CacheConfig, Clock, InsertRefused, OutOfMemory};
+use crate::proved_tests::moka_timed::TimedCache;
 use crate::support::alloc::Global;
 use crate::support::time::Duration;
 

@@ -3,6 +3,7 @@
 use crate::support::prelude::*;
 #[cfg(test)]
 use crate::support::test::prelude::*;
+use crate::proved_tests::moka_uses_tests::equal::assert_equal;
 use crate::support::anyhow::Result;
 use crate::engine::moka_engine::{CacheConfig, Engine, Instant};
 use crate::proved_tests::moka_uses::asked::ask_twice;
@@ -15,7 +16,11 @@ fn agrees() -> Result<()> {
         let hash = cache.hash(&1);
         cache.do_insert_with_hash(1, hash, 10, Instant(0))?;
     }
-    assert_eq!( ask_twice(&mut cache, 1, Instant(0)), Ok((true, true)));
-    assert_eq!( ask_twice(&mut cache, 2, Instant(0)), Ok((false, false)));
+    assert_equal(&rt, ask_twice(&mut cache, 1, Instant(0)), Ok((true, true)));
+    assert_equal(
+        &rt,
+        ask_twice(&mut cache, 2, Instant(0)),
+        Ok((false, false)),
+    );
     Ok(())
 }

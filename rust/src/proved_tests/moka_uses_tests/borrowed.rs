@@ -3,9 +3,10 @@
 use crate::support::prelude::*;
 #[cfg(test)]
 use crate::support::test::prelude::*;
+use crate::proved_tests::moka_uses_tests::equal::assert_equal;
 use crate::support::anyhow::Result;
-use crate::engine::moka_drive::ManualClock;
 use crate::engine::moka_engine::Instant;
+use crate::proved_tests::moka_timed::ManualClock;
 use crate::proved_tests::moka_uses::borrowed::{price, set, start};
 use crate::support::time::Duration;
 
@@ -17,13 +18,13 @@ fn finds_a_price_by_a_text() -> Result<()> {
     let mut prices = start(alloc, Duration::from_nanos(100), clock)?;
     let name = crate::support::test::text!("tea")?;
     set(&mut prices, name, 3)?;
-    assert_eq!( price(&mut prices, "tea")?, Some(3));
-    assert_eq!( price(&mut prices, "te")?, None);
-    assert_eq!( prices.stats().hits, 1);
+    assert_equal(&rt, price(&mut prices, "tea")?, Some(3));
+    assert_equal(&rt, price(&mut prices, "te")?, None);
+    assert_equal(&rt, prices.stats().hits, 1);
     let hash = prices.hash_of(&"tea");
     assert!( prices.contains_key_by(&"tea", hash));
     prices.clock.advance(Duration::from_nanos(100));
-    assert_eq!( price(&mut prices, "tea")?, None);
+    assert_equal(&rt, price(&mut prices, "tea")?, None);
     Ok(())
 }
 
@@ -36,7 +37,7 @@ fn removes_a_price_by_a_text() -> Result<()> {
     let name = crate::support::test::text!("tea")?;
     set(&mut prices, name, 3)?;
     let hash = prices.hash_of(&"tea");
-    assert_eq!( prices.remove_by(&"tea", hash)?, Some(3));
-    assert_eq!( price(&mut prices, "tea")?, None);
+    assert_equal(&rt, prices.remove_by(&"tea", hash)?, Some(3));
+    assert_equal(&rt, price(&mut prices, "tea")?, None);
     Ok(())
 }

@@ -3,6 +3,7 @@
 use crate::support::prelude::*;
 #[cfg(test)]
 use crate::support::test::prelude::*;
+use crate::proved_tests::moka_uses_tests::equal::assert_equal;
 use crate::support::anyhow::Result;
 use crate::proved_tests::moka_uses::bounded::put_and_get;
 
@@ -10,6 +11,6 @@ use crate::proved_tests::moka_uses::bounded::put_and_get;
 fn finds_what_was_put() -> Result<()> {
     let rt = HostRuntime;
     let found = put_and_get(rt.alloc(), 1, 10)?;
-    assert_eq!( found.map(|entry| entry.value), Some(10));
+    assert_equal(&rt, found.map(|entry| entry.value), Some(10));
     Ok(())
 }

@@ -3,12 +3,13 @@
 use crate::support::prelude::*;
 #[cfg(test)]
 use crate::support::test::prelude::*;
+use crate::proved_tests::moka_uses_tests::equal::assert_equal;
 use crate::support::anyhow::Result;
 use crate::proved_tests::moka_uses::cached::put_and_get;
 
 #[test]
 fn finds_what_was_put() -> Result<()> {
     let rt = HostRuntime;
-    assert_eq!( put_and_get(rt.alloc(), 1, 10)?, Some(10));
+    assert_equal(&rt, put_and_get(rt.alloc(), 1, 10)?, Some(10));
     Ok(())
 }

@@ -3,6 +3,7 @@
 use crate::support::prelude::*;
 #[cfg(test)]
 use crate::support::test::prelude::*;
+use crate::proved_tests::moka_uses_tests::equal::assert_equal;
 use crate::support::anyhow::Result;
 use crate::engine::moka_engine::{CacheConfig, Call, FixedClock, Instant};
 use crate::proved_tests::moka_uses::driven::make_calls;
@@ -26,7 +27,7 @@ fn answers_each_call() -> Result<()> {
     })?;
     let (mut ids, mut clock) = (CountedIds(0), FixedClock(Instant(0)));
     let replies = make_calls(rt.alloc(), &mut numbers, calls, &mut ids, &mut clock)?;
-    assert_eq!( replies.len(), 2);
-    assert_eq!( numbers.invalidation_predicate_count(), 0);
+    assert_equal(&rt, replies.len(), 2);
+    assert_equal(&rt, numbers.invalidation_predicate_count(), 0);
     Ok(())
 }

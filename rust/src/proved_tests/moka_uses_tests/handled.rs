@@ -3,6 +3,7 @@
 use crate::support::prelude::*;
 #[cfg(test)]
 use crate::support::test::prelude::*;
+use crate::proved_tests::moka_uses_tests::equal::assert_equal;
 use crate::support::anyhow::Result;
 use crate::engine::moka_drive::Cache;
 use crate::engine::moka_engine::{
@@ -34,17 +35,17 @@ fn hands_out_what_cannot_be_cloned() -> Result<()> {
     let config = CacheConfig::default().eviction_listener(Counter { count: 0 });
     let mut told: Cache<u64, Unique, NoExpiry, Counter> = Cache::build(config, rt.alloc(), NOW)?;
     told.insert(1, Unique(10), NOW, clock)?;
-    assert_eq!( take(&mut told, 1, NOW, clock), Some(Unique(10)));
-    assert_eq!( take(&mut told, 1, NOW, clock), None);
-    assert_eq!( told.engine().listener(), Some(&Counter { count: 0 }));
+    assert_equal(&rt, take(&mut told, 1, NOW, clock), Some(Unique(10)));
+    assert_equal(&rt, take(&mut told, 1, NOW, clock), None);
+    assert_equal(&rt, told.engine().listener(), Some(&Counter { count: 0 }));
 
     let config = CacheConfig::default();
     let mut cache: Cache<u64, Unique> = Cache::build(config, rt.alloc(), NOW)?;
     let made = value_or_made(&mut cache, 1, || Unique(10), NOW, clock);
-    assert_eq!( made, Ok(Unique(10)));
+    assert_equal(&rt, made, Ok(Unique(10)));
     cache.insert(1, Unique(11), NOW, clock)?;
     let refused = value_or_made(&mut cache, 1, || Unique(12), NOW, clock);
-    assert_eq!( refused, Err(OutOfMemory));
+    assert_equal(&rt, refused, Err(OutOfMemory));
     Ok(())
 }
 
@@ -59,9 +60,9 @@ fn does_the_next_best() -> Result<()> {
     if !cache.engine().is_map_disabled() {
         let refused = put(&mut cache, 1, 10, NOW, clock).err();
         let back = refused.map(|refused| (refused.error, refused.key, refused.value));
-        assert_eq!( back, Some((InsertError::NumbersUsedUp, 1, 10)));
+        assert_equal(&rt, back, Some((InsertError::NumbersUsedUp, 1, 10)));
     }
-    assert_eq!( (resize(&mut cache, 0), resize(&mut cache, 8)), (1, 8));
+    assert_equal(&rt, (resize(&mut cache, 0), resize(&mut cache, 8)), (1, 8));
 
     let mut cache: Cache<u64, u64> = Cache::build(CacheConfig::default(), rt.alloc(), NOW)?;
     cache.insert(1, 10, NOW, clock)?;
@@ -70,6 +71,6 @@ fn does_the_next_best() -> Result<()> {
 
     let config = CacheConfig::default().max_capacity(0);
     let mut cache: Cache<u64, u64> = Cache::build(config, rt.alloc(), NOW)?;
-    assert_eq!( resize(&mut cache, 8), 0);
+    assert_equal(&rt, resize(&mut cache, 8), 0);
     Ok(())
 }

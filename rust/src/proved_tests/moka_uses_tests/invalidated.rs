@@ -3,6 +3,7 @@
 use crate::support::prelude::*;
 #[cfg(test)]
 use crate::support::test::prelude::*;
+use crate::proved_tests::moka_uses_tests::equal::assert_equal;
 use crate::support::anyhow::Result;
 use crate::engine::moka_engine::{CacheConfig, Instant, PredicateError};
 use crate::proved_tests::moka_uses::invalidated::{Below, CountedIds, Numbers, hide_below};
@@ -24,11 +25,11 @@ fn hides_what_lies_below() -> Result<()> {
     }
     let mut ids = CountedIds(u128::MAX);
     hide_below(&mut numbers, 10, Instant(0), &mut ids)?;
-    assert_eq!( (has(&numbers, 1), has(&numbers, 2)), (false, true));
+    assert_equal(&rt, (has(&numbers, 1), has(&numbers, 2)), (false, true));
 
     let refused = hide_below(&mut numbers, 11, Instant(0), &mut ids).err();
     let back = refused.map(|refused| (refused.error, refused.predicate));
-    assert_eq!( back, Some((PredicateError::NoFreeId, Below(11))));
+    assert_equal(&rt, back, Some((PredicateError::NoFreeId, Below(11))));
     assert!( has(&numbers, 2));
     Ok(())
 }

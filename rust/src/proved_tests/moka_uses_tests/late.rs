@@ -3,6 +3,7 @@
 use crate::support::prelude::*;
 #[cfg(test)]
 use crate::support::test::prelude::*;
+use crate::proved_tests::moka_uses_tests::equal::assert_equal;
 use crate::support::anyhow::Result;
 use crate::proved_tests::moka_uses::late::send_in_other_order;
 
@@ -10,6 +11,6 @@ use crate::proved_tests::moka_uses::late::send_in_other_order;
 fn counts_both() -> Result<()> {
     let rt = HostRuntime;
     let cache = send_in_other_order(rt.alloc())?;
-    assert_eq!( (cache.entry_count(), cache.weighted_size()), (2, 2));
+    assert_equal(&rt, (cache.entry_count(), cache.weighted_size()), (2, 2));
     Ok(())
 }

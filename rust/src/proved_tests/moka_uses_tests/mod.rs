@@ -13,6 +13,8 @@ mod cached;
 #[cfg(test)]
 mod driven;
 #[cfg(test)]
+mod equal;
+#[cfg(test)]
 mod expiring;
 #[cfg(test)]
 mod handled;

@@ -3,6 +3,7 @@
 use crate::support::prelude::*;
 #[cfg(test)]
 use crate::support::test::prelude::*;
+use crate::proved_tests::moka_uses_tests::equal::assert_equal;
 use crate::support::anyhow::Result;
 use crate::proved_tests::moka_uses::notified::{Counter, replace};
 
@@ -10,6 +11,6 @@ use crate::proved_tests::moka_uses::notified::{Counter, replace};
 fn counts_the_replaced_value() -> Result<()> {
     let rt = HostRuntime;
     let cache = replace(rt.alloc(), 1, 10, 20)?;
-    assert_eq!( cache.listener(), Some(&Counter { count: 1 }));
+    assert_equal(&rt, cache.listener(), Some(&Counter { count: 1 }));
     Ok(())
 }

@@ -3,6 +3,7 @@
 use crate::support::prelude::*;
 #[cfg(test)]
 use crate::support::test::prelude::*;
+use crate::proved_tests::moka_uses_tests::equal::assert_equal;
 use crate::support::anyhow::Result;
 use crate::engine::moka_engine::{CacheConfig, Engine, Instant};
 use crate::proved_tests::moka_uses::ordered::{age_out, put_last};
@@ -20,6 +21,6 @@ fn leaves_nothing_past_its_time() -> Result<()> {
         }
     }
     assert!( !age_out(&mut cache, Instant(11)));
-    assert_eq!( cache.entry_count(), 2);
+    assert_equal(&rt, cache.entry_count(), 2);
     Ok(())
 }

@@ -3,9 +3,10 @@
 use crate::support::prelude::*;
 #[cfg(test)]
 use crate::support::test::prelude::*;
+use crate::proved_tests::moka_uses_tests::equal::assert_equal;
 use crate::support::anyhow::Result;
-use crate::engine::moka_drive::ManualClock;
 use crate::engine::moka_engine::Instant;
+use crate::proved_tests::moka_timed::ManualClock;
 use crate::proved_tests::moka_uses::profiles::{Profiles, profile, start};
 use crate::support::time::Duration;
 
@@ -18,11 +19,11 @@ fn reads_again_what_has_expired() -> Result<()> {
         Duration::from_secs(5),
         clock,
     )?;
-    assert_eq!( profile(&mut profiles, 1, || 10)?, 10);
+    assert_equal(&rt, profile(&mut profiles, 1, || 10)?, 10);
     profiles.clock.advance(Duration::from_secs(4));
-    assert_eq!( profile(&mut profiles, 1, || 11)?, 10);
+    assert_equal(&rt, profile(&mut profiles, 1, || 11)?, 10);
     profiles.clock.advance(Duration::from_secs(1));
-    assert_eq!( profile(&mut profiles, 1, || 12)?, 12);
-    assert_eq!( profiles.removals().expired, 1);
+    assert_equal(&rt, profile(&mut profiles, 1, || 12)?, 12);
+    assert_equal(&rt, profiles.removals().expired, 1);
     Ok(())
 }

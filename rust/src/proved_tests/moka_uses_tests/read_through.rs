@@ -3,6 +3,7 @@
 use crate::support::prelude::*;
 #[cfg(test)]
 use crate::support::test::prelude::*;
+use crate::proved_tests::moka_uses_tests::equal::assert_equal;
 use crate::support::anyhow::Result;
 use crate::engine::moka_drive::Cache;
 use crate::engine::moka_engine::{CacheConfig, FixedClock, Instant};
@@ -26,7 +27,7 @@ fn asks_the_source_until_it_answers() -> Result<()> {
             answer
         };
         let found = look_up(&mut cache, 1, ask, now, &mut FixedClock(now));
-        assert_eq!( (found.ok(), asked.get()), (Some(expected), last));
+        assert_equal(&rt, (found.ok(), asked.get()), (Some(expected), last));
     }
     Ok(())
 }

@@ -3,6 +3,7 @@
 use crate::support::prelude::*;
 #[cfg(test)]
 use crate::support::test::prelude::*;
+use crate::proved_tests::moka_uses_tests::equal::assert_equal;
 use crate::support::anyhow::Result;
 use crate::engine::moka_engine::{CacheConfig, Engine, FixedClock, Instant};
 use crate::proved_tests::moka_uses::refused::{may_put_again, put};
@@ -18,7 +19,7 @@ fn puts_more_than_the_queue_holds() -> Result<()> {
         assert!( put(&mut cache, key, key, Instant(0)).is_ok());
     }
     cache.run_pending_tasks(Instant(0), &mut FixedClock(Instant(0)), None, 1, 384);
-    assert_eq!( cache.entry_count(), 1_000);
+    assert_equal(&rt, cache.entry_count(), 1_000);
     Ok(())
 }
 
@@ -29,6 +30,6 @@ fn hands_back_what_is_refused() -> Result<()> {
     let mut cache: Engine<u64, u64> = config.build(rt.alloc(), Instant(0))?;
     let refused = put(&mut cache, 1, 10, Instant(0)).err();
     let back = refused.map(|refused| (refused.key, refused.value, may_put_again(&refused)));
-    assert_eq!( back, Some((1, 10, false)));
+    assert_equal(&rt, back, Some((1, 10, false)));
     Ok(())
 }

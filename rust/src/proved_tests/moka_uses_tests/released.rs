@@ -3,6 +3,7 @@
 use crate::support::prelude::*;
 #[cfg(test)]
 use crate::support::test::prelude::*;
+use crate::proved_tests::moka_uses_tests::equal::assert_equal;
 use crate::support::anyhow::Result;
 use crate::engine::moka_drive::Cache;
 use crate::engine::moka_engine::{CacheConfig, FixedClock, Instant};
@@ -19,10 +20,18 @@ fn gives_each_place_back_once() -> Result<()> {
     connections.insert(2, 20, now, clock)?;
     // The first connection of user 1 is replaced.
     connections.insert(1, 11, now, clock)?;
-    assert_eq!( connections.engine().listener(), Some(&Places { free: 1 }));
+    assert_equal(
+        &rt,
+        connections.engine().listener(),
+        Some(&Places { free: 1 }),
+    );
     close(&mut connections, &1, now, clock)?;
     close(&mut connections, &1, now, clock)?;
     connections.run_pending_tasks(now, clock);
-    assert_eq!( connections.engine().listener(), Some(&Places { free: 2 }));
+    assert_equal(
+        &rt,
+        connections.engine().listener(),
+        Some(&Places { free: 2 }),
+    );
     Ok(())
 }

@@ -3,6 +3,7 @@
 use crate::support::prelude::*;
 #[cfg(test)]
 use crate::support::test::prelude::*;
+use crate::proved_tests::moka_uses_tests::equal::assert_equal;
 use crate::support::anyhow::Result;
 use crate::engine::moka_engine::{CacheConfig, CapacityError, Engine, EvictionPolicy, FixedClock, Instant};
 use crate::proved_tests::moka_uses::resized::shrink_and_grow;
@@ -27,11 +28,11 @@ fn evicts_down_to_fewer() -> Result<()> {
         .eviction_policy(EvictionPolicy::lru());
     let mut cache: Engine<u64, u64> = config.build(rt.alloc(), Instant(0))?;
     fill(&mut cache)?;
-    assert_eq!( cache.entry_count(), 4);
-    assert_eq!( shrink_and_grow(&mut cache, 2, 8, Instant(0)), Ok(2));
+    assert_equal(&rt, cache.entry_count(), 4);
+    assert_equal(&rt, shrink_and_grow(&mut cache, 2, 8, Instant(0)), Ok(2));
     fill(&mut cache)?;
-    assert_eq!( cache.entry_count(), 4);
+    assert_equal(&rt, cache.entry_count(), 4);
     let refused = shrink_and_grow(&mut cache, 0, 8, Instant(0));
-    assert_eq!( refused, Err(CapacityError::ZeroCapacity));
+    assert_equal(&rt, refused, Err(CapacityError::ZeroCapacity));
     Ok(())
 }

@@ -3,9 +3,10 @@
 use crate::support::prelude::*;
 #[cfg(test)]
 use crate::support::test::prelude::*;
+use crate::proved_tests::moka_uses_tests::equal::assert_equal;
 use crate::support::anyhow::Result;
-use crate::engine::moka_drive::ManualClock;
 use crate::engine::moka_engine::Instant;
+use crate::proved_tests::moka_timed::ManualClock;
 use crate::proved_tests::moka_uses::restarted::{save, start_again};
 use crate::proved_tests::moka_uses::sessions::{log_in, log_out, start, touch};
 use crate::support::time::Duration;
@@ -23,14 +24,14 @@ fn sessions_go_on() -> Result<()> {
         log_in(&mut sessions, user, user * 10)?;
         sessions.clock.advance(Duration::from_nanos(20));
     }
-    assert_eq!( log_out(&mut sessions, 2), Some(20));
+    assert_equal(&rt, log_out(&mut sessions, 2), Some(20));
     let saved = save(rt.alloc(), &mut sessions)?;
     let clock = ManualClock { now: Instant(99) };
     let mut again = start_again(rt.alloc(), idle, clock, saved)?;
     assert!( again.contains_key(&1));
     again.clock.advance(Duration::from_nanos(1));
     for (user, token) in [(1, None), (2, None), (3, Some(30))] {
-        assert_eq!( touch(&mut again, user)?, token);
+        assert_equal(&rt, touch(&mut again, user)?, token);
     }
     Ok(())
 }

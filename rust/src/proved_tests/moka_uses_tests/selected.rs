@@ -3,6 +3,7 @@
 use crate::support::prelude::*;
 #[cfg(test)]
 use crate::support::test::prelude::*;
+use crate::proved_tests::moka_uses_tests::equal::assert_equal;
 use crate::support::anyhow::Result;
 use crate::engine::moka_drive::Cache;
 use crate::engine::moka_engine::{CacheConfig, FixedClock, Instant};
@@ -14,8 +15,8 @@ fn puts_only_the_first() -> Result<()> {
     let (now, mut clock) = (Instant(0), FixedClock(Instant(0)));
     let mut cache: Cache<u64, u64> = Cache::build(CacheConfig::default(), rt.alloc(), now)?;
     let first = put_if_absent(&mut cache, 1, 10, now, &mut clock)?;
-    assert_eq!( (first.value, first.is_fresh), (10, true));
+    assert_equal(&rt, (first.value, first.is_fresh), (10, true));
     let second = put_if_absent(&mut cache, 1, 20, now, &mut clock)?;
-    assert_eq!( (second.value, second.is_fresh), (10, false));
+    assert_equal(&rt, (second.value, second.is_fresh), (10, false));
     Ok(())
 }

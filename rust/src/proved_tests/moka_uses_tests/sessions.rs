@@ -3,9 +3,10 @@
 use crate::support::prelude::*;
 #[cfg(test)]
 use crate::support::test::prelude::*;
+use crate::proved_tests::moka_uses_tests::equal::assert_equal;
 use crate::support::anyhow::Result;
-use crate::engine::moka_drive::ManualClock;
 use crate::engine::moka_engine::Instant;
+use crate::proved_tests::moka_timed::ManualClock;
 use crate::proved_tests::moka_uses::sessions::{log_in, log_out, start, touch};
 use crate::support::time::Duration;
 
@@ -20,13 +21,13 @@ fn lasts_while_it_is_used() -> Result<()> {
     log_in(&mut sessions, 1, 10)?;
     for (later, token) in [(99, Some(10)), (99, Some(10)), (100, None)] {
         sessions.clock.advance(Duration::from_nanos(later));
-        assert_eq!( touch(&mut sessions, 1)?, token);
+        assert_equal(&rt, touch(&mut sessions, 1)?, token);
     }
     if sessions.cache.engine().is_map_disabled() {
         return Ok(());
     }
     log_in(&mut sessions, 2, 20)?;
-    assert_eq!( log_out(&mut sessions, 2), Some(20));
-    assert_eq!( touch(&mut sessions, 2)?, None);
+    assert_equal(&rt, log_out(&mut sessions, 2), Some(20));
+    assert_equal(&rt, touch(&mut sessions, 2)?, None);
     Ok(())
 }

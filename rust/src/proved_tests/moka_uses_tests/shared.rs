@@ -3,6 +3,7 @@
 use crate::support::prelude::*;
 #[cfg(test)]
 use crate::support::test::prelude::*;
+use crate::proved_tests::moka_uses_tests::equal::assert_equal;
 use crate::support::anyhow::Result;
 use crate::engine::moka_engine::{
     CacheConfig, DefaultHasher, FixedClock, Instant, NoExpiry, NoListener, NoPredicate, NoWeigher,
@@ -21,7 +22,7 @@ fn keeps_what_fits() -> Result<()> {
         cache.insert(key, key, now, &mut FixedClock(now))?;
     }
     let kept = keep_bound(&mut cache, now);
-    assert_eq!( kept.most, Some(42));
+    assert_equal(&rt, kept.most, Some(42));
     assert!( kept.weight > 0);
     Ok(())
 }

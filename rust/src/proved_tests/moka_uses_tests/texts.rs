@@ -3,6 +3,7 @@
 use crate::support::prelude::*;
 #[cfg(test)]
 use crate::support::test::prelude::*;
+use crate::proved_tests::moka_uses_tests::equal::assert_equal;
 use crate::support::anyhow::Result;
 use crate::proved_tests::moka_uses::texts::put_and_get;
 
@@ -14,6 +15,6 @@ fn finds_the_text() -> Result<()> {
     let key = crate::support::test::text!("key")?;
     let found = put_and_get(alloc, key, text)?;
     let text = crate::support::test::text!("{:20}", 1)?;
-    assert_eq!( found.map(|entry| entry.value), Some(text));
+    assert_equal(&rt, found.map(|entry| entry.value), Some(text));
     Ok(())
 }

@@ -3,7 +3,6 @@
 use crate::support::prelude::*;
 
 use super::{Cache, post};
-use crate::engine::moka_drive::timed::TimedCache;
 use crate::engine::moka_engine::base_cache::{RestoreRefused, Restored, Snapshot, SnapshotEntry};
 use crate::engine::moka_parts::closures::{PredicateFn, Weigher};
 use crate::engine::moka_parts::error::OutOfMemory;
@@ -106,40 +105,6 @@ impl<
             }
         }
         Ok(())
-    }
-}
-
-impl<
-    K: Eq + Hash,
-    V,
-    C: Clock,
-    X: Expiry<K, V>,
-    L: Listener<K, V>,
-    P: PredicateFn<K, V>,
-    W: Weigher<K, V>,
-    S: BuildHasher,
-> TimedCache<K, V, C, X, L, P, W, S> {
-    /// Runs maintenance, and then clones all visible entries, least recently used first.
-    ///
-    /// # Errors
-    /// As `Cache::save`.
-    pub fn save(&mut self, alloc: Global) -> Result<Vec<Restored<K, V>>, OutOfMemory>
-    where
-        K: Clone,
-        V: Clone,
-    {
-        let now = self.clock.now();
-        self.cache.save(alloc, now, &mut self.clock)
-    }
-
-    /// Puts each entry back at the clock's moment, in order.
-    ///
-    /// # Errors
-    /// As `Cache::restore`.
-    pub fn restore(&mut self, items: Vec<Restored<K, V>>) -> Result<(), RestoreManyRefused<K, V>>
-    {
-        let now = self.clock.now();
-        self.cache.restore(items, now, &mut self.clock)
     }
 }
 

@@ -8,10 +8,10 @@ ghost use Rattle.moka_drive.specs.Computing.{AndUpserts, AndComputes};
 ghost use Rattle.moka_drive.specs.Entries.{OrInserts, OrInsertsMade, OrInsertsIfMade, OrInsertsIfNoError};
 ghost use Rattle.moka_drive.specs.Synchronous.{meaning_of, hears_clones};
 
-use super::TimedCache;
-use crate::compute::{CompResult, ComputeRefused, Op};
-use crate::entry::CacheEntry;
-use crate::error::GetWithRefused;
+use crate::cache::TimedCache;
+use moka_drive::compute::{CompResult, ComputeRefused, Op};
+use moka_drive::entry::CacheEntry;
+use moka_drive::error::GetWithRefused;
 use moka_parts::closures::{PredicateFn, Weigher};
 use moka_parts::error::InsertRefused;
 use moka_parts::housekeeper::Clock;

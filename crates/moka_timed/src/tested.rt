@@ -11,8 +11,8 @@ ghost use Rattle.moka_parts.specs.declared.records.Record.{Record};
 ghost use Rattle.moka_drive.specs.Counters.{after_look_up};
 ghost use Rattle.moka_drive.specs.Synchronous.{GetsValue, Makes, RemovesEntry, hears_clones, invalidated, meaning_of, removed};
 
-use super::TimedCache;
-use crate::error::NotTold;
+use crate::cache::TimedCache;
+use moka_drive::error::NotTold;
 use moka_parts::closures::{PredicateFn, Weigher};
 use moka_parts::error::OutOfMemory;
 use moka_parts::housekeeper::Clock;

@@ -17,9 +17,9 @@ ghost use Rattle.moka_drive.specs.Counters.{after_look_up};
 ghost use Rattle.moka_drive.specs.Unsent.{IsThere, ShowsWrites};
 ghost use Rattle.moka_drive.specs.Synchronous.{fresh, Makes, meaning_of, hears_clones, Just, own_run, InsertsEntry, GetsValue, RemovesEntry, removed, invalidated, GetsWith, GetsWithIfMade, GetsWithIfNoError};
 
-use crate::cache::Cache;
-use crate::error::{GetWithRefused, NotTold};
-use crate::stats::Stats;
+use moka_drive::cache::Cache;
+use moka_drive::error::{GetWithRefused, NotTold};
+use moka_drive::stats::Stats;
 use moka_engine::config::{CacheConfig, DefaultHasher};
 use moka_parts::closures::{NoPredicate, NoWeigher, PredicateFn, Weigher};
 use moka_parts::error::{CapacityError, InsertRefused, OutOfMemory, PredicateRefused};
@@ -29,11 +29,6 @@ use moka_parts::notification::{Listener, NoListener};
 use moka_parts::policy::{Expiry, NoExpiry, Policy};
 use std::alloc::Global;
 use std::hash::{BuildHasher, Hash};
-
-mod entry_selector;
-mod tested;
-
-pub use entry_selector::TimedEntrySelector;
 
 /// A cache with a clock, which each call that needs the moment reads once at its start.
 #[derive(Drop)]

@@ -1,0 +1,45 @@
+//! The entries that are visible. moka: `sync::iter`.
+ghost use Rattle.std.specs.Prelude.{◌≡◌, IfOk};
+ghost use Rattle.std.specs.Vec.Iter.{into_iter_items};
+ghost use Rattle.moka_parts.specs.Copies.{ClonesAreEqual};
+ghost use Rattle.moka_parts.specs.declared.policy.Instant.{Instant};
+ghost use Rattle.moka_drive.specs.Visible.{ListsVisible, LooksUpClones};
+
+use crate::cache::TimedCache;
+use moka_parts::closures::{PredicateFn, Weigher};
+use moka_parts::error::OutOfMemory;
+use moka_parts::housekeeper::Clock;
+use moka_parts::notification::Listener;
+use moka_parts::policy::Expiry;
+use std::hash::{BuildHasher, Hash};
+use std::vec::IntoIter;
+
+impl<
+    K: Eq + Hash,
+    V,
+    C: Clock,
+    X: Expiry<K, V>,
+    L: Listener<K, V>,
+    P: PredicateFn<K, V>,
+    W: Weigher<K, V>,
+    S: BuildHasher,
+> TimedCache<K, V, C, X, L, P, W, S> {
+    /// The entries that are visible, each once, in no particular order: clones of key and value. Nothing is recorded.
+    ///
+    /// # Errors
+    /// As `Cache::iter`.
+    pub fn iter(&mut self) -> Result<IntoIter<(K, V)>, OutOfMemory>
+    where
+        K: Clone + Drop,
+        V: Clone + Drop,
+        ensures listed { (now : Instant) × C.reads self.old.clock now self.new.clock
+            × IfOk result (λ found. LooksUpClones P.says V.is_clone self.old.cache.engine.state now.0
+            K.eq K.is_clone (into_iter_items found))
+            × (ClonesAreEqual K.is_clone → IfOk result (λ found.
+            ListsVisible P.says V.is_clone self.old.cache.engine.state now.0 (into_iter_items found))) }
+        ensures unchanged { self.new.cache ≡ self.old.cache }
+    {
+        let now = self.clock.now();
+        self.cache.iter(now)
+    }
+}

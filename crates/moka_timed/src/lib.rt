@@ -1,0 +1,14 @@
+//! The synchronous cache with a clock of its own, so that no call takes a moment.
+#![tactic(auto)]
+
+pub mod cache;
+pub mod clock;
+pub mod entry_selector;
+mod iter;
+mod removals;
+mod saves;
+mod tested;
+
+pub use cache::TimedCache;
+pub use clock::{ManualClock, SystemClock};
+pub use entry_selector::TimedEntrySelector;

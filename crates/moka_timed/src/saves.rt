@@ -1,0 +1,76 @@
+//! The visible entries in the order of access, and a cache made again from them.
+ghost use Rattle.std.specs.Prelude.{◌≡◌, ◌∷◌, ◌++◌, Bool, List, IfOk, IfErr};
+ghost use Rattle.std.specs.List.{fold};
+ghost use Rattle.std.specs.Vec.Iter.{into_iter_items};
+ghost use Rattle.moka_parts.specs.declared.calls.Reply.TheVariants as reply;
+ghost use Rattle.moka_parts.specs.declared.policy.Instant.{Instant};
+ghost use Rattle.moka_engine.specs.Snapshots.{scene_of};
+ghost use Rattle.moka_engine.specs.declared.base_cache.restores.Restored.{Restored};
+ghost use Rattle.moka_drive.specs.Saved.{AddsOnly, AreAllMembers, AreSaved, PutsManyBack};
+ghost use Rattle.moka_drive.specs.Synchronous.{Just, Makes, meaning_of, own_run};
+ghost use Rattle.moka_drive.specs.Unsent.{HidesNoMore};
+
+use crate::cache::TimedCache;
+use moka_drive::cache::RestoreManyRefused;
+use moka_engine::base_cache::Restored;
+use moka_parts::closures::{PredicateFn, Weigher};
+use moka_parts::error::OutOfMemory;
+use moka_parts::housekeeper::Clock;
+use moka_parts::notification::Listener;
+use moka_parts::policy::Expiry;
+use std::alloc::Global;
+use std::hash::{BuildHasher, Hash};
+
+impl<
+    K: Eq + Hash,
+    V,
+    C: Clock,
+    X: Expiry<K, V>,
+    L: Listener<K, V>,
+    P: PredicateFn<K, V>,
+    W: Weigher<K, V>,
+    S: BuildHasher,
+> TimedCache<K, V, C, X, L, P, W, S> {
+    /// Runs maintenance, and then clones all visible entries, least recently used first.
+    ///
+    /// # Errors
+    /// As `Cache::save`.
+    pub fn save(&mut self, alloc: Global) -> Result<Vec<Restored<K, V>>, OutOfMemory>
+    where
+        K: Clone + Drop,
+        V: Clone + Drop,
+        P: Drop,
+        ensures saved { (now : Instant) × (read : C) × C.reads self.old.clock now read
+            × IfOk result (λ items. AreSaved P.says K.is_clone V.is_clone
+            (scene_of self.new.cache.engine.state now.0) self.new.cache.engine.state.access items.items)
+            × ((more : Bool) × Makes (meaning_of K.eq L.tells P.says W.weighs C.reads X.created X.read X.updated)
+            (Just (own_run now) (reply.Run more)) self.old.cache.engine read self.new.cache.engine self.new.clock) }
+        ensures members { AreAllMembers self.new.cache.engine.state }
+        ensures counted { self.new.cache.stats ≡ self.old.cache.stats }
+    {
+        let now = self.clock.now();
+        self.cache.save(alloc, now, &mut self.clock)
+    }
+
+    /// Puts each entry back at the clock's moment, in order.
+    ///
+    /// # Errors
+    /// As `Cache::restore`.
+    pub fn restore(&mut self, items: Vec<Restored<K, V>>) -> Result<(), RestoreManyRefused<K, V>>
+    where
+        K: Drop,
+        V: Drop,
+        P: Drop,
+        ensures made { (now : Instant) × (read : C) × C.reads self.old.clock now read
+            × PutsManyBack (meaning_of K.eq L.tells P.says W.weighs C.reads X.created X.read X.updated)
+            (λ h k. S.Hasher.finish (fold S.Hasher.write (S.build_hasher h) (K.hash_input k))) now items.items result
+            self.old.cache.engine read self.new.cache.engine self.new.clock }
+        ensures adds { AddsOnly items.items self.old.cache.engine.state self.new.cache.engine.state }
+        ensures hides { HidesNoMore self.old.cache.engine.state self.new.cache.engine.state }
+        ensures back { IfErr result (λ e. (done : List (Restored K V)) × (items.items ≡ done ++ e.refused.item ∷ into_iter_items e.rest)) }
+        ensures counted { self.new.cache.stats ≡ self.old.cache.stats }
+    {
+        let now = self.clock.now();
+        self.cache.restore(items, now, &mut self.clock)
+    }
+}
