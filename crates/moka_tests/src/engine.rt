@@ -1,5 +1,6 @@
 //! Tests of `moka_engine`.
-use moka_engine::Weigher;
+use moka_engine::{Engine, Expiry, Instant, Listener, NoPredicate, Weigher};
+use std::test::Fail;
 
 mod base_cache;
 mod config;
@@ -19,4 +20,22 @@ impl<V> Weigher<u64, V> for ByKey {
     }
 
     ghost one_weight = { λ w k v a b x y. x ∙ sym y };
+}
+
+/// Inserts an entry, sends its operation, and gives the number of the operation's ticket.
+fn settle<V: Drop, X: Expiry<u64, V>, L: Listener<u64, V>, W: Weigher<u64, V>>(
+    cache: &mut Engine<u64, V, X, L, NoPredicate, W>,
+    key: u64,
+    value: V,
+) -> Result<u64, Fail> {
+    if cache.is_map_disabled() {
+        return Err("disabled".into());
+    }
+    let Ok((ticket, _)) = cache.do_insert_with_hash(key, key, value, Instant(0)) else {
+        return Err("refused".into());
+    };
+    match cache.send(ticket) {
+        Ok(()) => Ok(ticket.0),
+        Err(_) => Err("full".into()),
+    }
 }

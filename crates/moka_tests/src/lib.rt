@@ -10,6 +10,8 @@ mod maintenance;
 #[cfg(test)]
 mod parts;
 #[cfg(test)]
+mod printed;
+#[cfg(test)]
 mod script;
 #[cfg(test)]
 mod sketch;

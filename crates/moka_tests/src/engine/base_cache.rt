@@ -1,7 +1,7 @@
 //! Calls of a cache.
 ghost use Rattle.moka_parts.specs.Closures.{CanAlwaysAsk, HasOneAnswer};
 
-use super::ByKey;
+use super::{ByKey, settle};
 use moka_engine::{
     BaseCache, ByClosure, EvictionPolicy, ExpirationPolicy, FixedClock, HousekeeperConfig, Instant,
     Listener, NoExpiry, NoListener, NoPredicate, PairFn, Policy, RemovalCause, Weigher,
@@ -68,21 +68,6 @@ fn cache_of<V: Drop, L: Listener<u64, V> + Drop, W: Weigher<u64, V> + Drop>(
     cache.map_err(|_| Fail::from("memory"))
 }
 
-/// Inserts an entry, and sends its operation.
-fn settle<V: Drop, L: Listener<u64, V>, W: Weigher<u64, V>>(
-    cache: &mut TestCache<V, L, W>,
-    key: u64,
-    value: V,
-) -> Result<(), Fail> {
-    if cache.is_map_disabled() {
-        return Err("disabled".into());
-    }
-    let Ok((ticket, _)) = cache.do_insert_with_hash(key, key, value, Instant(0)) else {
-        return Err("refused".into());
-    };
-    cache.send(ticket).map_err(|_| Fail::from("full"))
-}
-
 /// Makes a run at this moment with a batch of 1, and tells whether more is left.
 fn run<V: Drop, L: Listener<u64, V>, W: Weigher<u64, V>>(
     cache: &mut TestCache<V, L, W>,
@@ -101,16 +86,21 @@ fn filled(alloc: Global, value: &Rc<u8>, told: Rc<Cell<u32>>) -> Result<SharedCa
     Ok(cache)
 }
 
+/// Makes a run, and drops the cache.
+fn check_let_go(rt: &impl Abort, mut cache: SharedCache, value: &Rc<u8>, told: &Rc<Cell<u32>>) {
+    run(&mut cache, Instant(0));
+    // One was replaced, and one evicted.
+    assert_eq!(rt; (Rc::strong_count(value), told.get()), (4, 2));
+    drop(cache);
+    assert_eq!(rt; (Rc::strong_count(value), told.get()), (1, 2));
+}
+
 #[test]
 fn lets_go_of_all_it_holds(rt: HostRuntime) -> Result<(), Fail> {
     let value = Rc::new(rt.alloc(), 7u8)?;
     let told = Rc::new(rt.alloc(), Cell::new(0))?;
-    let mut cache = filled(rt.alloc(), &value, told.clone()?)?;
-    run(&mut cache, Instant(0));
-    // One was replaced, and one evicted.
-    assert_eq!(rt; (Rc::strong_count(&value), told.get()), (4, 2));
-    drop(cache);
-    assert_eq!(rt; (Rc::strong_count(&value), told.get()), (1, 2));
+    let cache = filled(rt.alloc(), &value, told.clone()?)?;
+    check_let_go(&rt, cache, &value, &told);
     Ok(())
 }
 
@@ -143,14 +133,21 @@ fn check_parts(rt: &impl Abort, cache: &NumberCache) {
     cache.invariant_holds();
     assert!(rt; cache.name().is_none() && cache.listener().is_none());
     assert!(rt; !cache.is_removal_notifier_enabled());
-    assert_eq!(rt; cache.invalidation_predicate_count(), 0);
-    assert_eq!(rt; cache.num_cht_segments(), 1);
-    assert_eq!(rt; cache.hash(&1), cache.hash(&1));
+    let (predicates, segments) = (
+        cache.invalidation_predicate_count(),
+        cache.num_cht_segments(),
+    );
+    assert_eq!(rt;
+        (predicates, segments, cache.hash(&1)),
+        (0, 1, cache.hash(&1))
+    );
 }
 
 fn check_policy(rt: &impl Abort, policy: &Policy) {
-    assert_eq!(rt; policy.max_capacity(), None);
-    assert_eq!(rt; policy.time_to_idle(), Some(Duration::from_nanos(100)));
+    assert_eq!(rt;
+        (policy.max_capacity(), policy.time_to_idle()),
+        (None, Some(Duration::from_nanos(100)))
+    );
 }
 
 #[test]

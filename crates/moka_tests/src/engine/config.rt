@@ -1,5 +1,5 @@
 //! What a cache is made with.
-use super::ByKey;
+use super::{ByKey, settle};
 use crate::parts::laws::OneId;
 use moka_engine::{
     CacheConfig, Engine, EvictionPolicy, ExpireAfter, FixedClock, HousekeeperConfig, Instant,
@@ -72,21 +72,15 @@ fn check_parts(rt: &impl Abort, cache: &Chosen) {
     assert_eq!(rt; cache.name(), Some("texts"));
     assert!(rt; cache.is_removal_notifier_enabled());
     let policy = cache.policy();
-    assert_eq!(rt; policy.max_capacity(), Some(10));
-    assert_eq!(rt; policy.time_to_live(), Some(Duration::from_secs(16)));
-    assert_eq!(rt; policy.time_to_idle(), Some(Duration::from_secs(7)));
-}
-
-/// Puts an entry in, whose operation has this ticket, and sends it.
-fn settle(rt: &impl Abort, cache: &mut Chosen, key: u64, number: u64) -> Result<(), Fail> {
-    if cache.is_map_disabled() {
-        return Err("disabled".into());
-    }
-    let Ok((ticket, _)) = cache.do_insert_with_hash(key, key, key, Instant(0)) else {
-        return Err("refused".into());
-    };
-    assert_eq!(rt; ticket.0, number);
-    cache.send(ticket).map_err(|_| Fail::from("full"))
+    let (live, idle) = (policy.time_to_live(), policy.time_to_idle());
+    assert_eq!(rt;
+        (policy.max_capacity(), live, idle),
+        (
+            Some(10),
+            Some(Duration::from_secs(16)),
+            Some(Duration::from_secs(7))
+        )
+    );
 }
 
 /// The weight that is reported after the cache made a run by itself, and after another one.
@@ -101,7 +95,7 @@ fn weights_after_runs(cache: &mut Chosen) -> (u64, u64) {
 /// Of three entries the newest stays, since the eviction is by recency.
 fn check_weights(rt: &impl Abort, cache: &mut Chosen) -> Result<(), Fail> {
     for (key, ticket) in [(4, 8), (5, 9), (6, 10)] {
-        settle(rt, cache, key, ticket)?;
+        assert_eq!(rt; settle(cache, key, key)?, ticket);
     }
     assert_eq!(rt; weights_after_runs(cache), (15, 6));
     Ok(())

@@ -7,7 +7,6 @@ fn opens_entries(rt: HostRuntime) {
         key: Some(1),
         value: 'v',
     };
-    assert_eq!(rt; entry.key(), Some(&1));
-    assert_eq!(rt; *entry.value(), 'v');
+    assert_eq!(rt; (entry.key().copied(), *entry.value()), (Some(1), 'v'));
     assert_eq!(rt; entry.into_value(), 'v');
 }

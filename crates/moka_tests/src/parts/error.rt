@@ -1,10 +1,10 @@
 //! What refusals print.
+use crate::printed::check;
 use moka_parts::error::{InsertError, InsertRefused, PredicateError, PredicateRefused};
 use std::test::Fail;
 
 #[test]
 fn prints_predicate_errors(rt: HostRuntime) -> Result<(), Fail> {
-    let alloc = rt.alloc();
     for (error, text) in [
         (
             PredicateError::InvalidationClosuresDisabled,
@@ -16,14 +16,13 @@ fn prints_predicate_errors(rt: HostRuntime) -> Result<(), Fail> {
         ),
         (PredicateError::OutOfMemory, "Out of memory"),
     ] {
-        assert_eq!(rt; format!(in alloc; "{error}")?.as_str(), text);
+        check(&rt, &error, text)?;
     }
     Ok(())
 }
 
 #[test]
 fn prints_refusals(rt: HostRuntime) -> Result<(), Fail> {
-    let alloc = rt.alloc();
     let insert = InsertRefused {
         error: InsertError::NumbersUsedUp,
         key: 1u8,
@@ -33,13 +32,10 @@ fn prints_refusals(rt: HostRuntime) -> Result<(), Fail> {
         error: PredicateError::NoFreeId,
         predicate: 3u8,
     };
-    assert_eq!(rt;
-        format!(in alloc; "{insert}")?.as_str(),
-        "All tickets are used up"
-    );
-    assert_eq!(rt;
-        format!(in alloc; "{predicate}")?.as_str(),
-        "Cannot assign a new PredicateId to a predicate"
-    );
-    Ok(())
+    check(&rt, &insert, "All tickets are used up")?;
+    check(
+        &rt,
+        &predicate,
+        "Cannot assign a new PredicateId to a predicate",
+    )
 }

@@ -18,12 +18,10 @@ fn at(millis: u32) -> Instant {
 #[test]
 fn expires_at_the_very_moment(rt: HostRuntime) {
     for (now, is_over) in [(15_999, false), (16_000, true), (16_001, true)] {
-        assert_eq!(rt;
-            is_expired_by_per_entry_ttl(Some(at(16_000)), at(now)),
-            is_over
-        );
-        assert_eq!(rt; is_expired_by_ttl(seconds(16), at(0), at(now)), is_over);
-        assert_eq!(rt; is_expired_by_tti(seconds(7), at(9_000), at(now)), is_over);
+        let by_entry = is_expired_by_per_entry_ttl(Some(at(16_000)), at(now));
+        let by_ttl = is_expired_by_ttl(seconds(16), at(0), at(now));
+        let by_tti = is_expired_by_tti(seconds(7), at(9_000), at(now));
+        assert_eq!(rt; (by_entry, by_ttl, by_tti), (is_over, is_over, is_over));
     }
     assert!(rt; !is_expired_by_per_entry_ttl(None, at(16_000)));
     assert!(rt; !is_expired_by_ttl(None, at(0), at(16_000)));
@@ -70,23 +68,24 @@ fn hides_what_has_lapsed(rt: HostRuntime) {
 /// An entry is created with 8 seconds, and reads at 5 and 11 seconds answer 9 and 10 seconds.
 #[test]
 fn renews(rt: HostRuntime) {
-    let expires = deadline_of(seconds(8), at(0));
-    let left = remaining(expires, at(0), at(0), seconds(16), seconds(7), at(5_000));
-    assert_eq!(rt; (expires, left), (Some(at(8_000)), seconds(2)));
-    let (expires, is_changed) = renewed(expires, left, seconds(9), at(5_000));
-    assert_eq!(rt; (expires, is_changed), (Some(at(14_000)), true));
-
-    let left = remaining(
-        expires,
-        at(0),
-        at(5_000),
-        seconds(16),
-        seconds(7),
-        at(11_000),
-    );
-    let kept = renewed(expires, left, seconds(1), at(11_000));
-    assert_eq!(rt; (left, kept), (seconds(1), (expires, false)));
-    assert_eq!(rt; renewed(expires, left, None, at(11_000)), (None, true));
+    let mut expires = deadline_of(seconds(8), at(0));
+    assert_eq!(rt; expires, Some(at(8_000)));
+    for (read, now, answer, left, kept) in [
+        (0, 5_000, seconds(9), seconds(2), (Some(at(14_000)), true)),
+        (
+            5_000,
+            11_000,
+            seconds(1),
+            seconds(1),
+            (Some(at(14_000)), false),
+        ),
+        (5_000, 11_000, None, seconds(1), (None, true)),
+    ] {
+        let found = remaining(expires, at(0), at(read), seconds(16), seconds(7), at(now));
+        let renewal = renewed(expires, found, answer, at(now));
+        assert_eq!(rt; (found, renewal), (left, kept));
+        expires = renewal.0;
+    }
     let left = remaining(None, at(0), at(0), None, None, at(1));
     assert_eq!(rt;
         (left, renewed(None, left, None, at(1))),

@@ -24,7 +24,7 @@ fn tells_the_listener(rt: HostRuntime) {
     notifier.notify(1, 10, RemovalCause::Size);
     notifier.notify(2, 20, RemovalCause::Expired);
     let heard = Some((2, 20, RemovalCause::Expired));
-    assert_eq!(rt; notifier.listener(), Some(&LastValue { heard }));
+    assert_eq!(rt; notifier.listener().copied(), Some(LastValue { heard }));
 }
 
 #[test]

@@ -1,8 +1,10 @@
 //! Policies, moments and expiries.
+use crate::printed::check;
 use moka_parts::policy::{
     EvictionPolicy, ExpirationPolicy, ExpireAfter, ExpireAfterCreate, Expiry, Instant, NoExpiry,
     Policy,
 };
+use std::process::Abort;
 use std::test::Fail;
 use std::time::Duration;
 
@@ -22,47 +24,52 @@ impl ExpireAfterCreate<u8, u64> for BySeconds {
 
 #[test]
 fn prints_eviction_policies(rt: HostRuntime) -> Result<(), Fail> {
-    let alloc = rt.alloc();
     let default = EvictionPolicy::default();
     for (policy, text) in [
         (EvictionPolicy::tiny_lfu(), "EvictionPolicy::TinyLfu"),
         (EvictionPolicy::lru(), "EvictionPolicy::Lru"),
         (default, "EvictionPolicy::TinyLfu"),
     ] {
-        let printed = format!(in alloc; "{policy:?}")?;
-        assert_eq!(rt; printed.as_str(), text);
+        check(&rt, &format_args!("{policy:?}"), text)?;
     }
     Ok(())
 }
 
-#[test]
-fn gives_what_was_set(rt: HostRuntime) -> Result<(), Fail> {
-    let second = Duration::from_secs(1);
-    let mut expiration = ExpirationPolicy::<BySeconds>::default();
-    let (live, idle) = (expiration.time_to_live(), expiration.time_to_idle());
-    assert_eq!(rt;
-        (live, idle, expiration.expiry().is_none()),
-        (None, None, true)
-    );
-    expiration.set_time_to_live(second);
-    expiration.set_time_to_idle(Duration::MAX);
-    expiration.set_expiry(BySeconds);
-    let expiration = expiration.clone()?;
-    assert!(rt; expiration.expiry().is_some());
-
+/// A policy tells of these expirations and of what else it was made with.
+fn check_policy(rt: &impl Abort, expiration: &ExpirationPolicy<BySeconds>) -> Result<(), Fail> {
     let policy = Policy::new(
         Some(7),
         expiration.time_to_live(),
         expiration.time_to_idle(),
     )
     .clone()?;
-    assert_eq!(rt;
-        (policy.max_capacity(), policy.num_segments()),
-        (Some(7), 1)
-    );
     let (live, idle) = (policy.time_to_live(), policy.time_to_idle());
-    assert_eq!(rt; (live, idle), (Some(second), Some(Duration::MAX)));
+    assert_eq!(rt;
+        (policy.max_capacity(), policy.num_segments(), live, idle),
+        (
+            Some(7),
+            1,
+            Some(Duration::from_secs(1)),
+            Some(Duration::MAX)
+        )
+    );
     Ok(())
+}
+
+#[test]
+fn gives_what_was_set(rt: HostRuntime) -> Result<(), Fail> {
+    let mut expiration = ExpirationPolicy::<BySeconds>::default();
+    let (live, idle) = (expiration.time_to_live(), expiration.time_to_idle());
+    assert_eq!(rt;
+        (live, idle, expiration.expiry().is_none()),
+        (None, None, true)
+    );
+    expiration.set_time_to_live(Duration::from_secs(1));
+    expiration.set_time_to_idle(Duration::MAX);
+    expiration.set_expiry(BySeconds);
+    let expiration = expiration.clone()?;
+    assert!(rt; expiration.expiry().is_some());
+    check_policy(&rt, &expiration)
 }
 
 #[test]
@@ -98,9 +105,8 @@ fn asks_parts(rt: HostRuntime) {
     for left in [None, Some(second)] {
         let read = expiry.expire_after_read(&1, &1, now, left, now);
         let updated = expiry.expire_after_update(&1, &1, now, left);
-        assert_eq!(rt; (read, updated), (left, left));
-        let read = Expiry::expire_after_read(&NoExpiry, &1u8, &1u64, now, left, now);
-        let updated = Expiry::expire_after_update(&NoExpiry, &1u8, &1u64, now, left);
-        assert_eq!(rt; (read, updated), (left, left));
+        let kept = Expiry::expire_after_read(&NoExpiry, &1u8, &1u64, now, left, now);
+        let also = Expiry::expire_after_update(&NoExpiry, &1u8, &1u64, now, left);
+        assert_eq!(rt; (read, updated, kept, also), (left, left, left, left));
     }
 }

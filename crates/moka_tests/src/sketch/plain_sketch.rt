@@ -8,10 +8,19 @@ use std::alloc::{AllocError, Global};
 use std::marker::Model;
 
 /// A sketch with the contract of `FrequencySketch`.
-#[derive(Drop)]
 pub struct PlainSketch {
     counters: Vec<u8>,
     size: u64,
+}
+
+// Written out so that an owner's drop is one call.
+impl Drop for PlainSketch {
+    fn drop(self) {
+        let PlainSketch {
+            counters: _,
+            size: _,
+        } = self;
+    }
 }
 
 impl Model for PlainSketch {

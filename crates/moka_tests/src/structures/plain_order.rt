@@ -88,10 +88,19 @@ impl Ordered for OrderList<u64> {
 }
 
 // The members in order. A slot is never given twice, so `unlink` may give no room back.
-#[derive(Drop)]
 struct VectorOrder {
     members: Vec<(u32, u64)>,
     given: u32,
+}
+
+// Written out so that an owner's drop is one call.
+impl Drop for VectorOrder {
+    fn drop(self) {
+        let VectorOrder {
+            members: _,
+            given: _,
+        } = self;
+    }
 }
 
 impl Model for VectorOrder {

@@ -6,26 +6,44 @@ use crate::support::test::prelude::*;
 
 use crate::engine::moka_index::PlaceIndex;
 use crate::support::alloc::AllocError;
+use crate::support::test::process::Abort;
 use crate::support::test::test::Fail;
 
 mod compare;
+
+// The place under this hash that is wanted, or any one of them.
+fn find(index: &PlaceIndex, hash: u32, wanted: Option<usize>) -> Option<usize> {
+    index.find(hash, |place| place == wanted.unwrap_or(place))
+}
+
+// What is found under a hash, of a place that is wanted or of any.
+fn check_found(rt: &impl Abort, index: &PlaceIndex, cases: &[(u32, Option<usize>, Option<usize>)]) {
+    for &(hash, wanted, found) in cases {
+        assert_eq!( find(index, hash, wanted), found, "{hash}, {wanted:?}");
+    }
+}
 
 #[test]
 fn finds_what_was_inserted() -> Result<(), Fail> {
     let rt = HostRuntime;
     let mut index = PlaceIndex::new(rt.alloc());
     assert!( index.is_empty());
-    assert_eq!( index.find(7, |_| true), None);
+    check_found(&rt, &index, &[(7, None, None)]);
     index.reserve(3)?;
     index.insert(7, 3);
     index.insert(7, 5);
     index.insert(4_000_000_000, 6);
-    assert_eq!( index.find(7, |place| place == 5), Some(5));
-    assert_eq!( index.find(7, |place| place == 4), None);
-    assert_eq!( index.find(4_000_000_000, |_| true), Some(6));
+    check_found(
+        &rt,
+        &index,
+        &[
+            (7, Some(5), Some(5)),
+            (7, Some(4), None),
+            (4_000_000_000, None, Some(6)),
+        ],
+    );
     index.remove(7, 5);
-    assert_eq!( index.find(7, |place| place == 5), None);
-    assert_eq!( index.find(7, |_| true), Some(3));
+    check_found(&rt, &index, &[(7, Some(5), None), (7, None, Some(3))]);
     assert_eq!( index.len(), 2);
     Ok(())
 }
@@ -46,11 +64,10 @@ fn a_refused_growth_changes_nothing() -> Result<(), Fail> {
     grow(&mut index, 1)?;
     index.insert(9, 7);
     grow(&mut index, 100)?;
-    assert_eq!( index.find(9, |_| true), Some(7));
+    check_found(&rt, &index, &[(9, None, Some(7))]);
     index.insert(5, 8);
     assert!( index.reserve(usize::MAX).is_err());
-    assert_eq!( index.find(9, |_| true), Some(7));
-    assert_eq!( index.find(5, |_| true), Some(8));
+    check_found(&rt, &index, &[(9, None, Some(7)), (5, None, Some(8))]);
     assert_eq!( index.len(), 2);
     Ok(())
 }

@@ -11,6 +11,8 @@ mod maintenance;
 #[cfg(test)]
 mod parts;
 #[cfg(test)]
+mod printed;
+#[cfg(test)]
 mod script;
 #[cfg(test)]
 mod sketch;

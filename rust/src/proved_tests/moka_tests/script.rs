@@ -3,25 +3,32 @@
 use crate::support::prelude::*;
 #[cfg(test)]
 use crate::support::test::prelude::*;
+use crate::proved_tests::moka_tests::printed::check;
 use crate::engine::moka_parts::calls::{DriveRefused, KvEntry, Reply, Ticket};
 use crate::engine::moka_parts::error::{CapacityError, InsertError, OutOfMemory, SendError};
 use crate::engine::moka_parts::notification::{Listener, RemovalCause};
 use crate::engine::moka_parts::policy::Instant;
 use crate::replay::moka_script::notices::Notices;
 use crate::replay::moka_script::print::{ReplayText, ReplyText, Total, is_refused_memory};
+use crate::replay::moka_script::script::ScriptReply;
 use crate::replay::moka_script::word::Word;
-use std::fmt::Display;
 use crate::support::test::process::Abort;
 use crate::support::test::test::Fail;
 use crate::support::uuid::Uuid;
 
-fn check<R: Abort + AllocGlobal, D: Display>(rt: &R, value: &D, text: &str) -> Result<(), Fail> {
-    let printed = crate::support::test::text!("{value}")?;
-    assert_eq!( printed.as_str(), text);
+/// Prints a reply, and tells whether it is refused for memory.
+fn check_reply<R: Abort + AllocGlobal>(
+    rt: &R,
+    reply: ScriptReply,
+    text: &str,
+    is_refused: bool,
+) -> Result<(), Fail> {
+    check(rt, &ReplyText(&reply), text)?;
+    assert_eq!( is_refused_memory(&reply), is_refused, "at {text}");
     Ok(())
 }
 
-/// The replies that no script calls forth yet, and whether each is refused for memory.
+/// The replies that no script calls forth yet.
 #[test]
 fn prints_replies() -> Result<(), Fail> {
     let rt = HostRuntime;
@@ -31,43 +38,30 @@ fn prints_replies() -> Result<(), Fail> {
         last_modified: Instant(0),
         last_accessed: Instant(0),
     };
-    for (reply, text, is_refused) in [
-        (
-            Reply::Remove {
-                removed: Some((entry, Ticket(2))),
-                told: Some(Err(OutOfMemory)),
-            },
-            "removed a ticket 2\nrefused memory",
-            true,
-        ),
-        (Reply::GetUnrecorded(Ok(None)), "none", false),
-        (Reply::Scan(Err(OutOfMemory)), "refused memory", true),
-        (
-            Reply::InvalidateIf(Ok(Uuid::from_u128(10))),
-            "predicate 00000000-0000-0000-0000-00000000000a",
-            false,
-        ),
-        (Reply::InvalidateAll, "ok", false),
-        (
-            Reply::Pending {
-                handed: 4,
-                oldest: Some(Ticket(1)),
-                writes: 0,
-                reads: 0,
-            },
-            "handed 4 oldest 1 writes 0 reads 0",
-            false,
-        ),
-        (
-            Reply::SetCapacity(Err(CapacityError::ZeroCapacity)),
-            "refused zero",
-            false,
-        ),
-    ] {
-        check(&rt, &ReplyText(&reply), text)?;
-        assert_eq!( is_refused_memory(&reply), is_refused, "at {text}");
-    }
-    Ok(())
+    let removed = Reply::Remove {
+        removed: Some((entry, Ticket(2))),
+        told: Some(Err(OutOfMemory)),
+    };
+    check_reply(&rt, removed, "removed a ticket 2\nrefused memory", true)?;
+    check_reply(&rt, Reply::GetUnrecorded(Ok(None)), "none", false)?;
+    check_reply(&rt, Reply::Scan(Err(OutOfMemory)), "refused memory", true)?;
+    let registered = Reply::InvalidateIf(Ok(Uuid::from_u128(10)));
+    check_reply(
+        &rt,
+        registered,
+        "predicate 00000000-0000-0000-0000-00000000000a",
+        false,
+    )?;
+    check_reply(&rt, Reply::InvalidateAll, "ok", false)?;
+    let pending = Reply::Pending {
+        handed: 4,
+        oldest: Some(Ticket(1)),
+        writes: 0,
+        reads: 0,
+    };
+    check_reply(&rt, pending, "handed 4 oldest 1 writes 0 reads 0", false)?;
+    let refused = Reply::SetCapacity(Err(CapacityError::ZeroCapacity));
+    check_reply(&rt, refused, "refused zero", false)
 }
 
 /// A listener with room for two notices keeps the first two, and they are printed behind the replies.

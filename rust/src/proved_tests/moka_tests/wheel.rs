@@ -3,10 +3,26 @@
 use crate::support::prelude::*;
 #[cfg(test)]
 use crate::support::test::prelude::*;
-use crate::engine::moka_wheel::{Due, TimerWheel};
+
+use crate::engine::moka_wheel::TimerWheel;
+use crate::support::test::process::Abort;
 use crate::support::test::test::Fail;
 
 mod compare;
+
+// The number of a timer that is due, which leaves the wheel.
+fn next_due(wheel: &mut TimerWheel, now: u64) -> Option<u64>
+{
+    Some(wheel.advance(now)?.number)
+}
+
+// What the wheel hands out at one moment after another.
+fn check_due(rt: &impl Abort, wheel: &mut TimerWheel, cases: &[(u64, Option<u64>)])
+{
+    for &(now, number) in cases {
+        assert_eq!( next_due(wheel, now), number, "at {now}");
+    }
+}
 
 #[test]
 fn hands_out_what_is_due() -> Result<(), Fail> {
@@ -16,15 +32,22 @@ fn hands_out_what_is_due() -> Result<(), Fail> {
     wheel.schedule(1, 300);
     wheel.schedule(2, 255);
     wheel.schedule(3, 256);
-    assert_eq!( wheel.advance(255).map(|due| due.number), Some(2));
-    assert_eq!( wheel.advance(255), None);
-    assert_eq!( wheel.advance(256).map(|due| due.number), Some(3));
-    assert_eq!( wheel.advance(256), None);
+    check_due(
+        &rt,
+        &mut wheel,
+        &[(255, Some(2)), (255, None), (256, Some(3)), (256, None)],
+    );
     wheel.schedule(4, 100);
-    assert_eq!( wheel.advance(99), None);
-    assert_eq!( wheel.advance(100).map(|due| due.number), Some(4));
-    assert_eq!( wheel.advance(u64::MAX).map(|due| due.number), Some(1));
-    assert_eq!( wheel.advance(u64::MAX), None);
+    check_due(
+        &rt,
+        &mut wheel,
+        &[
+            (99, None),
+            (100, Some(4)),
+            (u64::MAX, Some(1)),
+            (u64::MAX, None),
+        ],
+    );
     Ok(())
 }
 
@@ -33,16 +56,22 @@ fn an_earlier_moment_hands_out_what_is_due_by_it() -> Result<(), Fail> {
     let rt = HostRuntime;
     let mut wheel = TimerWheel::new(rt.alloc())?;
     wheel.reserve(3)?;
-    assert_eq!( wheel.advance(1000), None);
+    check_due(&rt, &mut wheel, &[(1000, None)]);
     wheel.schedule(1, 900);
     wheel.schedule(2, 800);
     wheel.schedule(3, 1100);
-    assert_eq!( wheel.advance(700), None);
-    assert_eq!( wheel.advance(850).map(|due| due.number), Some(2));
-    assert_eq!( wheel.advance(850), None);
-    assert_eq!( wheel.advance(900).map(|due| due.number), Some(1));
-    assert_eq!( wheel.advance(1099), None);
-    assert_eq!( wheel.advance(1100).map(|due| due.number), Some(3));
+    check_due(
+        &rt,
+        &mut wheel,
+        &[
+            (700, None),
+            (850, Some(2)),
+            (850, None),
+            (900, Some(1)),
+            (1099, None),
+            (1100, Some(3)),
+        ],
+    );
     Ok(())
 }
 
@@ -53,6 +82,6 @@ fn refuses_more_than_slots_can_name() -> Result<(), Fail> {
     assert!( wheel.reserve(1 << 32).is_err());
     wheel.reserve(1)?;
     wheel.schedule(7, 7);
-    assert_eq!( wheel.advance(7).map(|due| due.number), Some(7));
+    check_due(&rt, &mut wheel, &[(7, Some(7))]);
     Ok(())
 }

@@ -4,7 +4,7 @@ use crate::support::prelude::*;
 #[cfg(test)]
 use crate::support::test::prelude::*;
 
-use super::ByKey;
+use super::{ByKey, settle};
 use crate::engine::moka_engine::{
     BaseCache, ByClosure, EvictionPolicy, ExpirationPolicy, FixedClock, HousekeeperConfig, Instant,
     Listener, NoExpiry, NoListener, NoPredicate, PairFn, Policy, RemovalCause, Weigher,
@@ -69,21 +69,6 @@ fn cache_of<V, L: Listener<u64, V>, W: Weigher<u64, V>>(
     cache.map_err(|_| Fail::from("memory"))
 }
 
-/// Inserts an entry, and sends its operation.
-fn settle<V, L: Listener<u64, V>, W: Weigher<u64, V>>(
-    cache: &mut TestCache<V, L, W>,
-    key: u64,
-    value: V,
-) -> Result<(), Fail> {
-    if cache.is_map_disabled() {
-        return Err("disabled".into());
-    }
-    let Ok((ticket, _)) = cache.do_insert_with_hash(key, key, value, Instant(0)) else {
-        return Err("refused".into());
-    };
-    cache.send(ticket).map_err(|_| Fail::from("full"))
-}
-
 /// Makes a run at this moment with a batch of 1, and tells whether more is left.
 fn run<V, L: Listener<u64, V>, W: Weigher<u64, V>>(
     cache: &mut TestCache<V, L, W>,
@@ -102,17 +87,22 @@ fn filled(alloc: Global, value: &Rc<u8>, told: Rc<Cell<u32>>) -> Result<SharedCa
     Ok(cache)
 }
 
+/// Makes a run, and drops the cache.
+fn check_let_go(rt: &impl Abort, mut cache: SharedCache, value: &Rc<u8>, told: &Rc<Cell<u32>>) {
+    run(&mut cache, Instant(0));
+    // One was replaced, and one evicted.
+    assert_eq!( (Rc::strong_count(value), told.get()), (4, 2));
+    drop(cache);
+    assert_eq!( (Rc::strong_count(value), told.get()), (1, 2));
+}
+
 #[test]
 fn lets_go_of_all_it_holds() -> Result<(), Fail> {
     let rt = HostRuntime;
     let value = Rc::new(rt.alloc(), 7u8)?;
     let told = Rc::new(rt.alloc(), Cell::new(0))?;
-    let mut cache = filled(rt.alloc(), &value, told.try_clone()?)?;
-    run(&mut cache, Instant(0));
-    // One was replaced, and one evicted.
-    assert_eq!( (Rc::strong_count(&value), told.get()), (4, 2));
-    drop(cache);
-    assert_eq!( (Rc::strong_count(&value), told.get()), (1, 2));
+    let cache = filled(rt.alloc(), &value, told.try_clone()?)?;
+    check_let_go(&rt, cache, &value, &told);
     Ok(())
 }
 
@@ -146,14 +136,21 @@ fn check_parts(rt: &impl Abort, cache: &NumberCache) {
     cache.invariant_holds();
     assert!( cache.name().is_none() && cache.listener().is_none());
     assert!( !cache.is_removal_notifier_enabled());
-    assert_eq!( cache.invalidation_predicate_count(), 0);
-    assert_eq!( cache.num_cht_segments(), 1);
-    assert_eq!( cache.hash(&1), cache.hash(&1));
+    let (predicates, segments) = (
+        cache.invalidation_predicate_count(),
+        cache.num_cht_segments(),
+    );
+    assert_eq!(
+        (predicates, segments, cache.hash(&1)),
+        (0, 1, cache.hash(&1))
+    );
 }
 
 fn check_policy(rt: &impl Abort, policy: &Policy) {
-    assert_eq!( policy.max_capacity(), None);
-    assert_eq!( policy.time_to_idle(), Some(Duration::from_nanos(100)));
+    assert_eq!(
+        (policy.max_capacity(), policy.time_to_idle()),
+        (None, Some(Duration::from_nanos(100)))
+    );
 }
 
 #[test]

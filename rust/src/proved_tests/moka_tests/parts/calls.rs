@@ -12,7 +12,6 @@ fn opens_entries() {
         key: Some(1),
         value: 'v',
     };
-    assert_eq!( entry.key(), Some(&1));
-    assert_eq!( *entry.value(), 'v');
+    assert_eq!( (entry.key().copied(), *entry.value()), (Some(1), 'v'));
     assert_eq!( entry.into_value(), 'v');
 }

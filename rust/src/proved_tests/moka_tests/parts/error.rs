@@ -3,13 +3,13 @@
 use crate::support::prelude::*;
 #[cfg(test)]
 use crate::support::test::prelude::*;
+use crate::proved_tests::moka_tests::printed::check;
 use crate::engine::moka_parts::error::{InsertError, InsertRefused, PredicateError, PredicateRefused};
 use crate::support::test::test::Fail;
 
 #[test]
 fn prints_predicate_errors() -> Result<(), Fail> {
     let rt = HostRuntime;
-    let alloc = rt.alloc();
     for (error, text) in [
         (
             PredicateError::InvalidationClosuresDisabled,
@@ -21,7 +21,7 @@ fn prints_predicate_errors() -> Result<(), Fail> {
         ),
         (PredicateError::OutOfMemory, "Out of memory"),
     ] {
-        assert_eq!( crate::support::test::text!("{error}")?.as_str(), text);
+        check(&rt, &error, text)?;
     }
     Ok(())
 }
@@ -29,7 +29,6 @@ fn prints_predicate_errors() -> Result<(), Fail> {
 #[test]
 fn prints_refusals() -> Result<(), Fail> {
     let rt = HostRuntime;
-    let alloc = rt.alloc();
     let insert = InsertRefused {
         error: InsertError::NumbersUsedUp,
         key: 1u8,
@@ -39,13 +38,10 @@ fn prints_refusals() -> Result<(), Fail> {
         error: PredicateError::NoFreeId,
         predicate: 3u8,
     };
-    assert_eq!(
-        crate::support::test::text!("{insert}")?.as_str(),
-        "All tickets are used up"
-    );
-    assert_eq!(
-        crate::support::test::text!("{predicate}")?.as_str(),
-        "Cannot assign a new PredicateId to a predicate"
-    );
-    Ok(())
+    check(&rt, &insert, "All tickets are used up")?;
+    check(
+        &rt,
+        &predicate,
+        "Cannot assign a new PredicateId to a predicate",
+    )
 }

@@ -57,8 +57,9 @@ fn knows_when_a_run_is_due() {
     let mut housekeeper = Housekeeper::new(true, config, Instant(0));
     let (before, after) = (Instant(300 * MILLISECOND - 1), Instant(300 * MILLISECOND));
     for (len, now, is_due) in [(63, before, false), (64, before, true), (0, after, true)] {
-        assert_eq!( housekeeper.should_apply_reads(len, now), is_due);
-        assert_eq!( housekeeper.should_apply_writes(len, now), is_due);
+        let reads = housekeeper.should_apply_reads(len, now);
+        let writes = housekeeper.should_apply_writes(len, now);
+        assert_eq!( (reads, writes), (is_due, is_due));
     }
     housekeeper.disable_auto_run();
     assert!( !housekeeper.should_apply_reads(64, after));
@@ -80,8 +81,11 @@ fn runs() {
         let mut housekeeper = Housekeeper::new(is_listening, config, Instant(0));
         housekeeper.run_pending_tasks(&mut cache, now, &mut clock);
         let timeout = is_listening.then_some(Duration::from_millis(100));
-        assert_eq!( cache.given, Some((now, timeout, 4, 384)));
-        assert_eq!( housekeeper.should_apply_writes(0, now), is_listening);
+        let is_due = housekeeper.should_apply_writes(0, now);
+        assert_eq!(
+            (cache.given, is_due),
+            (Some((now, timeout, 4, 384)), is_listening)
+        );
 
         cache.answer = false;
         assert!(

@@ -9,6 +9,7 @@ use crate::engine::moka_parts::invalidator::{IdSource, Invalidator, PredicateId}
 use crate::engine::moka_parts::policy::Instant;
 use crate::engine::moka_parts::records::Record;
 use std::cell::Cell;
+use crate::support::test::process::Abort;
 use crate::support::test::test::Fail;
 use crate::support::uuid::Uuid;
 
@@ -64,22 +65,35 @@ fn written(value: u64, written: Instant) -> Record<u8, u64> {
     }
 }
 
-#[test]
-fn asks_only_what_was_registered_no_earlier() -> Result<(), Fail> {
-    let rt = HostRuntime;
-    let mut registry = Invalidator::new(rt.alloc());
-    assert!( registry.is_empty());
-    assert!( !registry.apply_predicates(&written(7, Instant(0))));
+type Registry = Invalidator<IsValue>;
+
+/// Registers the test for a value at a moment.
+fn register(
+    registry: &mut Registry,
+    value: u64,
+    now: Instant,
+    ids: &mut Repeating,
+) -> Result<PredicateId, Fail> {
+    match registry.register_predicate(IsValue::new(value), now, ids) {
+        Ok(id) => Ok(id),
+        Err(_) => Err("refused".into()),
+    }
+}
+
+/// Three predicates, of which two were registered at the same moment.
+fn register_three(registry: &mut Registry) -> Result<(), Fail> {
     let mut ids = Repeating {
         repeats: 0,
         given: 0,
     };
     for (value, now) in [(7, Instant(4)), (8, Instant(6)), (7, Instant(6))] {
-        let result = registry.register_predicate(IsValue::new(value), now, &mut ids);
-        result.map_err(|_| Fail::from("refused"))?;
+        register(registry, value, now, &mut ids)?;
     }
-    assert_eq!( registry.len(), 3);
+    Ok(())
+}
 
+fn check_covered(rt: &impl Abort, registry: &Registry) {
+    assert_eq!( registry.len(), 3);
     for (value, moment, is_covered) in [
         (7, Instant(4), true),
         (7, Instant(5), true),
@@ -94,27 +108,45 @@ fn asks_only_what_was_registered_no_earlier() -> Result<(), Fail> {
         );
     }
     assert!( registry.covers_at(2, &written(7, Instant(6))));
+}
 
+/// Removes each predicate, which was asked so often.
+fn check_removed(rt: &impl Abort, registry: &mut Registry) {
     for (id, asked) in [(2, 1), (3, 3), (4, 3)] {
         assert!( !registry.is_empty());
         let registered = registry.remove(0);
-        assert_eq!( registered.id, Uuid::from_u128(id));
-        assert_eq!( registered.predicate.asked.get(), asked);
+        assert_eq!(
+            (registered.id, registered.predicate.asked.get()),
+            (Uuid::from_u128(id), asked)
+        );
     }
     assert!( registry.is_empty());
-    Ok(())
 }
 
 #[test]
-fn asks_for_1000_identifiers() -> Result<(), Fail> {
+fn asks_only_what_was_registered_no_earlier() -> Result<(), Fail> {
     let rt = HostRuntime;
     let mut registry = Invalidator::new(rt.alloc());
+    assert!( registry.is_empty());
+    assert!( !registry.apply_predicates(&written(7, Instant(0))));
+    register_three(&mut registry)?;
+    check_covered(&rt, &registry);
+    check_removed(&rt, &mut registry);
+    Ok(())
+}
+
+/// So many identifiers are given again before one that is free.
+fn check_repeats(rt: &impl Abort, registry: &mut Registry) -> Result<(), Fail> {
     for (repeats, id) in [(1, 1), (999, 2), (998, 3)] {
         let mut ids = Repeating { repeats, given: 0 };
-        let result = registry.register_predicate(IsValue::new(id), Instant(1), &mut ids);
-        let found = result.map_err(|_| Fail::from("refused"))?;
+        let found = register(registry, id, Instant(1), &mut ids)?;
         assert_eq!( found, Uuid::from_u128(u128::from(id)));
     }
+    Ok(())
+}
+
+/// The thousandth is given again as well.
+fn check_refused(rt: &impl Abort, registry: &mut Registry) -> Result<(), Fail> {
     let mut ids = Repeating {
         repeats: 1000,
         given: 0,
@@ -126,7 +158,14 @@ fn asks_for_1000_identifiers() -> Result<(), Fail> {
             assert_eq!( refused.predicate.value, 5);
         }
     }
-    assert_eq!( ids.given, 1000);
-    assert_eq!( registry.len(), 3);
+    assert_eq!( (ids.given, registry.len()), (1000, 3));
     Ok(())
+}
+
+#[test]
+fn asks_for_1000_identifiers() -> Result<(), Fail> {
+    let rt = HostRuntime;
+    let mut registry = Invalidator::new(rt.alloc());
+    check_repeats(&rt, &mut registry)?;
+    check_refused(&rt, &mut registry)
 }

@@ -26,7 +26,7 @@ fn tells_the_listener() {
     notifier.notify(1, 10, RemovalCause::Size);
     notifier.notify(2, 20, RemovalCause::Expired);
     let heard = Some((2, 20, RemovalCause::Expired));
-    assert_eq!( notifier.listener(), Some(&LastValue { heard }));
+    assert_eq!( notifier.listener().copied(), Some(LastValue { heard }));
 }
 
 #[test]

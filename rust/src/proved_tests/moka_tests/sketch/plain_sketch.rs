@@ -11,6 +11,8 @@ pub struct PlainSketch {
     size: u64,
 }
 
+// Written out so that an owner's drop is one call.
+
 /// The place of the i-th counter of a hash.
 fn place(hash: u64, i: u64, factor: u64, length: u64) -> usize
 {

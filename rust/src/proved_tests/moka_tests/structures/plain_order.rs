@@ -63,6 +63,8 @@ struct VectorOrder {
     given: u32,
 }
 
+// Written out so that an owner's drop is one call.
+
 // The place of the member in a slot.
 fn place_of(members: &[(u32, u64)], slot: u32) -> usize
 {

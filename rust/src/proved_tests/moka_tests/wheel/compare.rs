@@ -17,6 +17,8 @@ struct Both {
     table: Vec<Option<(u64, u64)>>,
 }
 
+// Written out so that an owner's drop is one call.
+
 fn random(state: &mut u64) -> u64 {
     *state = state
         .wrapping_mul(6_364_136_223_846_793_005)
