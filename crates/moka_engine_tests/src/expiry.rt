@@ -111,7 +111,6 @@ impl Expiry<u32, Word> for Recorder {
 }
 
 /// After how many seconds something is done, how many the entry then has left, and how many the expiry answers.
-#[derive(Clone, Copy)]
 struct Step(u64, Question, Option<u64>, Option<u64>);
 
 /// What is done to a key, and after how many more seconds it expires.
@@ -221,8 +220,10 @@ fn built(alloc: Global, asked: Rc<Cell<Asked>>) -> Result<TimedCache, Fail> {
         .time_to_live(Duration::from_secs(16))
         .time_to_idle(Duration::from_secs(7))
         .expire_after(Recorder { rules, asked });
-    let built = config.build(alloc, Instant(0));
-    built.map_err(|_| Fail::from("memory"))
+    match config.build(alloc, Instant(0)) {
+        Ok(cache) => Ok(cache),
+        Err(_) => Err("memory".into()),
+    }
 }
 
 fn insert(cache: &mut TimedCache, key: u32, value: Word, now: Instant) -> Result<(), Fail> {
@@ -232,7 +233,10 @@ fn insert(cache: &mut TimedCache, key: u32, value: Word, now: Instant) -> Result
     let Ok((ticket, _)) = cache.do_insert_with_hash(key, 1, value, now) else {
         return Err("refused".into());
     };
-    cache.send(ticket).map_err(|_| Fail::from("full"))
+    match cache.send(ticket) {
+        Ok(()) => Ok(()),
+        Err(_) => Err("full".into()),
+    }
 }
 
 /// Whether the key is there, and how many entries the run counts that is made then.

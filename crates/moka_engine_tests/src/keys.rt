@@ -3,14 +3,12 @@ use moka_engine::{
     CacheConfig, Engine, FixedClock, Instant, Listener, NoExpiry, NoTest, RemovalCause,
 };
 use std::alloc::{AllocError, Global};
-use std::cell::Cell;
 use std::process::Abort;
-use std::rc::Rc;
 use std::test::Fail;
 use std::time::Duration;
 
 /// A key of which no clone can be made.
-#[derive(Debug, PartialEq, Eq, Hash, Drop)]
+#[derive(PartialEq, Eq, Hash, Drop)]
 struct Unique(u64);
 
 impl Clone for Unique {
@@ -19,29 +17,30 @@ impl Clone for Unique {
     }
 }
 
-/// Counts the notices, also for others than the cache.
+/// Counts the notices.
 #[derive(Drop)]
 struct Counter {
-    told: Rc<Cell<u32>>,
+    told: u32,
 }
 
 impl<K: Drop, V: Drop> Listener<K, V> for Counter {
     ghost tells = { λ _ _ _ _ _. Unit {0} };
 
     fn notify(&mut self, _: K, _: V, _: RemovalCause) {
-        self.told.set(self.told.get().wrapping_add(1));
+        self.told = self.told.wrapping_add(1);
     }
 }
 
 type UniqueCache = Engine<Unique, u64, NoExpiry, Counter>;
 
 /// A cache with an entry that was written at the moment 0, and that expires when it was idle for ten nanoseconds.
-fn filled(alloc: Global, told: Rc<Cell<u32>>) -> Result<UniqueCache, Fail> {
+fn filled(alloc: Global) -> Result<UniqueCache, Fail> {
     let config = CacheConfig::default()
         .time_to_idle(Duration::from_nanos(10))
-        .eviction_listener(Counter { told });
-    let built = config.build(alloc, Instant(0));
-    let mut cache: UniqueCache = built.map_err(|_| Fail::from("memory"))?;
+        .eviction_listener(Counter { told: 0 });
+    let Ok(mut cache) = config.build(alloc, Instant(0)) else {
+        return Err("memory".into());
+    };
     settle(&mut cache, Unique(1), 10)?;
     Ok(cache)
 }
@@ -54,14 +53,24 @@ fn settle(cache: &mut UniqueCache, key: Unique, value: u64) -> Result<(), Fail> 
     let Ok((ticket, _)) = cache.do_insert_with_hash(key, 1, value, Instant(0)) else {
         return Err("refused".into());
     };
-    cache.send(ticket).map_err(|_| Fail::from("full"))
+    match cache.send(ticket) {
+        Ok(()) => Ok(()),
+        Err(_) => Err("full".into()),
+    }
+}
+
+/// How many notices the listener was given.
+fn told(cache: &UniqueCache) -> Option<u32> {
+    let counter = cache.listener()?;
+    Some(counter.told)
 }
 
 /// The value that a get finds of the key, which asks for a clone of the key or does not.
 fn get(cache: &mut UniqueCache, key: u64, need_key: bool, now: Instant) -> Result<Option<u64>, ()> {
     let found = cache.get_with_hash(&Unique(key), 1, need_key, now, &mut FixedClock(now));
     match found {
-        Ok(entry) => Ok(entry.map(|entry| entry.value)),
+        Ok(Some(entry)) => Ok(Some(entry.value)),
+        Ok(None) => Ok(None),
         Err(_) => Err(()),
     }
 }
@@ -77,8 +86,7 @@ fn check_looks(rt: &impl Abort, cache: &mut UniqueCache) {
 
 #[test]
 fn looks_up_without_a_clone(rt: HostRuntime) -> Result<(), Fail> {
-    let told = Rc::new(rt.alloc(), Cell::new(0))?;
-    let mut cache = filled(rt.alloc(), told.clone()?)?;
+    let mut cache = filled(rt.alloc())?;
     check_looks(&rt, &mut cache);
     Ok(())
 }
@@ -91,17 +99,15 @@ fn check_writes(rt: &impl Abort, cache: &mut UniqueCache) -> Result<(), Fail> {
     let now = Instant(10);
     cache.run_pending_tasks(now, &mut FixedClock(now), None, 1, 384);
     assert_eq!(rt; get(cache, 1, true, now), Ok(None));
+    // One was replaced, and one has expired.
+    assert_eq!(rt; told(cache), Some(2));
     Ok(())
 }
 
 #[test]
 fn writes_without_a_clone(rt: HostRuntime) -> Result<(), Fail> {
-    let told = Rc::new(rt.alloc(), Cell::new(0))?;
-    let mut cache = filled(rt.alloc(), told.clone()?)?;
-    check_writes(&rt, &mut cache)?;
-    // One was replaced, and one has expired.
-    assert_eq!(rt; told.get(), 2);
-    Ok(())
+    let mut cache = filled(rt.alloc())?;
+    check_writes(&rt, &mut cache)
 }
 
 /// Calls that need a clone of the key are refused: the read is neither noted nor queued, and nobody is told.
@@ -114,14 +120,12 @@ fn check_refusals(rt: &impl Abort, cache: &mut UniqueCache) -> Result<(), Fail> 
     assert!(rt; cache.keys(0).is_err());
     let (entry, _) = cache.remove_entry(&Unique(1), 1).ok_or("none")?;
     assert!(rt; cache.notify_invalidate(&entry, Instant(5)).is_err());
+    assert_eq!(rt; told(cache), Some(0));
     Ok(())
 }
 
 #[test]
 fn changes_nothing_where_a_clone_is_refused(rt: HostRuntime) -> Result<(), Fail> {
-    let told = Rc::new(rt.alloc(), Cell::new(0))?;
-    let mut cache = filled(rt.alloc(), told.clone()?)?;
-    check_refusals(&rt, &mut cache)?;
-    assert_eq!(rt; told.get(), 0);
-    Ok(())
+    let mut cache = filled(rt.alloc())?;
+    check_refusals(&rt, &mut cache)
 }

@@ -10,7 +10,7 @@ use uuid::Uuid;
 type TestCache = Engine<u64, u64, NoExpiry, NoListener, NoPredicate>;
 
 /// Counts its identifiers up.
-#[derive(Clone, Copy)]
+#[derive(Drop)]
 struct Counted(u128);
 
 impl IdSource for Counted {

@@ -15,7 +15,6 @@ use crate::support::time::Duration;
 use crate::support::uuid::Uuid;
 
 /// Covers each entry.
-#[derive(Clone, Copy)]
 struct All;
 
 impl<K, V> PredicateFn<K, V> for All {
@@ -27,7 +26,6 @@ impl<K, V> PredicateFn<K, V> for All {
 }
 
 /// Gives the same identifier each time.
-#[derive(Clone, Copy)]
 struct OneId;
 
 impl IdSource for OneId {
@@ -37,55 +35,13 @@ impl IdSource for OneId {
     }
 }
 
-/// A cache of keys and values that are also held elsewhere.
-type SharedCache = Engine<Rc<u64>, Rc<u8>, NoExpiry, NoListener, All>;
+type SharedConfig = CacheConfig<NoExpiry, NoListener, All>;
 
-/// Holds three keys and a value, and so tells how many of them are held elsewhere.
-struct Held {
-    keys: Vec<Rc<u64>>,
-    value: Rc<u8>,
-}
-
-impl Held {
-    fn new(alloc: Global) -> Result<Self, Fail> {
-        let mut keys = Vec::new(alloc);
-        for key in 1..4 {
-            keys.push(Rc::new(alloc, key)?)?;
-        }
-        let value = Rc::new(alloc, 7u8)?;
-        Ok(Held { keys, value })
-    }
-
-    /// How many keys and how many values are held elsewhere.
-    fn elsewhere(&self) -> (usize, usize) {
-        let mut keys: usize = 0;
-        for key in &self.keys {
-            keys = keys.wrapping_add(Rc::strong_count(key)).wrapping_sub(1);
-        }
-        (keys, Rc::strong_count(&self.value).wrapping_sub(1))
-    }
-}
-
-fn config() -> CacheConfig<NoExpiry, NoListener, All> {
+fn config() -> SharedConfig {
     CacheConfig::default().support_invalidation_closures()
 }
 
-fn built(
-    alloc: Global,
-    config: CacheConfig<NoExpiry, NoListener, All>,
-) -> Result<SharedCache, Fail> {
-    config
-        .build(alloc, Instant(0))
-        .map_err(|_| Fail::from("memory"))
-}
-
-/// Puts the value in under each key, and sends the operations.
-fn fill(cache: &mut SharedCache, held: &Held) -> Result<(), Fail> {
-    for key in &held.keys {
-        settle(cache, key.try_clone()?, held.value.try_clone()?)?;
-    }
-    Ok(())
-}
+type SharedCache = Engine<Rc<u64>, Rc<u8>, NoExpiry, NoListener, All>;
 
 /// Inserts an entry, and sends its operation.
 fn settle(cache: &mut SharedCache, key: Rc<u64>, value: Rc<u8>) -> Result<(), Fail> {
@@ -96,113 +52,135 @@ fn settle(cache: &mut SharedCache, key: Rc<u64>, value: Rc<u8>) -> Result<(), Fa
     let Ok((ticket, _)) = cache.do_insert_with_hash(key, hash, value, Instant(0)) else {
         return Err("refused".into());
     };
-    cache.send(ticket).map_err(|_| Fail::from("full"))
+    match cache.send(ticket) {
+        Ok(()) => Ok(()),
+        Err(_) => Err("full".into()),
+    }
 }
 
-/// Fills the cache and makes a run at the moment; tells what the cache holds before the run and after it.
-fn run_at(
-    cache: &mut SharedCache,
-    held: &Held,
-    now: Instant,
-) -> Result<((usize, usize), (usize, usize)), Fail> {
-    fill(cache, held)?;
-    let before = held.elsewhere();
-    cache.run_pending_tasks(now, &mut FixedClock(now), None, 1, 384);
-    Ok((before, held.elsewhere()))
+/// A cache with three keys and a value that are also held here, so that one can tell how many of them the cache holds.
+struct Shared {
+    cache: SharedCache,
+    keys: Vec<Rc<u64>>,
+    value: Rc<u8>,
+}
+
+impl Shared {
+    fn new(alloc: Global, config: SharedConfig) -> Result<Self, Fail> {
+        let value = Rc::new(alloc, 7u8)?;
+        let mut keys = Vec::new(alloc);
+        for key in 1..4 {
+            keys.push(Rc::new(alloc, key)?)?;
+        }
+        let Ok(cache) = config.build(alloc, Instant(0)) else {
+            return Err("memory".into());
+        };
+        Ok(Shared { cache, keys, value })
+    }
+
+    /// How many keys and how many values are held elsewhere.
+    fn elsewhere(&self) -> (usize, usize) {
+        let mut keys: usize = 0;
+        for key in &self.keys {
+            keys = keys.wrapping_add(Rc::strong_count(key)).wrapping_sub(1);
+        }
+        (keys, Rc::strong_count(&self.value).wrapping_sub(1))
+    }
+
+    /// Puts the value in under each key, and sends the operations.
+    fn fill(&mut self) -> Result<(), Fail> {
+        for key in &self.keys {
+            settle(&mut self.cache, key.try_clone()?, self.value.try_clone()?)?;
+        }
+        Ok(())
+    }
+
+    /// Fills the cache and makes a run at the moment, which leaves so many keys and values in it.
+    fn check_run(&mut self, rt: &impl Abort, now: Instant, left: usize) -> Result<(), Fail> {
+        self.fill()?;
+        assert_eq!( self.elsewhere(), (3, 3));
+        let clock = &mut FixedClock(now);
+        self.cache.run_pending_tasks(now, clock, None, 1, 384);
+        assert_eq!( self.elsewhere(), (left, left));
+        Ok(())
+    }
+
+    /// Takes each key out of the cache, and lets go of what comes back.
+    fn remove(&mut self, rt: &impl Abort) -> Result<(), Fail> {
+        for key in &self.keys {
+            let (entry, ticket) = self.cache.remove_entry(key, 0).ok_or("none")?;
+            assert!( self.cache.notify_invalidate(&entry, Instant(0)).is_ok());
+            if self.cache.send(ticket).is_err() {
+                return Err("full".into());
+            }
+        }
+        Ok(())
+    }
 }
 
 #[test]
 fn drops_what_has_expired() -> Result<(), Fail> {
     let rt = HostRuntime;
-    let held = Held::new(rt.alloc())?;
-    let mut cache = built(rt.alloc(), config().time_to_live(Duration::from_nanos(10)))?;
-    assert_eq!( run_at(&mut cache, &held, Instant(10))?, ((3, 3), (0, 0)));
-    Ok(())
+    let config = config().time_to_live(Duration::from_nanos(10));
+    Shared::new(rt.alloc(), config)?.check_run(&rt, Instant(10), 0)
 }
 
 #[test]
 fn drops_what_was_idle() -> Result<(), Fail> {
     let rt = HostRuntime;
-    let held = Held::new(rt.alloc())?;
-    let mut cache = built(rt.alloc(), config().time_to_idle(Duration::from_nanos(10)))?;
-    assert_eq!( run_at(&mut cache, &held, Instant(10))?, ((3, 3), (0, 0)));
-    Ok(())
+    let config = config().time_to_idle(Duration::from_nanos(10));
+    Shared::new(rt.alloc(), config)?.check_run(&rt, Instant(10), 0)
 }
 
 #[test]
 fn drops_what_is_evicted() -> Result<(), Fail> {
     let rt = HostRuntime;
-    let held = Held::new(rt.alloc())?;
-    let config = config()
-        .max_capacity(1)
-        .eviction_policy(EvictionPolicy::lru());
-    let mut cache = built(rt.alloc(), config)?;
-    assert_eq!( run_at(&mut cache, &held, Instant(0))?, ((3, 3), (1, 1)));
-    Ok(())
+    let policy = EvictionPolicy::lru();
+    let config = config().max_capacity(1).eviction_policy(policy);
+    Shared::new(rt.alloc(), config)?.check_run(&rt, Instant(0), 1)
 }
 
 #[test]
 fn drops_what_is_rejected() -> Result<(), Fail> {
     let rt = HostRuntime;
-    let held = Held::new(rt.alloc())?;
-    let mut cache = built(rt.alloc(), config().max_capacity(1))?;
-    assert_eq!( run_at(&mut cache, &held, Instant(0))?, ((3, 3), (1, 1)));
-    Ok(())
+    let config = config().max_capacity(1);
+    Shared::new(rt.alloc(), config)?.check_run(&rt, Instant(0), 1)
 }
 
 #[test]
 fn drops_what_is_replaced() -> Result<(), Fail> {
     let rt = HostRuntime;
-    let held = Held::new(rt.alloc())?;
-    let mut cache = built(rt.alloc(), config())?;
-    fill(&mut cache, &held)?;
-    assert_eq!( run_at(&mut cache, &held, Instant(0))?, ((3, 3), (3, 3)));
-    Ok(())
+    let mut shared = Shared::new(rt.alloc(), config())?;
+    shared.fill()?;
+    shared.check_run(&rt, Instant(0), 3)
 }
 
 #[test]
 fn drops_what_is_invalidated() -> Result<(), Fail> {
     let rt = HostRuntime;
-    let held = Held::new(rt.alloc())?;
-    let mut cache = built(rt.alloc(), config())?;
-    fill(&mut cache, &held)?;
-    cache.invalidate_all(Instant(1));
-    assert_eq!( run_at(&mut cache, &held, Instant(1))?, ((3, 3), (0, 0)));
-    Ok(())
+    let mut shared = Shared::new(rt.alloc(), config())?;
+    shared.fill()?;
+    shared.cache.invalidate_all(Instant(1));
+    shared.check_run(&rt, Instant(1), 0)
 }
 
 #[test]
 fn drops_what_a_predicate_covers() -> Result<(), Fail> {
     let rt = HostRuntime;
-    let held = Held::new(rt.alloc())?;
-    let mut cache = built(rt.alloc(), config())?;
-    fill(&mut cache, &held)?;
-    assert!(
-        cache
-            .invalidate_entries_if(All, Instant(0), &mut OneId)
-            .is_ok()
-    );
-    assert_eq!( run_at(&mut cache, &held, Instant(0))?, ((3, 3), (0, 0)));
-    Ok(())
-}
-
-/// Takes each key out of the cache, and lets go of what comes back.
-fn remove(rt: &impl Abort, cache: &mut SharedCache, held: &Held) -> Result<(), Fail> {
-    for key in &held.keys {
-        let (entry, ticket) = cache.remove_entry(key, 0).ok_or("none")?;
-        assert!( cache.notify_invalidate(&entry, Instant(0)).is_ok());
-        cache.send(ticket).map_err(|_| Fail::from("full"))?;
-    }
-    Ok(())
+    let mut shared = Shared::new(rt.alloc(), config())?;
+    shared.fill()?;
+    let cache = &mut shared.cache;
+    let registered = cache.invalidate_entries_if(All, Instant(0), &mut OneId);
+    assert!( registered.is_ok());
+    shared.check_run(&rt, Instant(0), 0)
 }
 
 #[test]
 fn drops_what_is_removed() -> Result<(), Fail> {
     let rt = HostRuntime;
-    let held = Held::new(rt.alloc())?;
-    let mut cache = built(rt.alloc(), config())?;
-    fill(&mut cache, &held)?;
-    remove(&rt, &mut cache, &held)?;
-    assert_eq!( held.elsewhere(), (0, 0));
+    let mut shared = Shared::new(rt.alloc(), config())?;
+    shared.fill()?;
+    shared.remove(&rt)?;
+    assert_eq!( shared.elsewhere(), (0, 0));
     Ok(())
 }

@@ -14,7 +14,6 @@ use crate::support::uuid::Uuid;
 type TestCache = Engine<u64, u64, NoExpiry, NoListener, NoPredicate>;
 
 /// Counts its identifiers up.
-#[derive(Clone, Copy)]
 struct Counted(u128);
 
 impl IdSource for Counted {
