@@ -3,7 +3,7 @@ use crate::equal::assert_equal;
 use anyhow::Result;
 use moka_engine::Instant;
 use moka_timed::ManualClock;
-use moka_uses::borrowed::{price, set, start};
+use moka_uses::borrowed::{Prices, price, set, start};
 use std::time::Duration;
 
 #[test]
@@ -23,6 +23,11 @@ fn finds_a_price_by_a_text(rt: HostRuntime) -> Result<()> {
     Ok(())
 }
 
+fn remove_tea(prices: &mut Prices<ManualClock>) -> Result<Option<u64>> {
+    let hash = prices.hash_of(&"tea");
+    Ok(prices.remove_by(&"tea", hash)?)
+}
+
 #[test]
 fn removes_a_price_by_a_text(rt: HostRuntime) -> Result<()> {
     let alloc = rt.alloc();
@@ -30,8 +35,7 @@ fn removes_a_price_by_a_text(rt: HostRuntime) -> Result<()> {
     let mut prices = start(alloc, Duration::from_nanos(100), clock)?;
     let name = format!(in alloc; "tea")?;
     set(&mut prices, name, 3)?;
-    let hash = prices.hash_of(&"tea");
-    assert_equal(&rt, prices.remove_by(&"tea", hash)?, Some(3));
+    assert_equal(&rt, remove_tea(&mut prices)?, Some(3));
     assert_equal(&rt, price(&mut prices, "tea")?, None);
     Ok(())
 }

@@ -7,7 +7,7 @@ use crate::proved_tests::moka_uses_tests::equal::assert_equal;
 use crate::support::anyhow::Result;
 use crate::engine::moka_engine::Instant;
 use crate::proved_tests::moka_timed::ManualClock;
-use crate::proved_tests::moka_uses::borrowed::{price, set, start};
+use crate::proved_tests::moka_uses::borrowed::{Prices, price, set, start};
 use crate::support::time::Duration;
 
 #[test]
@@ -28,6 +28,11 @@ fn finds_a_price_by_a_text() -> Result<()> {
     Ok(())
 }
 
+fn remove_tea(prices: &mut Prices<ManualClock>) -> Result<Option<u64>> {
+    let hash = prices.hash_of(&"tea");
+    Ok(prices.remove_by(&"tea", hash)?)
+}
+
 #[test]
 fn removes_a_price_by_a_text() -> Result<()> {
     let rt = HostRuntime;
@@ -36,8 +41,7 @@ fn removes_a_price_by_a_text() -> Result<()> {
     let mut prices = start(alloc, Duration::from_nanos(100), clock)?;
     let name = crate::support::test::text!("tea")?;
     set(&mut prices, name, 3)?;
-    let hash = prices.hash_of(&"tea");
-    assert_equal(&rt, prices.remove_by(&"tea", hash)?, Some(3));
+    assert_equal(&rt, remove_tea(&mut prices)?, Some(3));
     assert_equal(&rt, price(&mut prices, "tea")?, None);
     Ok(())
 }
