@@ -1,6 +1,7 @@
 //! Tests of `moka_index`.
 ghost use Rattle.std.specs.Prelude.{◌≡◌, ◌≤◌, OnOk};
 
+use crate::equal::assert_equal;
 use moka_index::PlaceIndex;
 use std::alloc::AllocError;
 use std::process::Abort;
@@ -41,7 +42,7 @@ fn finds_what_was_inserted(rt: HostRuntime) -> Result<(), Fail> {
     );
     index.remove(7, 5);
     check_found(&rt, &index, &[(7, Some(5), None), (7, None, Some(3))]);
-    assert_eq!(rt; index.len(), 2);
+    assert_equal(&rt, index.len(), 2);
     Ok(())
 }
 
@@ -67,6 +68,6 @@ fn a_refused_growth_changes_nothing(rt: HostRuntime) -> Result<(), Fail> {
     index.insert(5, 8);
     assert!(rt; index.reserve(usize::MAX).is_err());
     check_found(&rt, &index, &[(9, None, Some(7)), (5, None, Some(8))]);
-    assert_eq!(rt; index.len(), 2);
+    assert_equal(&rt, index.len(), 2);
     Ok(())
 }

@@ -4,6 +4,8 @@
 #[cfg(test)]
 mod engine;
 #[cfg(test)]
+mod equal;
+#[cfg(test)]
 mod index;
 #[cfg(test)]
 mod maintenance;

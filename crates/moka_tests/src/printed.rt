@@ -1,4 +1,5 @@
 //! What is printed.
+use crate::equal::assert_equal;
 use std::fmt::Display;
 use std::process::Abort;
 use std::test::Fail;
@@ -10,6 +11,6 @@ pub(crate) fn check<R: Abort + AllocGlobal, D: Display>(
     text: &str,
 ) -> Result<(), Fail> {
     let printed = format!(in rt.alloc(); "{value}")?;
-    assert_eq!(rt; printed.as_str(), text);
+    assert_equal(rt, printed.as_str(), text);
     Ok(())
 }

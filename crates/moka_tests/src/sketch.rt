@@ -1,4 +1,5 @@
 //! Tests of `moka_sketch`: vectors, memory that is refused, and the packed counters beside plain ones.
+use crate::equal::assert_equal;
 use moka_sketch::frequency_sketch::{FrequencySketch, sketch_capacity, table_len_for};
 use plain_sketch::PlainSketch;
 use std::process::Abort;
@@ -110,7 +111,7 @@ fn count_by_both(rt: &impl Abort, packed: &mut FrequencySketch, plain: &mut Plai
         let hash = hash_of((state >> 54) & (state >> 34));
         packed.increment(hash);
         plain.increment(hash);
-        assert_eq!(rt; packed.frequency(hash), plain.frequency(hash));
+        assert_equal(rt, packed.frequency(hash), plain.frequency(hash));
     }
 }
 
@@ -119,7 +120,7 @@ fn sum_by_both(rt: &impl Abort, packed: &FrequencySketch, plain: &PlainSketch) -
     let mut total: u64 = 0;
     for number in 0..1024 {
         let hash = hash_of(number);
-        assert_eq!(rt; packed.frequency(hash), plain.frequency(hash));
+        assert_equal(rt, packed.frequency(hash), plain.frequency(hash));
         total = total.wrapping_add(u64::from(packed.frequency(hash)));
     }
     total

@@ -1,4 +1,5 @@
 //! Entries that were found.
+use crate::equal::assert_equal;
 use moka_parts::calls::Entry;
 
 #[test]
@@ -7,6 +8,6 @@ fn opens_entries(rt: HostRuntime) {
         key: Some(1),
         value: 'v',
     };
-    assert_eq!(rt; (entry.key().copied(), *entry.value()), (Some(1), 'v'));
-    assert_eq!(rt; entry.into_value(), 'v');
+    assert_equal(&rt, (entry.key().copied(), *entry.value()), (Some(1), 'v'));
+    assert_equal(&rt, entry.into_value(), 'v');
 }

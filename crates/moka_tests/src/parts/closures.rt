@@ -1,6 +1,7 @@
 //! Closures that are really called.
 ghost use Rattle.moka_parts.specs.Closures.{CanAlwaysAsk, HasOneAnswer};
 
+use crate::equal::assert_equal;
 use moka_parts::closures::{
     ByClosure, NoPredicate, NoTest, NoWeigher, PairFn, PredicateFn, ValueTest, Weigher,
 };
@@ -40,7 +41,7 @@ fn asks_closures_that_change(rt: HostRuntime) {
         value.is_multiple_of(2)
     };
     let ignored = count_ignored(is_even, &[1, 2, 4]);
-    assert_eq!(rt; (ignored, asked), (2, 3));
+    assert_equal(&rt, (ignored, asked), (2, 3));
 }
 
 #[test]
@@ -49,13 +50,17 @@ fn asks_closures(rt: HostRuntime) {
     for (value, weight, is_even) in [(2, 7, true), (3, 1, false)] {
         let weighs = |_: &u64, v: &u64| if *v == 2 { heavy } else { 1 };
         let passes = passes_by(|_: &u64, v: &u64| *v % 2 == 0, 1, value);
-        assert_eq!(rt; (weight_by(weighs, 1, value), passes), (weight, is_even));
+        assert_equal(
+            &rt,
+            (weight_by(weighs, 1, value), passes),
+            (weight, is_even),
+        );
     }
 }
 
 #[test]
 fn answers_the_same_for_all(rt: HostRuntime) {
-    assert_eq!(rt; NoWeigher.weigh(&1u8, &'a'), 1);
+    assert_equal(&rt, NoWeigher.weigh(&1u8, &'a'), 1);
     assert!(rt; !NoPredicate.applies(&1u8, &'a'));
     assert!(rt; !NoTest.ignores(&'a'));
 }

@@ -1,4 +1,5 @@
 //! When maintenance is due, and what its runs are given.
+use crate::equal::assert_equal;
 use moka_parts::housekeeper::{Clock, Housekeeper, HousekeeperConfig, InnerSync};
 use moka_parts::policy::Instant;
 use std::time::Duration;
@@ -61,7 +62,7 @@ fn knows_when_a_run_is_due(rt: HostRuntime) {
     for (len, now, is_due) in [(63, before, false), (64, before, true), (0, after, true)] {
         let reads = housekeeper.should_apply_reads(len, now);
         let writes = housekeeper.should_apply_writes(len, now);
-        assert_eq!(rt; (reads, writes), (is_due, is_due));
+        assert_equal(&rt, (reads, writes), (is_due, is_due));
     }
     housekeeper.disable_auto_run();
     assert!(rt; !housekeeper.should_apply_reads(64, after));
@@ -83,16 +84,17 @@ fn runs(rt: HostRuntime) {
         housekeeper.run_pending_tasks(&mut cache, now, &mut clock);
         let timeout = is_listening.then_some(Duration::from_millis(100));
         let is_due = housekeeper.should_apply_writes(0, now);
-        assert_eq!(rt;
+        assert_equal(
+            &rt,
             (cache.given, is_due),
-            (Some((now, timeout, 4, 384)), is_listening)
+            (Some((now, timeout, 4, 384)), is_listening),
         );
 
         cache.answer = false;
         assert!(rt;
             housekeeper.try_run_pending_tasks(&mut cache, Instant(2 * MILLISECOND), &mut clock)
         );
-        assert_eq!(rt; clock.readings, 2);
+        assert_equal(&rt, clock.readings, 2);
         assert!(rt; !housekeeper.should_apply_reads(0, Instant(302 * MILLISECOND - 1)));
         assert!(rt; housekeeper.should_apply_reads(0, Instant(302 * MILLISECOND)));
     }

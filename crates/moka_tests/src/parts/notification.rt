@@ -1,4 +1,5 @@
 //! Listeners and causes.
+use crate::equal::assert_equal;
 use moka_parts::notification::{Listener, NoListener, RemovalCause, RemovalNotifier};
 
 /// Keeps the last value that it was told of, and counts.
@@ -24,7 +25,7 @@ fn tells_the_listener(rt: HostRuntime) {
     notifier.notify(1, 10, RemovalCause::Size);
     notifier.notify(2, 20, RemovalCause::Expired);
     let heard = Some((2, 20, RemovalCause::Expired));
-    assert_eq!(rt; notifier.listener().copied(), Some(LastValue { heard }));
+    assert_equal(&rt, notifier.listener().copied(), Some(LastValue { heard }));
 }
 
 #[test]

@@ -1,4 +1,5 @@
 //! Policies, moments and expiries.
+use crate::equal::assert_equal;
 use crate::printed::check;
 use moka_parts::policy::{
     EvictionPolicy, ExpirationPolicy, ExpireAfter, ExpireAfterCreate, Expiry, Instant, NoExpiry,
@@ -44,14 +45,15 @@ fn check_policy(rt: &impl Abort, expiration: &ExpirationPolicy<BySeconds>) -> Re
     )
     .clone()?;
     let (live, idle) = (policy.time_to_live(), policy.time_to_idle());
-    assert_eq!(rt;
+    assert_equal(
+        rt,
         (policy.max_capacity(), policy.num_segments(), live, idle),
         (
             Some(7),
             1,
             Some(Duration::from_secs(1)),
-            Some(Duration::MAX)
-        )
+            Some(Duration::MAX),
+        ),
     );
     Ok(())
 }
@@ -60,9 +62,10 @@ fn check_policy(rt: &impl Abort, expiration: &ExpirationPolicy<BySeconds>) -> Re
 fn gives_what_was_set(rt: HostRuntime) -> Result<(), Fail> {
     let mut expiration = ExpirationPolicy::<BySeconds>::default();
     let (live, idle) = (expiration.time_to_live(), expiration.time_to_idle());
-    assert_eq!(rt;
+    assert_equal(
+        &rt,
         (live, idle, expiration.expiry().is_none()),
-        (None, None, true)
+        (None, None, true),
     );
     expiration.set_time_to_live(Duration::from_secs(1));
     expiration.set_time_to_idle(Duration::MAX);
@@ -81,13 +84,13 @@ fn adds_and_subtracts(rt: HostRuntime) {
         (Instant(5), Duration::MAX, last),
         (last, second, last),
     ] {
-        assert_eq!(rt; moment.saturating_add(duration), sum);
+        assert_equal(&rt, moment.saturating_add(duration), sum);
     }
     for (moment, earlier, duration) in [
         (Instant(1_000_000_005), Instant(5), second),
         (Instant(5), Instant(6), Duration::ZERO),
     ] {
-        assert_eq!(rt; moment.saturating_duration_since(earlier), duration);
+        assert_equal(&rt, moment.saturating_duration_since(earlier), duration);
     }
 }
 
@@ -101,12 +104,12 @@ fn asks_parts(rt: HostRuntime) {
     let (now, second) = (Instant(0), Duration::from_secs(1));
     let none = Expiry::expire_after_create(&NoExpiry, &1u8, &1u64, now);
     let created = expiry.expire_after_create(&1, &1, now);
-    assert_eq!(rt; (none, created), (None, Some(second)));
+    assert_equal(&rt, (none, created), (None, Some(second)));
     for left in [None, Some(second)] {
         let read = expiry.expire_after_read(&1, &1, now, left, now);
         let updated = expiry.expire_after_update(&1, &1, now, left);
         let kept = Expiry::expire_after_read(&NoExpiry, &1u8, &1u64, now, left, now);
         let also = Expiry::expire_after_update(&NoExpiry, &1u8, &1u64, now, left);
-        assert_eq!(rt; (read, updated, kept, also), (left, left, left, left));
+        assert_equal(&rt, (read, updated, kept, also), (left, left, left, left));
     }
 }

@@ -1,3 +1,4 @@
+use crate::equal::assert_equal;
 use moka_structures::OrderList;
 use std::test::Fail;
 
@@ -8,15 +9,16 @@ fn a_refused_growth_changes_nothing(rt: HostRuntime) -> Result<(), Fail> {
     };
     for additional in [1, 2, 100, usize::MAX] {
         let grown = list.reserve(additional).is_ok();
-        assert_eq!(rt; (list.is_empty(), list.front()), (true, None));
+        assert_equal(&rt, (list.is_empty(), list.front()), (true, None));
         if grown {
             let slot = list.push_back(7);
             let grown = list.reserve(usize::MAX).is_ok();
             let (front, next) = (list.front(), list.next(slot));
             let number = list.unlink(slot);
-            assert_eq!(rt;
+            assert_equal(
+                &rt,
                 (grown, front, next, number),
-                (false, Some((slot, 7)), None, 7)
+                (false, Some((slot, 7)), None, 7),
             );
         }
     }

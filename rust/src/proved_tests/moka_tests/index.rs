@@ -4,6 +4,7 @@ use crate::support::prelude::*;
 #[cfg(test)]
 use crate::support::test::prelude::*;
 
+use crate::proved_tests::moka_tests::equal::assert_equal;
 use crate::engine::moka_index::PlaceIndex;
 use crate::support::alloc::AllocError;
 use crate::support::test::process::Abort;
@@ -44,7 +45,7 @@ fn finds_what_was_inserted() -> Result<(), Fail> {
     );
     index.remove(7, 5);
     check_found(&rt, &index, &[(7, Some(5), None), (7, None, Some(3))]);
-    assert_eq!( index.len(), 2);
+    assert_equal(&rt, index.len(), 2);
     Ok(())
 }
 
@@ -68,6 +69,6 @@ fn a_refused_growth_changes_nothing() -> Result<(), Fail> {
     index.insert(5, 8);
     assert!( index.reserve(usize::MAX).is_err());
     check_found(&rt, &index, &[(9, None, Some(7)), (5, None, Some(8))]);
-    assert_eq!( index.len(), 2);
+    assert_equal(&rt, index.len(), 2);
     Ok(())
 }

@@ -5,6 +5,8 @@ use crate::support::prelude::*;
 #[cfg(test)]
 mod engine;
 #[cfg(test)]
+mod equal;
+#[cfg(test)]
 mod index;
 #[cfg(test)]
 mod maintenance;

@@ -3,6 +3,7 @@
 use crate::support::prelude::*;
 #[cfg(test)]
 use crate::support::test::prelude::*;
+use crate::proved_tests::moka_tests::equal::assert_equal;
 use std::fmt::Display;
 use crate::support::test::process::Abort;
 use crate::support::test::test::Fail;
@@ -14,6 +15,6 @@ pub(crate) fn check<R: Abort + AllocGlobal, D: Display>(
     text: &str,
 ) -> Result<(), Fail> {
     let printed = crate::support::test::text!("{value}")?;
-    assert_eq!( printed.as_str(), text);
+    assert_equal(rt, printed.as_str(), text);
     Ok(())
 }

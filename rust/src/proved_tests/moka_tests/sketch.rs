@@ -3,6 +3,7 @@
 use crate::support::prelude::*;
 #[cfg(test)]
 use crate::support::test::prelude::*;
+use crate::proved_tests::moka_tests::equal::assert_equal;
 use crate::engine::moka_sketch::frequency_sketch::{FrequencySketch, sketch_capacity, table_len_for};
 use plain_sketch::PlainSketch;
 use crate::support::test::process::Abort;
@@ -117,7 +118,7 @@ fn count_by_both(rt: &impl Abort, packed: &mut FrequencySketch, plain: &mut Plai
         let hash = hash_of((state >> 54) & (state >> 34));
         packed.increment(hash);
         plain.increment(hash);
-        assert_eq!( packed.frequency(hash), plain.frequency(hash));
+        assert_equal(rt, packed.frequency(hash), plain.frequency(hash));
     }
 }
 
@@ -126,7 +127,7 @@ fn sum_by_both(rt: &impl Abort, packed: &FrequencySketch, plain: &PlainSketch) -
     let mut total: u64 = 0;
     for number in 0..1024 {
         let hash = hash_of(number);
-        assert_eq!( packed.frequency(hash), plain.frequency(hash));
+        assert_equal(rt, packed.frequency(hash), plain.frequency(hash));
         total = total.wrapping_add(u64::from(packed.frequency(hash)));
     }
     total

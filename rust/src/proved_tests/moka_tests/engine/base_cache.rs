@@ -5,6 +5,7 @@ use crate::support::prelude::*;
 use crate::support::test::prelude::*;
 
 use super::{ByKey, settle};
+use crate::proved_tests::moka_tests::equal::assert_equal;
 use crate::engine::moka_engine::{
     BaseCache, ByClosure, EvictionPolicy, ExpirationPolicy, FixedClock, HousekeeperConfig, Instant,
     Listener, NoExpiry, NoListener, NoPredicate, PairFn, Policy, RemovalCause, Weigher,
@@ -91,9 +92,9 @@ fn filled(alloc: Global, value: &Rc<u8>, told: Rc<Cell<u32>>) -> Result<SharedCa
 fn check_let_go(rt: &impl Abort, mut cache: SharedCache, value: &Rc<u8>, told: &Rc<Cell<u32>>) {
     run(&mut cache, Instant(0));
     // One was replaced, and one evicted.
-    assert_eq!( (Rc::strong_count(value), told.get()), (4, 2));
+    assert_equal(rt, (Rc::strong_count(value), told.get()), (4, 2));
     drop(cache);
-    assert_eq!( (Rc::strong_count(value), told.get()), (1, 2));
+    assert_equal(rt, (Rc::strong_count(value), told.get()), (1, 2));
 }
 
 #[test]
@@ -117,7 +118,7 @@ fn key_of_first_row(cache: &NumberCache) -> Result<u64, Fail> {
 /// Puts one key in, and out goes the one before, whose row is the next one's: so even keys stand in the first row.
 fn pass_through(rt: &impl Abort, cache: &mut NumberCache, key: u64) -> Result<(), Fail> {
     settle(cache, key, key)?;
-    assert_eq!( key_of_first_row(cache)?, key - key % 2);
+    assert_equal(rt, key_of_first_row(cache)?, key - key % 2);
     assert!( !run(cache, Instant(0)));
     Ok(())
 }
@@ -140,16 +141,18 @@ fn check_parts(rt: &impl Abort, cache: &NumberCache) {
         cache.invalidation_predicate_count(),
         cache.num_cht_segments(),
     );
-    assert_eq!(
+    assert_equal(
+        rt,
         (predicates, segments, cache.hash(&1)),
-        (0, 1, cache.hash(&1))
+        (0, 1, cache.hash(&1)),
     );
 }
 
 fn check_policy(rt: &impl Abort, policy: &Policy) {
-    assert_eq!(
+    assert_equal(
+        rt,
         (policy.max_capacity(), policy.time_to_idle()),
-        (None, Some(Duration::from_nanos(100)))
+        (None, Some(Duration::from_nanos(100))),
     );
 }
 
@@ -181,7 +184,7 @@ fn check_look_ups(rt: &impl Abort, cache: &mut NumberCache) -> Result<(), Fail> 
     settle(cache, 1, 10)?;
     settle(cache, 2, 20)?;
     for (key, answer) in [(1, (None, 1)), (2, (Some(20), 1)), (3, (None, 0))] {
-        assert_eq!( get_unless_ten(cache, key)?, answer);
+        assert_equal(rt, get_unless_ten(cache, key)?, answer);
     }
     Ok(())
 }
@@ -210,6 +213,6 @@ fn weighs_by_a_closure() -> Result<(), Fail> {
     let rt = HostRuntime;
     let heavy: u32 = 7;
     let weighs = |_: &u64, value: &u64| if *value == 2 { heavy } else { 1 };
-    assert_eq!( weight_by(rt.alloc(), weighs)?, 7);
+    assert_equal(&rt, weight_by(rt.alloc(), weighs)?, 7);
     Ok(())
 }

@@ -4,6 +4,7 @@ use crate::support::prelude::*;
 #[cfg(test)]
 use crate::support::test::prelude::*;
 use super::{ByKey, settle};
+use crate::proved_tests::moka_tests::equal::assert_equal;
 use crate::proved_tests::moka_tests::parts::laws::OneId;
 use crate::engine::moka_engine::{
     CacheConfig, Engine, EvictionPolicy, ExpireAfter, FixedClock, HousekeeperConfig, Instant,
@@ -70,17 +71,18 @@ fn chosen(alloc: Global) -> Result<Chosen, Fail> {
 }
 
 fn check_parts(rt: &impl Abort, cache: &Chosen) {
-    assert_eq!( cache.name(), Some("texts"));
+    assert_equal(rt, cache.name(), Some("texts"));
     assert!( cache.is_removal_notifier_enabled());
     let policy = cache.policy();
     let (live, idle) = (policy.time_to_live(), policy.time_to_idle());
-    assert_eq!(
+    assert_equal(
+        rt,
         (policy.max_capacity(), live, idle),
         (
             Some(10),
             Some(Duration::from_secs(16)),
-            Some(Duration::from_secs(7))
-        )
+            Some(Duration::from_secs(7)),
+        ),
     );
 }
 
@@ -96,15 +98,19 @@ fn weights_after_runs(cache: &mut Chosen) -> (u64, u64) {
 /// Of three entries the newest stays, since the eviction is by recency.
 fn check_weights(rt: &impl Abort, cache: &mut Chosen) -> Result<(), Fail> {
     for (key, ticket) in [(4, 8), (5, 9), (6, 10)] {
-        assert_eq!( settle(cache, key, key)?, ticket);
+        assert_equal(rt, settle(cache, key, key)?, ticket);
     }
-    assert_eq!( weights_after_runs(cache), (15, 6));
+    assert_equal(rt, weights_after_runs(cache), (15, 6));
     Ok(())
 }
 
 fn check_expiry(rt: &impl Abort, cache: &Chosen) {
     for (now, is_there) in [(4_999_999_999, true), (5_000_000_000, false)] {
-        assert_eq!( cache.contains_key_with_hash(&6, 6, Instant(now)), is_there);
+        assert_equal(
+            rt,
+            cache.contains_key_with_hash(&6, 6, Instant(now)),
+            is_there,
+        );
     }
 }
 

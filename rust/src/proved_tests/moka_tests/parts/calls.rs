@@ -3,6 +3,7 @@
 use crate::support::prelude::*;
 #[cfg(test)]
 use crate::support::test::prelude::*;
+use crate::proved_tests::moka_tests::equal::assert_equal;
 use crate::engine::moka_parts::calls::Entry;
 
 #[test]
@@ -12,6 +13,6 @@ fn opens_entries() {
         key: Some(1),
         value: 'v',
     };
-    assert_eq!( (entry.key().copied(), *entry.value()), (Some(1), 'v'));
-    assert_eq!( entry.into_value(), 'v');
+    assert_equal(&rt, (entry.key().copied(), *entry.value()), (Some(1), 'v'));
+    assert_equal(&rt, entry.into_value(), 'v');
 }

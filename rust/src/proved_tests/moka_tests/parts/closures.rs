@@ -4,6 +4,7 @@ use crate::support::prelude::*;
 #[cfg(test)]
 use crate::support::test::prelude::*;
 
+use crate::proved_tests::moka_tests::equal::assert_equal;
 use crate::engine::moka_parts::closures::{
     ByClosure, NoPredicate, NoTest, NoWeigher, PairFn, PredicateFn, ValueTest, Weigher,
 };
@@ -39,7 +40,7 @@ fn asks_closures_that_change() {
         value.is_multiple_of(2)
     };
     let ignored = count_ignored(is_even, &[1, 2, 4]);
-    assert_eq!( (ignored, asked), (2, 3));
+    assert_equal(&rt, (ignored, asked), (2, 3));
 }
 
 #[test]
@@ -49,14 +50,18 @@ fn asks_closures() {
     for (value, weight, is_even) in [(2, 7, true), (3, 1, false)] {
         let weighs = |_: &u64, v: &u64| if *v == 2 { heavy } else { 1 };
         let passes = passes_by(|_: &u64, v: &u64| *v % 2 == 0, 1, value);
-        assert_eq!( (weight_by(weighs, 1, value), passes), (weight, is_even));
+        assert_equal(
+            &rt,
+            (weight_by(weighs, 1, value), passes),
+            (weight, is_even),
+        );
     }
 }
 
 #[test]
 fn answers_the_same_for_all() {
     let rt = HostRuntime;
-    assert_eq!( NoWeigher.weigh(&1u8, &'a'), 1);
+    assert_equal(&rt, NoWeigher.weigh(&1u8, &'a'), 1);
     assert!( !NoPredicate.applies(&1u8, &'a'));
     assert!( !NoTest.ignores(&'a'));
 }

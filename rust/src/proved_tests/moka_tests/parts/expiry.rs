@@ -3,6 +3,7 @@
 use crate::support::prelude::*;
 #[cfg(test)]
 use crate::support::test::prelude::*;
+use crate::proved_tests::moka_tests::equal::assert_equal;
 use crate::engine::moka_parts::expiry::{
     deadline_of, has_lapsed, is_expired_by_per_entry_ttl, is_expired_by_tti, is_expired_by_ttl,
     is_invalid_entry, remaining, renewed,
@@ -26,7 +27,7 @@ fn expires_at_the_very_moment() {
         let by_entry = is_expired_by_per_entry_ttl(Some(at(16_000)), at(now));
         let by_ttl = is_expired_by_ttl(seconds(16), at(0), at(now));
         let by_tti = is_expired_by_tti(seconds(7), at(9_000), at(now));
-        assert_eq!( (by_entry, by_ttl, by_tti), (is_over, is_over, is_over));
+        assert_equal(&rt, (by_entry, by_ttl, by_tti), (is_over, is_over, is_over));
     }
     assert!( !is_expired_by_per_entry_ttl(None, at(16_000)));
     assert!( !is_expired_by_ttl(None, at(0), at(16_000)));
@@ -65,9 +66,10 @@ fn hides_what_has_lapsed() {
         (Some(at(1_000)), 8_999, false),
         (Some(at(1_001)), 8_999, true),
     ] {
-        assert_eq!(
+        assert_equal(
+            &rt,
             has_lapsed(&record, &policy, valid_after, at(now)),
-            is_hidden
+            is_hidden,
         );
     }
 }
@@ -77,7 +79,7 @@ fn hides_what_has_lapsed() {
 fn renews() {
     let rt = HostRuntime;
     let mut expires = deadline_of(seconds(8), at(0));
-    assert_eq!( expires, Some(at(8_000)));
+    assert_equal(&rt, expires, Some(at(8_000)));
     for (read, now, answer, left, kept) in [
         (0, 5_000, seconds(9), seconds(2), (Some(at(14_000)), true)),
         (
@@ -91,12 +93,13 @@ fn renews() {
     ] {
         let found = remaining(expires, at(0), at(read), seconds(16), seconds(7), at(now));
         let renewal = renewed(expires, found, answer, at(now));
-        assert_eq!( (found, renewal), (left, kept));
+        assert_equal(&rt, (found, renewal), (left, kept));
         expires = renewal.0;
     }
     let left = remaining(None, at(0), at(0), None, None, at(1));
-    assert_eq!(
+    assert_equal(
+        &rt,
         (left, renewed(None, left, None, at(1))),
-        (None, (None, false))
+        (None, (None, false)),
     );
 }

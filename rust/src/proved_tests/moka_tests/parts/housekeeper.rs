@@ -3,6 +3,7 @@
 use crate::support::prelude::*;
 #[cfg(test)]
 use crate::support::test::prelude::*;
+use crate::proved_tests::moka_tests::equal::assert_equal;
 use crate::engine::moka_parts::housekeeper::{Clock, Housekeeper, HousekeeperConfig, InnerSync};
 use crate::engine::moka_parts::policy::Instant;
 use crate::support::time::Duration;
@@ -59,7 +60,7 @@ fn knows_when_a_run_is_due() {
     for (len, now, is_due) in [(63, before, false), (64, before, true), (0, after, true)] {
         let reads = housekeeper.should_apply_reads(len, now);
         let writes = housekeeper.should_apply_writes(len, now);
-        assert_eq!( (reads, writes), (is_due, is_due));
+        assert_equal(&rt, (reads, writes), (is_due, is_due));
     }
     housekeeper.disable_auto_run();
     assert!( !housekeeper.should_apply_reads(64, after));
@@ -82,16 +83,17 @@ fn runs() {
         housekeeper.run_pending_tasks(&mut cache, now, &mut clock);
         let timeout = is_listening.then_some(Duration::from_millis(100));
         let is_due = housekeeper.should_apply_writes(0, now);
-        assert_eq!(
+        assert_equal(
+            &rt,
             (cache.given, is_due),
-            (Some((now, timeout, 4, 384)), is_listening)
+            (Some((now, timeout, 4, 384)), is_listening),
         );
 
         cache.answer = false;
         assert!(
             housekeeper.try_run_pending_tasks(&mut cache, Instant(2 * MILLISECOND), &mut clock)
         );
-        assert_eq!( clock.readings, 2);
+        assert_equal(&rt, clock.readings, 2);
         assert!( !housekeeper.should_apply_reads(0, Instant(302 * MILLISECOND - 1)));
         assert!( housekeeper.should_apply_reads(0, Instant(302 * MILLISECOND)));
     }

@@ -3,6 +3,7 @@
 use crate::support::prelude::*;
 #[cfg(test)]
 use crate::support::test::prelude::*;
+use crate::proved_tests::moka_tests::equal::assert_equal;
 use crate::engine::moka_parts::notification::{Listener, NoListener, RemovalCause, RemovalNotifier};
 
 /// Keeps the last value that it was told of, and counts.
@@ -26,7 +27,7 @@ fn tells_the_listener() {
     notifier.notify(1, 10, RemovalCause::Size);
     notifier.notify(2, 20, RemovalCause::Expired);
     let heard = Some((2, 20, RemovalCause::Expired));
-    assert_eq!( notifier.listener().copied(), Some(LastValue { heard }));
+    assert_equal(&rt, notifier.listener().copied(), Some(LastValue { heard }));
 }
 
 #[test]

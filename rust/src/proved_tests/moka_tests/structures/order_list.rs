@@ -2,6 +2,7 @@
 use crate::support::prelude::*;
 #[cfg(test)]
 use crate::support::test::prelude::*;
+use crate::proved_tests::moka_tests::equal::assert_equal;
 use crate::engine::moka_structures::OrderList;
 use crate::support::test::test::Fail;
 
@@ -13,15 +14,16 @@ fn a_refused_growth_changes_nothing() -> Result<(), Fail> {
     };
     for additional in [1, 2, 100, usize::MAX] {
         let grown = list.reserve(additional).is_ok();
-        assert_eq!( (list.is_empty(), list.front()), (true, None));
+        assert_equal(&rt, (list.is_empty(), list.front()), (true, None));
         if grown {
             let slot = list.push_back(7);
             let grown = list.reserve(usize::MAX).is_ok();
             let (front, next) = (list.front(), list.next(slot));
             let number = list.unlink(slot);
-            assert_eq!(
+            assert_equal(
+                &rt,
                 (grown, front, next, number),
-                (false, Some((slot, 7)), None, 7)
+                (false, Some((slot, 7)), None, 7),
             );
         }
     }

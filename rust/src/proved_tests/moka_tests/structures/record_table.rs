@@ -2,6 +2,7 @@
 use crate::support::prelude::*;
 #[cfg(test)]
 use crate::support::test::prelude::*;
+use crate::proved_tests::moka_tests::equal::assert_equal;
 use crate::engine::moka_structures::RecordTable;
 use crate::support::test::test::Fail;
 
@@ -11,13 +12,14 @@ fn a_refused_growth_changes_nothing() -> Result<(), Fail> {
     for additional in [1, 2, 100, usize::MAX] {
         let mut table: RecordTable<u64> = RecordTable::new(rt.alloc());
         let grown = table.reserve(additional).is_ok();
-        assert_eq!( table.len(), 0);
+        assert_equal(&rt, table.len(), 0);
         if grown {
             let place = table.insert(7, 70);
             let grown = table.reserve(usize::MAX).is_ok();
-            assert_eq!(
+            assert_equal(
+                &rt,
                 (grown, table.len(), table.find(place, 7)),
-                (false, 1, Some(&70))
+                (false, 1, Some(&70)),
             );
         }
     }
