@@ -4,8 +4,8 @@ ghost use Rattle.std.specs.Duration.{as_nanos};
 ghost use Rattle.moka_engine.specs.parts.Instant.{Instant};
 ghost use Rattle.moka_drive.specs.Given.{IsHandedOut};
 
-use moka_drive::{CountingListener, GetWithRefused};
 use moka_drive::laws::get_with_hands_out;
+use moka_drive::{CountingListener, GetWithRefused};
 use moka_engine::{
     CacheConfig, Clock, DefaultHasher, NoExpiry, NoListener, NoPredicate, NoWeigher, OutOfMemory,
 };

@@ -2,8 +2,8 @@
 //! A read-through cache of profiles, each of which lasts a while, with a listener that counts what leaves.
 use crate::support::prelude::*;
 
-use crate::engine::moka_drive::{CountingListener, GetWithRefused};
 use crate::engine::moka_drive::laws::get_with_hands_out;
+use crate::engine::moka_drive::{CountingListener, GetWithRefused};
 use crate::engine::moka_engine::{
     CacheConfig, Clock, DefaultHasher, NoExpiry, NoListener, NoPredicate, NoWeigher, OutOfMemory,
 };
