@@ -9,7 +9,6 @@ use crate::cache::Cache;
 use moka_engine::base_cache::BaseCache;
 use moka_parts::closures::{PredicateFn, Weigher};
 use moka_parts::error::OutOfMemory;
-use moka_parts::housekeeper::Clock;
 use moka_parts::notification::Listener;
 use moka_parts::policy::{Expiry, Instant};
 use std::hash::{BuildHasher, Hash};

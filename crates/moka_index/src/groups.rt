@@ -171,6 +171,7 @@ fn remove_found(groups: &mut Vec<Group>, found: Found)
 }
 
 /// Removes a place, which has this hash.
+#[inline(always)]
 pub(crate) fn remove_entry(groups: &mut Vec<Group>, hash: u32, place: usize)
     requires groups { IsGroups groups.old.items }
     requires there { finite.get (entries_of groups.old.items) place ≡ Some hash }

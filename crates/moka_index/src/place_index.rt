@@ -78,6 +78,7 @@ impl PlaceIndex {
     /// Makes room for `additional` more places. If the index has to grow, it has afterwards room for twice as many places
     /// as before, or for 2^34, so growth costs constant time a place. An error leaves the index as it was: there is no
     /// memory, or the index would have more than 2^34 places.
+    #[inline(always)]
     pub fn reserve(&mut self, additional: usize) -> Result<(), AllocError>
         ensures room { OnOk result (additional ≤ self.new.room) }
         ensures succeeds { additional ≤ self.old.room → IsOk result }
@@ -90,6 +91,18 @@ impl PlaceIndex {
         if additional <= room {
             return Ok(());
         }
+        self.grow(additional)
+    }
+
+    // The same where there is no room for so many.
+    #[cold]
+    fn grow(&mut self, additional: usize) -> Result<(), AllocError>
+        requires { self.old.room < additional }
+        ensures room { OnOk result (additional ≤ self.new.room) }
+        ensures entries { self.new.entries ≡ self.old.entries }
+        ensures kept { self.old.room ≤ self.new.room }
+        ensures doubles { OnOk result (min (2 * (finite.len self.old.entries + self.old.room)) (2 ^ 34) ≤ finite.len self.new.entries + self.new.room) }
+    {
         if additional > PLACES_PER_GROUP * MOST_GROUPS - self.len {
             return Err(AllocError);
         }
@@ -128,6 +141,7 @@ impl PlaceIndex {
     }
 
     /// Removes a place, which has this hash.
+    #[inline(always)]
     pub fn remove(&mut self, hash: u32, place: usize)
         requires { finite.get self.old.entries place ≡ Some hash }
         ensures entries { self.new.entries ≡ finite.remove self.old.entries place }

@@ -256,6 +256,7 @@ fn compare<K: Eq + Hash + Drop, V: Drop, S: BuildHasher, L: Listener<K, V>>(
 }
 
 // The record has seen the operation, and enters both orders with its timer.
+#[inline(always)]
 fn enter<K: Eq + Hash, V, S: BuildHasher>(store: &mut Store<K, V, S>, upsert: PlacedUpsert)
     requires { IsOutside store.old upsert.handle }
     ensures step { (r : Record K V) → finite.get store.old.records upsert.handle.number ≡ Some r →

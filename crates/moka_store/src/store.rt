@@ -134,6 +134,7 @@ impl<K: Eq + Hash, V, S: BuildHasher> Store<K, V, S> {
 
     /// Makes room for `additional` more records: in the index, for their rows, their places in the orders and their timers.
     /// An error leaves all but the room as it was: there is no memory, or a place would need more than 32 bits.
+    #[inline(always)]
     pub fn reserve(&mut self, additional: usize) -> Result<(), AllocError>
         ensures room { OnOk result (additional ≤ self.new.room) }
         ensures succeeds { additional ≤ self.old.room → IsOk result }

@@ -51,6 +51,7 @@ impl Timers {
     }
 
     /// Makes room for so many timers in all.
+    #[inline(always)]
     pub fn reserve(&mut self, places: usize) -> Result<(), AllocError>
         ensures room { OnOk result (places ≤ self.new.most) }
         ensures succeeds { places ≤ self.old.most → IsOk result }

@@ -53,6 +53,7 @@ impl WriteList {
     }
 
     /// Makes room for so many places in all.
+    #[inline(always)]
     pub fn reserve(&mut self, places: usize) -> Result<(), AllocError>
         ensures room { OnOk result (places ≤ self.new.most) }
         ensures succeeds { places ≤ self.old.most → IsOk result }

@@ -1,4 +1,5 @@
 pub mod Gets
+pub mod Kept
 pub mod Linked
 pub mod Lookups
 pub mod Newest

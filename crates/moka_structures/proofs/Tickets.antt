@@ -15,7 +15,7 @@ use Rattle.std.specs.Option.{option_map}
 use Rattle.std.specs.Ordering.{nat_cmp, eq_by_cmp, is_lt}
 use Rattle.std.specs.declared.cmp.Ordering.TheVariants.{Less}
 use Rattle.moka_structures.specs.Tickets.{items_of, slot_of, IsBelowAll, AreRising, IsTied}
-use Rattle.moka_structures.specs.declared.older.Waiting.{Waiting}
+use Rattle.moka_structures.specs.declared.ticket_table.Waiting.{Waiting}
 use Rattle.moka_structures.proofs.Linked.{linked-added, linked-removed}
 
 -- a ticket ties with itself

@@ -1,3 +1,4 @@
+pub mod Kept
 pub mod Lending
 pub mod Linked
 pub mod Links

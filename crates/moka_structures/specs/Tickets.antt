@@ -1,4 +1,4 @@
--- How the older items of an `Outstanding` keep their tickets. No public clause cites this module.
+-- How a `TicketTable` keeps its tickets. No public clause cites this module.
 use Rattle.std.specs.Prelude.{ℕ, ◌<◌, List, [], ◌∷◌, map, nat_eq, Option}
 use Rattle.std.specs.FinMap.{FinMap, from_entries}
 use Rattle.std.specs.HashMap.{HashMap, get}
@@ -6,7 +6,7 @@ use Rattle.std.specs.Map.{lookup}
 use Rattle.std.specs.Option.{option_map}
 use Rattle.std.specs.Ordering.{nat_cmp}
 use Rattle.moka_structures.specs.Linked.{IsLinked}
-use Rattle.moka_structures.specs.declared.older.Waiting.{Waiting}
+use Rattle.moka_structures.specs.declared.ticket_table.Waiting.{Waiting}
 
 -- the items by their tickets
 abbrev pub items_of : {T S : Type 0} → HashMap ℕ (Waiting T) S → FinMap nat_cmp T

@@ -6,6 +6,7 @@ pub mod order_list;
 pub mod outstanding;
 pub mod record_table;
 pub mod row;
+mod ticket_table;
 
 pub use order_list::OrderList;
 pub use outstanding::Outstanding;

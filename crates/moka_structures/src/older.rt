@@ -1,49 +1,50 @@
-//! Items under rising tickets, in a table with the order of their tickets.
-ghost use Rattle.std.specs.Prelude.{◌≡◌, ◌+◌, ◌^◌, ◌<◌, ◌≤◌, ◌↔◌, ℕ, OnOk, IfOk, IfSome, IsOk, IsSome, IsNone, None, Some, is_some};
+//! Items under rising tickets, in a table that grows with them, and in a list if it cannot grow.
+ghost use Rattle.std.specs.Prelude.{◌≡◌, ◌==◌, ◌+◌, ◌<◌, ◌≤◌, ◌↔◌, ℕ, not, filter, find, fold, OnOk, IfOk, IfSome, IsOk, IsSome, IsNone, None, Some, is_some, option_map, vec_len, vec_capacity};
 ghost use Rattle.std.specs.FinMap as map;
+ghost use Rattle.moka_structures.specs.Kept.{lesser};
 
-use crate::order_list::OrderList;
+use crate::ticket_table::TicketTable;
 use std::alloc::{AllocError, Global};
-use std::collections::HashMap;
 use std::marker::Model;
 
-// An item, and where its ticket stands in the order.
+// An item with its ticket.
 #[derive(Clone, Copy)]
-struct Waiting<T: Copy> {
-    slot: u32,
+struct Kept<T: Copy> {
+    ticket: u64,
     item: T,
 }
 
-/// Items under rising tickets, which are taken by their ticket, in any order. Only `new` and `reserve` ask for memory.
+/// Items under rising tickets, which are taken by their ticket, in any order.
+///
+/// `reserve` makes room in a list alone, and the table grows as items are handed out. If it is refused memory, an item
+/// goes into the list, where it is searched for. So no call is refused for want of memory but `new` and `reserve`, and
+/// as long as nothing is written to the list its room takes addresses and no memory.
 pub struct Older<T: Copy> {
-    order: OrderList<u64>,
-    waiting: HashMap<u64, Waiting<T>>,
+    table: TicketTable<T>,
+    // The items for which the table was refused room, oldest first.
+    kept: Vec<Kept<T>>,
 }
 
 // Written out so that an owner's drop is one call.
 impl<T: Copy> Drop for Older<T> {
     fn drop(self) {
-        let Older {
-            order: _,
-            waiting: _,
-        } = self;
+        let Older { table: _, kept: _ } = self;
     }
 }
 
 impl<T: Copy> Model for Older<T> {
-    ghost use Rattle.std.specs.Prelude.{min};
-    ghost use Rattle.std.specs.HashMap.{spare};
+    ghost use Rattle.std.specs.Prelude.{◌-◌, vec_capacity, vec_len};
     ghost use Rattle.moka_structures.specs.Pending.{Pending, pending_code};
 
     ghost Value = { Pending T };
 
     ghost coded = { pending_code T.code };
 
-    ghost use Rattle.moka_structures.specs.Tickets.{items_of, IsTied};
+    ghost use Rattle.moka_structures.specs.Kept.{with_kept, AreApart};
 
-    ghost view = { λ a. record { items = items_of a.waiting; room = min a.order.room (spare a.waiting) } };
+    ghost view = { λ a. record { items = with_kept a.kept.items a.table.items; room = vec_capacity a.kept - vec_len a.kept } };
 
-    ghost invariant = { λ a. IsTied a.order.members a.waiting };
+    ghost invariant = { λ a. AreApart a.kept.items a.table.items };
 }
 
 impl<T: Copy> Older<T> {
@@ -52,28 +53,28 @@ impl<T: Copy> Older<T> {
         ensures items { IfOk result (λ o. o.items ≡ map.empty) }
     {
         Ok(Older {
-            order: OrderList::new(alloc, 0)?,
-            waiting: HashMap::new(alloc),
+            table: TicketTable::new(alloc)?,
+            kept: Vec::new(alloc),
         })
     }
 
     /// How many items are out.
     pub fn len(&self) -> usize
         ensures value { result ≡ map.len self.now.items }
-        ensures small { result < 2 ^ 63 }
+        ensures small { result < usize.MAX }
     {
-        self.waiting.len()
+        self.table.len() + self.kept.len()
     }
 
-    /// Makes room for `additional` more items. An error takes neither items nor room away.
+    /// Keeps room for `additional` more items. An error takes neither items nor room away.
+    #[inline(always)]
     pub fn reserve(&mut self, additional: usize) -> Result<(), AllocError>
         ensures room { OnOk result (additional ≤ self.new.room) }
         ensures succeeds { additional ≤ self.old.room → IsOk result }
         ensures items { self.new.items ≡ self.old.items }
         ensures kept { self.old.room ≤ self.new.room }
     {
-        self.order.reserve(additional)?;
-        self.waiting.reserve(additional)
+        self.kept.reserve(additional)
     }
 
     /// Hands an item out under a ticket above all that are out, where there is room.
@@ -83,21 +84,20 @@ impl<T: Copy> Older<T> {
         ensures items { self.new.items ≡ map.insert self.old.items ticket item }
         ensures room { self.old.room ≤ self.new.room + 1 }
     {
-        let slot = self.order.push_back(ticket);
-        let waiting = Waiting { slot, item };
-        match self.waiting.insert(ticket, waiting) {
-            Ok(_) => {}
-            Err(_) => unreachable!(),
+        if self.table.reserve(1).is_ok() {
+            self.table.hand_out(ticket, item);
+            return;
         }
+        self.kept.push_reserved(Kept { ticket, item });
     }
 
     /// The item that is out under a ticket.
     pub fn get(&self, ticket: u64) -> Option<T>
         ensures { result ≡ map.get self.now.items ticket }
     {
-        match self.waiting.get(&ticket) {
-            Some(waiting) => Some(waiting.item),
-            None => None,
+        match self.table.get(ticket) {
+            Some(item) => Some(item),
+            None => find_kept(self.kept.as_slice(), ticket),
         }
     }
 
@@ -105,7 +105,7 @@ impl<T: Copy> Older<T> {
     pub fn contains(&self, ticket: u64) -> bool
         ensures { result ≡ is_some (map.get self.now.items ticket) }
     {
-        self.waiting.contains_key(&ticket)
+        self.get(ticket).is_some()
     }
 
     /// Takes the item under a ticket back, if it is out. The room that this makes is not promised.
@@ -114,12 +114,9 @@ impl<T: Copy> Older<T> {
         ensures items { self.new.items ≡ map.remove self.old.items ticket }
         ensures room { self.old.room ≤ self.new.room }
     {
-        match self.waiting.remove(&ticket) {
-            Some(waiting) => {
-                let _ticket = self.order.unlink(waiting.slot);
-                Some(waiting.item)
-            }
-            None => None,
+        match self.table.take(ticket) {
+            Some(item) => Some(item),
+            None => take_kept(&mut self.kept, ticket),
         }
     }
 
@@ -128,9 +125,45 @@ impl<T: Copy> Older<T> {
         ensures least { IfSome result (λ t. IsSome (map.get self.now.items t) × ((q : ℕ) → IsSome (map.get self.now.items q) → t ≤ q)) }
         ensures none { IsNone result ↔ (self.now.items ≡ map.empty) }
     {
-        match self.order.front() {
-            Some((_, ticket)) => Some(ticket),
-            None => None,
-        }
+        oldest_with(self.table.oldest(), self.kept.as_slice())
     }
+}
+
+// The lesser of the two tickets.
+fn lesser(oldest: Option<u64>, ticket: u64) -> Option<u64>
+    ensures { result ≡ lesser oldest ticket }
+{
+    match oldest {
+        Some(other) => Some(other.min(ticket)),
+        None => Some(ticket),
+    }
+}
+
+// The least of a ticket, if there is one, and those that are kept.
+fn oldest_with<T: Copy>(oldest: Option<u64>, kept: &[Kept<T>]) -> Option<u64>
+    ensures { result ≡ fold (λ o k. lesser o k.ticket) oldest kept.now }
+{
+    kept.iter()
+        .fold(oldest, |oldest, kept| lesser(oldest, kept.ticket))
+}
+
+// The item under a ticket, if it is kept.
+fn find_kept<T: Copy>(kept: &[Kept<T>], ticket: u64) -> Option<T>
+    ensures { result ≡ option_map (λ k. k.item) (find (λ k. k.ticket == ticket) kept.now) }
+{
+    let found = kept.iter().find(|kept| kept.ticket == ticket)?;
+    Some(found.item)
+}
+
+// Takes the item under a ticket out, if it is kept.
+#[cold]
+fn take_kept<T: Copy>(kept: &mut Vec<Kept<T>>, ticket: u64) -> Option<T>
+    ensures item { result ≡ option_map (λ k. k.item) (find (λ k. k.ticket == ticket) kept.old.items) }
+    ensures items { kept.new.items ≡ filter (λ k. not (k.ticket == ticket)) kept.old.items }
+    ensures capacity { vec_capacity kept.new ≡ vec_capacity kept.old }
+    ensures len { vec_len kept.new ≤ vec_len kept.old }
+{
+    let found = find_kept(kept.as_slice(), ticket);
+    kept.retain(|kept| kept.ticket != ticket);
+    found
 }

@@ -154,6 +154,7 @@ impl<T: Copy> OrderList<T> {
 
     /// Makes room for `additional` more values. An error leaves the list as it was: there is no memory, or the
     /// list would be longer than its slots can tell.
+    #[inline(always)]
     pub fn reserve(&mut self, additional: usize) -> Result<(), AllocError>
         ensures room { OnOk result (additional ≤ self.new.room) }
         ensures succeeds { additional ≤ self.old.room → IsOk result }

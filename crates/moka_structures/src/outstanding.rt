@@ -14,7 +14,7 @@ struct Newest<T: Copy> {
 }
 
 /// Items that were handed out under rising tickets and not taken back. They are taken by their ticket, in any
-/// order. Only `new` and `reserve` ask for memory.
+/// order. Only `new` and `reserve` are refused if memory is.
 ///
 /// The newest stands beside the others, so whoever takes each item before the next is handed out never reaches them.
 pub struct Outstanding<T: Copy> {
@@ -76,7 +76,7 @@ impl<T: Copy> Outstanding<T> {
         self.len() == 0
     }
 
-    /// Makes room for `additional` more items. An error takes neither items nor room away.
+    /// Keeps room for `additional` more items. An error takes neither items nor room away.
     pub fn reserve(&mut self, additional: usize) -> Result<(), AllocError>
         ensures room { OnOk result (additional ≤ self.new.room) }
         ensures succeeds { additional ≤ self.old.room → IsOk result }

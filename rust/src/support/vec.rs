@@ -83,6 +83,10 @@ impl<T> Vec<T> {
         self.0.clear();
     }
 
+    pub fn retain(&mut self, keeps: impl FnMut(&T) -> bool) {
+        self.0.retain(keeps);
+    }
+
     #[inline]
     pub fn as_slice(&self) -> &[T] {
         &self.0

@@ -31,6 +31,7 @@ fn row_room<R>(table: &RecordTable<R>) -> usize
 }
 
 // Makes room for `additional` more rows at places of 32 bits.
+#[inline(always)]
 pub(crate) fn reserve_rows<R>(
     table: &mut RecordTable<R>,
     additional: usize,

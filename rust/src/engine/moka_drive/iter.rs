@@ -6,7 +6,6 @@ use crate::engine::moka_drive::cache::Cache;
 use crate::engine::moka_engine::base_cache::BaseCache;
 use crate::engine::moka_parts::closures::{PredicateFn, Weigher};
 use crate::engine::moka_parts::error::OutOfMemory;
-use crate::engine::moka_parts::housekeeper::Clock;
 use crate::engine::moka_parts::notification::Listener;
 use crate::engine::moka_parts::policy::{Expiry, Instant};
 use crate::support::hash::{BuildHasher, Hash};

@@ -129,6 +129,7 @@ fn remove_found(groups: &mut Vec<Group>, found: Found)
 }
 
 /// Removes a place, which has this hash.
+#[inline(always)]
 pub(crate) fn remove_entry(groups: &mut Vec<Group>, hash: u32, place: usize)
 {
     let Some(found) = find_entry(groups, hash, |p| p == place) else {

@@ -49,12 +49,20 @@ impl PlaceIndex {
     /// Makes room for `additional` more places. If the index has to grow, it has afterwards room for twice as many places
     /// as before, or for 2^34, so growth costs constant time a place. An error leaves the index as it was: there is no
     /// memory, or the index would have more than 2^34 places.
+    #[inline(always)]
     pub fn reserve(&mut self, additional: usize) -> Result<(), AllocError>
     {
         let room = PLACES_PER_GROUP * self.groups.len() - self.len;
         if additional <= room {
             return Ok(());
         }
+        self.grow(additional)
+    }
+
+    // The same where there is no room for so many.
+    #[cold]
+    fn grow(&mut self, additional: usize) -> Result<(), AllocError>
+    {
         if additional > PLACES_PER_GROUP * MOST_GROUPS - self.len {
             return Err(AllocError);
         }
@@ -84,6 +92,7 @@ impl PlaceIndex {
     }
 
     /// Removes a place, which has this hash.
+    #[inline(always)]
     pub fn remove(&mut self, hash: u32, place: usize)
     {
         remove_entry(&mut self.groups, hash, place);

@@ -208,6 +208,7 @@ fn compare<K: Eq + Hash, V, S: BuildHasher, L: Listener<K, V>>(
 }
 
 // The record has seen the operation, and enters both orders with its timer.
+#[inline(always)]
 fn enter<K: Eq + Hash, V, S: BuildHasher>(store: &mut Store<K, V, S>, upsert: PlacedUpsert)
 {
     store.set_applied(upsert.handle, upsert.generation);

@@ -10,6 +10,7 @@ use crate::engine::moka_store::{Handle, Store};
 use crate::support::hash::{BuildHasher, Hash};
 
 /// The record leaves the map, both orders and the timers, its row is given back, and the listener is told.
+#[inline(always)]
 pub(crate) fn expel<K: Eq + Hash, V, S: BuildHasher, L: Listener<K, V>>(
     store: &mut Store<K, V, S>,
     notifier: &mut RemovalNotifier<L>,

@@ -28,6 +28,7 @@ impl Timers {
     }
 
     /// Makes room for so many timers in all.
+    #[inline(always)]
     pub fn reserve(&mut self, places: usize) -> Result<(), AllocError>
     {
         let Some(wheel) = &mut self.wheel else {

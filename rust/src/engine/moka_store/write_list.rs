@@ -31,6 +31,7 @@ impl WriteList {
     }
 
     /// Makes room for so many places in all.
+    #[inline(always)]
     pub fn reserve(&mut self, places: usize) -> Result<(), AllocError>
     {
         let Some(list) = &mut self.list else {

@@ -100,6 +100,7 @@ impl<T: Copy> OrderList<T> {
 
     /// Makes room for `additional` more values. An error leaves the list as it was: there is no memory, or the
     /// list would be longer than its slots can tell.
+    #[inline(always)]
     pub fn reserve(&mut self, additional: usize) -> Result<(), AllocError>
     {
         let room = self.nodes.capacity().min(MOST_NODES) - 1 - self.len;

@@ -13,7 +13,7 @@ struct Newest<T: Copy> {
 }
 
 /// Items that were handed out under rising tickets and not taken back. They are taken by their ticket, in any
-/// order. Only `new` and `reserve` ask for memory.
+/// order. Only `new` and `reserve` are refused if memory is.
 ///
 /// The newest stands beside the others, so whoever takes each item before the next is handed out never reaches them.
 pub struct Outstanding<T: Copy> {
@@ -48,7 +48,7 @@ impl<T: Copy> Outstanding<T> {
         self.len() == 0
     }
 
-    /// Makes room for `additional` more items. An error takes neither items nor room away.
+    /// Keeps room for `additional` more items. An error takes neither items nor room away.
     pub fn reserve(&mut self, additional: usize) -> Result<(), AllocError>
     {
         self.older.reserve(additional)

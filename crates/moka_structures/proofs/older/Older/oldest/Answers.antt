@@ -1,22 +1,18 @@
-use Rattle.std.proofs.Common.{sym, refl}
-use Rattle.moka_structures.specs.Tickets.{items_of}
-use Rattle.moka_structures.proofs.Tickets.{member-out, least-ticket, none-out, some-empty}
+use Rattle.std.proofs.Common.{fold, sym, ap, subst, ◌∙◌}
+use Rattle.moka_structures.specs.Kept.{with_kept, lesser}
+use Rattle.moka_structures.proofs.Kept.{IsLeast, least-kept}
 use Rattle.moka_structures.proofs.older.Older.oldest.Goals as goal
 
-pub returns-in-Some-clause-least : goal.returns-in-Some-clause-least
-returns-in-Some-clause-least g c =
-    let o = c.self.inside.order.members in
-    let m = c.self.inside.waiting in
-    let t = c.self.invariant in
-    let ticket = c.in-Some.ticket in
-    rw (← c.self.view_is) (member-out o m t c.in-Some.field-0-0 ticket c.in-Some.ensures.found, least-ticket o m t c.in-Some.field-0-0 ticket (sym c.in-Some.ensures.front))
+pub returns-clause-least : goal.returns-clause-least
+returns-clause-least g c =
+    let o = c.self.inside in
+    let all = least-kept o.kept.items c.oldest.result o.table.items (record { least = c.oldest.ensures.least; none = c.oldest.ensures.none }) in
+    let is = c.oldest_with.ensures ∙ ap (fold (λ o k. lesser o k.ticket) c.oldest.result) c.as_slice.ensures.value in
+    rw (← c.self.view_is) (subst (λ r. IsLeast r (with_kept o.kept.items o.table.items)) (sym is) all).least
 
-pub returns-in-Some-clause-none : goal.returns-in-Some-clause-none
-returns-in-Some-clause-none g c =
-    let out = member-out c.self.inside.order.members c.self.inside.waiting c.self.invariant c.in-Some.field-0-0 c.in-Some.ticket c.in-Some.ensures.found in
-    rw (← c.self.view_is) (λ h. absurd (let x = h in cc), λ h. absurd (some-empty (items_of c.self.inside.waiting) c.in-Some.ticket out h))
-
-pub returns-in-None-clause-none : goal.returns-in-None-clause-none
-returns-in-None-clause-none g c =
-    let e = none-out c.self.inside.order.members c.self.inside.waiting c.self.invariant (c.in-None.ensures.none.0 refl) in
-    rw (← c.self.view_is) (λ _. e, λ _. refl)
+pub returns-clause-none : goal.returns-clause-none
+returns-clause-none g c =
+    let o = c.self.inside in
+    let all = least-kept o.kept.items c.oldest.result o.table.items (record { least = c.oldest.ensures.least; none = c.oldest.ensures.none }) in
+    let is = c.oldest_with.ensures ∙ ap (fold (λ o k. lesser o k.ticket) c.oldest.result) c.as_slice.ensures.value in
+    rw (← c.self.view_is) (subst (λ r. IsLeast r (with_kept o.kept.items o.table.items)) (sym is) all).none
