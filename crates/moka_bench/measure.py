@@ -1,9 +1,10 @@
 #!/usr/bin/env python3
-"""Times the library of this crate: measure.py [WORKLOAD ..] [--reps N] [--synchronous] [--memory]
+"""Times the library of this crate: measure.py [WORKLOAD ..] [--reps N] [--config lru|lfu|ttl|tti] [--synchronous] [--memory]
 
 `rt lib` makes the library first. Each workload is timed in processor time, as the difference of two calls: its set-up
 alone, and its set-up with the timed part. Printed are the median and the least nanoseconds an operation, and the counts;
-with --synchronous the same of the synchronous cache, in turn with the engine, and the median of the ratios.
+with --synchronous the same of the synchronous cache, in turn with the engine, and the median of the ratios. `lfu` is the
+policy TinyLFU; `ttl` and `tti` are LRU with an hour to live, or to idle.
 """
 import argparse
 import array
@@ -22,6 +23,9 @@ HERE = os.path.dirname(os.path.abspath(__file__))
 NONE = 2**64 - 1
 GET, PUT, READ_THROUGH, RUN, GETS_AND_RUNS, PUTS_AND_RUNS = 1, 2, 3, 5, 7, 8
 BATCH = 384
+# Time to live, time to idle and policy of each configuration.
+HOUR = 3600 * 10**9
+CONFIGS = {"lru": (NONE, NONE, 1), "lfu": (NONE, NONE, 0), "ttl": (HOUR, NONE, 1), "tti": (NONE, HOUR, 1)}
 
 
 def load(folder):
@@ -77,9 +81,9 @@ def workload(name):
     sys.exit("there is no workload " + name)
 
 
-def call(run, capacity, automatic, stream, cache=0):
+def call(run, capacity, automatic, stream, cache=0, config="lru"):
     """Processor seconds and counts of one call."""
-    config = struct.pack("<16Q", capacity, NONE, NONE, 1, 0, automatic, *[0] * 4, cache, *[0] * 5)
+    config = struct.pack("<16Q", capacity, *CONFIGS[config], 0, automatic, *[0] * 4, cache, *[0] * 5)
     counts = ctypes.create_string_buffer(64)
     begun = time.process_time()
     answer = run(config, len(config), stream, len(stream), counts, 64)
@@ -89,14 +93,14 @@ def call(run, capacity, automatic, stream, cache=0):
     return spent, struct.unpack("<8Q", counts.raw)[:5]
 
 
-def times(run, name, reps, caches):
+def times(run, name, reps, caches, config):
     capacity, setup, timed, operations = workload(name)
     automatic = 0 if name.startswith("run_") else 1
     each, found = [[] for _ in caches], [None for _ in caches]
     for _ in range(reps):
         for cache in caches:
-            before, _ = call(run, capacity, automatic, setup, cache)
-            both, found[cache] = call(run, capacity, automatic, setup + timed, cache)
+            before, _ = call(run, capacity, automatic, setup, cache, config)
+            both, found[cache] = call(run, capacity, automatic, setup + timed, cache, config)
             each[cache].append((both - before) / operations * 1e9)
     for cache in caches:
         counts = "hits %d, misses %d, inserts %d, sum %d, entries %d" % found[cache]
@@ -113,12 +117,12 @@ def resident(which):
         return next(int(line.split()[1]) for line in status if line.startswith(which))
 
 
-def memory(run):
+def memory(run, config):
     """Prints the bytes of resident memory an entry, at the peak."""
     entries = 1000000
     stream = phase(PUT, range(entries)) + phase(RUN, [], BATCH)
     before = resident("VmRSS")
-    call(run, entries, 1, stream)
+    call(run, entries, 1, stream, 0, config)
     print("%d bytes an entry" % ((resident("VmHWM") - before) * 1024 / entries))
 
 
@@ -126,6 +130,7 @@ def main():
     ask = argparse.ArgumentParser(description=__doc__, formatter_class=argparse.RawDescriptionHelpFormatter)
     ask.add_argument("workloads", nargs="*", default=["hit-10k", "mix-10k", "mix-100k", "churn-100k", "run_reads-100k", "run_writes-100k"])
     ask.add_argument("--reps", type=int, default=5)
+    ask.add_argument("--config", choices=CONFIGS, default="lru")
     ask.add_argument("--synchronous", action="store_true")
     ask.add_argument("--memory", action="store_true")
     given = ask.parse_args()
@@ -133,9 +138,9 @@ def main():
         run = load(folder)
         print("load average %.1f" % os.getloadavg()[0])
         if given.memory:
-            return memory(run)
+            return memory(run, given.config)
         for name in given.workloads:
-            times(run, name, given.reps, (0, 1) if given.synchronous else (0,))
+            times(run, name, given.reps, (0, 1) if given.synchronous else (0,), given.config)
 
 
 if __name__ == "__main__":

@@ -7,9 +7,9 @@
 
    config: 16 words.
      0  capacity            2^64-1: none
-     1  time to live        2^64-1: none; no other is served
-     2  time to idle        2^64-1: none; no other is served
-     3  policy              1: LRU; no other is served
+     1  time to live        in nanoseconds; 2^64-1: none
+     2  time to idle        in nanoseconds; 2^64-1: none
+     3  policy              0: TinyLFU, 1: LRU
      4  expiry              0: none; no other is served
      5  automatic runs      1: a run of maintenance is made before a get's read is queued and before a send, if 64 reads or
                             operations are queued or 300 milliseconds have passed since the last such run; else: none

@@ -14,6 +14,12 @@ const COUNTS_LENGTH: usize = 64;
 #[derive(Clone, Copy)]
 pub struct Config {
     pub max_capacity: Option<u64>,
+    /// How long an entry stays after it was inserted, in nanoseconds.
+    pub time_to_live: Option<u64>,
+    /// How long an entry stays after it was inserted or read, in nanoseconds.
+    pub time_to_idle: Option<u64>,
+    /// Whether the policy is LRU, and else TinyLFU.
+    pub is_lru: bool,
     pub initial_capacity: usize,
     /// Whether the cache starts runs by itself.
     pub is_automatic: bool,
@@ -29,10 +35,10 @@ impl Config {
     /// The settings that these bytes say.
     pub fn read(bytes: &[u8]) -> Config {
         Config {
-            max_capacity: match word(bytes, 0) {
-                NONE => None,
-                capacity => Some(capacity),
-            },
+            max_capacity: optional(bytes, 0),
+            time_to_live: optional(bytes, 1),
+            time_to_idle: optional(bytes, 2),
+            is_lru: word(bytes, 3) == 1,
             initial_capacity: word(bytes, 6) as usize,
             is_automatic: word(bytes, 5) == 1,
             is_sip: word(bytes, 7) == 1,
@@ -42,19 +48,25 @@ impl Config {
     }
 }
 
-/// Whether lengths and settings are served: LRU and numbers, with no expiry and no times.
+/// Whether lengths and settings are served: numbers, with no expiry of their own.
 pub fn is_served(bytes: &[u8], counts: usize) -> bool
     ensures { result ≡ is_served bytes.now counts }
 {
     bytes.len() == CONFIG_LENGTH
         && counts == COUNTS_LENGTH
-        && word(bytes, 1) == NONE
-        && word(bytes, 2) == NONE
-        && word(bytes, 3) == 1
+        && word(bytes, 3) <= 1
         && word(bytes, 4) == 0
         && word(bytes, 7) <= 1
         && word(bytes, 8) == 0
         && word(bytes, 10) <= 1
+}
+
+// The number at an index, if it does not stand for none.
+fn optional(bytes: &[u8], index: usize) -> Option<u64> {
+    match word(bytes, index) {
+        NONE => None,
+        number => Some(number),
+    }
 }
 
 // The word at an index, 0 past the end.

@@ -121,18 +121,20 @@ mod tests {
         Ok(bytes)
     }
 
-    /// The answer for a capacity and a stream, with the first five counts.
+    // A configuration without times, under LRU.
+    fn plain(capacity: u64, hasher: u64, cache: u64) -> [u64; 16] {
+        [
+            capacity, NONE, NONE, 1, 0, 1, 0, hasher, 0, 1, cache, 0, 0, 0, 0, 0,
+        ]
+    }
+
+    /// The answer for a configuration and a stream, with the first five counts.
     fn counted(
         alloc: Global,
-        capacity: u64,
-        hasher: u64,
-        cache: u64,
+        config: &[u64],
         stream: &[u64],
     ) -> Result<(u64, [u64; 5]), AllocError> {
-        let config = [
-            capacity, NONE, NONE, 1, 0, 1, 0, hasher, 0, 1, cache, 0, 0, 0, 0, 0,
-        ];
-        let config = bytes(alloc, &config)?;
+        let config = bytes(alloc, config)?;
         let stream = bytes(alloc, stream)?;
         let mut counts = [7; 64];
         let answer = moka_bench_run(alloc, &config, &stream, &mut counts);
@@ -151,9 +153,41 @@ mod tests {
             3, 4, 0, 0, 10, 20, 10, 30, 5, 0, 384, 0, 7, 3, 2, 0, 20, 10, 30, 6, 0, 5, 0,
         ];
         for (hasher, cache) in [(0, 0), (1, 0), (0, 1), (1, 1)] {
-            let (answer, counts) = counted(rt.alloc(), 2, hasher, cache, &stream)?;
+            let (answer, counts) = counted(rt.alloc(), &plain(2, hasher, cache), &stream)?;
             assert_eq!(rt; answer, 0);
             assert_eq!(rt; counts, [3, 4, 3, 63, 2]);
+        }
+        Ok(())
+    }
+
+    #[test]
+    fn goes_by_times_and_policy(rt: HostRuntime) -> Result<(), Fail> {
+        // Two keys are put, one is read, and both are looked for: where reads count, what was read is still there.
+        let stream = [
+            2, 2, 0, 0, 10, 20, 5, 0, 384, 0, 6, 0, 5, 0, 1, 1, 0, 0, 10, 6, 0, 5, 0, 1, 2, 0, 0,
+            10, 20, 5, 0, 384, 0,
+        ];
+        for cache in [0, 1] {
+            let mut lives = plain(NONE, 0, cache);
+            lives[1] = 9;
+            let (_, counts) = counted(rt.alloc(), &lives, &stream)?;
+            assert_eq!(rt; counts, [1, 2, 2, 11, 0]);
+            let mut idles = plain(NONE, 0, cache);
+            idles[2] = 9;
+            let (_, counts) = counted(rt.alloc(), &idles, &stream)?;
+            assert_eq!(rt; counts, [2, 1, 2, 22, 1]);
+        }
+        // A key that was asked for stays, and one that was not leaves for none: LRU evicts the older of the two.
+        let stream = [
+            3, 4, 0, 0, 10, 10, 10, 10, 5, 0, 384, 0, 2, 1, 0, 0, 20, 5, 0, 384, 0, 1, 2, 0, 0, 10,
+            20,
+        ];
+        for (policy, found) in [(0, 4), (1, 4)] {
+            let mut config = plain(1, 0, 0);
+            config[3] = policy;
+            let (_, counts) = counted(rt.alloc(), &config, &stream)?;
+            let sum = if policy == 0 { 44 } else { 54 };
+            assert_eq!(rt; counts, [found, 2, 2, sum, 1]);
         }
         Ok(())
     }
@@ -163,11 +197,11 @@ mod tests {
         let sevens = u64::from_le_bytes([7; 8]);
         let malformed: [&[u64]; 3] = [&[4, 0, 0, 0], &[1, 2, 0, 0, 5], &[1, 0, 0]];
         for stream in malformed {
-            let (answer, counts) = counted(rt.alloc(), NONE, 0, 0, stream)?;
+            let (answer, counts) = counted(rt.alloc(), &plain(NONE, 0, 0), stream)?;
             assert_eq!(rt; (answer, counts), (3, [sevens; 5]));
         }
         for (hasher, cache) in [(2, 0), (0, 2)] {
-            let (answer, counts) = counted(rt.alloc(), NONE, hasher, cache, &[])?;
+            let (answer, counts) = counted(rt.alloc(), &plain(NONE, hasher, cache), &[])?;
             assert_eq!(rt; (answer, counts), (1, [sevens; 5]));
         }
         Ok(())
@@ -183,7 +217,7 @@ mod tests {
             stream.push(key)?;
         }
         for cache in [0, 1] {
-            let (answer, counts) = counted(rt.alloc(), NONE, 0, cache, &stream)?;
+            let (answer, counts) = counted(rt.alloc(), &plain(NONE, 0, cache), &stream)?;
             assert_eq!(rt; answer, 0);
             assert_eq!(rt; counts, [0, 0, 1000, 0, 1000]);
         }

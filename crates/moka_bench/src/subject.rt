@@ -13,6 +13,7 @@ use moka_parts::notification::NoListener;
 use moka_parts::policy::{EvictionPolicy, ExpirationPolicy, Instant, NoExpiry};
 use std::alloc::Global;
 use std::hash::BuildHasher;
+use std::time::Duration;
 
 /// How many members a step of a run turns over.
 pub const BATCH: u32 = 384;
@@ -180,6 +181,11 @@ fn engine_of<S: BuildHasher + Drop>(
 ) -> Result<Engine<S>, OutOfMemory>
     ensures { IfOk result (λ engine. engine.state.outstanding ≡ finite.empty) }
 {
+    let policy = if config.is_lru {
+        EvictionPolicy::lru()
+    } else {
+        EvictionPolicy::tiny_lfu()
+    };
     let mut engine = BaseCache::new(
         alloc,
         None,
@@ -187,9 +193,9 @@ fn engine_of<S: BuildHasher + Drop>(
         Some(config.initial_capacity),
         hasher,
         None,
-        EvictionPolicy::lru(),
+        policy,
         None,
-        ExpirationPolicy::default(),
+        expiration_of(config),
         HousekeeperConfig::default(),
         false,
         Instant(0),
@@ -199,4 +205,16 @@ fn engine_of<S: BuildHasher + Drop>(
         engine.disable_auto_run();
     }
     Ok(engine)
+}
+
+// When entries expire.
+fn expiration_of(config: Config) -> ExpirationPolicy<NoExpiry> {
+    let mut expiration = ExpirationPolicy::default();
+    if let Some(nanoseconds) = config.time_to_live {
+        expiration.set_time_to_live(Duration::from_nanos(nanoseconds));
+    }
+    if let Some(nanoseconds) = config.time_to_idle {
+        expiration.set_time_to_idle(Duration::from_nanos(nanoseconds));
+    }
+    expiration
 }
