@@ -86,6 +86,7 @@ impl<T: Subject> Driver<T> {
     }
 
     /// Gets a key. Whether it was found.
+    #[inline(always)]
     pub fn get(&mut self, key: u64) -> bool {
         match self.subject.get(key, Instant(self.now)) {
             Ok(Some(value)) => {

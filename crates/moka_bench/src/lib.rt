@@ -177,17 +177,16 @@ mod tests {
             let (_, counts) = counted(rt.alloc(), &idles, &stream)?;
             assert_eq!(rt; counts, [2, 1, 2, 22, 1]);
         }
-        // A key that was asked for stays, and one that was not leaves for none: LRU evicts the older of the two.
+        // There is room for one: TinyLFU keeps the key that was asked for four times, LRU the newer one.
         let stream = [
             3, 4, 0, 0, 10, 10, 10, 10, 5, 0, 384, 0, 2, 1, 0, 0, 20, 5, 0, 384, 0, 1, 2, 0, 0, 10,
             20,
         ];
-        for (policy, found) in [(0, 4), (1, 4)] {
+        for (policy, kept) in [(0, 11), (1, 21)] {
             let mut config = plain(1, 0, 0);
             config[3] = policy;
             let (_, counts) = counted(rt.alloc(), &config, &stream)?;
-            let sum = if policy == 0 { 44 } else { 54 };
-            assert_eq!(rt; counts, [found, 2, 2, sum, 1]);
+            assert_eq!(rt; counts, [4, 2, 2, 33 + kept, 1]);
         }
         Ok(())
     }

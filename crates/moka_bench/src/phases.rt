@@ -63,6 +63,7 @@ fn make<T: Subject>(
     true
 }
 
+#[inline(never)]
 fn get_all<T: Subject>(driver: &mut Driver<T>, keys: &[[u8; 8]]) {
     for key in keys {
         driver.step();
@@ -78,6 +79,7 @@ fn put_all<T: Subject>(driver: &mut Driver<T>, keys: &[[u8; 8]], may_run: bool) 
 }
 
 // Gets each key, and puts what is missing at the same moment.
+#[inline(never)]
 fn read_through<T: Subject>(driver: &mut Driver<T>, keys: &[[u8; 8]]) {
     for key in keys {
         driver.step();

@@ -76,6 +76,7 @@ impl<S: BuildHasher> Ticketed<S> {
 }
 
 impl<S: BuildHasher> Subject for Ticketed<S> {
+    #[inline(always)]
     fn get(&mut self, key: u64, now: Instant) -> Result<Option<u64>, OutOfMemory> {
         let hash = self.engine.hash(&key);
         let mut clock = CLOCK;
@@ -147,6 +148,7 @@ impl<S: BuildHasher> Synchronous<S> {
 }
 
 impl<S: BuildHasher> Subject for Synchronous<S> {
+    #[inline(always)]
     fn get(&mut self, key: u64, now: Instant) -> Result<Option<u64>, OutOfMemory> {
         let mut clock = CLOCK;
         self.cache.get(&key, now, &mut clock)

@@ -26,7 +26,7 @@ use Rattle.moka_store.proofs.Gets.{after_insert, after_remove, get-inserted, get
 use Rattle.moka_maintenance.specs.declared.queued.PlacedWrite.{PlacedWrite}
 use Rattle.moka_maintenance.specs.declared.queued.QueuedWrite.{QueuedWrite}
 use Rattle.moka_maintenance.specs.declared.queued.QueuedRead.{QueuedRead}
-use Rattle.moka_maintenance.specs.Queued.{IsReadAt, handed_of, writes_of}
+use Rattle.moka_maintenance.specs.Queued.{IsReadAt, handed_of, read_of, writes_of}
 use Rattle.moka_inner.specs.Inner.{IsInner, AreLocated, HasUse}
 use Rattle.moka_inner.specs.Interior.{IsLocated, IsReadLocated, operations_of}
 use Rattle.moka_maintenance.proofs.Fewer.{len-fewer}
@@ -69,7 +69,7 @@ module _ (places : FinMap nat_cmp ℕ) (n place : ℕ) where
       | inr other ↦ placed-inserted (number_of x.operation) x.place (h.handed u x other.1)
     ];
     sent = λ q at. placed-inserted (number_of q.write.operation) q.write.place (h.sent q at);
-    seen = λ q at. read_placed-inserted q.place q.read (h.seen q at);
+    seen = λ q at. read_placed-inserted q.place (read_of q) (h.seen q at);
   }
 
 -- one more operation, of a number that has its row at the place
@@ -96,6 +96,14 @@ read_located-less places less n place (Miss hash) fewer h = tt
 pub read_at : (places : FinMap nat_cmp ℕ) (n place : ℕ) (read : ReadOperation) → IsReadLocated places n place read → IsReadAt places place read
 read_at places n place (Hit number hash renewed) h = h.at
 read_at places n place (Miss hash) h = tt
+
+-- a place in 32 bits will do, since each row has such a one
+pub read_located-narrow : (places : FinMap nat_cmp ℕ) (n place short : ℕ) (read : ReadOperation) → ((m p : ℕ) → get places m ≡ Some p → p < 2 ^ 32) → (place < 2 ^ 32 → short ≡ place) → IsReadLocated places n place read → IsReadLocated places n short read
+read_located-narrow places n place short (Hit number hash renewed) narrow same h = record {
+  given = h.given;
+  at = λ p is. h.at p is ∙ sym (same (subst (λ q. q < 2 ^ 32) (h.at p is) (narrow number p is)));
+}
+read_located-narrow places n place short (Miss hash) narrow same h = tt
 
 -- ---- the tickets of what waits
 
@@ -248,7 +256,7 @@ module _ {K V S : Type 0} (kept after : Kept K V S) (out handed : Pending Placed
           given = λ k p there. h.located.given k p (fewer k p there);
           handed = λ u w there. located-less kept.places after.places n (number_of w.operation) w.place fewer (h.located.handed u w there);
           sent = λ q there. located-less kept.places after.places n (number_of q.write.operation) q.write.place fewer (h.located.sent q (in_writes q there));
-          seen = λ q there. read_located-less kept.places after.places n q.place q.read fewer (h.located.seen q (in_reads q there));
+          seen = λ q there. read_located-less kept.places after.places n q.place (read_of q) fewer (h.located.seen q (in_reads q there));
         };
         used = used;
         ticketed = h.ticketed;
@@ -313,7 +321,7 @@ module _ {K V S : Type 0} (kept : Kept K V S) (out left : Pending PlacedWrite) (
           rw (items, map_values-remove, map-append handed_of writes.items (last ∷ [])) ((waits_sent (operations_of out.items) (writes_of writes.items) ticket w.operation found).forth o h)
 
   -- a read is queued where there is room
-  pub inner-read : (q : QueuedRead) (result : Result (Unit {0}) QueuedRead) (after : Buffer QueuedRead) → IsReadLocated kept.places n q.place q.read → (IsOk result → length reads.items < reads.capacity) → OnOk result (after ≡ buffer (reads.items ++ q ∷ []) reads.capacity) → IfErr result (λ x. (x ≡ q) × (after ≡ reads)) → IsInner kept out writes after t n
+  pub inner-read : (q : QueuedRead) (result : Result (Unit {0}) QueuedRead) (after : Buffer QueuedRead) → IsReadLocated kept.places n q.place (read_of q) → (IsOk result → length reads.items < reads.capacity) → OnOk result (after ≡ buffer (reads.items ++ q ∷ []) reads.capacity) → IfErr result (λ x. (x ≡ q) × (after ≡ reads)) → IsInner kept out writes after t n
   inner-read q (Err x) after there fits ok err = rw (err.1) h
   inner-read q (Ok _) after there fits ok err = rw ok (record {
     located = record {
@@ -322,7 +330,7 @@ module _ {K V S : Type 0} (kept : Kept K V S) (out left : Pending PlacedWrite) (
       sent = h.located.sent;
       seen = λ r at. elim (Contains-push_cases reads.items q r at) [
         | inl old ↦ h.located.seen r old
-        | inr new ↦ subst (λ (r : QueuedRead). IsReadLocated kept.places n r.place r.read) new there
+        | inr new ↦ subst (λ (r : QueuedRead). IsReadLocated kept.places n r.place (read_of r)) new there
       ];
     };
     used = h.used;

@@ -12,7 +12,7 @@ use Rattle.moka_store.specs.Store.{Kept}
 use Rattle.moka_maintenance.specs.declared.queued.PlacedWrite.{PlacedWrite}
 use Rattle.moka_maintenance.specs.declared.queued.QueuedWrite.{QueuedWrite}
 use Rattle.moka_maintenance.specs.declared.queued.QueuedRead.{QueuedRead}
-use Rattle.moka_maintenance.specs.Queued.{writes_of}
+use Rattle.moka_maintenance.specs.Queued.{read_of, writes_of}
 use Rattle.moka_inner.specs.Interior.{IsLocated, IsReadLocated, operations_of}
 
 -- each row's number was given out, and what waits leads to its record's row
@@ -20,7 +20,7 @@ pub record AreLocated (places : FinMap nat_cmp ℕ) (next_number : ℕ) (items :
   pub given : (n place : ℕ) → get places n ≡ Some place → n < next_number
   pub handed : (t : ℕ) (w : PlacedWrite) → get items t ≡ Some w → IsLocated places next_number (number_of w.operation) w.place
   pub sent : (q : QueuedWrite) → Contains writes q → IsLocated places next_number (number_of q.write.operation) q.write.place
-  pub seen : (q : QueuedRead) → Contains reads q → IsReadLocated places next_number q.place q.read
+  pub seen : (q : QueuedRead) → Contains reads q → IsReadLocated places next_number q.place (read_of q)
 
 -- a number that has a row has its record in the map, or its removal waits
 abbrev pub HasUse : {K V S : Type 0} → Kept K V S → FinMap nat_cmp PlacedWrite → List QueuedWrite → Type 0

@@ -49,6 +49,9 @@ mod tested;
 // How many operations and how many reads can be queued. moka: `WRITE_LOG_SIZE`, `READ_LOG_SIZE`.
 const QUEUE_SIZE: usize = 384;
 
+// A row's place has 32 bits.
+const MOST_ROWS: usize = 1 << 32;
+
 /// What an inner part keeps beside its records, and for how many of them it has room at first.
 #[derive(Clone, Copy)]
 pub struct Layout {
@@ -371,7 +374,9 @@ impl<K: Eq + Hash, V, S: BuildHasher> Inner<K, V, S> {
         requires { IsReadLocated self.old.kept.places self.old.next_number place read }
         ensures { self.new ≡ record self.old { reads = if nat_lt (length self.old.reads) queue_length then self.old.reads ++ read ∷ [] else self.old.reads } }
     {
-        let _full = self.reads.try_push_back(QueuedRead { place, read });
+        self.store.invariant_holds();
+        let place = (place % MOST_ROWS) as u32;
+        let _full = self.reads.try_push_back(QueuedRead::new(read, place));
     }
 
     /// Queues a hit of the record of this number, which was the key's and may have left the map since. Its place is looked
@@ -393,6 +398,7 @@ impl<K: Eq + Hash, V, S: BuildHasher> Inner<K, V, S> {
     }
 
     /// Applies all queued reads, and then all queued writes in order. Then the sketch comes on where it is due.
+    #[inline(always)]
     pub fn apply_queues<L: Listener<K, V>>(
         &mut self,
         notifier: &mut RemovalNotifier<L>,
@@ -415,6 +421,7 @@ impl<K: Eq + Hash, V, S: BuildHasher> Inner<K, V, S> {
 
     /// Removes what the tests find and what registered predicates cover, in passes of at most a batch of turns a step, until
     /// the limit is up.
+    #[inline(always)]
     pub fn make_passes<L: Listener<K, V>, P: PredicateFn<K, V>, C: Clock>(
         &mut self,
         notifier: &mut RemovalNotifier<L>,

@@ -11,7 +11,7 @@ use Rattle.moka_parts.specs.Writes.{after_write, after_writes, left_by_write, le
 use Rattle.moka_store.specs.Store.{Kept}
 use Rattle.moka_maintenance.specs.declared.queued.QueuedRead.{QueuedRead}
 use Rattle.moka_maintenance.specs.declared.queued.QueuedWrite.{QueuedWrite}
-use Rattle.moka_maintenance.specs.Queued.{handed_of, reads_of, writes_of}
+use Rattle.moka_maintenance.specs.Queued.{handed_of, read_of, reads_of, writes_of}
 use Rattle.moka_maintenance.specs.Queues.{AreApplied, LeavesNoRowBy}
 use Rattle.moka_maintenance.specs.Steps.{Told, AddsNoPlace}
 use Rattle.moka_maintenance.proofs.Told.{told-on}
@@ -19,7 +19,7 @@ use Rattle.moka_maintenance.proofs.Told.{told-on}
 -- reads and then others
 pub reads-both : {K V : Type 0} (c : Contents K V) (xs ys : List QueuedRead) → after_reads c (reads_of (xs ++ ys)) ≡ after_reads (after_reads c (reads_of xs)) (reads_of ys)
 reads-both c [] ys = refl
-reads-both c (x ∷ xs) ys = reads-both (after_read c x.read) xs ys
+reads-both c (x ∷ xs) ys = reads-both (after_read c (read_of x)) xs ys
 
 writes-both : (xs ys : List QueuedWrite) → writes_of (xs ++ ys) ≡ writes_of xs ++ writes_of ys
 writes-both [] ys = refl

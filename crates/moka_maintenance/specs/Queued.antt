@@ -1,11 +1,13 @@
 -- Operations and reads that wait, with the places of their records' rows.
-use Rattle.std.specs.Prelude.{◌≡◌, ℕ, true, List, Contains, map, Some}
+use Rattle.std.specs.Prelude.{◌≡◌, ℕ, true, false, List, Contains, map, Some}
 use Rattle.std.specs.FinMap.{FinMap, get}
 use Rattle.std.specs.Ordering.{nat_cmp}
 use Rattle.moka_parts.specs.declared.records.ReadOperation.{ReadOperation}
 use Rattle.moka_parts.specs.declared.records.ReadOperation.TheVariants.{Hit, Miss}
 use Rattle.moka_parts.specs.declared.records.Ticketed.{Ticketed}
 use Rattle.moka_maintenance.specs.declared.queued.QueuedWrite.{QueuedWrite}
+use Rattle.moka_maintenance.specs.declared.queued.Outcome.{Outcome}
+use Rattle.moka_maintenance.specs.declared.queued.Outcome.TheVariants as O
 use Rattle.moka_maintenance.specs.declared.queued.QueuedRead.{QueuedRead}
 
 -- the operation under its ticket, without the place
@@ -16,9 +18,19 @@ handed_of q = record { ticket = q.ticket; operation = q.write.operation }
 abbrev pub writes_of : List QueuedWrite → List Ticketed
 writes_of writes = map handed_of writes
 
+-- the read of this outcome
+abbrev pub read_with : Outcome → ℕ → ℕ → ReadOperation
+read_with O.Hit number hash = Hit number hash false
+read_with O.Renewal number hash = Hit number hash true
+read_with O.Miss number hash = Miss hash
+
+-- the read without the place
+abbrev pub read_of : QueuedRead → ReadOperation
+read_of q = read_with q.outcome q.number q.hash
+
 -- the queued reads
 abbrev pub reads_of : List QueuedRead → List ReadOperation
-reads_of reads = map (λ q. q.read) reads
+reads_of reads = map read_of reads
 
 -- if the number has a row, that is at the place
 abbrev pub IsAt : FinMap nat_cmp ℕ → ℕ → ℕ → Type 0
@@ -35,4 +47,4 @@ IsRenewed read n = (hash : ℕ) × (read ≡ Hit n hash true)
 
 -- one of the reads is
 abbrev pub IsRenewedBy : List QueuedRead → ℕ → Type 0
-IsRenewedBy reads n = (q : QueuedRead) × Contains reads q × IsRenewed q.read n
+IsRenewedBy reads n = (q : QueuedRead) × Contains reads q × IsRenewed (read_of q) n

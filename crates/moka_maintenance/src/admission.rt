@@ -13,7 +13,7 @@ ghost use Rattle.moka_parts.specs.Writes.{entered, rejected, left_by_rejection};
 ghost use Rattle.moka_store.specs.Store.{IsPlaced, IsHandle, cursor_past};
 ghost use Rattle.moka_maintenance.specs.declared.queued.QueuedRead.{QueuedRead};
 ghost use Rattle.moka_maintenance.specs.declared.queued.QueuedWrite.{QueuedWrite};
-ghost use Rattle.moka_maintenance.specs.Queued.{IsAt, IsReadAt, IsRenewed, IsRenewedBy, reads_of, writes_of};
+ghost use Rattle.moka_maintenance.specs.Queued.{IsAt, IsReadAt, IsRenewed, IsRenewedBy, read_of, reads_of, writes_of};
 ghost use Rattle.moka_maintenance.specs.Handles.{IsOutside};
 ghost use Rattle.moka_maintenance.specs.Queues.{AppliesUpsert, AppliesWrite, AppliesWrites, IsCompared, LeavesNoRowAfter};
 ghost use Rattle.moka_maintenance.specs.Steps.{contents_in, contents_with, Told};
@@ -23,14 +23,17 @@ ghost use Rattle.moka_maintenance.specs.Upkeep.{Upkeep};
 use crate::bounds::Bounds;
 use crate::choice::{choose, expel_front};
 use crate::expel::expel;
-use crate::queued::{PlacedWrite, QueuedRead, QueuedWrite};
+use crate::queued::{Outcome, PlacedWrite, QueuedRead, QueuedWrite};
 use circular_buffer::HeapCircularBuffer;
 use moka_parts::notification::{Listener, RemovalCause, RemovalNotifier};
 use moka_parts::policy::EvictionPolicy;
-use moka_parts::records::{Operation, ReadOperation};
+use moka_parts::records::Operation;
 use moka_sketch::frequency_sketch::FrequencySketch;
 use moka_store::{Handle, Store};
 use std::hash::{BuildHasher, Hash};
+
+// How many reads have their nodes read before they are applied.
+const READS_AHEAD: usize = 16;
 
 // An upsert, with the row of its record.
 #[derive(Clone, Copy)]
@@ -47,25 +50,62 @@ pub fn apply_reads<K: Eq + Hash, V, S: BuildHasher>(
     sketch: &mut FrequencySketch,
     reads: &mut HeapCircularBuffer<QueuedRead>,
 )
-    requires { (q : QueuedRead) → Contains reads.old.items q → IsReadAt store.old.places q.place q.read }
+    requires { (q : QueuedRead) → Contains reads.old.items q → IsReadAt store.old.places q.place (read_of q) }
     ensures applied { contents_with sketch.new store.new ≡ after_reads (contents_with sketch.old store.old) (reads_of reads.old.items) }
     ensures served { Serves (IsRenewedBy reads.old.items) store.old store.new }
     ensures reads { reads.new ≡ buffer [] reads.old.capacity }
 {
     // The queue is gone through where it lies and emptied at once, so that the next reads lie there again.
     let (first, second) = reads.as_slices();
-    apply_each_read(store, sketch, first);
-    apply_each_read(store, sketch, second);
+    apply_all_reads(store, sketch, first);
+    apply_all_reads(store, sketch, second);
     reads.clear();
 }
 
+// Applies these reads, in order: all at once or, where nodes lie far away, a few at a time.
+fn apply_all_reads<K: Eq + Hash, V, S: BuildHasher>(
+    store: &mut Store<K, V, S>,
+    sketch: &mut FrequencySketch,
+    reads: &[QueuedRead],
+)
+    requires { (q : QueuedRead) → Contains reads.now q → IsReadAt store.old.places q.place (read_of q) }
+    ensures applied { contents_with sketch.new store.new ≡ after_reads (contents_with sketch.old store.old) (reads_of reads.now) }
+    ensures served { Serves (IsRenewedBy reads.now) store.old store.new }
+{
+    let few = if store.is_far() {
+        READS_AHEAD
+    } else {
+        usize::MAX
+    };
+    let mut rest = reads;
+    while !rest.is_empty() {
+        let (some, behind) = rest.split_at(few.min(rest.len()));
+        read_nodes(store, some);
+        apply_each_read(store, sketch, some);
+        rest = behind;
+    }
+}
+
+// Reads the nodes that these reads move, where they lie far away, so that their lines of memory are fetched side by side.
+fn read_nodes<K: Eq + Hash, V, S: BuildHasher>(store: &mut Store<K, V, S>, reads: &[QueuedRead])
+    ensures { store.new ≡ store.old }
+{
+    if !store.is_far() {
+        return;
+    }
+    for read in reads {
+        store.read_node(read.place as usize);
+    }
+}
+
 // Applies these reads, in order.
+#[inline(never)]
 fn apply_each_read<K: Eq + Hash, V, S: BuildHasher>(
     store: &mut Store<K, V, S>,
     sketch: &mut FrequencySketch,
     reads: &[QueuedRead],
 )
-    requires { (q : QueuedRead) → Contains reads.now q → IsReadAt store.old.places q.place q.read }
+    requires { (q : QueuedRead) → Contains reads.now q → IsReadAt store.old.places q.place (read_of q) }
     ensures applied { contents_with sketch.new store.new ≡ after_reads (contents_with sketch.old store.old) (reads_of reads.now) }
     ensures served { Serves (IsRenewedBy reads.now) store.old store.new }
 {
@@ -83,24 +123,20 @@ fn apply_read<K: Eq + Hash, V, S: BuildHasher>(
     sketch: &mut FrequencySketch,
     queued: QueuedRead,
 )
-    requires { IsReadAt store.old.places queued.place queued.read }
-    ensures applied { contents_with sketch.new store.new ≡ after_read (contents_with sketch.old store.old) queued.read }
-    ensures served { Serves (IsRenewed queued.read) store.old store.new }
+    requires { IsReadAt store.old.places queued.place (read_of queued) }
+    ensures applied { contents_with sketch.new store.new ≡ after_read (contents_with sketch.old store.old) (read_of queued) }
+    ensures served { Serves (IsRenewed (read_of queued)) store.old store.new }
 {
-    match queued.read {
-        ReadOperation::Hit {
-            number,
-            hash,
-            renewed,
-        } => {
-            sketch.increment(hash);
-            let place = queued.place;
-            let handle = Handle { number, place };
-            if store.has_row(handle) && store.find(handle).is_some() {
-                pass_read(store, handle, renewed);
-            }
-        }
-        ReadOperation::Miss { hash } => sketch.increment(hash),
+    sketch.increment(queued.hash);
+    let is_renewed = match queued.outcome {
+        Outcome::Hit => false,
+        Outcome::Renewal => true,
+        Outcome::Miss => return,
+    };
+    let (number, place) = (queued.number, queued.place as usize);
+    let handle = Handle { number, place };
+    if store.has_row(handle) && store.find(handle).is_some() {
+        pass_read(store, handle, is_renewed);
     }
 }
 

@@ -8,6 +8,7 @@ use std::time::Duration;
 
 mod expiration_policy;
 mod expire_after;
+mod span;
 
 pub use expiration_policy::ExpirationPolicy;
 pub use expire_after::{

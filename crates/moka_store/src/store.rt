@@ -29,6 +29,9 @@ mod hashing;
 mod rows;
 mod tested;
 
+// From so many members on, nodes are read ahead.
+const FAR: usize = 1 << 18;
+
 /// A number that has a row, with the row's place.
 #[derive(Clone, Copy, Debug, PartialEq, Eq)]
 pub struct Handle {
@@ -575,6 +578,7 @@ impl<K: Eq + Hash, V, S: BuildHasher> Store<K, V, S> {
         ensures one_each { IsOneEach K.eq self.now.records }
         ensures records { (n : ℕ) → IsSome (finite.get self.now.records n) → IsSome (finite.get self.now.places n) }
         ensures members { (n : ℕ) → IsSome (counted_of n self.now.access) → IsSome (finite.get self.now.places n) }
+        ensures narrow { (n place : ℕ) → finite.get self.now.places n ≡ Some place → place < 2 ^ 32 }
         ensures distinct { IsDistinct (◌==◌) (numbers_of self.now.access) }
         ensures once { IsDistinct (◌==◌) self.now.written }
         ensures listed { self.now.ordered ≡ true → IsListOf self.now.access self.now.written }
@@ -609,6 +613,36 @@ impl<K: Eq + Hash, V, S: BuildHasher> Store<K, V, S> {
         };
         let (_, place) = self.access.next(membership.access)?;
         Some(changes::member_at(&self.table, place as usize))
+    }
+
+    /// Whether there are so many members that their nodes lie in no near cache of the processor.
+    #[inline(always)]
+    pub fn is_far(&self) -> bool {
+        self.access.len() > FAR
+    }
+
+    /// Reads the node of the member at this place, and the one behind it, so that they are at hand when it moves.
+    /// Nothing changes.
+    #[inline(always)]
+    pub fn read_node(&mut self, place: usize)
+        ensures { self.new ≡ self.old }
+    {
+        self.ahead ^= u64::from(self.slot_behind(place));
+    }
+
+    // The slot behind that of the member at this place.
+    #[inline(always)]
+    fn slot_behind(&self, place: usize) -> u32 {
+        let Some(row) = self.table.row(place) else {
+            return 0;
+        };
+        let Some(membership) = row.membership() else {
+            return 0;
+        };
+        match self.access.next(membership.access) {
+            Some((slot, _)) => slot,
+            None => 0,
+        }
     }
 
     /// Reads the rows of the first members, so that they are at hand when these are removed: their lines of memory are

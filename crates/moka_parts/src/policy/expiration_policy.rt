@@ -1,15 +1,18 @@
 //! The settings of expiry. moka: `policy`.
-ghost use Rattle.std.specs.Prelude.{◌≡◌, Some, None, option_map, option_copied};
+ghost use Rattle.std.specs.Prelude.{◌≡◌, ◌||◌, Some, None, is_some, option_map, option_copied};
 ghost use Rattle.std.specs.Duration.{as_nanos};
+ghost use Rattle.moka_parts.specs.Time.{deadline, has_passed};
 
+use super::Instant;
+use super::span::Span;
 use std::marker::Model;
 use std::time::Duration;
 
 /// When entries expire. moka: `policy::ExpirationPolicy`.
 #[derive(Clone)]
 pub struct ExpirationPolicy<X> {
-    time_to_live: Option<Duration>,
-    time_to_idle: Option<Duration>,
+    time_to_live: Option<Span>,
+    time_to_idle: Option<Span>,
     expiry: Option<X>,
 }
 
@@ -25,15 +28,13 @@ impl<X: Drop> Drop for ExpirationPolicy<X> {
 }
 
 impl<X> Model for ExpirationPolicy<X> {
-    ghost use Rattle.std.specs.Prelude.{option_map};
-    ghost use Rattle.std.specs.Duration.{as_nanos};
     ghost use Rattle.moka_parts.specs.Policy.{Expirations};
 
     ghost Value = { Expirations X };
 
     ghost view = { λ p. record {
-      time_to_live = option_map as_nanos p.time_to_live;
-      time_to_idle = option_map as_nanos p.time_to_idle;
+      time_to_live = p.time_to_live;
+      time_to_idle = p.time_to_idle;
       expiry = p.expiry;
     } };
 }
@@ -59,26 +60,62 @@ impl<X> ExpirationPolicy<X> {
     pub fn time_to_live(&self) -> Option<Duration>
         ensures { option_map as_nanos result ≡ self.now.time_to_live }
     {
-        self.time_to_live
+        match &self.time_to_live {
+            Some(span) => Some(span.duration()),
+            None => None,
+        }
     }
 
     pub fn set_time_to_live(&mut self, duration: Duration)
         ensures { self.new ≡ record self.old { time_to_live = Some (as_nanos duration) } }
     {
-        self.time_to_live = Some(duration);
+        self.time_to_live = Some(Span::new(duration));
     }
 
     /// How long an entry stays after it was written or read.
     pub fn time_to_idle(&self) -> Option<Duration>
         ensures { option_map as_nanos result ≡ self.now.time_to_idle }
     {
-        self.time_to_idle
+        match &self.time_to_idle {
+            Some(span) => Some(span.duration()),
+            None => None,
+        }
     }
 
     pub fn set_time_to_idle(&mut self, duration: Duration)
         ensures { self.new ≡ record self.old { time_to_idle = Some (as_nanos duration) } }
     {
-        self.time_to_idle = Some(duration);
+        self.time_to_idle = Some(Span::new(duration));
+    }
+
+    /// Whether a time to live or a time to idle is set.
+    #[inline(always)]
+    pub(crate) fn is_timed(&self) -> bool
+        ensures { result ≡ (is_some self.now.time_to_live || is_some self.now.time_to_idle) }
+    {
+        self.time_to_live.is_some() | self.time_to_idle.is_some()
+    }
+
+    /// Whether the time to live of an entry written then is over.
+    #[inline(always)]
+    pub(crate) fn is_past_time_to_live(&self, written: Instant, now: Instant) -> bool
+        ensures { result ≡ has_passed (deadline self.now.time_to_live written.0) now.0 }
+    {
+        match &self.time_to_live {
+            Some(span) => span.has_passed(written, now),
+            None => false,
+        }
+    }
+
+    /// Whether the time to idle of an entry read then is over.
+    #[inline(always)]
+    pub(crate) fn is_past_time_to_idle(&self, read: Instant, now: Instant) -> bool
+        ensures { result ≡ has_passed (deadline self.now.time_to_idle read.0) now.0 }
+    {
+        match &self.time_to_idle {
+            Some(span) => span.has_passed(read, now),
+            None => false,
+        }
     }
 
     /// What decides when each entry expires.

@@ -28,6 +28,9 @@ mod tested;
 // How many operations and how many reads can be queued. moka: `WRITE_LOG_SIZE`, `READ_LOG_SIZE`.
 const QUEUE_SIZE: usize = 384;
 
+// A row's place has 32 bits.
+const MOST_ROWS: usize = 1 << 32;
+
 /// What an inner part keeps beside its records, and for how many of them it has room at first.
 #[derive(Clone, Copy)]
 pub struct Layout {
@@ -244,7 +247,9 @@ impl<K: Eq + Hash, V, S: BuildHasher> Inner<K, V, S> {
     #[inline(always)]
     pub fn queue_read(&mut self, place: usize, read: ReadOperation)
     {
-        let _full = self.reads.try_push_back(QueuedRead { place, read });
+        self.store.invariant_holds();
+        let place = (place % MOST_ROWS) as u32;
+        let _full = self.reads.try_push_back(QueuedRead::new(read, place));
     }
 
     /// Queues a hit of the record of this number, which was the key's and may have left the map since. Its place is looked
@@ -264,6 +269,7 @@ impl<K: Eq + Hash, V, S: BuildHasher> Inner<K, V, S> {
     }
 
     /// Applies all queued reads, and then all queued writes in order. Then the sketch comes on where it is due.
+    #[inline(always)]
     pub fn apply_queues<L: Listener<K, V>>(
         &mut self,
         notifier: &mut RemovalNotifier<L>,
@@ -278,6 +284,7 @@ impl<K: Eq + Hash, V, S: BuildHasher> Inner<K, V, S> {
 
     /// Removes what the tests find and what registered predicates cover, in passes of at most a batch of turns a step, until
     /// the limit is up.
+    #[inline(always)]
     pub fn make_passes<L: Listener<K, V>, P: PredicateFn<K, V>, C: Clock>(
         &mut self,
         notifier: &mut RemovalNotifier<L>,

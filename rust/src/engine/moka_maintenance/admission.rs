@@ -7,14 +7,17 @@ use crate::support::prelude::*;
 use crate::engine::moka_maintenance::bounds::Bounds;
 use crate::engine::moka_maintenance::choice::{choose, expel_front};
 use crate::engine::moka_maintenance::expel::expel;
-use crate::engine::moka_maintenance::queued::{PlacedWrite, QueuedRead, QueuedWrite};
+use crate::engine::moka_maintenance::queued::{Outcome, PlacedWrite, QueuedRead, QueuedWrite};
 use crate::support::circular_buffer::HeapCircularBuffer;
 use crate::engine::moka_parts::notification::{Listener, RemovalCause, RemovalNotifier};
 use crate::engine::moka_parts::policy::EvictionPolicy;
-use crate::engine::moka_parts::records::{Operation, ReadOperation};
+use crate::engine::moka_parts::records::Operation;
 use crate::engine::moka_sketch::frequency_sketch::FrequencySketch;
 use crate::engine::moka_store::{Handle, Store};
 use crate::support::hash::{BuildHasher, Hash};
+
+// How many reads have their nodes read before they are applied.
+const READS_AHEAD: usize = 16;
 
 // An upsert, with the row of its record.
 #[derive(Clone, Copy)]
@@ -34,12 +37,45 @@ pub fn apply_reads<K: Eq + Hash, V, S: BuildHasher>(
 {
     // The queue is gone through where it lies and emptied at once, so that the next reads lie there again.
     let (first, second) = reads.as_slices();
-    apply_each_read(store, sketch, first);
-    apply_each_read(store, sketch, second);
+    apply_all_reads(store, sketch, first);
+    apply_all_reads(store, sketch, second);
     reads.clear();
 }
 
+// Applies these reads, in order: all at once or, where nodes lie far away, a few at a time.
+fn apply_all_reads<K: Eq + Hash, V, S: BuildHasher>(
+    store: &mut Store<K, V, S>,
+    sketch: &mut FrequencySketch,
+    reads: &[QueuedRead],
+)
+{
+    let few = if store.is_far() {
+        READS_AHEAD
+    } else {
+        usize::MAX
+    };
+    let mut rest = reads;
+    while !rest.is_empty() {
+        let (some, behind) = rest.split_at(few.min(rest.len()));
+        read_nodes(store, some);
+        apply_each_read(store, sketch, some);
+        rest = behind;
+    }
+}
+
+// Reads the nodes that these reads move, where they lie far away, so that their lines of memory are fetched side by side.
+fn read_nodes<K: Eq + Hash, V, S: BuildHasher>(store: &mut Store<K, V, S>, reads: &[QueuedRead])
+{
+    if !store.is_far() {
+        return;
+    }
+    for read in reads {
+        store.read_node(read.place as usize);
+    }
+}
+
 // Applies these reads, in order.
+#[inline(never)]
 fn apply_each_read<K: Eq + Hash, V, S: BuildHasher>(
     store: &mut Store<K, V, S>,
     sketch: &mut FrequencySketch,
@@ -61,20 +97,16 @@ fn apply_read<K: Eq + Hash, V, S: BuildHasher>(
     queued: QueuedRead,
 )
 {
-    match queued.read {
-        ReadOperation::Hit {
-            number,
-            hash,
-            renewed,
-        } => {
-            sketch.increment(hash);
-            let place = queued.place;
-            let handle = Handle { number, place };
-            if store.has_row(handle) && store.find(handle).is_some() {
-                pass_read(store, handle, renewed);
-            }
-        }
-        ReadOperation::Miss { hash } => sketch.increment(hash),
+    sketch.increment(queued.hash);
+    let is_renewed = match queued.outcome {
+        Outcome::Hit => false,
+        Outcome::Renewal => true,
+        Outcome::Miss => return,
+    };
+    let (number, place) = (queued.number, queued.place as usize);
+    let handle = Handle { number, place };
+    if store.has_row(handle) && store.find(handle).is_some() {
+        pass_read(store, handle, is_renewed);
     }
 }
 

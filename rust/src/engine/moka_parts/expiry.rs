@@ -45,10 +45,7 @@ pub fn has_lapsed<K, V, X>(
 ) -> bool
 {
     // Where nothing can hide a record, one test says so.
-    let is_tested = entry.expires.is_some()
-        | policy.time_to_live().is_some()
-        | policy.time_to_idle().is_some()
-        | valid_after.is_some();
+    let is_tested = entry.expires.is_some() | policy.is_timed() | valid_after.is_some();
     is_tested && fails_a_test(entry, policy, valid_after, now)
 }
 
@@ -62,8 +59,8 @@ fn fails_a_test<K, V, X>(
 ) -> bool
 {
     is_expired_by_per_entry_ttl(entry.expires, now)
-        || is_expired_by_ttl(policy.time_to_live(), entry.written, now)
-        || is_expired_by_tti(policy.time_to_idle(), entry.read, now)
+        || policy.is_past_time_to_live(entry.written, now)
+        || policy.is_past_time_to_idle(entry.read, now)
         || is_invalid_entry(valid_after, entry.written)
         || is_invalid_entry(valid_after, entry.read)
 }

@@ -7,6 +7,7 @@ use crate::support::time::Duration;
 
 mod expiration_policy;
 mod expire_after;
+mod span;
 
 pub use expiration_policy::ExpirationPolicy;
 pub use expire_after::{

@@ -2,7 +2,7 @@ use Rattle.std.proofs.Common.{List, refl, inl, inr, sym, ap, ◌∙◌, subst, C
 use Rattle.moka_parts.specs.Reads.{after_reads}
 use Rattle.moka_store.specs.Store.{Kept}
 use Rattle.moka_maintenance.specs.declared.queued.QueuedRead.{QueuedRead}
-use Rattle.moka_maintenance.specs.Queued.{IsReadAt, reads_of}
+use Rattle.moka_maintenance.specs.Queued.{IsReadAt, read_of, reads_of}
 use Rattle.moka_maintenance.specs.Steps.{contents_with}
 use Rattle.moka_maintenance.proofs.Popped.{first_is, behind_in, first_or_rest, nothing_in, nothing_there}
 use Rattle.moka_maintenance.proofs.Timing.{keeps-none, keeps-on}
@@ -22,7 +22,7 @@ loop-read-preserved g c =
       rest = c.apply_read.ensures.served.rest ∙ ap (λ (k : Kept g.row.K.Denot g.row.V.Denot g.row.S.Denot). record k { access = c.apply_read.new.store.access; timers = c.apply_read.new.store.timers }) inv.rest;
       renewed = λ q n hash there is. elim (inv.renewed q n hash there is) [
         | inl ahead ↦ elim (first_or_rest c.in-Some.read.now q c.in-Some.behind.now (subst (λ (qs : List QueuedRead). Contains qs q) split ahead)) [
-          | inl same ↦ inr (c.apply_read.ensures.served.renewed n (hash, ap (λ (x : QueuedRead). x.read) same ∙ is))
+          | inl same ↦ inr (c.apply_read.ensures.served.renewed n (hash, ap read_of same ∙ is))
           | inr behind ↦ inl behind
         ]
         | inr stands ↦ inr (c.apply_read.ensures.served.kept n stands)
@@ -30,7 +30,7 @@ loop-read-preserved g c =
       kept = λ n stands. c.apply_read.ensures.served.kept n (inv.kept n stands);
       timers = keeps-on c.args.store.now c.loop-read.store c.apply_read.new.store inv.timers c.apply_read.ensures.served.timers;
       located = λ q there.
-          subst (λ (k : Kept g.row.K.Denot g.row.V.Denot g.row.S.Denot). IsReadAt k.places q.place q.read) (sym c.apply_read.ensures.served.rest)
+          subst (λ (k : Kept g.row.K.Denot g.row.V.Denot g.row.S.Denot). IsReadAt k.places q.place (read_of q)) (sym c.apply_read.ensures.served.rest)
           (inv.located q (behind_in c.loop-read.rest.now c.in-Some.read.now q c.in-Some.behind.now split there));
     }
 

@@ -2,13 +2,15 @@
 //! The settings of expiry. moka: `policy`.
 use crate::support::prelude::*;
 
+use super::Instant;
+use super::span::Span;
 use crate::support::time::Duration;
 
 /// When entries expire. moka: `policy::ExpirationPolicy`.
 #[derive(Clone)]
 pub struct ExpirationPolicy<X> {
-    time_to_live: Option<Duration>,
-    time_to_idle: Option<Duration>,
+    time_to_live: Option<Span>,
+    time_to_idle: Option<Span>,
     expiry: Option<X>,
 }
 
@@ -30,23 +32,56 @@ impl<X> ExpirationPolicy<X> {
     /// How long an entry stays after it was written.
     pub fn time_to_live(&self) -> Option<Duration>
     {
-        self.time_to_live
+        match &self.time_to_live {
+            Some(span) => Some(span.duration()),
+            None => None,
+        }
     }
 
     pub fn set_time_to_live(&mut self, duration: Duration)
     {
-        self.time_to_live = Some(duration);
+        self.time_to_live = Some(Span::new(duration));
     }
 
     /// How long an entry stays after it was written or read.
     pub fn time_to_idle(&self) -> Option<Duration>
     {
-        self.time_to_idle
+        match &self.time_to_idle {
+            Some(span) => Some(span.duration()),
+            None => None,
+        }
     }
 
     pub fn set_time_to_idle(&mut self, duration: Duration)
     {
-        self.time_to_idle = Some(duration);
+        self.time_to_idle = Some(Span::new(duration));
+    }
+
+    /// Whether a time to live or a time to idle is set.
+    #[inline(always)]
+    pub(crate) fn is_timed(&self) -> bool
+    {
+        self.time_to_live.is_some() | self.time_to_idle.is_some()
+    }
+
+    /// Whether the time to live of an entry written then is over.
+    #[inline(always)]
+    pub(crate) fn is_past_time_to_live(&self, written: Instant, now: Instant) -> bool
+    {
+        match &self.time_to_live {
+            Some(span) => span.has_passed(written, now),
+            None => false,
+        }
+    }
+
+    /// Whether the time to idle of an entry read then is over.
+    #[inline(always)]
+    pub(crate) fn is_past_time_to_idle(&self, read: Instant, now: Instant) -> bool
+    {
+        match &self.time_to_idle {
+            Some(span) => span.has_passed(read, now),
+            None => false,
+        }
     }
 
     /// What decides when each entry expires.

@@ -1,7 +1,7 @@
 use Rattle.std.proofs.Common.{◌+◌, ap, subst}
 use Rattle.moka_store.specs.Store.{Kept}
 use Rattle.moka_parts.specs.Reads.{after_reads}
-use Rattle.moka_maintenance.specs.Queued.{writes_of}
+use Rattle.moka_maintenance.specs.Queued.{read_of, writes_of}
 use Rattle.moka_maintenance.specs.Queues.{AreApplied, ArePrepared}
 use Rattle.moka_maintenance.specs.Steps.{contents_with}
 use Rattle.moka_maintenance.specs.Timers.{KeepsTimers}
@@ -13,7 +13,7 @@ use Rattle.moka_inner.proofs.InnerRuns.{inner-applied}
 use Rattle.moka_inner.proofs.inner.Inner.apply_queues.Goals as goal
 
 pub apply_reads-requires : goal.apply_reads-requires
-apply_reads-requires g c = λ q there. read_at c.self.inside.store.places c.self.inside.next_number q.place q.read (c.self.invariant.located.seen q there)
+apply_reads-requires g c = λ q there. read_at c.self.inside.store.places c.self.inside.next_number q.place (read_of q) (c.self.invariant.located.seen q there)
 
 pub invariant_of-self : goal.invariant_of-self
 invariant_of-self g c =

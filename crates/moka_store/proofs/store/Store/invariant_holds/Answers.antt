@@ -12,6 +12,9 @@ returns-clause-records g c = rw (← c.self.view_is) (record-placed _ _ _ _ c.se
 pub returns-clause-members : goal.returns-clause-members
 returns-clause-members g c = rw (← c.self.view_is) (member-placed _ _ _ _ c.self.invariant.tied)
 
+pub returns-clause-narrow : goal.returns-clause-narrow
+returns-clause-narrow g c = rw (← c.self.view_is) c.self.invariant.narrow
+
 pub returns-clause-listed : goal.returns-clause-listed
 returns-clause-listed g c = rw (← c.self.view_is) (known-order _ _ _ _ c.self.invariant.tied c.self.inside.written c.self.invariant.written)
 

@@ -1,6 +1,6 @@
 use Rattle.moka_store.proofs.Orders.{stays-row}
 use Rattle.std.specs.FinMap as finite
-use Rattle.std.proofs.Common.{◌≡◌, ◌-◌, None, refl, sym, ap, ◌∙◌, arith, subst}
+use Rattle.std.proofs.Common.{◌-◌, None, refl, sym, ap, ◌∙◌, arith, subst}
 use Rattle.std.specs.FinMap.{get, remove}
 use Rattle.moka_structures.specs.RecordTable.{records_of}
 use Rattle.moka_structures.proofs.TableMaps.{get-removed}
