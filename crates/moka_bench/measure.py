@@ -1,10 +1,11 @@
 #!/usr/bin/env python3
-"""Times the library of this crate: measure.py [WORKLOAD ..] [--reps N] [--config lru|lfu|ttl|tti] [--synchronous] [--memory]
+"""Times the library of this crate: measure.py [WORKLOAD ..] [--reps N] [--config NAME] [--synchronous] [--memory]
 
 `rt lib` makes the library first. Each workload is timed in processor time, as the difference of two calls: its set-up
 alone, and its set-up with the timed part. Printed are the median and the least nanoseconds an operation, and the counts;
-with --synchronous the same of the synchronous cache, in turn with the engine, and the median of the ratios. `lfu` is the
-policy TinyLFU; `ttl` and `tti` are LRU with an hour to live, or to idle.
+with --synchronous the same of the synchronous cache, in turn with the engine, and the median of the ratios. The
+configurations: `lru`; `lfu`, the policy TinyLFU; and LRU with an hour to live (`ttl`) or to idle (`tti`), SipHash (`sip`),
+a listener (`listener`), weights from 1 to 16 (`weights`).
 """
 import argparse
 import array
@@ -21,11 +22,16 @@ import time
 
 HERE = os.path.dirname(os.path.abspath(__file__))
 NONE = 2**64 - 1
-GET, PUT, READ_THROUGH, RUN, GETS_AND_RUNS, PUTS_AND_RUNS = 1, 2, 3, 5, 7, 8
+GET, PUT, READ_THROUGH, PUT_VALUES, RUN, GETS_AND_RUNS, PUTS_AND_RUNS = 1, 2, 3, 4, 5, 7, 8
 BATCH = 384
-# Time to live, time to idle and policy of each configuration.
 HOUR = 3600 * 10**9
-CONFIGS = {"lru": (NONE, NONE, 1), "lfu": (NONE, NONE, 0), "ttl": (HOUR, NONE, 1), "tti": (NONE, HOUR, 1)}
+# The words that a configuration sets, by their index, and those of a workload.
+CAPACITY, LIVE, IDLE, POLICY, EXPIRY, AUTOMATIC = range(6)
+HASHER, TEXTS, STEP, CACHE, LISTENER, WEIGHER = range(7, 13)
+CONFIGS = {"lru": {}, "lfu": {POLICY: 0}, "ttl": {LIVE: HOUR}, "tti": {IDLE: HOUR}, "sip": {HASHER: 1},
+           "listener": {LISTENER: 1}, "weights": {WEIGHER: 1}}
+# What an entry weighs on average with weights, rounded up.
+MEAN_WEIGHT = 9
 
 
 def load(folder):
@@ -63,27 +69,38 @@ def phase(operation, words, argument=0):
 
 
 def workload(name):
-    """Answers capacity, set-up, timed part and how many operations the timed part has."""
+    """Answers the words that it sets, set-up, timed part and how many operations the timed part has."""
     kind, size = name.split("-")
     n = int(size[:-1]) * {"k": 1000, "m": 1000000}[size[-1]]
     full = phase(PUT, range(n)) + phase(RUN, [], BATCH)
+    bound = {CAPACITY: n}
     if kind == "hit":
-        return n, full, phase(GET, zipf(n, 0.99, 1000000, 1)), 1000000
+        return bound, full, phase(GET, zipf(n, 0.99, 1000000, 1)), 1000000
+    if kind == "text":
+        return {**bound, TEXTS: n}, full, phase(GET, zipf(n, 0.99, 1000000, 1)), 1000000
     if kind == "mix":
         warm = phase(READ_THROUGH, zipf(1000000, 0.9, 1000000, 2))
-        return n, warm, phase(READ_THROUGH, zipf(1000000, 0.9, 1000000, 3)), 1000000
+        return bound, warm, phase(READ_THROUGH, zipf(1000000, 0.9, 1000000, 3)), 1000000
     if kind == "churn":
-        return n, full, phase(PUT, range(n, n + 1000000)), 1000000
+        return bound, full, phase(PUT, range(n, n + 1000000)), 1000000
+    if kind == "expiry":
+        # a millisecond between two inserts, and some n of them until an entry expires
+        lasting = ((n // 2 + z % n) * 10**6 for z in random(6))
+        warm, timed = (itertools.chain.from_iterable(zip(keys, lasting)) for keys in (range(2 * n), range(2 * n, 3 * n)))
+        return {EXPIRY: 1, STEP: 10**6}, phase(PUT_VALUES, warm), phase(PUT_VALUES, timed), n
     if kind == "run_reads":
-        return n, full, phase(GETS_AND_RUNS, zipf(n, 0.99, 960000, 4), BATCH), 960000
+        return {**bound, AUTOMATIC: 0}, full, phase(GETS_AND_RUNS, zipf(n, 0.99, 960000, 4), BATCH), 960000
     if kind == "run_writes":
-        return n, full, phase(PUTS_AND_RUNS, zipf(n, 0.99, 960000, 5), BATCH), 960000
+        return {**bound, AUTOMATIC: 0}, full, phase(PUTS_AND_RUNS, zipf(n, 0.99, 960000, 5), BATCH), 960000
     sys.exit("there is no workload " + name)
 
 
-def call(run, capacity, automatic, stream, cache=0, config="lru"):
+def call(run, words, stream, cache=0, config="lru"):
     """Processor seconds and counts of one call."""
-    config = struct.pack("<16Q", capacity, *CONFIGS[config], 0, automatic, *[0] * 4, cache, *[0] * 5)
+    set_words = {CAPACITY: NONE, LIVE: NONE, IDLE: NONE, POLICY: 1, AUTOMATIC: 1, CACHE: cache, **CONFIGS[config], **words}
+    if config == "weights":
+        set_words[CAPACITY] *= MEAN_WEIGHT
+    config = struct.pack("<16Q", *(set_words.get(it, 0) for it in range(16)))
     counts = ctypes.create_string_buffer(64)
     begun = time.process_time()
     answer = run(config, len(config), stream, len(stream), counts, 64)
@@ -94,13 +111,12 @@ def call(run, capacity, automatic, stream, cache=0, config="lru"):
 
 
 def times(run, name, reps, caches, config):
-    capacity, setup, timed, operations = workload(name)
-    automatic = 0 if name.startswith("run_") else 1
+    words, setup, timed, operations = workload(name)
     each, found = [[] for _ in caches], [None for _ in caches]
     for _ in range(reps):
         for cache in caches:
-            before, _ = call(run, capacity, automatic, setup, cache, config)
-            both, found[cache] = call(run, capacity, automatic, setup + timed, cache, config)
+            before, _ = call(run, words, setup, cache, config)
+            both, found[cache] = call(run, words, setup + timed, cache, config)
             each[cache].append((both - before) / operations * 1e9)
     for cache in caches:
         counts = "hits %d, misses %d, inserts %d, sum %d, entries %d" % found[cache]
@@ -122,7 +138,7 @@ def memory(run, config):
     entries = 1000000
     stream = phase(PUT, range(entries)) + phase(RUN, [], BATCH)
     before = resident("VmRSS")
-    call(run, entries, 1, stream, 0, config)
+    call(run, {CAPACITY: entries}, stream, 0, config)
     print("%d bytes an entry" % ((resident("VmHWM") - before) * 1024 / entries))
 
 

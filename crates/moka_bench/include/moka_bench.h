@@ -10,16 +10,22 @@
      1  time to live        in nanoseconds; 2^64-1: none
      2  time to idle        in nanoseconds; 2^64-1: none
      3  policy              0: TinyLFU, 1: LRU
-     4  expiry              0: none; no other is served
+     4  expiry              0: none, 1: an entry expires so many nanoseconds after its creation as its value says
      5  automatic runs      1: a run of maintenance is made before a get's read is queued and before a send, if 64 reads or
                             operations are queued or 300 milliseconds have passed since the last such run; else: none
      6  initial capacity    for how many entries room is made at once
      7  hasher              0: one folded multiplication, 1: SipHash-1-3
-     8  strings             0: none; no other is served
+     8  texts               0: keys and values are numbers; n: they are n texts each, "key-%012d" and "value-%010d", made
+                            before the first operation, of which a number k tells the one at k modulo n; what is put
+                            under a key is its own value, and what is found counts as its last byte
      9  step                how far the clock goes on before each operation, in nanoseconds
      10 cache               0: the engine, whose operations the driver sends, 1: the synchronous cache, whose runs have a
                             batch of 384 whatever the stream says
-     11 to 15               not read
+     11 listener            0: none, 1: one that counts
+     12 weigher             0: none, 1: an entry weighs 1 more than its value modulo 16
+     13 to 15               not read
+
+   Of expiry, texts, synchronous cache, listener and weigher one at most is served.
 
    stream: phases, one after the other; each has a header of 4 words (operation, number of words n, argument, any) and n
    words. The clock begins at 0. A put of k inserts k + 1, modulo 2^64, under k, and sends the operation; if the queue is
@@ -27,6 +33,7 @@
      1  get                 words: keys
      2  put                 words: keys
      3  read through        words: keys; a get, and a put at the same moment where nothing was found
+     4  put values          words: pairs of a key and a value
      5  run                 no words; argument: the batch
      6  tick                no words; argument: how far the clock goes on, in nanoseconds
      7  gets and runs       words: keys, argument g: gets, with a run after each g of them and one at the end
@@ -34,7 +41,7 @@
                             made by the driver but where the queue is full
 
    counts: 8 words: hits, misses, inserts, the sum of the values that were found modulo 2^64, the entry count of the last
-   run, 0, 0, 0. They are written where the answer is 0.
+   run, how many removals a listener was told, 0, 0. They are written where the answer is 0.
 
    The answer: 0; 1 where the configuration is not served, or config or counts have another length; 2 where memory was
    refused; 3 where the stream is malformed: an operation that is not listed, or a phase that is cut short. */

@@ -1,5 +1,5 @@
 -- Streams of phases, as words of eight bytes.
-use Rattle.std.specs.Prelude.{ℕ, zero, suc, ◌-◌, ◌/◌, Bool, cond, ◌&&◌, ◌||◌, List, [], length, drop, nat_eq, nat_lt, nat_le, slice_index_or}
+use Rattle.std.specs.Prelude.{ℕ, zero, suc, ◌-◌, ◌/◌, Bool, cond, ◌&&◌, List, [], length, drop, nat_eq, nat_lt, nat_le, slice_index_or}
 use Rattle.std.specs.Int.{w64, from_le_bytes}
 use Rattle.std.specs.Simd.{first_chunks}
 
@@ -7,9 +7,9 @@ use Rattle.std.specs.Simd.{first_chunks}
 abbrev pub number_at : List (List ℕ) → ℕ → ℕ
 number_at words index = from_le_bytes w64 (slice_index_or words index [])
 
--- the operations from 1 to 8 but for 4
+-- the operations from 1 to 8
 abbrev pub is_known : ℕ → Bool
-is_known operation = nat_le 1 operation && (nat_le operation 3 || (nat_le 5 operation && nat_le operation 8))
+is_known operation = nat_le 1 operation && nat_le operation 8
 
 -- at most so many phases, each with a header of four words, as many words as the header says, and a known operation
 abbrev pub is_stream : ℕ → List (List ℕ) → Bool

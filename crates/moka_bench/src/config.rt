@@ -1,6 +1,6 @@
 //! What a caller sets, as 16 words.
 ghost use Rattle.std.specs.Prelude.{◌≡◌, ◌<◌};
-ghost use Rattle.moka_bench.specs.Config.{is_served, word_at};
+ghost use Rattle.moka_bench.specs.Config.{additions, is_served, word_at};
 
 // The number that stands for no capacity, no time to live and no time to idle.
 const NONE: u64 = u64::MAX;
@@ -27,6 +27,14 @@ pub struct Config {
     pub is_sip: bool,
     /// Whether the synchronous cache is driven, and else the engine.
     pub is_synchronous: bool,
+    /// Whether entries expire by their values.
+    pub has_expiry: bool,
+    /// Whether a listener is told removals.
+    pub has_listener: bool,
+    /// Whether entries weigh something else than 1.
+    pub has_weigher: bool,
+    /// How many texts stand for numbers; with none, numbers are keys and values.
+    pub texts: u64,
     /// How far the clock goes on before each operation, in nanoseconds.
     pub step: u64,
 }
@@ -43,22 +51,36 @@ impl Config {
             is_automatic: word(bytes, 5) == 1,
             is_sip: word(bytes, 7) == 1,
             is_synchronous: word(bytes, 10) == 1,
+            has_expiry: word(bytes, 4) == 1,
+            has_listener: word(bytes, 11) == 1,
+            has_weigher: word(bytes, 12) == 1,
+            texts: word(bytes, 8),
             step: word(bytes, 9),
         }
     }
 }
 
-/// Whether lengths and settings are served: numbers, with no expiry of their own.
+/// Whether lengths and settings are served: the engine, or one of what may stand in its place or be added to it.
 pub fn is_served(bytes: &[u8], counts: usize) -> bool
     ensures { result ≡ is_served bytes.now counts }
 {
     bytes.len() == CONFIG_LENGTH
         && counts == COUNTS_LENGTH
         && word(bytes, 3) <= 1
-        && word(bytes, 4) == 0
         && word(bytes, 7) <= 1
-        && word(bytes, 8) == 0
-        && word(bytes, 10) <= 1
+        && additions(bytes) <= 1
+}
+
+// How many additions to the plain engine are asked for.
+fn additions(bytes: &[u8]) -> u64
+    ensures { result ≡ additions bytes.now }
+{
+    let texts = word(bytes, 8).min(1);
+    word(bytes, 4)
+        .saturating_add(word(bytes, 10))
+        .saturating_add(word(bytes, 11))
+        .saturating_add(word(bytes, 12))
+        .saturating_add(texts)
 }
 
 // The number at an index, if it does not stand for none.

@@ -19,6 +19,8 @@ pub struct Counts {
     pub sum: u64,
     /// The entry count of the last run.
     pub entries: u64,
+    /// How many removals a listener was told.
+    pub notices: u64,
 }
 
 impl Counts {
@@ -30,7 +32,7 @@ impl Counts {
             self.inserts.to_le_bytes(),
             self.sum.to_le_bytes(),
             self.entries.to_le_bytes(),
-            [0; 8],
+            self.notices.to_le_bytes(),
             [0; 8],
             [0; 8],
         ]
@@ -66,6 +68,7 @@ impl<T: Subject> Driver<T> {
         }
         Some(Counts {
             entries: self.subject.entry_count(),
+            notices: self.subject.notices(),
             ..self.counts
         })
     }
@@ -106,8 +109,12 @@ impl<T: Subject> Driver<T> {
     }
 
     /// Puts the number behind the key under it, if `may_run` after the run that is due.
-    pub fn put(&mut self, key: u64, may_run: bool) {
-        let value = key.wrapping_add(1);
+    pub fn put_next(&mut self, key: u64, may_run: bool) {
+        self.put(key, key.wrapping_add(1), may_run);
+    }
+
+    /// Puts a value under a key, if `may_run` after the run that is due.
+    pub fn put(&mut self, key: u64, value: u64, may_run: bool) {
         match self.subject.put(key, value, Instant(self.now), may_run) {
             Ok(true) => self.counts.inserts = self.counts.inserts.wrapping_add(1),
             Ok(false) => {}

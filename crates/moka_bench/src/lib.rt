@@ -8,13 +8,17 @@ ghost use Rattle.moka_bench.specs.declared.driver.Failure.TheVariants.{Malformed
 
 mod config;
 mod driver;
+mod engines;
+mod given;
 mod phases;
 mod subject;
 
 use crate::config::{Config, is_served};
 use crate::driver::{Counts, Driver, Failure};
+use crate::given::{Apart, expiring, listening, nothing, weighing};
 use crate::phases::drive;
-use crate::subject::{Subject, Synchronous, Ticketed};
+use crate::subject::{Numbers, Subject, Synchronous, Texts};
+use moka_parts::error::OutOfMemory;
 use std::alloc::Global;
 use std::hash::{BuildHasher, BuildHasherDefault, DefaultHasher, FoldHasher};
 
@@ -77,23 +81,46 @@ fn run<S: BuildHasher + Drop>(
     ensures malformed { result ≡ Err Malformed → is_well_formed stream.now ≡ false }
 {
     if config.is_synchronous {
-        match Synchronous::new(alloc, hasher, config) {
-            Ok(cache) => count(cache, config, stream),
-            Err(_) => Err(Failure::OutOfMemory),
-        }
-    } else {
-        match Ticketed::new(alloc, hasher, config) {
-            Ok(engine) => count(engine, config, stream),
-            Err(_) => Err(Failure::OutOfMemory),
-        }
+        return count(Synchronous::new(alloc, hasher, config), config, stream);
     }
+    if config.texts > 0 {
+        return count(Texts::new(alloc, hasher, config), config, stream);
+    }
+    if config.has_expiry {
+        let made = Numbers::new(alloc, Apart(hasher), config, expiring());
+        return count(made, config, stream);
+    }
+    if config.has_listener {
+        let made = Numbers::new(alloc, Apart(Apart(hasher)), config, listening());
+        return count(made, config, stream);
+    }
+    if config.has_weigher {
+        let hasher = Apart(Apart(Apart(hasher)));
+        return count(
+            Numbers::new(alloc, hasher, config, weighing()),
+            config,
+            stream,
+        );
+    }
+    count(
+        Numbers::new(alloc, hasher, config, nothing()),
+        config,
+        stream,
+    )
 }
 
-// Drives a cache through the stream.
-fn count<T: Subject + Drop>(subject: T, config: Config, stream: &[u8]) -> Result<Counts, Failure>
+// Drives a cache, if there was memory for it, through the stream.
+fn count<T: Subject + Drop>(
+    made: Result<T, OutOfMemory>,
+    config: Config,
+    stream: &[u8],
+) -> Result<Counts, Failure>
     ensures done { OnOk result (is_well_formed stream.now ≡ true) }
     ensures malformed { result ≡ Err Malformed → is_well_formed stream.now ≡ false }
 {
+    let Ok(subject) = made else {
+        return Err(Failure::OutOfMemory);
+    };
     let mut driver = Driver::new(subject, config);
     let (words, _) = stream.as_chunks::<8>();
     if !drive(&mut driver, words) {
@@ -191,10 +218,55 @@ mod tests {
         Ok(())
     }
 
+    // A configuration with this number at this index.
+    fn with(index: usize, number: u64, capacity: u64) -> [u64; 16] {
+        let mut config = plain(capacity, 0, 0);
+        if index < 16 {
+            config[index] = number;
+        }
+        config
+    }
+
+    #[test]
+    fn serves_what_is_added(rt: HostRuntime) -> Result<(), Fail> {
+        // Texts: the last digit of what is found, and numbers past the last text begin again.
+        let stream = [
+            3, 3, 0, 0, 1, 2, 1, 5, 0, 384, 0, 1, 2, 0, 0, 11, 2, 5, 0, 384, 0,
+        ];
+        let (answer, counts) = counted(rt.alloc(), &with(8, 10, NONE), &stream)?;
+        assert_eq!(rt; (answer, counts), (0, [3, 2, 2, 49 + 49 + 50, 2]));
+        // An expiry by values: of two keys the one whose value is less has expired.
+        let stream = [
+            4, 4, 0, 0, 10, 5, 20, 70, 6, 0, 6, 0, 1, 2, 0, 0, 10, 20, 5, 0, 384, 0,
+        ];
+        let (answer, counts) = counted(rt.alloc(), &with(4, 1, NONE), &stream)?;
+        assert_eq!(rt; (answer, counts), (0, [1, 1, 2, 70, 1]));
+        // Entries that weigh 12 and 16: one has to leave.
+        let stream = [
+            2, 2, 0, 0, 10, 14, 5, 0, 384, 0, 1, 2, 0, 0, 10, 14, 5, 0, 384, 0,
+        ];
+        let (answer, counts) = counted(rt.alloc(), &with(12, 1, 20), &stream)?;
+        assert_eq!(rt; (answer, counts), (0, [1, 1, 2, 15, 1]));
+        Ok(())
+    }
+
+    #[test]
+    fn counts_what_a_listener_is_told(rt: HostRuntime) -> Result<(), Fail> {
+        // Two values of one key, and the older of two keys.
+        let stream = [2, 3, 0, 0, 10, 10, 20, 5, 0, 384, 0];
+        let config = bytes(rt.alloc(), &with(11, 1, 1))?;
+        let stream = bytes(rt.alloc(), &stream)?;
+        let mut counts = [7; 64];
+        let answer = moka_bench_run(rt.alloc(), &config, &stream, &mut counts);
+        let (words, _) = counts.as_chunks::<8>();
+        assert_eq!(rt; (answer, u64::from_le_bytes(words[5])), (0, 2));
+        Ok(())
+    }
+
     #[test]
     fn writes_nothing_where_it_fails(rt: HostRuntime) -> Result<(), Fail> {
         let sevens = u64::from_le_bytes([7; 8]);
-        let malformed: [&[u64]; 3] = [&[4, 0, 0, 0], &[1, 2, 0, 0, 5], &[1, 0, 0]];
+        let malformed: [&[u64]; 3] = [&[9, 0, 0, 0], &[1, 2, 0, 0, 5], &[1, 0, 0]];
         for stream in malformed {
             let (answer, counts) = counted(rt.alloc(), &plain(NONE, 0, 0), stream)?;
             assert_eq!(rt; (answer, counts), (3, [sevens; 5]));

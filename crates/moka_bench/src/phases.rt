@@ -3,7 +3,8 @@ ghost use Rattle.std.specs.Prelude.{◌≡◌, ◌<◌, length};
 ghost use Rattle.moka_bench.specs.Phases.{is_known, is_stream, number_at};
 
 use crate::driver::Driver;
-use crate::subject::{BATCH, Subject};
+use crate::engines::BATCH;
+use crate::subject::Subject;
 
 // How many words a phase begins with.
 const HEADER: usize = 4;
@@ -54,6 +55,7 @@ fn make<T: Subject>(
         1 => get_all(driver, words),
         2 => put_all(driver, words, true),
         3 => read_through(driver, words),
+        4 => put_pairs(driver, words),
         5 => driver.run(u32::try_from(argument).unwrap_or(u32::MAX)),
         6 => driver.tick(argument),
         7 => get_and_run(driver, words, argument),
@@ -74,7 +76,16 @@ fn get_all<T: Subject>(driver: &mut Driver<T>, keys: &[[u8; 8]]) {
 fn put_all<T: Subject>(driver: &mut Driver<T>, keys: &[[u8; 8]], may_run: bool) {
     for key in keys {
         driver.step();
-        driver.put(u64::from_le_bytes(*key), may_run);
+        driver.put_next(u64::from_le_bytes(*key), may_run);
+    }
+}
+
+// Puts the second number of each pair under the first.
+fn put_pairs<T: Subject>(driver: &mut Driver<T>, words: &[[u8; 8]]) {
+    for pair in words.chunks_exact(2) {
+        driver.step();
+        let (key, value) = (u64::from_le_bytes(pair[0]), u64::from_le_bytes(pair[1]));
+        driver.put(key, value, true);
     }
 }
 
@@ -85,7 +96,7 @@ fn read_through<T: Subject>(driver: &mut Driver<T>, keys: &[[u8; 8]]) {
         driver.step();
         let key = u64::from_le_bytes(*key);
         if !driver.get(key) {
-            driver.put(key, true);
+            driver.put_next(key, true);
         }
     }
 }

@@ -1,0 +1,148 @@
+//! How an engine is made, and how something is put into it.
+ghost use Rattle.std.specs.Prelude.{◌≡◌, IfOk};
+ghost use Rattle.std.specs.FinMap as finite;
+
+use crate::config::Config;
+use crate::given::Given;
+use moka_engine::base_cache::BaseCache;
+use moka_parts::calls::Ticket;
+use moka_parts::closures::{NoPredicate, Weigher};
+use moka_parts::error::{OutOfMemory, SendError};
+use moka_parts::housekeeper::{FixedClock, HousekeeperConfig};
+use moka_parts::notification::Listener;
+use moka_parts::policy::{EvictionPolicy, ExpirationPolicy, Expiry, Instant};
+use std::alloc::Global;
+use std::hash::{BuildHasher, Hash};
+use std::time::Duration;
+
+/// How many members a step of a run turns over.
+pub const BATCH: u32 = 384;
+
+// How often a run may go through its steps.
+const REPEATS: u32 = 4;
+
+/// No run has a time limit, so the clock is never read.
+pub const CLOCK: FixedClock = FixedClock(Instant(0));
+
+/// An engine without predicates.
+pub type Engine<K, V, S, X, L, W> = BaseCache<K, V, S, X, L, NoPredicate, W>;
+
+/// An empty engine at the moment 0, which starts runs by itself if that is configured.
+pub fn engine_of<
+    K: Eq + Hash + Drop,
+    V: Drop,
+    S: BuildHasher + Drop,
+    X: Expiry<K, V> + Drop,
+    L: Listener<K, V> + Drop,
+    W: Weigher<K, V> + Drop,
+>(
+    alloc: Global,
+    hasher: S,
+    config: Config,
+    given: Given<X, L, W>,
+) -> Result<Engine<K, V, S, X, L, W>, OutOfMemory>
+    ensures { IfOk result (λ engine. engine.state.outstanding ≡ finite.empty) }
+{
+    let policy = if config.is_lru {
+        EvictionPolicy::lru()
+    } else {
+        EvictionPolicy::tiny_lfu()
+    };
+    let mut engine = BaseCache::new(
+        alloc,
+        None,
+        config.max_capacity,
+        Some(config.initial_capacity),
+        hasher,
+        given.weigher,
+        policy,
+        given.listener,
+        expiration_of(config, given.expiry),
+        HousekeeperConfig::default(),
+        false,
+        Instant(0),
+        1,
+    )?;
+    if !config.is_automatic {
+        engine.disable_auto_run();
+    }
+    Ok(engine)
+}
+
+// When entries expire.
+fn expiration_of<X: Drop>(config: Config, expiry: Option<X>) -> ExpirationPolicy<X> {
+    let mut expiration = ExpirationPolicy::default();
+    if let Some(nanoseconds) = config.time_to_live {
+        expiration.set_time_to_live(Duration::from_nanos(nanoseconds));
+    }
+    if let Some(nanoseconds) = config.time_to_idle {
+        expiration.set_time_to_idle(Duration::from_nanos(nanoseconds));
+    }
+    if let Some(expiry) = expiry {
+        expiration.set_expiry(expiry);
+    }
+    expiration
+}
+
+/// Puts a value under a key and sends the operation, if `may_run` after the run that is due. Whether the engine keeps
+/// anything.
+#[inline(always)]
+pub fn put_into<
+    K: Eq + Hash + Clone + Drop,
+    V: Drop,
+    S: BuildHasher,
+    X: Expiry<K, V>,
+    L: Listener<K, V>,
+    W: Weigher<K, V>,
+>(
+    engine: &mut Engine<K, V, S, X, L, W>,
+    key: K,
+    value: V,
+    now: Instant,
+    may_run: bool,
+) -> Result<bool, OutOfMemory> {
+    if engine.is_map_disabled() {
+        return Ok(false);
+    }
+    let hash = engine.hash(&key);
+    let Ok((ticket, _)) = engine.do_insert_with_hash(key, hash, value, now) else {
+        return Err(OutOfMemory);
+    };
+    if may_run {
+        engine.apply_reads_writes_if_needed(now, &mut CLOCK);
+    }
+    match send(engine, ticket, now) {
+        Ok(()) => Ok(true),
+        Err(_) => Err(OutOfMemory),
+    }
+}
+
+// Sends an operation; if the queue is full, after a run.
+fn send<
+    K: Eq + Hash + Clone + Drop,
+    V: Drop,
+    S: BuildHasher,
+    X: Expiry<K, V>,
+    L: Listener<K, V>,
+    W: Weigher<K, V>,
+>(engine: &mut Engine<K, V, S, X, L, W>, ticket: Ticket, now: Instant) -> Result<(), SendError> {
+    match engine.send(ticket) {
+        Err(SendError::QueueFull) => {
+            run(engine, now, BATCH);
+            engine.send(ticket)
+        }
+        sent => sent,
+    }
+}
+
+/// A run of maintenance.
+pub fn run<
+    K: Eq + Hash + Clone + Drop,
+    V: Drop,
+    S: BuildHasher,
+    X: Expiry<K, V>,
+    L: Listener<K, V>,
+    W: Weigher<K, V>,
+>(engine: &mut Engine<K, V, S, X, L, W>, now: Instant, batch: u32) {
+    let _left = engine.run_pending_tasks(now, &mut CLOCK, None, REPEATS, batch);
+}

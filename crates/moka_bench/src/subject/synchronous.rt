@@ -1,0 +1,62 @@
+//! The synchronous cache, which sends by itself, and whose runs have a batch of their own.
+use super::Subject;
+use crate::config::Config;
+use crate::engines::{CLOCK, engine_of};
+use crate::given::nothing;
+use moka_drive::Cache;
+use moka_parts::closures::{NoPredicate, NoWeigher};
+use moka_parts::error::OutOfMemory;
+use moka_parts::notification::NoListener;
+use moka_parts::policy::{Instant, NoExpiry};
+use std::alloc::Global;
+use std::hash::BuildHasher;
+
+/// The synchronous cache of numbers by numbers.
+#[derive(Drop)]
+pub struct Synchronous<S: BuildHasher> {
+    cache: Cache<u64, u64, NoExpiry, NoListener, NoPredicate, NoWeigher, S>,
+}
+
+impl<S: BuildHasher> Synchronous<S> {
+    /// An empty cache at the moment 0.
+    pub fn new(alloc: Global, hasher: S, config: Config) -> Result<Self, OutOfMemory>
+    where
+        S: Drop,
+    {
+        match engine_of(alloc, hasher, config, nothing()) {
+            Ok(engine) => Ok(Synchronous {
+                cache: Cache::new(engine),
+            }),
+            Err(refused) => Err(refused),
+        }
+    }
+}
+
+impl<S: BuildHasher> Subject for Synchronous<S> {
+    #[inline(always)]
+    fn get(&mut self, key: u64, now: Instant) -> Result<Option<u64>, OutOfMemory> {
+        self.cache.get(&key, now, &mut CLOCK)
+    }
+
+    fn put(&mut self, key: u64, value: u64, now: Instant, _: bool) -> Result<bool, OutOfMemory> {
+        if self.cache.engine().is_map_disabled() {
+            return Ok(false);
+        }
+        match self.cache.insert(key, value, now, &mut CLOCK) {
+            Ok(()) => Ok(true),
+            Err(_) => Err(OutOfMemory),
+        }
+    }
+
+    fn run(&mut self, now: Instant, _: u32) {
+        let _left = self.cache.run_pending_tasks(now, &mut CLOCK);
+    }
+
+    fn entry_count(&self) -> u64 {
+        self.cache.entry_count()
+    }
+
+    fn notices(&self) -> u64 {
+        0
+    }
+}

@@ -1,0 +1,122 @@
+//! The engine with texts.
+use super::Subject;
+use crate::config::Config;
+use crate::engines::{CLOCK, Engine, engine_of, put_into, run};
+use crate::given::nothing;
+use moka_parts::closures::NoWeigher;
+use moka_parts::error::OutOfMemory;
+use moka_parts::notification::NoListener;
+use moka_parts::policy::{Instant, NoExpiry};
+use std::alloc::{AllocError, Global};
+use std::hash::BuildHasher;
+
+/// The engine with texts by texts, which were made before: a number tells the one at its place, modulo how many there are.
+#[derive(Drop)]
+pub struct Texts<S: BuildHasher> {
+    engine: Engine<String, String, S, NoExpiry, NoListener, NoWeigher>,
+    keys: Vec<String>,
+    values: Vec<String>,
+}
+
+impl<S: BuildHasher> Texts<S> {
+    /// An empty engine at the moment 0.
+    pub fn new(alloc: Global, hasher: S, config: Config) -> Result<Self, OutOfMemory>
+    where
+        S: Drop,
+    {
+        let keys = make_texts(alloc, "key-", 12, config.texts);
+        let values = make_texts(alloc, "value-", 10, config.texts);
+        let (Ok(keys), Ok(values)) = (keys, values) else {
+            return Err(OutOfMemory);
+        };
+        let engine = engine_of(alloc, hasher, config, nothing())?;
+        Ok(Texts {
+            engine,
+            keys,
+            values,
+        })
+    }
+}
+
+impl<S: BuildHasher> Subject for Texts<S> {
+    // What is found counts as its last byte.
+    #[inline(always)]
+    fn get(&mut self, key: u64, now: Instant) -> Result<Option<u64>, OutOfMemory> {
+        let Some(key) = text_at(&self.keys, key) else {
+            return Ok(None);
+        };
+        let hash = self.engine.hash(key);
+        let found = self
+            .engine
+            .get_with_hash(key, hash, false, now, &mut CLOCK)?;
+        let Some(entry) = found else {
+            return Ok(None);
+        };
+        match entry.value().as_bytes().last() {
+            Some(last) => Ok(Some(u64::from(*last))),
+            None => Ok(Some(0)),
+        }
+    }
+
+    // The value is the key's own text.
+    fn put(&mut self, key: u64, _: u64, now: Instant, may_run: bool) -> Result<bool, OutOfMemory> {
+        match (cloned(&self.keys, key), cloned(&self.values, key)) {
+            (Ok(Some(key)), Ok(Some(value))) => {
+                put_into(&mut self.engine, key, value, now, may_run)
+            }
+            (Err(_), _) | (_, Err(_)) => Err(OutOfMemory),
+            _ => Ok(false),
+        }
+    }
+
+    fn run(&mut self, now: Instant, batch: u32) {
+        run(&mut self.engine, now, batch);
+    }
+
+    fn entry_count(&self) -> u64 {
+        self.engine.entry_count()
+    }
+
+    fn notices(&self) -> u64 {
+        0
+    }
+}
+
+// The text that a number tells.
+#[inline(always)]
+fn text_at(texts: &Vec<String>, number: u64) -> Option<&String> {
+    let place = number.checked_rem(texts.len() as u64)?;
+    texts.get(place as usize)
+}
+
+// A clone of the text that a number tells.
+fn cloned(texts: &Vec<String>, number: u64) -> Result<Option<String>, AllocError> {
+    match text_at(texts, number) {
+        Some(text) => Ok(Some(text.clone()?)),
+        None => Ok(None),
+    }
+}
+
+// So many texts.
+fn make_texts(
+    alloc: Global,
+    begin: &str,
+    digits: u32,
+    count: u64,
+) -> Result<Vec<String>, AllocError> {
+    let mut texts = Vec::new(alloc);
+    for number in 0..count {
+        texts.push(text(alloc, begin, digits, number)?)?;
+    }
+    Ok(texts)
+}
+
+// A number's text, with so many digits.
+fn text(alloc: Global, begin: &str, digits: u32, number: u64) -> Result<String, AllocError> {
+    let mut text = String::from_str(alloc, begin)?;
+    for place in (0..digits).rev() {
+        let digit = number / 10_u64.saturating_pow(place).max(1) % 10;
+        text.push(char::from(b'0' + digit as u8))?;
+    }
+    Ok(text)
+}
