@@ -24,8 +24,8 @@ impl<S: BuildHasher> Texts<S> {
     where
         S: Drop,
     {
-        let keys = make_texts(alloc, "key-", 12, config.texts);
-        let values = make_texts(alloc, "value-", 10, config.texts);
+        let keys = make_texts(alloc, "key-", config.texts);
+        let values = make_texts(alloc, "value-", config.texts);
         let (Ok(keys), Ok(values)) = (keys, values) else {
             return Err(OutOfMemory);
         };
@@ -98,25 +98,27 @@ fn cloned(texts: &Vec<String>, number: u64) -> Result<Option<String>, AllocError
 }
 
 // So many texts.
-fn make_texts(
-    alloc: Global,
-    begin: &str,
-    digits: u32,
-    count: u64,
-) -> Result<Vec<String>, AllocError> {
+fn make_texts(alloc: Global, begin: &str, count: u64) -> Result<Vec<String>, AllocError> {
     let mut texts = Vec::new(alloc);
     for number in 0..count {
-        texts.push(text(alloc, begin, digits, number)?)?;
+        texts.push(text(alloc, begin, number)?)?;
     }
     Ok(texts)
 }
 
-// A number's text, with so many digits.
-fn text(alloc: Global, begin: &str, digits: u32, number: u64) -> Result<String, AllocError> {
-    let mut text = String::from_str(alloc, begin)?;
-    for place in (0..digits).rev() {
-        let digit = number / 10_u64.saturating_pow(place).max(1) % 10;
-        text.push(char::from(b'0' + digit as u8))?;
+// A number's text: its digits, with these bytes in place of the first.
+fn text(alloc: Global, begin: &str, number: u64) -> Result<String, AllocError> {
+    let mut bytes = [b'0'; 16];
+    let mut rest = number;
+    for byte in bytes.iter_mut().rev() {
+        *byte = b'0' + (rest % 10) as u8;
+        rest /= 10;
     }
-    Ok(text)
+    for (to, from) in bytes.iter_mut().zip(begin.as_bytes()) {
+        *to = *from;
+    }
+    match str::from_utf8(&bytes) {
+        Ok(text) => String::from_str(alloc, text),
+        Err(_) => Err(AllocError),
+    }
 }
