@@ -84,65 +84,85 @@ fn expiration_of<X: Drop>(config: Config, expiry: Option<X>) -> ExpirationPolicy
     expiration
 }
 
-/// Puts a value under a key and sends the operation, if `may_run` after the run that is due. Whether the engine keeps
-/// anything.
-#[inline(always)]
-pub fn put_into<
-    K: Eq + Hash + Clone + Drop,
-    V: Drop,
+/// An engine with how it is driven: operations are sent as they are handed out.
+#[derive(Drop)]
+pub struct Driven<
+    K: Eq + Hash,
+    V,
     S: BuildHasher,
     X: Expiry<K, V>,
     L: Listener<K, V>,
     W: Weigher<K, V>,
->(
-    engine: &mut Engine<K, V, S, X, L, W>,
-    key: K,
-    value: V,
-    now: Instant,
-    may_run: bool,
-) -> Result<bool, OutOfMemory> {
-    if engine.is_map_disabled() {
-        return Ok(false);
-    }
-    let hash = engine.hash(&key);
-    let Ok((ticket, _)) = engine.do_insert_with_hash(key, hash, value, now) else {
-        return Err(OutOfMemory);
-    };
-    if may_run {
-        engine.apply_reads_writes_if_needed(now, &mut CLOCK);
-    }
-    match send(engine, ticket, now) {
-        Ok(()) => Ok(true),
-        Err(_) => Err(OutOfMemory),
-    }
+> {
+    pub engine: Engine<K, V, S, X, L, W>,
 }
 
-// Sends an operation; if the queue is full, after a run.
-fn send<
+impl<
     K: Eq + Hash + Clone + Drop,
     V: Drop,
     S: BuildHasher,
     X: Expiry<K, V>,
     L: Listener<K, V>,
     W: Weigher<K, V>,
->(engine: &mut Engine<K, V, S, X, L, W>, ticket: Ticket, now: Instant) -> Result<(), SendError> {
-    match engine.send(ticket) {
-        Err(SendError::QueueFull) => {
-            run(engine, now, BATCH);
-            engine.send(ticket)
+> Driven<K, V, S, X, L, W> {
+    /// An empty engine at the moment 0.
+    pub fn new(
+        alloc: Global,
+        hasher: S,
+        config: Config,
+        given: Given<X, L, W>,
+    ) -> Result<Self, OutOfMemory>
+    where
+        S: Drop,
+        X: Drop,
+        L: Drop,
+        W: Drop,
+    {
+        let engine = engine_of(alloc, hasher, config, given)?;
+        Ok(Driven { engine })
+    }
+
+    /// Puts a value under a key and sends the operation, if `may_run` after the run that is due. Whether the engine
+    /// keeps anything.
+    #[inline(always)]
+    pub fn put_and_send(
+        &mut self,
+        key: K,
+        value: V,
+        now: Instant,
+        may_run: bool,
+    ) -> Result<bool, OutOfMemory> {
+        if self.engine.is_map_disabled() {
+            return Ok(false);
         }
-        sent => sent,
+        let hash = self.engine.hash(&key);
+        let Ok((ticket, _)) = self.engine.do_insert_with_hash(key, hash, value, now) else {
+            return Err(OutOfMemory);
+        };
+        if may_run {
+            self.engine.apply_reads_writes_if_needed(now, &mut CLOCK);
+        }
+        match self.send(ticket, now) {
+            Ok(()) => Ok(true),
+            Err(_) => Err(OutOfMemory),
+        }
     }
-}
 
-/// A run of maintenance.
-pub fn run<
-    K: Eq + Hash + Clone + Drop,
-    V: Drop,
-    S: BuildHasher,
-    X: Expiry<K, V>,
-    L: Listener<K, V>,
-    W: Weigher<K, V>,
->(engine: &mut Engine<K, V, S, X, L, W>, now: Instant, batch: u32) {
-    let _left = engine.run_pending_tasks(now, &mut CLOCK, None, REPEATS, batch);
+    // Sends an operation; if the queue is full, after a run.
+    fn send(&mut self, ticket: Ticket, now: Instant) -> Result<(), SendError> {
+        match self.engine.send(ticket) {
+            Err(SendError::QueueFull) => {
+                self.maintain(now, BATCH);
+                self.engine.send(ticket)
+            }
+            sent => sent,
+        }
+    }
+
+    /// Makes a run of maintenance.
+    pub fn maintain(&mut self, now: Instant, batch: u32) {
+        let _left = self
+            .engine
+            .run_pending_tasks(now, &mut CLOCK, None, REPEATS, batch);
+    }
 }

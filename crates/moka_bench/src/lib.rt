@@ -15,9 +15,10 @@ mod subject;
 
 use crate::config::{Config, is_served};
 use crate::driver::{Counts, Driver, Failure};
+use crate::engines::Driven;
 use crate::given::{Apart, expiring, listening, nothing, weighing};
 use crate::phases::drive;
-use crate::subject::{Numbers, Subject, Synchronous, Texts};
+use crate::subject::{Subject, Synchronous, Texts};
 use moka_parts::error::OutOfMemory;
 use std::alloc::Global;
 use std::hash::{BuildHasher, BuildHasherDefault, DefaultHasher, FoldHasher};
@@ -87,23 +88,23 @@ fn run<S: BuildHasher + Drop>(
         return count(Texts::new(alloc, hasher, config), config, stream);
     }
     if config.has_expiry {
-        let made = Numbers::new(alloc, Apart(hasher), config, expiring());
+        let made = Driven::new(alloc, Apart(hasher), config, expiring());
         return count(made, config, stream);
     }
     if config.has_listener {
-        let made = Numbers::new(alloc, Apart(Apart(hasher)), config, listening());
+        let made = Driven::new(alloc, Apart(Apart(hasher)), config, listening());
         return count(made, config, stream);
     }
     if config.has_weigher {
         let hasher = Apart(Apart(Apart(hasher)));
         return count(
-            Numbers::new(alloc, hasher, config, weighing()),
+            Driven::new(alloc, hasher, config, weighing()),
             config,
             stream,
         );
     }
     count(
-        Numbers::new(alloc, hasher, config, nothing()),
+        Driven::new(alloc, hasher, config, nothing()),
         config,
         stream,
     )

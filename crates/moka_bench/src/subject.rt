@@ -6,7 +6,6 @@ mod numbers;
 mod synchronous;
 mod texts;
 
-pub use numbers::Numbers;
 pub use synchronous::Synchronous;
 pub use texts::Texts;
 

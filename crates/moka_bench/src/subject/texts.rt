@@ -1,7 +1,7 @@
 //! The engine with texts.
 use super::Subject;
 use crate::config::Config;
-use crate::engines::{CLOCK, Engine, engine_of, put_into, run};
+use crate::engines::{CLOCK, Driven};
 use crate::given::nothing;
 use moka_parts::closures::NoWeigher;
 use moka_parts::error::OutOfMemory;
@@ -10,10 +10,11 @@ use moka_parts::policy::{Instant, NoExpiry};
 use std::alloc::{AllocError, Global};
 use std::hash::BuildHasher;
 
-/// The engine with texts by texts, which were made before: a number tells the one at its place, modulo how many there are.
+/// The engine with texts by texts, which were made before: a number tells the one at its place, modulo how many there
+/// are.
 #[derive(Drop)]
 pub struct Texts<S: BuildHasher> {
-    engine: Engine<String, String, S, NoExpiry, NoListener, NoWeigher>,
+    driven: Driven<String, String, S, NoExpiry, NoListener, NoWeigher>,
     keys: Vec<String>,
     values: Vec<String>,
 }
@@ -29,9 +30,9 @@ impl<S: BuildHasher> Texts<S> {
         let (Ok(keys), Ok(values)) = (keys, values) else {
             return Err(OutOfMemory);
         };
-        let engine = engine_of(alloc, hasher, config, nothing())?;
+        let driven = Driven::new(alloc, hasher, config, nothing())?;
         Ok(Texts {
-            engine,
+            driven,
             keys,
             values,
         })
@@ -45,8 +46,9 @@ impl<S: BuildHasher> Subject for Texts<S> {
         let Some(key) = text_at(&self.keys, key) else {
             return Ok(None);
         };
-        let hash = self.engine.hash(key);
+        let hash = self.driven.engine.hash(key);
         let found = self
+            .driven
             .engine
             .get_with_hash(key, hash, false, now, &mut CLOCK)?;
         let Some(entry) = found else {
@@ -62,7 +64,7 @@ impl<S: BuildHasher> Subject for Texts<S> {
     fn put(&mut self, key: u64, _: u64, now: Instant, may_run: bool) -> Result<bool, OutOfMemory> {
         match (cloned(&self.keys, key), cloned(&self.values, key)) {
             (Ok(Some(key)), Ok(Some(value))) => {
-                put_into(&mut self.engine, key, value, now, may_run)
+                self.driven.put_and_send(key, value, now, may_run)
             }
             (Err(_), _) | (_, Err(_)) => Err(OutOfMemory),
             _ => Ok(false),
@@ -70,11 +72,11 @@ impl<S: BuildHasher> Subject for Texts<S> {
     }
 
     fn run(&mut self, now: Instant, batch: u32) {
-        run(&mut self.engine, now, batch);
+        self.driven.maintain(now, batch);
     }
 
     fn entry_count(&self) -> u64 {
-        self.engine.entry_count()
+        self.driven.engine.entry_count()
     }
 
     fn notices(&self) -> u64 {
