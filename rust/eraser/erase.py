@@ -10,7 +10,7 @@ import collections
 import re
 
 # The kit's libraries, and the modules of std from which Rust's differ: the stand-ins for both are in src/support.
-LIBRARIES = ["anyhow", "circular_buffer", "slab", "uuid"]
+LIBRARIES = ["anyhow", "circular_buffer", "uuid"]
 STD = ["alloc", "collections", "hash", "io", "simd", "time"]
 STD_OF_TESTS = ["process", "rc", "test"]
 # What no outcome may have.

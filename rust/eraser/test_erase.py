@@ -58,8 +58,8 @@ class Renames(unittest.TestCase):
     def test_paths(self):
         self.assertEqual(made("use crate::a::B;\n"), "use crate::engine::moka_engine::a::B;\n")
         self.assertEqual(made("use moka_index::Index;\n"), "use crate::engine::moka_index::Index;\n")
-        self.assertEqual(made("use std::hash::Hash;\nuse slab::Slab;\nuse std::fmt;\n"),
-                         "use crate::support::hash::Hash;\nuse crate::support::slab::Slab;\nuse std::fmt;\n")
+        self.assertEqual(made("use std::hash::Hash;\nuse circular_buffer::heap::HeapCircularBuffer;\nuse std::fmt;\n"),
+                         "use crate::support::hash::Hash;\nuse crate::support::circular_buffer::heap::HeapCircularBuffer;\nuse std::fmt;\n")
 
     def test_clones_and_formatters(self):
         self.assertEqual(made("let b = a.clone();\n"), "let b = a.try_clone();\n")

@@ -135,7 +135,8 @@ fn apply_read<K: Eq + Hash, V, S: BuildHasher>(
     };
     let (number, place) = (queued.number, queued.place as usize);
     let handle = Handle { number, place };
-    if store.has_row(handle) && store.find(handle).is_some() {
+    store.invariant_holds();
+    if store.find(handle).is_some() {
         pass_read(store, handle, is_renewed);
     }
 }

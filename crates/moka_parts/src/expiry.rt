@@ -56,25 +56,6 @@ pub fn has_lapsed<K, V, X>(
         || is_before entry.now.written.0 (moment_of valid_after)
         || is_before entry.now.read.0 (moment_of valid_after)) }
 {
-    // Where nothing can hide a record, one test says so.
-    let is_tested = entry.expires.is_some() | policy.is_timed() | valid_after.is_some();
-    is_tested && fails_a_test(entry, policy, valid_after, now)
-}
-
-// Whether a test by moments hides a record.
-#[cold]
-fn fails_a_test<K, V, X>(
-    entry: &Record<K, V>,
-    policy: &ExpirationPolicy<X>,
-    valid_after: Option<Instant>,
-    now: Instant,
-) -> bool
-    ensures { result ≡ (has_passed (moment_of entry.now.expires) now.0
-        || has_passed (deadline policy.now.time_to_live entry.now.written.0) now.0
-        || has_passed (deadline policy.now.time_to_idle entry.now.read.0) now.0
-        || is_before entry.now.written.0 (moment_of valid_after)
-        || is_before entry.now.read.0 (moment_of valid_after)) }
-{
     is_expired_by_per_entry_ttl(entry.expires, now)
         || policy.is_past_time_to_live(entry.written, now)
         || policy.is_past_time_to_idle(entry.read, now)

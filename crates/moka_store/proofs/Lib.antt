@@ -2,6 +2,7 @@ pub mod Gets
 pub mod Keys
 pub mod KnownOrders
 pub mod Listed
+pub mod Looked
 pub mod Members
 pub mod Nodes
 pub mod Orders

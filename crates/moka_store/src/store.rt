@@ -1,7 +1,7 @@
 //! Records, their orders and timers and the index of their keys, in one.
 //!
 //! moka: `sync::base_cache::Inner`, whose maps and deques these are.
-ghost use Rattle.std.specs.Prelude.{◌==◌, if◌then◌else◌, ◌≡◌, ◌≢◌, ◌+◌, ◌^◌, ◌<◌, ◌≤◌, ℕ, [], ◌∷◌, ◌++◌, length, OnOk, IfOk, IfSome, IfNone, true, false, IsOk, IsSome, IsNone, None, Some, slice_get, option_map, option_copied, IsTrue, IfErr, ◌↔◌};
+ghost use Rattle.std.specs.Prelude.{◌==◌, if◌then◌else◌, ◌≡◌, ◌≢◌, ◌+◌, ◌^◌, ◌<◌, ◌≤◌, ℕ, [], ◌∷◌, ◌++◌, length, OnOk, IfOk, IfSome, IfNone, true, false, IsOk, IsSome, IsNone, None, Some, slice_get, nat_lt, option_map, option_copied, IsTrue, IfErr, ◌↔◌};
 ghost use Rattle.std.specs.FinMap as finite;
 ghost use Rattle.std.specs.List.{IsDistinct, fold};
 ghost use Rattle.moka_store.specs.Store.{member_after, number_after, cursor_past, with_timer, AreKeysOf, ChangesRecord, ExpiresAsBefore, IsOff, IsPlaced, IsHandle, IsOneEach, IsOrdered};
@@ -175,16 +175,10 @@ impl<K: Eq + Hash, V, S: BuildHasher> Store<K, V, S> {
         let Some(place) = self.index.find(hash.0, is_match) else {
             return None;
         };
-        let Some(row) = table.row(place) else {
+        let Some((number, stored)) = table.live(place) else {
             unreachable!()
         };
-        let Some(stored) = row.stored() else {
-            unreachable!()
-        };
-        let handle = Handle {
-            number: row.number(),
-            place,
-        };
+        let handle = Handle { number, place };
         Some((handle, stored))
     }
 
@@ -206,8 +200,8 @@ impl<K: Eq + Hash, V, S: BuildHasher> Store<K, V, S> {
         ensures records { (n : ℕ) → IsSome (finite.get self.now.records n) → IsSome (finite.get self.now.places n) }
         ensures members { (n : ℕ) → IsSome (counted_of n self.now.access) → IsSome (finite.get self.now.places n) }
     {
-        match self.table.row(handle.place) {
-            Some(row) => row.number() == handle.number,
+        match self.table.number(handle.place) {
+            Some(number) => number == handle.number,
             None => false,
         }
     }
@@ -617,7 +611,9 @@ impl<K: Eq + Hash, V, S: BuildHasher> Store<K, V, S> {
 
     /// Whether there are so many members that their nodes lie in no near cache of the processor.
     #[inline(always)]
-    pub fn is_far(&self) -> bool {
+    pub fn is_far(&self) -> bool
+        ensures { result ≡ nat_lt 262144 (length self.now.access) }
+    {
         self.access.len() > FAR
     }
 
@@ -633,10 +629,7 @@ impl<K: Eq + Hash, V, S: BuildHasher> Store<K, V, S> {
     // The slot behind that of the member at this place.
     #[inline(always)]
     fn slot_behind(&self, place: usize) -> u32 {
-        let Some(row) = self.table.row(place) else {
-            return 0;
-        };
-        let Some(membership) = row.membership() else {
+        let Some(membership) = self.table.membership(place) else {
             return 0;
         };
         match self.access.next(membership.access) {
@@ -662,8 +655,8 @@ impl<K: Eq + Hash, V, S: BuildHasher> Store<K, V, S> {
             let Some((slot, place)) = next else {
                 break;
             };
-            if let Some(row) = self.table.row(place as usize) {
-                read ^= row.number();
+            if let Some(number) = self.table.number(place as usize) {
+                read ^= number;
             }
             next = self.access.next(slot);
         }

@@ -6,6 +6,7 @@ pub mod Newest
 pub mod Orders
 pub mod Parts
 pub mod Rings
+pub mod RowCalls
 pub mod TableMaps
 pub mod TableCalls
 pub mod Tickets

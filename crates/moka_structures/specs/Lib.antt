@@ -8,5 +8,5 @@ pub mod Pending
 pub mod RecordTable
 pub mod Rings
 pub mod Slots
-pub mod TableRows
+pub mod States
 pub mod Tickets

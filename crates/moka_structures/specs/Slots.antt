@@ -1,5 +1,9 @@
 -- How a row keeps its slots. No public clause but those of a row cites this module.
-use Rattle.std.specs.Prelude.{ℕ, ◌<◌, cond, nat_eq, Option, Some, None, IfSome}
+use Rattle.std.specs.Prelude.{◌≡◌, ◌⊎◌, ℕ, ◌<◌, cond, nat_eq, Option, Some, None, IfSome, refl}
+use Rattle.std.specs.Coded.{Coded, code_by, coded⊎, coded_ℕ}
+use Rattle.std.proofs.Common.{inl, inr}
+use Rattle.slab.specs.declared.Entry.{Entry}
+use Rattle.slab.specs.declared.Entry.TheVariants.{Vacant, Occupied}
 use Rattle.moka_structures.specs.declared.row.Membership.{Membership}
 
 -- a slot as a word, in which 0 is none
@@ -18,3 +22,19 @@ IsSlot slot = IfSome slot (λ s. 0 < s)
 pub record HasSlots (m : Membership) : Type 0 where
   pub access : 0 < m.access
   pub written : IsSlot m.written
+
+-- an entry is stored as one of two
+abbrev entry_cases : {R : Type 0} → Entry R → ℕ ⊎ R
+entry_cases (Vacant next) = inl next
+entry_cases (Occupied row) = inr row
+
+abbrev entry_from_cases : {R : Type 0} → ℕ ⊎ R → Entry R
+entry_from_cases (inl next) = Vacant next
+entry_from_cases (inr row) = Occupied row
+
+pub entry_from_cases-entry_cases : {R : Type 0} → (e : Entry R) → entry_from_cases (entry_cases e) ≡ e
+entry_from_cases-entry_cases (Vacant next) = refl
+entry_from_cases-entry_cases (Occupied row) = refl
+
+abbrev pub entry_code : {R : Type 0} → Coded R → Coded (Entry R)
+entry_code {R} code = code_by (ℕ ⊎ R) (coded⊎ coded_ℕ code) entry_cases entry_from_cases entry_from_cases-entry_cases

@@ -4,13 +4,11 @@ ghost use Rattle.std.specs.Borrow.{sem};
 ghost use Rattle.std.specs.FinMap as map;
 ghost use Rattle.std.specs.Option.{option_copied_mut, option_map, option_and_then};
 ghost use Rattle.moka_structures.specs.declared.row.Membership.{Membership};
-ghost use Rattle.moka_structures.specs.RecordTable.{Row};
 ghost use Rattle.moka_structures.specs.RecordTable.{row_at, number_at, stored_at, membership_at, find_at, ChangesAt, ChangesRow, RecountsRow, records_of, counted_of, places_of};
 ghost use Rattle.moka_structures.specs.Slots.{IsSlot, HasSlots};
-ghost use Rattle.slab.specs.Slab.{slab_len};
 
-use crate::row::{Membership, Row};
-use slab::Slab;
+use crate::row::Membership;
+use crate::rows::Rows;
 use std::alloc::{AllocError, Global};
 use std::marker::Model;
 
@@ -30,18 +28,15 @@ impl<R: Drop> Drop for RecordTable<R> {
 }
 
 impl<R> Model for RecordTable<R> {
-    ghost use Rattle.std.specs.Prelude.{◌-◌, ◌≤◌};
-    ghost use Rattle.slab.specs.Slab.{slab_len};
-    ghost use Rattle.moka_structures.specs.RecordTable.{Table, table_code, row_at};
-    ghost use Rattle.moka_structures.specs.TableRows.{IsTable};
+    ghost use Rattle.moka_structures.specs.RecordTable.{Table, table_code, row_at, IsNumbered};
 
     ghost Value = { Table R };
 
     ghost coded = { table_code R.code };
 
-    ghost view = { λ a. record { rows = a.rows.slab.slots; room = a.rows.slab.capacity - slab_len a.rows.slab } };
+    ghost view = { λ a. a.rows };
 
-    ghost invariant = { λ a. IsTable (row_at a.rows.slab.slots) (slab_len a.rows.slab) a.rows.slab.capacity };
+    ghost invariant = { λ a. IsNumbered (row_at a.rows.rows) };
 }
 
 impl<R> RecordTable<R> {
@@ -56,9 +51,7 @@ impl<R> RecordTable<R> {
         ensures room { result.room ≡ 0 }
     {
         RecordTable {
-            rows: Rows {
-                slab: Slab::new(alloc),
-            },
+            rows: Rows::new(alloc),
         }
     }
 
@@ -67,8 +60,7 @@ impl<R> RecordTable<R> {
         ensures value { result ≡ count_by is_some self.now.rows }
         ensures fits { result + self.now.room ≤ usize.MAX }
     {
-        let _capacity = self.capacity();
-        self.rows.slab.len()
+        self.rows.len()
     }
 
     /// How many rows fit with no memory, those that there are among them. Every place is less.
@@ -76,7 +68,7 @@ impl<R> RecordTable<R> {
         ensures value { result ≡ count_by is_some self.now.rows + self.now.room }
         ensures places { length self.now.rows ≤ result }
     {
-        self.rows.slab.capacity()
+        self.rows.capacity()
     }
 
     /// Makes room for `additional` more rows.
@@ -86,7 +78,7 @@ impl<R> RecordTable<R> {
         ensures rows { self.new.rows ≡ self.old.rows }
         ensures kept { self.old.room ≤ self.new.room }
     {
-        self.rows.slab.reserve(additional)
+        self.rows.reserve(additional)
     }
 
     /// A new row for a number that has none. The answer is its place.
@@ -102,15 +94,24 @@ impl<R> RecordTable<R> {
         ensures len { count_by is_some self.new.rows ≡ count_by is_some self.old.rows + 1 }
         ensures room { self.old.room ≡ self.new.room + 1 }
     {
-        self.rows.slab.insert_reserved(Row::new(number, stored))
+        self.rows.insert(number, stored)
     }
 
-    /// The row at this place.
+    /// The number of the row at this place.
     #[inline(always)]
-    pub fn row(&self, place: usize) -> Option<&Row<R>>
-        ensures { option_copied result ≡ row_at self.now.rows place }
+    pub fn number(&self, place: usize) -> Option<u64>
+        ensures { result ≡ option_map (λ row. row.number) (row_at self.now.rows place) }
     {
-        self.rows.slab.get(place)
+        self.rows.number(place)
+    }
+
+    /// The number and the record at this place, if the record is in the map.
+    #[inline(always)]
+    pub fn live(&self, place: usize) -> Option<(u64, &R)>
+        ensures number { IfSome result (λ f. f.0 ≡ number_at self.now.rows place) }
+        ensures stored { option_map (λ f. f.1.now) result ≡ stored_at self.now.rows place }
+    {
+        self.rows.live(place)
     }
 
     /// The record at this place.
@@ -118,7 +119,7 @@ impl<R> RecordTable<R> {
     pub fn record(&self, place: usize) -> Option<&R>
         ensures { option_copied result ≡ stored_at self.now.rows place }
     {
-        self.row(place)?.stored()
+        self.rows.stored(place)
     }
 
     /// The record at this place, if it is the one of this number.
@@ -159,9 +160,19 @@ impl<R> RecordTable<R> {
     /// The membership of the row at this place.
     #[inline(always)]
     pub fn membership(&self, place: usize) -> Option<Membership>
-        ensures { result ≡ membership_at self.now.rows place }
+        ensures membership { result ≡ membership_at self.now.rows place }
+        ensures slots { IfSome result HasSlots }
     {
-        self.row(place)?.membership()
+        self.rows.membership(place)
+    }
+
+    /// The slot among the timers of the row at this place.
+    #[inline(always)]
+    pub fn timer(&self, place: usize) -> Option<u32>
+        ensures timer { result ≡ option_and_then (λ row. row.timer) (row_at self.now.rows place) }
+        ensures slot { IsSlot result }
+    {
+        self.rows.timer(place)
     }
 
     /// The weight that is counted for the member at this place.
@@ -247,112 +258,6 @@ impl<R> RecordTable<R> {
         ensures len { count_by is_some self.new.rows + 1 ≡ count_by is_some self.old.rows }
         ensures room { self.new.room ≡ self.old.room + 1 }
     {
-        let _row = self.rows.slab.remove(place);
-    }
-}
-
-// The rows, of which nothing is known.
-#[derive(Drop)]
-struct Rows<R> {
-    slab: Slab<Row<R>>,
-}
-
-impl<R> Rows<R> {
-    ghost use Rattle.moka_structures.specs.Lending.{lends_stored};
-
-    // The record at this place, if its row has this number.
-    #[inline(always)]
-    fn find(&self, place: usize, number: u64) -> Option<&R>
-        ensures { option_copied result ≡ find_at self.now.slab.slots place number }
-    {
-        match self.slab.get(place) {
-            Some(row) if row.number() == number => row.stored(),
-            _ => None,
-        }
-    }
-
-    // The record of the row at this place, for writing.
-    #[inline(always)]
-    fn stored_mut(&mut self, place: usize) -> Option<&mut R>
-        ensures* writes_back { sem 𝓛 (lends_stored R.row self.entry place result) }
-        ensures value { option_copied_mut result ≡ stored_at self.old.slab.slots place }
-    {
-        match self.slab.get_mut(place) {
-            Some(row) => row.stored_mut(),
-            None => None,
-        }
-    }
-
-    // The record of the row at this place leaves.
-    #[inline(always)]
-    fn take_stored(&mut self, place: usize) -> R
-        requires { IsSome (stored_at self.old.slab.slots place) }
-        ensures taken { stored_at self.old.slab.slots place ≡ Some result }
-        ensures changes { ChangesRow self.old.slab.slots self.new.slab.slots place (λ row. record row { stored = None }) }
-        ensures len { slab_len self.new.slab ≡ slab_len self.old.slab }
-        ensures capacity { self.new.slab.capacity ≡ self.old.slab.capacity }
-    {
-        let Some(row) = self.slab.get_mut(place) else {
-            unreachable!()
-        };
-        let Some(taken) = row.take() else {
-            unreachable!()
-        };
-        taken
-    }
-
-    // Another weight for the member at this place.
-    #[inline(always)]
-    fn recount(&mut self, place: usize, weight: u32)
-        requires { IsSome (membership_at self.old.slab.slots place) }
-        ensures changes { RecountsRow self.old.slab.slots self.new.slab.slots place weight }
-        ensures len { slab_len self.new.slab ≡ slab_len self.old.slab }
-        ensures capacity { self.new.slab.capacity ≡ self.old.slab.capacity }
-    {
-        let Some(row) = self.slab.get_mut(place) else {
-            unreachable!()
-        };
-        row.set_counted(weight);
-    }
-
-    // Another membership, or none, for the row at this place. The answer is the old one.
-    #[inline(always)]
-    fn replace_membership(
-        &mut self,
-        place: usize,
-        membership: Option<Membership>,
-    ) -> Option<Membership>
-        requires row { IsSome (row_at self.old.slab.slots place) }
-        requires slots { IfSome membership HasSlots }
-        ensures old { result ≡ membership_at self.old.slab.slots place }
-        ensures changes { ChangesRow self.old.slab.slots self.new.slab.slots place (λ row. record row { membership = membership }) }
-        ensures len { slab_len self.new.slab ≡ slab_len self.old.slab }
-        ensures capacity { self.new.slab.capacity ≡ self.old.slab.capacity }
-    {
-        let Some(row) = self.slab.get_mut(place) else {
-            unreachable!()
-        };
-        let old = row.membership();
-        row.set_membership(membership);
-        old
-    }
-
-    // Another timer, or none, for the row at this place. The answer is the old one.
-    #[inline(always)]
-    fn replace_timer(&mut self, place: usize, timer: Option<u32>) -> Option<u32>
-        requires row { IsSome (row_at self.old.slab.slots place) }
-        requires slot { IsSlot timer }
-        ensures old { result ≡ option_and_then (λ row. row.timer) (row_at self.old.slab.slots place) }
-        ensures slot { IsSlot result }
-        ensures changes { ChangesRow self.old.slab.slots self.new.slab.slots place (λ row. record row { timer = timer }) }
-        ensures len { slab_len self.new.slab ≡ slab_len self.old.slab }
-        ensures capacity { self.new.slab.capacity ≡ self.old.slab.capacity }
-    {
-        let Some(row) = self.slab.get_mut(place) else {
-            unreachable!()
-        };
-        let old = row.timer();
-        row.set_timer(timer);
-        old
+        self.rows.remove(place);
     }
 }

@@ -8,7 +8,6 @@ pub mod collections;
 pub mod hash;
 pub mod io;
 pub mod simd;
-pub mod slab;
 #[cfg(test)]
 pub mod test;
 pub mod uuid;

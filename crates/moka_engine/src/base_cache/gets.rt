@@ -1,12 +1,14 @@
 //! What look-ups find, and what a hit changes. moka: `sync::base_cache::BaseCache::do_get_with_hash`.
-ghost use Rattle.std.specs.Prelude.{◌≡◌, Bool, false, Some, IfOk, option_map};
+ghost use Rattle.std.specs.Prelude.{◌≡◌, Bool, false, None, Some, IfOk, option_map};
 ghost use Rattle.std.specs.Duration.{as_nanos};
 ghost use Rattle.moka_parts.specs.Copies.{IsEntryCopy};
 ghost use Rattle.moka_parts.specs.Expiry.{time_left};
 ghost use Rattle.moka_parts.specs.Records.{record_of_key};
 ghost use Rattle.moka_parts.specs.Surroundings.{IsAskedOnce};
 ghost use Rattle.moka_parts.specs.Time.{moment_of};
+ghost use Rattle.moka_parts.specs.Visibility.{has_lapsed as lapsed};
 ghost use Rattle.moka_store.specs.Hashing.{IsKeyHash};
+ghost use Rattle.moka_engine.specs.BaseCache.{NoneExpires, expiring_by};
 ghost use Rattle.moka_engine.specs.Looks.{Finds, Touches, entry_at, value_of};
 
 use moka_inner::Inner;
@@ -20,6 +22,21 @@ use moka_parts::records::Record;
 use moka_store::{Handle, KeyHash};
 use std::hash::{BuildHasher, Hash};
 use std::time::Duration;
+
+// Whether a test by moments hides a record, which has a moment of its own only if an expiry is set. The record is not
+// read where no test can hide one.
+#[inline(always)]
+pub(super) fn is_hidden<K, V, X>(
+    found: &Record<K, V>,
+    policy: &ExpirationPolicy<X>,
+    valid_after: Option<Instant>,
+    now: Instant,
+) -> bool
+    requires lasting { policy.now.expiry ≡ None → found.now.expires ≡ None }
+    ensures { result ≡ lapsed (expiring_by policy.now) valid_after found.now now.0 }
+{
+    (policy.is_set() | valid_after.is_some()) && has_lapsed(found, policy, valid_after, now)
+}
 
 // The record whose key is equal to the one sought, which comes with its hash in the map, unless the caller's test, which is asked of its value first, ignores
 // it, a test by moments hides it or a predicate covers it.
@@ -36,6 +53,7 @@ pub(super) fn find_unless<'a, K: Eq + Hash, V, S: BuildHasher, X, P, I: ValueTes
 where
     P: PredicateFn<K, V>,
     requires own { IsKeyHash S.build_hasher S.Hasher.finish S.Hasher.write inner.now.kept.hasher (K.hash_input sought.0.now) sought.1 }
+    requires lasting { policy.now.expiry ≡ None → NoneExpires inner.now.kept.records }
     requires askable { (v : V) → I.can_ask test.old v }
     ensures { (ignored : Bool)
         × IsAskedOnce I.asks (Some test.old) (value_of (record_of_key K.eq inner.now.kept.records sought.entry.0.now)) ignored (Some test.new)
@@ -44,7 +62,7 @@ where
     let (key, own) = sought;
     let (handle, found) = inner.find(key, own)?;
     if test.ignores(&found.value)
-        || has_lapsed(found, policy, *valid_after, now)
+        || is_hidden(found, policy, *valid_after, now)
         || invalidator.apply_predicates(found)
     {
         return None;
@@ -65,6 +83,7 @@ pub(super) fn find_shown<'a, K: Eq + Hash, V, S: BuildHasher, X, P>(
 where
     P: PredicateFn<K, V>,
     requires own { IsKeyHash S.build_hasher S.Hasher.finish S.Hasher.write inner.now.kept.hasher (K.hash_input sought.0.now) sought.1 }
+    requires lasting { policy.now.expiry ≡ None → NoneExpires inner.now.kept.records }
     ensures { Finds K.eq inner.now.kept policy.now valid_after.now P.says invalidator.now sought.entry.0.now false now.0 (option_map (λ f. (f.0, f.1.now)) result) }
 {
     find_unless(

@@ -1,5 +1,5 @@
 //! Look-ups and removals by a test of the key in place of a key.
-ghost use Rattle.std.specs.Prelude.{◌≡◌, Some, length, true, option_map};
+ghost use Rattle.std.specs.Prelude.{◌≡◌, None, Some, length, true, option_map};
 ghost use Rattle.std.specs.List.{fold};
 ghost use Rattle.moka_parts.specs.Calls.{RecordsRead, no_events};
 ghost use Rattle.moka_parts.specs.Copies.{HandsOut, IsEntryCopy};
@@ -9,6 +9,7 @@ ghost use Rattle.moka_parts.specs.Runs.{Befalls};
 ghost use Rattle.moka_parts.specs.Surroundings.{Leads};
 ghost use Rattle.moka_parts.specs.declared.records.ReadOperation.TheVariants.{Hit};
 ghost use Rattle.moka_store.specs.Hashing.{IsKeyHash};
+ghost use Rattle.moka_engine.specs.BaseCache.{NoneExpires};
 ghost use Rattle.moka_engine.specs.LooksBy.{FindsBy};
 ghost use Rattle.moka_engine.specs.Makes.{Takes};
 
@@ -17,7 +18,6 @@ use moka_inner::Inner;
 use moka_parts::calls::{Entry, KvEntry, Ticket};
 use moka_parts::closures::{PredicateFn, Weigher};
 use moka_parts::error::OutOfMemory;
-use moka_parts::expiry::has_lapsed;
 use moka_parts::housekeeper::Clock;
 use moka_parts::invalidator::Invalidator;
 use moka_parts::key_test::KeyTest;
@@ -40,12 +40,13 @@ fn find_by<'a, K: Eq + Hash, V, S: BuildHasher, X, P, T: KeyTest<K>>(
 ) -> Option<(Handle, &'a Record<K, V>)>
 where
     P: PredicateFn<K, V>,
+    requires lasting { policy.now.expiry ≡ None → NoneExpires inner.now.kept.records }
     requires own { (k : K) → T.passes sought.0.now k ≡ true → IsKeyHash S.build_hasher S.Hasher.finish S.Hasher.write inner.now.kept.hasher (K.hash_input k) sought.1 }
     ensures { FindsBy inner.now.kept policy.now valid_after.now P.says invalidator.now (T.passes sought.entry.0.now) now.0 (option_map (λ f. (f.0, f.1.now)) result) }
 {
     let (test, own) = sought;
     let (handle, found) = inner.find_by(test, own)?;
-    if has_lapsed(found, policy, *valid_after, now) || invalidator.apply_predicates(found) {
+    if gets::is_hidden(found, policy, *valid_after, now) || invalidator.apply_predicates(found) {
         return None;
     }
     Some((handle, found))

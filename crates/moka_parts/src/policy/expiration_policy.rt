@@ -14,6 +14,8 @@ pub struct ExpirationPolicy<X> {
     time_to_live: Option<Span>,
     time_to_idle: Option<Span>,
     expiry: Option<X>,
+    // Whether one of them is set, which each look-up asks.
+    is_set: bool,
 }
 
 // Written out so that an owner's drop is one call.
@@ -23,11 +25,13 @@ impl<X: Drop> Drop for ExpirationPolicy<X> {
             time_to_live: _,
             time_to_idle: _,
             expiry: _,
+            is_set: _,
         } = self;
     }
 }
 
 impl<X> Model for ExpirationPolicy<X> {
+    ghost use Rattle.std.specs.Prelude.{◌≡◌, ◌||◌, is_some};
     ghost use Rattle.moka_parts.specs.Policy.{Expirations};
 
     ghost Value = { Expirations X };
@@ -37,6 +41,8 @@ impl<X> Model for ExpirationPolicy<X> {
       time_to_idle = p.time_to_idle;
       expiry = p.expiry;
     } };
+
+    ghost invariant = { λ p. p.is_set ≡ (is_some p.time_to_live || is_some p.time_to_idle || is_some p.expiry) };
 }
 
 impl<X> Default for ExpirationPolicy<X> {
@@ -51,6 +57,7 @@ impl<X> Default for ExpirationPolicy<X> {
             time_to_live: None,
             time_to_idle: None,
             expiry: None,
+            is_set: false,
         }
     }
 }
@@ -70,6 +77,7 @@ impl<X> ExpirationPolicy<X> {
         ensures { self.new ≡ record self.old { time_to_live = Some (as_nanos duration) } }
     {
         self.time_to_live = Some(Span::new(duration));
+        self.is_set = true;
     }
 
     /// How long an entry stays after it was written or read.
@@ -86,14 +94,15 @@ impl<X> ExpirationPolicy<X> {
         ensures { self.new ≡ record self.old { time_to_idle = Some (as_nanos duration) } }
     {
         self.time_to_idle = Some(Span::new(duration));
+        self.is_set = true;
     }
 
-    /// Whether a time to live or a time to idle is set.
+    /// Whether anything expires: a time to live, a time to idle or an expiry is set.
     #[inline(always)]
-    pub(crate) fn is_timed(&self) -> bool
-        ensures { result ≡ (is_some self.now.time_to_live || is_some self.now.time_to_idle) }
+    pub fn is_set(&self) -> bool
+        ensures { result ≡ (is_some self.now.time_to_live || is_some self.now.time_to_idle || is_some self.now.expiry) }
     {
-        self.time_to_live.is_some() | self.time_to_idle.is_some()
+        self.is_set
     }
 
     /// Whether the time to live of an entry written then is over.
@@ -131,5 +140,6 @@ impl<X> ExpirationPolicy<X> {
         ensures { self.new ≡ record self.old { expiry = Some expiry } }
     {
         self.expiry = Some(expiry);
+        self.is_set = true;
     }
 }

@@ -141,14 +141,8 @@ pub(crate) fn member_at<K, V>(table: &RecordTable<Record<K, V>>, place: usize) -
     ensures place { result.0.place ≡ place }
     ensures member { (row : Row (Record K V)) → row_at table.now.rows place ≡ Some row → member result.0.number result.1 ≡ member_in row }
 {
-    let Some(row) = table.row(place) else {
-        unreachable!()
-    };
-    let handle = Handle {
-        number: row.number(),
-        place,
-    };
-    (handle, row.membership().map_or(0, |m| m.counted))
+    let handle = handle_at(table, place);
+    (handle, table.counted(place).unwrap_or(0))
 }
 
 // The handle of the row at this place.
@@ -157,13 +151,10 @@ pub(crate) fn handle_at<K, V>(table: &RecordTable<Record<K, V>>, place: usize) -
     ensures place { result.place ≡ place }
     ensures number { (row : Row (Record K V)) → row_at table.now.rows place ≡ Some row → result.number ≡ row.number }
 {
-    let Some(row) = table.row(place) else {
+    let Some(number) = table.number(place) else {
         unreachable!()
     };
-    Handle {
-        number: row.number(),
-        place,
-    }
+    Handle { number, place }
 }
 
 // The slot in the write list of the row at this place.
@@ -194,12 +185,9 @@ pub(crate) fn timing_at<K, V>(
     ensures slot { IsSlot result.0 }
     ensures expires { (r : Record K V) → stored_at table.now.rows place ≡ Some r → result.1 ≡ r.expires }
 {
-    let Some(row) = table.row(place) else {
-        return (None, None);
-    };
-    let expires = match row.stored() {
+    let expires = match table.record(place) {
         Some(stored) => stored.expires,
         None => None,
     };
-    (row.timer(), expires)
+    (table.timer(place), expires)
 }

@@ -44,20 +44,6 @@ pub fn has_lapsed<K, V, X>(
     now: Instant,
 ) -> bool
 {
-    // Where nothing can hide a record, one test says so.
-    let is_tested = entry.expires.is_some() | policy.is_timed() | valid_after.is_some();
-    is_tested && fails_a_test(entry, policy, valid_after, now)
-}
-
-// Whether a test by moments hides a record.
-#[cold]
-fn fails_a_test<K, V, X>(
-    entry: &Record<K, V>,
-    policy: &ExpirationPolicy<X>,
-    valid_after: Option<Instant>,
-    now: Instant,
-) -> bool
-{
     is_expired_by_per_entry_ttl(entry.expires, now)
         || policy.is_past_time_to_live(entry.written, now)
         || policy.is_past_time_to_idle(entry.read, now)

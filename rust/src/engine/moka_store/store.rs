@@ -104,16 +104,10 @@ impl<K: Eq + Hash, V, S: BuildHasher> Store<K, V, S> {
         let Some(place) = self.index.find(hash.0, is_match) else {
             return None;
         };
-        let Some(row) = table.row(place) else {
+        let Some((number, stored)) = table.live(place) else {
             unreachable!()
         };
-        let Some(stored) = row.stored() else {
-            unreachable!()
-        };
-        let handle = Handle {
-            number: row.number(),
-            place,
-        };
+        let handle = Handle { number, place };
         Some((handle, stored))
     }
 
@@ -128,8 +122,8 @@ impl<K: Eq + Hash, V, S: BuildHasher> Store<K, V, S> {
     #[inline(always)]
     pub fn has_row(&self, handle: Handle) -> bool
     {
-        match self.table.row(handle.place) {
-            Some(row) => row.number() == handle.number,
+        match self.table.number(handle.place) {
+            Some(number) => number == handle.number,
             None => false,
         }
     }
@@ -404,7 +398,8 @@ impl<K: Eq + Hash, V, S: BuildHasher> Store<K, V, S> {
 
     /// Whether there are so many members that their nodes lie in no near cache of the processor.
     #[inline(always)]
-    pub fn is_far(&self) -> bool {
+    pub fn is_far(&self) -> bool
+    {
         self.access.len() > FAR
     }
 
@@ -419,10 +414,7 @@ impl<K: Eq + Hash, V, S: BuildHasher> Store<K, V, S> {
     // The slot behind that of the member at this place.
     #[inline(always)]
     fn slot_behind(&self, place: usize) -> u32 {
-        let Some(row) = self.table.row(place) else {
-            return 0;
-        };
-        let Some(membership) = row.membership() else {
+        let Some(membership) = self.table.membership(place) else {
             return 0;
         };
         match self.access.next(membership.access) {
@@ -447,8 +439,8 @@ impl<K: Eq + Hash, V, S: BuildHasher> Store<K, V, S> {
             let Some((slot, place)) = next else {
                 break;
             };
-            if let Some(row) = self.table.row(place as usize) {
-                read ^= row.number();
+            if let Some(number) = self.table.number(place as usize) {
+                read ^= number;
             }
             next = self.access.next(slot);
         }

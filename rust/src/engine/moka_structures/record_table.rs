@@ -2,8 +2,8 @@
 //! Rows for the cache's entries, each at a place that the table picks.
 use crate::support::prelude::*;
 
-use crate::engine::moka_structures::row::{Membership, Row};
-use crate::support::slab::Slab;
+use crate::engine::moka_structures::row::Membership;
+use crate::engine::moka_structures::rows::Rows;
 use crate::support::alloc::{AllocError, Global};
 
 /// Rows of records by place.
@@ -22,50 +22,54 @@ impl<R> RecordTable<R> {
     pub fn new(alloc: Global) -> Self
     {
         RecordTable {
-            rows: Rows {
-                slab: Slab::new(alloc),
-            },
+            rows: Rows::new(alloc),
         }
     }
 
     /// How many rows there are.
     pub fn len(&self) -> usize
     {
-        let _capacity = self.capacity();
-        self.rows.slab.len()
+        self.rows.len()
     }
 
     /// How many rows fit with no memory, those that there are among them. Every place is less.
     pub fn capacity(&self) -> usize
     {
-        self.rows.slab.capacity()
+        self.rows.capacity()
     }
 
     /// Makes room for `additional` more rows.
     pub fn reserve(&mut self, additional: usize) -> Result<(), AllocError>
     {
-        self.rows.slab.reserve(additional)
+        self.rows.reserve(additional)
     }
 
     /// A new row for a number that has none. The answer is its place.
     #[inline(always)]
     pub fn insert(&mut self, number: u64, stored: R) -> usize
     {
-        self.rows.slab.insert_reserved(Row::new(number, stored))
+        self.rows.insert(number, stored)
     }
 
-    /// The row at this place.
+    /// The number of the row at this place.
     #[inline(always)]
-    pub fn row(&self, place: usize) -> Option<&Row<R>>
+    pub fn number(&self, place: usize) -> Option<u64>
     {
-        self.rows.slab.get(place)
+        self.rows.number(place)
+    }
+
+    /// The number and the record at this place, if the record is in the map.
+    #[inline(always)]
+    pub fn live(&self, place: usize) -> Option<(u64, &R)>
+    {
+        self.rows.live(place)
     }
 
     /// The record at this place.
     #[inline(always)]
     pub fn record(&self, place: usize) -> Option<&R>
     {
-        self.row(place)?.stored()
+        self.rows.stored(place)
     }
 
     /// The record at this place, if it is the one of this number.
@@ -93,7 +97,14 @@ impl<R> RecordTable<R> {
     #[inline(always)]
     pub fn membership(&self, place: usize) -> Option<Membership>
     {
-        self.row(place)?.membership()
+        self.rows.membership(place)
+    }
+
+    /// The slot among the timers of the row at this place.
+    #[inline(always)]
+    pub fn timer(&self, place: usize) -> Option<u32>
+    {
+        self.rows.timer(place)
     }
 
     /// The weight that is counted for the member at this place.
@@ -135,85 +146,6 @@ impl<R> RecordTable<R> {
     #[inline(always)]
     pub fn forget(&mut self, place: usize)
     {
-        let _row = self.rows.slab.remove(place);
-    }
-}
-
-// The rows, of which nothing is known.
-struct Rows<R> {
-    slab: Slab<Row<R>>,
-}
-
-impl<R> Rows<R> {
-
-    // The record at this place, if its row has this number.
-    #[inline(always)]
-    fn find(&self, place: usize, number: u64) -> Option<&R>
-    {
-        match self.slab.get(place) {
-            Some(row) if row.number() == number => row.stored(),
-            _ => None,
-        }
-    }
-
-    // The record of the row at this place, for writing.
-    #[inline(always)]
-    fn stored_mut(&mut self, place: usize) -> Option<&mut R>
-    {
-        match self.slab.get_mut(place) {
-            Some(row) => row.stored_mut(),
-            None => None,
-        }
-    }
-
-    // The record of the row at this place leaves.
-    #[inline(always)]
-    fn take_stored(&mut self, place: usize) -> R
-    {
-        let Some(row) = self.slab.get_mut(place) else {
-            unreachable!()
-        };
-        let Some(taken) = row.take() else {
-            unreachable!()
-        };
-        taken
-    }
-
-    // Another weight for the member at this place.
-    #[inline(always)]
-    fn recount(&mut self, place: usize, weight: u32)
-    {
-        let Some(row) = self.slab.get_mut(place) else {
-            unreachable!()
-        };
-        row.set_counted(weight);
-    }
-
-    // Another membership, or none, for the row at this place. The answer is the old one.
-    #[inline(always)]
-    fn replace_membership(
-        &mut self,
-        place: usize,
-        membership: Option<Membership>,
-    ) -> Option<Membership>
-    {
-        let Some(row) = self.slab.get_mut(place) else {
-            unreachable!()
-        };
-        let old = row.membership();
-        row.set_membership(membership);
-        old
-    }
-
-    // Another timer, or none, for the row at this place. The answer is the old one.
-    #[inline(always)]
-    fn replace_timer(&mut self, place: usize, timer: Option<u32>) -> Option<u32>
-    {
-        let Some(row) = self.slab.get_mut(place) else {
-            unreachable!()
-        };
-        let old = row.timer();
-        row.set_timer(timer);
-        old
+        self.rows.remove(place);
     }
 }

@@ -14,6 +14,19 @@ use crate::engine::moka_store::{Handle, KeyHash};
 use crate::support::hash::{BuildHasher, Hash};
 use crate::support::time::Duration;
 
+// Whether a test by moments hides a record, which has a moment of its own only if an expiry is set. The record is not
+// read where no test can hide one.
+#[inline(always)]
+pub(super) fn is_hidden<K, V, X>(
+    found: &Record<K, V>,
+    policy: &ExpirationPolicy<X>,
+    valid_after: Option<Instant>,
+    now: Instant,
+) -> bool
+{
+    (policy.is_set() | valid_after.is_some()) && has_lapsed(found, policy, valid_after, now)
+}
+
 // The record whose key is equal to the one sought, which comes with its hash in the map, unless the caller's test, which is asked of its value first, ignores
 // it, a test by moments hides it or a predicate covers it.
 #[inline(always)]
@@ -32,7 +45,7 @@ where
     let (key, own) = sought;
     let (handle, found) = inner.find(key, own)?;
     if test.ignores(&found.value)
-        || has_lapsed(found, policy, *valid_after, now)
+        || is_hidden(found, policy, *valid_after, now)
         || invalidator.apply_predicates(found)
     {
         return None;

@@ -7,7 +7,6 @@ use crate::engine::moka_inner::Inner;
 use crate::engine::moka_parts::calls::{Entry, KvEntry, Ticket};
 use crate::engine::moka_parts::closures::{PredicateFn, Weigher};
 use crate::engine::moka_parts::error::OutOfMemory;
-use crate::engine::moka_parts::expiry::has_lapsed;
 use crate::engine::moka_parts::housekeeper::Clock;
 use crate::engine::moka_parts::invalidator::Invalidator;
 use crate::engine::moka_parts::key_test::KeyTest;
@@ -33,7 +32,7 @@ where
 {
     let (test, own) = sought;
     let (handle, found) = inner.find_by(test, own)?;
-    if has_lapsed(found, policy, *valid_after, now) || invalidator.apply_predicates(found) {
+    if gets::is_hidden(found, policy, *valid_after, now) || invalidator.apply_predicates(found) {
         return None;
     }
     Some((handle, found))

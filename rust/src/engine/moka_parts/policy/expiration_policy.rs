@@ -12,6 +12,8 @@ pub struct ExpirationPolicy<X> {
     time_to_live: Option<Span>,
     time_to_idle: Option<Span>,
     expiry: Option<X>,
+    // Whether one of them is set, which each look-up asks.
+    is_set: bool,
 }
 
 // Written out so that an owner's drop is one call.
@@ -24,6 +26,7 @@ impl<X> Default for ExpirationPolicy<X> {
             time_to_live: None,
             time_to_idle: None,
             expiry: None,
+            is_set: false,
         }
     }
 }
@@ -41,6 +44,7 @@ impl<X> ExpirationPolicy<X> {
     pub fn set_time_to_live(&mut self, duration: Duration)
     {
         self.time_to_live = Some(Span::new(duration));
+        self.is_set = true;
     }
 
     /// How long an entry stays after it was written or read.
@@ -55,13 +59,14 @@ impl<X> ExpirationPolicy<X> {
     pub fn set_time_to_idle(&mut self, duration: Duration)
     {
         self.time_to_idle = Some(Span::new(duration));
+        self.is_set = true;
     }
 
-    /// Whether a time to live or a time to idle is set.
+    /// Whether anything expires: a time to live, a time to idle or an expiry is set.
     #[inline(always)]
-    pub(crate) fn is_timed(&self) -> bool
+    pub fn is_set(&self) -> bool
     {
-        self.time_to_live.is_some() | self.time_to_idle.is_some()
+        self.is_set
     }
 
     /// Whether the time to live of an entry written then is over.
@@ -93,5 +98,6 @@ impl<X> ExpirationPolicy<X> {
     pub fn set_expiry(&mut self, expiry: X)
     {
         self.expiry = Some(expiry);
+        self.is_set = true;
     }
 }

@@ -114,26 +114,17 @@ pub(crate) fn set_applied<K, V>(
 // The handle of the row at this place, with its counted weight.
 pub(crate) fn member_at<K, V>(table: &RecordTable<Record<K, V>>, place: usize) -> (Handle, u32)
 {
-    let Some(row) = table.row(place) else {
-        unreachable!()
-    };
-    let handle = Handle {
-        number: row.number(),
-        place,
-    };
-    (handle, row.membership().map_or(0, |m| m.counted))
+    let handle = handle_at(table, place);
+    (handle, table.counted(place).unwrap_or(0))
 }
 
 // The handle of the row at this place.
 pub(crate) fn handle_at<K, V>(table: &RecordTable<Record<K, V>>, place: usize) -> Handle
 {
-    let Some(row) = table.row(place) else {
+    let Some(number) = table.number(place) else {
         unreachable!()
     };
-    Handle {
-        number: row.number(),
-        place,
-    }
+    Handle { number, place }
 }
 
 // The slot in the write list of the row at this place.
@@ -158,12 +149,9 @@ pub(crate) fn timing_at<K, V>(
     place: usize,
 ) -> (Option<u32>, Option<Instant>)
 {
-    let Some(row) = table.row(place) else {
-        return (None, None);
-    };
-    let expires = match row.stored() {
+    let expires = match table.record(place) {
         Some(stored) => stored.expires,
         None => None,
     };
-    (row.timer(), expires)
+    (table.timer(place), expires)
 }

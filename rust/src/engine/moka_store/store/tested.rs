@@ -39,16 +39,10 @@ impl<K: Eq + Hash, V, S: BuildHasher> Store<K, V, S> {
         let Some(place) = self.index.find(hash.0, is_match) else {
             return None;
         };
-        let Some(row) = table.row(place) else {
+        let Some((number, stored)) = table.live(place) else {
             unreachable!()
         };
-        let Some(stored) = row.stored() else {
-            unreachable!()
-        };
-        let handle = Handle {
-            number: row.number(),
-            place,
-        };
+        let handle = Handle { number, place };
         Some((handle, stored))
     }
 }

@@ -1,7 +1,7 @@
 use Rattle.std.proofs.Common.{sym, inl, inr, ◌∙◌}
 use Rattle.moka_engine.proofs.FindSteps.{nothing_found, found_hidden, found_shown}
 use Rattle.moka_engine.proofs.base_cache.gets.find_unless.Goals as goal
-use Rattle.moka_engine.proofs.base_cache.gets.find_unless.Goals.{then-ignores-via-then-ignores, then-ignores-via-else-ignores+then-has_lapsed, then-ignores-via-else-ignores+else-has_lapsed+then-apply_predicates}
+use Rattle.moka_engine.proofs.base_cache.gets.find_unless.Goals.{then-ignores-via-then-ignores, then-ignores-via-else-ignores+then-is_hidden, then-ignores-via-else-ignores+else-is_hidden+then-apply_predicates}
 
 pub returns-in_err-handle : goal.returns-in_err-handle
 returns-in_err-handle g c = rw c.from_residual.ensures (nothing_found g.I.ValueTest.asks g.K.PartialEq.eq c.args.inner.now.kept c.args.policy.now c.args.valid_after.now g.P.PredicateFn.says c.args.invalidator.now c.args.sought.0.now c.args.now.0 c.args.test.now (sym c.in_err-handle.ensures.found))
@@ -12,11 +12,11 @@ returns-then-ignores g c =
     let hidden = found_hidden g.I.ValueTest.asks g.K.PartialEq.eq c.args.inner.now.kept c.args.policy.now c.args.valid_after.now g.P.PredicateFn.says c.args.invalidator.now c.args.sought.0.now c.args.now.0 c.in_ok-handle.found.now found c.args.test.now c.ignores.new.self c.ignores.result c.ignores.ensures in
     elim c.then-ignores.branch [
       | then-ignores-via-then-ignores w ↦ hidden (inl w.if-ignores.true)
-      | then-ignores-via-else-ignores+then-has_lapsed w ↦ hidden (inr (inl (sym w.has_lapsed.ensures ∙ w.if-has_lapsed.true)))
-      | then-ignores-via-else-ignores+else-has_lapsed+then-apply_predicates w ↦ hidden (inr (inr w.if-apply_predicates.ensures))
+      | then-ignores-via-else-ignores+then-is_hidden w ↦ hidden (inr (inl (sym w.is_hidden.ensures ∙ w.if-is_hidden.true)))
+      | then-ignores-via-else-ignores+else-is_hidden+then-apply_predicates w ↦ hidden (inr (inr w.if-apply_predicates.ensures))
     ]
 
 pub returns : goal.returns
 returns g c =
     found_shown g.I.ValueTest.asks g.K.PartialEq.eq c.args.inner.now.kept c.args.policy.now c.args.valid_after.now g.P.PredicateFn.says c.args.invalidator.now c.args.sought.0.now c.args.now.0 c.in_ok-handle.found.now (sym c.in_ok-handle.ensures.found) c.args.test.now c.ignores.new.self c.ignores.result c.ignores.ensures
-    c.in_ok-handle.handle c.in_ok-handle.ensures.handle c.in_ok-handle.ensures.numbered c.if-ignores.false (sym c.has_lapsed.ensures ∙ c.if-has_lapsed.false) c.if-apply_predicates.ensures
+    c.in_ok-handle.handle c.in_ok-handle.ensures.handle c.in_ok-handle.ensures.numbered c.if-ignores.false (sym c.is_hidden.ensures ∙ c.if-is_hidden.false) c.if-apply_predicates.ensures

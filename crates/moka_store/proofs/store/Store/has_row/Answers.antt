@@ -1,8 +1,9 @@
 use Rattle.std.proofs.Common.{◌≡◌, Some, None, sym, ap, ◌∙◌}
 use Rattle.std.proofs.lemmas.Bool.{eq-eqb, eqb-true}
 use Rattle.std.specs.FinMap as finite
-use Rattle.moka_structures.specs.RecordTable.{row_at, places_of}
+use Rattle.moka_structures.specs.RecordTable.{places_of}
 use Rattle.moka_structures.proofs.TableCalls.{get-places, placed_row}
+use Rattle.moka_store.proofs.Looked.{no-row, numbered-row}
 use Rattle.moka_store.proofs.Places.{record-placed, member-placed, other-row}
 use Rattle.moka_store.proofs.store.Store.has_row.Goals as goal
 
@@ -10,11 +11,10 @@ pub returns-in-Some-clause-placed : goal.returns-in-Some-clause-placed
 returns-in-Some-clause-placed g c =
     let tied = c.self.invariant.tied in
     let rows = c.self.inside.table.rows in
-    let row = c.in-Some.row.now in
-    let at_is : row_at rows c.args.handle.place ≡ Some row = sym c.in-Some.ensures in
+    let w = numbered-row rows c.args.handle.place c.in-Some.number c.in-Some.ensures in
     rw (← c.self.view_is) (
-      (λ same. ap (finite.get (places_of rows)) (sym (sym c.number.ensures ∙ eqb-true c.number.result c.args.handle.number same)) ∙ get-places rows tied.numbered c.args.handle.place row at_is),
-      (λ there. eq-eqb c.number.result c.args.handle.number (c.number.ensures ∙ other-row g.K.PartialEq.eq rows _ _ tied c.args.handle.place c.args.handle.number row at_is there)),
+      (λ same. ap (finite.get (places_of rows)) (sym (sym w.2 ∙ eqb-true c.in-Some.number c.args.handle.number same)) ∙ get-places rows tied.numbered c.args.handle.place w.0 w.1),
+      (λ there. eq-eqb c.in-Some.number c.args.handle.number (w.2 ∙ other-row g.K.PartialEq.eq rows _ _ tied c.args.handle.place c.args.handle.number w.0 w.1 there)),
     )
 
 pub returns-in-Some-clause-records : goal.returns-in-Some-clause-records
@@ -29,7 +29,7 @@ returns-in-None-clause-placed g c =
     let rows = c.self.inside.table.rows in
     rw (← c.self.view_is) (
       (λ never. cc),
-      (λ there. (let w = placed_row rows tied.numbered c.args.handle.place c.args.handle.number there in let none : None ≡ row_at rows c.args.handle.place = c.in-None.ensures in let e : None ≡ Some w.0 = none ∙ w.1 in cc)),
+      (λ there. (let w = placed_row rows tied.numbered c.args.handle.place c.args.handle.number there in let e : None ≡ Some w.0 = sym (no-row rows c.args.handle.place c.in-None.ensures) ∙ w.1 in cc)),
     )
 
 pub returns-in-None-clause-records : goal.returns-in-None-clause-records

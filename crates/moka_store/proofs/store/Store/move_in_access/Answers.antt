@@ -8,16 +8,16 @@ use Rattle.moka_store.proofs.store.Store.move_in_access.Goals as goal
 
 pub unreachable-requires : goal.unreachable-requires
 unreachable-requires g c =
-    member-there _ _ _ _ c.self.invariant.tied _ _ (rw (← c.self.view_is) at c.requires.placed) (rw (← c.self.view_is) at c.requires.member) (sym c.membership.ensures ∙ c.in_default.is)
+    member-there _ _ _ _ c.self.invariant.tied _ _ (rw (← c.self.view_is) at c.requires.placed) (rw (← c.self.view_is) at c.requires.member) (sym c.membership.ensures.membership ∙ c.in_default.is)
 
 pub move_to_back-requires : goal.move_to_back-requires
 move_to_back-requires g c =
-    let w = member-row _ _ _ _ c.self.invariant.tied _ _ (rw (← c.self.view_is) at c.requires.placed) _ (sym c.membership.ensures ∙ c.in-Some.is) in
+    let w = member-row _ _ _ _ c.self.invariant.tied _ _ (rw (← c.self.view_is) at c.requires.placed) _ (sym c.membership.ensures.membership ∙ c.in-Some.is) in
     rw w.node_is refl
 
 pub invariant_of-self : goal.invariant_of-self
 invariant_of-self g c =
-    let w = member-row _ _ _ _ c.self.invariant.tied _ _ (rw (← c.self.view_is) at c.requires.placed) _ (sym c.membership.ensures ∙ c.in-Some.is) in
+    let w = member-row _ _ _ _ c.self.invariant.tied _ _ (rw (← c.self.view_is) at c.requires.placed) _ (sym c.membership.ensures.membership ∙ c.in-Some.is) in
     let s = moved _ _ _ _ _ _ c.self.invariant.tied w.row w.at_is c.in-Some.found w.membership_is (c.move_to_back.ensures.members _ w.node_is) c.move_to_back.ensures.lookups in
     let len = c.move_to_back.ensures.len in
     let room = c.move_to_back.ensures.room in
@@ -26,12 +26,12 @@ invariant_of-self g c =
 
 pub returns-clause-step : goal.returns-clause-step
 returns-clause-step g c =
-    let w = member-row _ _ _ _ c.self.invariant.tied _ _ (rw (← c.self.view_is) at c.requires.placed) _ (sym c.membership.ensures ∙ c.in-Some.is) in
+    let w = member-row _ _ _ _ c.self.invariant.tied _ _ (rw (← c.self.view_is) at c.requires.placed) _ (sym c.membership.ensures.membership ∙ c.in-Some.is) in
     let s = moved _ _ _ _ _ _ c.self.invariant.tied w.row w.at_is c.in-Some.found w.membership_is (c.move_to_back.ensures.members _ w.node_is) c.move_to_back.ensures.lookups in
     rw (s.access, c.move_to_back.ensures.len, c.move_to_back.ensures.room, w.number_is, ← c.self.view_is) refl
 
 pub returns-clause-counted : goal.returns-clause-counted
 returns-clause-counted g c n =
-    let w = member-row _ _ _ _ c.self.invariant.tied _ _ (rw (← c.self.view_is) at c.requires.placed) _ (sym c.membership.ensures ∙ c.in-Some.is) in
+    let w = member-row _ _ _ _ c.self.invariant.tied _ _ (rw (← c.self.view_is) at c.requires.placed) _ (sym c.membership.ensures.membership ∙ c.in-Some.is) in
     let s = moved _ _ _ _ _ _ c.self.invariant.tied w.row w.at_is c.in-Some.found w.membership_is (c.move_to_back.ensures.members _ w.node_is) c.move_to_back.ensures.lookups in
     rw (s.access, w.number_is, ← c.self.view_is) (counted-to_back c.args.handle.number n (map (member_at c.self.inside.table.rows) c.self.inside.access.members))

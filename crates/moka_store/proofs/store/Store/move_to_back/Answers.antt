@@ -12,21 +12,21 @@ use Rattle.moka_store.proofs.store.Store.move_to_back.Goals as goal
 
 pub unreachable-requires : goal.unreachable-requires
 unreachable-requires g c =
-    member-there _ _ _ _ c.self.invariant.tied _ _ (rw (← c.self.view_is) at c.requires.placed) (rw (← c.self.view_is) at c.requires.member) (sym c.membership.ensures ∙ c.in_default.is)
+    member-there _ _ _ _ c.self.invariant.tied _ _ (rw (← c.self.view_is) at c.requires.placed) (rw (← c.self.view_is) at c.requires.member) (sym c.membership.ensures.membership ∙ c.in_default.is)
 
 pub move_to_back-requires : goal.move_to_back-requires
 move_to_back-requires g c =
-    let w = member-row _ _ _ _ c.self.invariant.tied _ _ (rw (← c.self.view_is) at c.requires.placed) _ (sym c.membership.ensures ∙ c.in-Some.is) in
+    let w = member-row _ _ _ _ c.self.invariant.tied _ _ (rw (← c.self.view_is) at c.requires.placed) _ (sym c.membership.ensures.membership ∙ c.in-Some.is) in
     rw w.node_is refl
 
 pub move_to_back-requires-2 : goal.move_to_back-requires-2
 move_to_back-requires-2 g c =
-    let w = member-row _ _ _ _ c.self.invariant.tied _ _ (rw (← c.self.view_is) at c.requires.placed) _ (sym c.membership.ensures ∙ c.in-Some.is) in
+    let w = member-row _ _ _ _ c.self.invariant.tied _ _ (rw (← c.self.view_is) at c.requires.placed) _ (sym c.membership.ensures.membership ∙ c.in-Some.is) in
     slot-there c.self.inside.table.rows c.self.inside.written c.self.invariant.written _ w.row w.at_is _ (ap (option_and_then (λ (m : Membership). m.written)) w.membership_is)
 
 pub invariant_of-self : goal.invariant_of-self
 invariant_of-self g c =
-    let w = member-row _ _ _ _ c.self.invariant.tied _ _ (rw (← c.self.view_is) at c.requires.placed) _ (sym c.membership.ensures ∙ c.in-Some.is) in
+    let w = member-row _ _ _ _ c.self.invariant.tied _ _ (rw (← c.self.view_is) at c.requires.placed) _ (sym c.membership.ensures.membership ∙ c.in-Some.is) in
     let s = moved _ _ _ _ _ _ c.self.invariant.tied w.row w.at_is c.in-Some.membership w.membership_is (c.move_to_back.ensures.members _ w.node_is) c.move_to_back.ensures.lookups in
     let p = c.move_to_back-2.ensures in
     let order = moves c.self.inside.table.rows c.self.inside.written c.move_to_back-2.new.self c.self.invariant.written c.self.invariant.tied.numbered _ w.row w.at_is c.in-Some.membership.written (ap (option_and_then (λ (m : Membership). m.written)) w.membership_is) p.nodes p.lookups p.rest p.absent p.cursor in
@@ -37,7 +37,7 @@ invariant_of-self g c =
 
 pub returns-clause-step : goal.returns-clause-step
 returns-clause-step g c =
-    let w = member-row _ _ _ _ c.self.invariant.tied _ _ (rw (← c.self.view_is) at c.requires.placed) _ (sym c.membership.ensures ∙ c.in-Some.is) in
+    let w = member-row _ _ _ _ c.self.invariant.tied _ _ (rw (← c.self.view_is) at c.requires.placed) _ (sym c.membership.ensures.membership ∙ c.in-Some.is) in
     let s = moved _ _ _ _ _ _ c.self.invariant.tied w.row w.at_is c.in-Some.membership w.membership_is (c.move_to_back.ensures.members _ w.node_is) c.move_to_back.ensures.lookups in
     let p = c.move_to_back-2.ensures in
     let order = moves c.self.inside.table.rows c.self.inside.written c.move_to_back-2.new.self c.self.invariant.written c.self.invariant.tied.numbered _ w.row w.at_is c.in-Some.membership.written (ap (option_and_then (λ (m : Membership). m.written)) w.membership_is) p.nodes p.lookups p.rest p.absent p.cursor in
@@ -47,6 +47,6 @@ returns-clause-step g c =
 
 pub returns-clause-counted : goal.returns-clause-counted
 returns-clause-counted g c n =
-    let w = member-row _ _ _ _ c.self.invariant.tied _ _ (rw (← c.self.view_is) at c.requires.placed) _ (sym c.membership.ensures ∙ c.in-Some.is) in
+    let w = member-row _ _ _ _ c.self.invariant.tied _ _ (rw (← c.self.view_is) at c.requires.placed) _ (sym c.membership.ensures.membership ∙ c.in-Some.is) in
     let s = moved _ _ _ _ _ _ c.self.invariant.tied w.row w.at_is c.in-Some.membership w.membership_is (c.move_to_back.ensures.members _ w.node_is) c.move_to_back.ensures.lookups in
     rw (s.access, w.number_is, ← c.self.view_is) (counted-to_back c.args.handle.number n (map (member_at c.self.inside.table.rows) c.self.inside.access.members))

@@ -8,16 +8,16 @@ use Rattle.moka_store.proofs.store.Store.next.Goals as goal
 
 pub unreachable-requires : goal.unreachable-requires
 unreachable-requires g c =
-    member-there _ _ _ _ c.self.invariant.tied _ _ (rw (← c.self.view_is) at c.requires.placed) (rw (← c.self.view_is) at c.requires.member) (sym c.membership.ensures ∙ c.in_default.is)
+    member-there _ _ _ _ c.self.invariant.tied _ _ (rw (← c.self.view_is) at c.requires.placed) (rw (← c.self.view_is) at c.requires.member) (sym c.membership.ensures.membership ∙ c.in_default.is)
 
 pub next-requires : goal.next-requires
 next-requires g c =
-    let w = member-row _ _ _ _ c.self.invariant.tied _ _ (rw (← c.self.view_is) at c.requires.placed) _ (sym c.membership.ensures ∙ c.in-Some.is) in
+    let w = member-row _ _ _ _ c.self.invariant.tied _ _ (rw (← c.self.view_is) at c.requires.placed) _ (sym c.membership.ensures.membership ∙ c.in-Some.is) in
     rw w.node_is refl
 
 pub returns-in_err-place-clause-next : goal.returns-in_err-place-clause-next
 returns-in_err-place-clause-next g c =
-    let w = member-row _ _ _ _ c.self.invariant.tied _ _ (rw (← c.self.view_is) at c.requires.placed) _ (sym c.membership.ensures ∙ c.in-Some.is) in
+    let w = member-row _ _ _ _ c.self.invariant.tied _ _ (rw (← c.self.view_is) at c.requires.placed) _ (sym c.membership.ensures.membership ∙ c.in-Some.is) in
     let after = after-row _ _ _ _ c.self.invariant.tied _ w.row w.at_is c.in-Some.membership w.membership_is in
     rw (c.from_residual.ensures, ← c.self.view_is, ← w.number_is, after) (ap (option_map (member_at c.self.inside.table.rows)) c.in_err-place.ensures.next)
 
@@ -35,7 +35,7 @@ returns-clause-placed g c =
 
 pub returns-clause-next : goal.returns-clause-next
 returns-clause-next g c =
-    let w = member-row _ _ _ _ c.self.invariant.tied _ _ (rw (← c.self.view_is) at c.requires.placed) _ (sym c.membership.ensures ∙ c.in-Some.is) in
+    let w = member-row _ _ _ _ c.self.invariant.tied _ _ (rw (← c.self.view_is) at c.requires.placed) _ (sym c.membership.ensures.membership ∙ c.in-Some.is) in
     let n = node-member _ _ _ _ c.self.invariant.tied _ _ c.in_ok-place.ensures.found in
     let same = c.member_at.ensures.member _ n.at_is in
     let number : c.member_at.result.0.number ≡ n.row.number = ap (λ (m : Member). m.number) same in

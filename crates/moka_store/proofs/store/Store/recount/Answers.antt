@@ -16,21 +16,21 @@ use Rattle.moka_store.proofs.store.Store.recount.Goals as goal
 
 pub unreachable-requires : goal.unreachable-requires
 unreachable-requires g c =
-    member-there _ _ _ _ c.self.invariant.tied _ _ (rw (← c.self.view_is) at c.requires.placed) (rw (← c.self.view_is) at c.requires.member) (sym c.membership.ensures ∙ c.in_default.is)
+    member-there _ _ _ _ c.self.invariant.tied _ _ (rw (← c.self.view_is) at c.requires.placed) (rw (← c.self.view_is) at c.requires.member) (sym c.membership.ensures.membership ∙ c.in_default.is)
 
 pub move_to_back-requires : goal.move_to_back-requires
 move_to_back-requires g c =
-    let w = member-row _ _ _ _ c.self.invariant.tied _ _ (rw (← c.self.view_is) at c.requires.placed) _ (sym c.membership.ensures ∙ c.in-Some.is) in
+    let w = member-row _ _ _ _ c.self.invariant.tied _ _ (rw (← c.self.view_is) at c.requires.placed) _ (sym c.membership.ensures.membership ∙ c.in-Some.is) in
     rw w.node_is refl
 
 pub move_to_back-requires-2 : goal.move_to_back-requires-2
 move_to_back-requires-2 g c =
-    let w = member-row _ _ _ _ c.self.invariant.tied _ _ (rw (← c.self.view_is) at c.requires.placed) _ (sym c.membership.ensures ∙ c.in-Some.is) in
+    let w = member-row _ _ _ _ c.self.invariant.tied _ _ (rw (← c.self.view_is) at c.requires.placed) _ (sym c.membership.ensures.membership ∙ c.in-Some.is) in
     slot-there c.self.inside.table.rows c.self.inside.written c.self.invariant.written _ w.row w.at_is _ (ap (option_and_then (λ (m : Membership). m.written)) w.membership_is)
 
 pub invariant_of-self : goal.invariant_of-self
 invariant_of-self g c =
-    let w = member-row _ _ _ _ c.self.invariant.tied _ _ (rw (← c.self.view_is) at c.requires.placed) _ (sym c.membership.ensures ∙ c.in-Some.is) in
+    let w = member-row _ _ _ _ c.self.invariant.tied _ _ (rw (← c.self.view_is) at c.requires.placed) _ (sym c.membership.ensures.membership ∙ c.in-Some.is) in
     let s = recounted _ g.met.K.Eq.laws _ _ _ _ _ c.self.invariant.tied w.row w.at_is c.in-Some.before c.args.weight _ w.membership_is (c.move_to_back.ensures.members _ w.node_is) c.move_to_back.ensures.lookups (c.set_counted.ensures.changes _ _ w.at_is w.membership_is) in
     let p = c.move_to_back-2.ensures in
     let changes = c.set_counted.ensures.changes _ _ w.at_is w.membership_is in
@@ -45,7 +45,7 @@ invariant_of-self g c =
 
 pub returns-clause-step : goal.returns-clause-step
 returns-clause-step g c =
-    let w = member-row _ _ _ _ c.self.invariant.tied _ _ (rw (← c.self.view_is) at c.requires.placed) _ (sym c.membership.ensures ∙ c.in-Some.is) in
+    let w = member-row _ _ _ _ c.self.invariant.tied _ _ (rw (← c.self.view_is) at c.requires.placed) _ (sym c.membership.ensures.membership ∙ c.in-Some.is) in
     let s = recounted _ g.met.K.Eq.laws _ _ _ _ _ c.self.invariant.tied w.row w.at_is c.in-Some.before c.args.weight _ w.membership_is (c.move_to_back.ensures.members _ w.node_is) c.move_to_back.ensures.lookups (c.set_counted.ensures.changes _ _ w.at_is w.membership_is) in
     let p = c.move_to_back-2.ensures in
     let changes = c.set_counted.ensures.changes _ _ w.at_is w.membership_is in
@@ -58,13 +58,13 @@ returns-clause-step g c =
 
 pub returns-clause-counted : goal.returns-clause-counted
 returns-clause-counted g c n =
-    let w = member-row _ _ _ _ c.self.invariant.tied _ _ (rw (← c.self.view_is) at c.requires.placed) _ (sym c.membership.ensures ∙ c.in-Some.is) in
+    let w = member-row _ _ _ _ c.self.invariant.tied _ _ (rw (← c.self.view_is) at c.requires.placed) _ (sym c.membership.ensures.membership ∙ c.in-Some.is) in
     let s = recounted _ g.met.K.Eq.laws _ _ _ _ _ c.self.invariant.tied w.row w.at_is c.in-Some.before c.args.weight _ w.membership_is (c.move_to_back.ensures.members _ w.node_is) c.move_to_back.ensures.lookups (c.set_counted.ensures.changes _ _ w.at_is w.membership_is) in
     rw (s.access, w.number_is, ← c.self.view_is) (counted-recounted c.args.handle.number n c.args.weight (map (member_at c.self.inside.table.rows) c.self.inside.access.members))
 
 pub overflow_sub-self : goal.overflow_sub-self
 overflow_sub-self g c =
-    let w = member-row _ _ _ _ c.self.invariant.tied _ _ (rw (← c.self.view_is) at c.requires.placed) _ (sym c.membership.ensures ∙ c.in-Some.is) in
+    let w = member-row _ _ _ _ c.self.invariant.tied _ _ (rw (← c.self.view_is) at c.requires.placed) _ (sym c.membership.ensures.membership ∙ c.in-Some.is) in
     weighed-least _ _ _ _ c.self.invariant.weighed w.counted_is
 
 pub overflow_add-self : goal.overflow_add-self

@@ -5,17 +5,17 @@ use Rattle.moka_structures.proofs.record_table.RecordTable.clear_membership.Goal
 pub returns-clause-records : goal.returns-clause-records
 returns-clause-records g c =
     let w = some_is _ (rw (← c.self.view_is) at c.requires) in
-    let s = shows-uncounted _ _ _ c.self.invariant.numbered _ w.1 (c.replace_membership.ensures.changes _ w.1) in
+    let s = shows-uncounted _ _ _ c.self.invariant _ w.1 (c.replace_membership.ensures.changes _ w.1) in
     rw (← c.self.view_is) s.records_is
 
 pub returns-clause-counted : goal.returns-clause-counted
 returns-clause-counted g c =
     let w = some_is _ (rw (← c.self.view_is) at c.requires) in
-    let s = shows-uncounted _ _ _ c.self.invariant.numbered _ w.1 (c.replace_membership.ensures.changes _ w.1) in
+    let s = shows-uncounted _ _ _ c.self.invariant _ w.1 (c.replace_membership.ensures.changes _ w.1) in
     rw (← c.self.view_is, w.1) s.counted_is
 
 pub returns-clause-places : goal.returns-clause-places
 returns-clause-places g c =
     let w = some_is _ (rw (← c.self.view_is) at c.requires) in
-    let s = shows-uncounted _ _ _ c.self.invariant.numbered _ w.1 (c.replace_membership.ensures.changes _ w.1) in
+    let s = shows-uncounted _ _ _ c.self.invariant _ w.1 (c.replace_membership.ensures.changes _ w.1) in
     rw (← c.self.view_is) s.places_is
