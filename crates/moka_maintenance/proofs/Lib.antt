@@ -12,6 +12,7 @@ pub mod Upkeep
 pub mod Enabled
 pub mod Fronts
 mod Halves
+mod ReadsApplied
 pub mod Walk
 pub mod Walking
 pub mod Expelling

@@ -1,10 +1,11 @@
 -- Operations and reads that wait, with the places of their records' rows.
-use Rattle.std.specs.Prelude.{◌≡◌, ℕ, true, false, List, Contains, map, Some}
+use Rattle.std.specs.Prelude.{◌≡◌, ℕ, true, false, List, [], ◌∷◌, Contains, map, Option, Some}
 use Rattle.std.specs.FinMap.{FinMap, get}
 use Rattle.std.specs.Ordering.{nat_cmp}
 use Rattle.moka_parts.specs.declared.records.ReadOperation.{ReadOperation}
 use Rattle.moka_parts.specs.declared.records.ReadOperation.TheVariants.{Hit, Miss}
 use Rattle.moka_parts.specs.declared.records.Ticketed.{Ticketed}
+use Rattle.moka_sketch.specs.Frequency.{Table, counted_once}
 use Rattle.moka_maintenance.specs.declared.queued.QueuedWrite.{QueuedWrite}
 use Rattle.moka_maintenance.specs.declared.queued.Outcome.{Outcome}
 use Rattle.moka_maintenance.specs.declared.queued.Outcome.TheVariants as O
@@ -31,6 +32,11 @@ read_of q = read_with q.outcome q.number q.hash
 -- the queued reads
 abbrev pub reads_of : List QueuedRead → List ReadOperation
 reads_of reads = map read_of reads
+
+-- the sketch once the hash of each of these reads was counted, in order
+abbrev pub counted_all : Option Table → List QueuedRead → Option Table
+counted_all sketch [] = sketch
+counted_all sketch (q ∷ qs) = counted_all (counted_once sketch q.hash) qs
 
 -- if the number has a row, that is at the place
 abbrev pub IsAt : FinMap nat_cmp ℕ → ℕ → ℕ → Type 0

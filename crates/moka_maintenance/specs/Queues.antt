@@ -11,13 +11,22 @@ use Rattle.moka_parts.specs.State.{Contents}
 use Rattle.moka_parts.specs.Candidates.{are_unsettled, victims_for}
 use Rattle.moka_parts.specs.Writes.{after_fate, left_by_fate, fate_by_frequency, after_write, after_writes, left_by_write, left_by_writes, AreMoves, AreAllMoves}
 use Rattle.moka_parts.specs.Maintenance.{with_sketch}
+use Rattle.moka_parts.specs.Reads.{after_reads}
 use Rattle.moka_parts.specs.Order.{written_after_fate, written_after_write, written_after_writes}
 use Rattle.moka_sketch.specs.Frequency.{Table}
 use Rattle.moka_store.specs.Store.{Kept}
 use Rattle.moka_maintenance.specs.declared.admission.PlacedUpsert.{PlacedUpsert}
 use Rattle.moka_maintenance.specs.declared.bounds.Bounds.{Bounds}
-use Rattle.moka_maintenance.specs.Steps.{Told, contents_with}
+use Rattle.moka_maintenance.specs.declared.queued.QueuedRead.{QueuedRead}
+use Rattle.moka_maintenance.specs.Queued.{IsRenewedBy, reads_of}
+use Rattle.moka_maintenance.specs.Timers.{Serves}
+use Rattle.moka_maintenance.specs.Steps.{Told, contents_in, contents_with}
 use Rattle.moka_maintenance.specs.Upkeep.{Upkeep}
+
+-- a store has what these reads make of it, while the sketch stands beside it
+pub record AppliesReads {K V S : Type 0} (reads : List QueuedRead) (old new : Kept K V S) : Type 0 where
+  pub applied : contents_in new ≡ after_reads (contents_in old) (reads_of reads)
+  pub served : Serves (IsRenewedBy reads) old new
 
 module _ {K V L : Type 0} (tells : L → K → V → RemovalCause → L → Type 0) (ordered : Bool) where
   -- a candidate of this number was compared, as one for which there is no room, and has the fate that its frequency decides

@@ -13,9 +13,9 @@ ghost use Rattle.moka_parts.specs.Writes.{entered, rejected, left_by_rejection};
 ghost use Rattle.moka_store.specs.Store.{IsPlaced, IsHandle, cursor_past};
 ghost use Rattle.moka_maintenance.specs.declared.queued.QueuedRead.{QueuedRead};
 ghost use Rattle.moka_maintenance.specs.declared.queued.QueuedWrite.{QueuedWrite};
-ghost use Rattle.moka_maintenance.specs.Queued.{IsAt, IsReadAt, IsRenewed, IsRenewedBy, read_of, reads_of, writes_of};
+ghost use Rattle.moka_maintenance.specs.Queued.{IsAt, IsReadAt, IsRenewed, IsRenewedBy, counted_all, read_of, reads_of, writes_of};
 ghost use Rattle.moka_maintenance.specs.Handles.{IsOutside};
-ghost use Rattle.moka_maintenance.specs.Queues.{AppliesUpsert, AppliesWrite, AppliesWrites, IsCompared, LeavesNoRowAfter};
+ghost use Rattle.moka_maintenance.specs.Queues.{AppliesReads, AppliesUpsert, AppliesWrite, AppliesWrites, IsCompared, LeavesNoRowAfter};
 ghost use Rattle.moka_maintenance.specs.Steps.{contents_in, contents_with, Told};
 ghost use Rattle.moka_maintenance.specs.Timers.{Serves};
 ghost use Rattle.moka_maintenance.specs.Upkeep.{Upkeep};
@@ -57,20 +57,34 @@ pub fn apply_reads<K: Eq + Hash, V, S: BuildHasher>(
 {
     // The queue is gone through where it lies and emptied at once, so that the next reads lie there again.
     let (first, second) = reads.as_slices();
-    apply_all_reads(store, sketch, first);
-    apply_all_reads(store, sketch, second);
+    count_reads(sketch, first);
+    count_reads(sketch, second);
+    apply_all_reads(store, first);
+    apply_all_reads(store, second);
     reads.clear();
 }
 
-// Applies these reads, in order: all at once or, where nodes lie far away, a few at a time.
+// Counts the hash of each of these reads, if the sketch is on.
+fn count_reads(sketch: &mut FrequencySketch, reads: &[QueuedRead])
+    ensures { sketch.new ≡ counted_all sketch.old reads.now }
+{
+    if sketch.table_len() == 0 {
+        return;
+    }
+    let mut rest = reads;
+    while let Some((read, behind)) = rest.split_first() {
+        sketch.increment(read.hash);
+        rest = behind;
+    }
+}
+
+// Makes of the store what these reads do, in order: all at once or, where nodes lie far away, a few at a time.
 fn apply_all_reads<K: Eq + Hash, V, S: BuildHasher>(
     store: &mut Store<K, V, S>,
-    sketch: &mut FrequencySketch,
     reads: &[QueuedRead],
 )
     requires { (q : QueuedRead) → Contains reads.now q → IsReadAt store.old.places q.place (read_of q) }
-    ensures applied { contents_with sketch.new store.new ≡ after_reads (contents_with sketch.old store.old) (reads_of reads.now) }
-    ensures served { Serves (IsRenewedBy reads.now) store.old store.new }
+    ensures { AppliesReads reads.now store.old store.new }
 {
     let few = if store.is_far() {
         READS_AHEAD
@@ -81,7 +95,7 @@ fn apply_all_reads<K: Eq + Hash, V, S: BuildHasher>(
     while !rest.is_empty() {
         let (some, behind) = rest.split_at(few.min(rest.len()));
         read_nodes(store, some);
-        apply_each_read(store, sketch, some);
+        apply_each_read(store, some);
         rest = behind;
     }
 }
@@ -98,36 +112,29 @@ fn read_nodes<K: Eq + Hash, V, S: BuildHasher>(store: &mut Store<K, V, S>, reads
     }
 }
 
-// Applies these reads, in order.
+// Makes of the store what these reads do, in order.
 #[inline(never)]
 fn apply_each_read<K: Eq + Hash, V, S: BuildHasher>(
     store: &mut Store<K, V, S>,
-    sketch: &mut FrequencySketch,
     reads: &[QueuedRead],
 )
     requires { (q : QueuedRead) → Contains reads.now q → IsReadAt store.old.places q.place (read_of q) }
-    ensures applied { contents_with sketch.new store.new ≡ after_reads (contents_with sketch.old store.old) (reads_of reads.now) }
-    ensures served { Serves (IsRenewedBy reads.now) store.old store.new }
+    ensures { AppliesReads reads.now store.old store.new }
 {
     let mut rest = reads;
     while let Some((read, behind)) = rest.split_first() {
-        apply_read(store, sketch, *read);
+        apply_read(store, *read);
         rest = behind;
     }
 }
 
-// Applies a read: its hash is counted, and the member of a record in the map comes to the back. Where the read renewed the
+// Makes of the store what a read does: the member of a record in the map comes to the back. Where the read renewed the
 // expiry, the timer is set again.
-fn apply_read<K: Eq + Hash, V, S: BuildHasher>(
-    store: &mut Store<K, V, S>,
-    sketch: &mut FrequencySketch,
-    queued: QueuedRead,
-)
+fn apply_read<K: Eq + Hash, V, S: BuildHasher>(store: &mut Store<K, V, S>, queued: QueuedRead)
     requires { IsReadAt store.old.places queued.place (read_of queued) }
-    ensures applied { contents_with sketch.new store.new ≡ after_read (contents_with sketch.old store.old) (read_of queued) }
+    ensures applied { contents_in store.new ≡ after_read (contents_in store.old) (read_of queued) }
     ensures served { Serves (IsRenewed (read_of queued)) store.old store.new }
 {
-    sketch.increment(queued.hash);
     let is_renewed = match queued.outcome {
         Outcome::Hit => false,
         Outcome::Renewal => true,

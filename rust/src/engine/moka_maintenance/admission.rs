@@ -37,15 +37,29 @@ pub fn apply_reads<K: Eq + Hash, V, S: BuildHasher>(
 {
     // The queue is gone through where it lies and emptied at once, so that the next reads lie there again.
     let (first, second) = reads.as_slices();
-    apply_all_reads(store, sketch, first);
-    apply_all_reads(store, sketch, second);
+    count_reads(sketch, first);
+    count_reads(sketch, second);
+    apply_all_reads(store, first);
+    apply_all_reads(store, second);
     reads.clear();
 }
 
-// Applies these reads, in order: all at once or, where nodes lie far away, a few at a time.
+// Counts the hash of each of these reads, if the sketch is on.
+fn count_reads(sketch: &mut FrequencySketch, reads: &[QueuedRead])
+{
+    if sketch.table_len() == 0 {
+        return;
+    }
+    let mut rest = reads;
+    while let Some((read, behind)) = rest.split_first() {
+        sketch.increment(read.hash);
+        rest = behind;
+    }
+}
+
+// Makes of the store what these reads do, in order: all at once or, where nodes lie far away, a few at a time.
 fn apply_all_reads<K: Eq + Hash, V, S: BuildHasher>(
     store: &mut Store<K, V, S>,
-    sketch: &mut FrequencySketch,
     reads: &[QueuedRead],
 )
 {
@@ -58,7 +72,7 @@ fn apply_all_reads<K: Eq + Hash, V, S: BuildHasher>(
     while !rest.is_empty() {
         let (some, behind) = rest.split_at(few.min(rest.len()));
         read_nodes(store, some);
-        apply_each_read(store, sketch, some);
+        apply_each_read(store, some);
         rest = behind;
     }
 }
@@ -74,30 +88,24 @@ fn read_nodes<K: Eq + Hash, V, S: BuildHasher>(store: &mut Store<K, V, S>, reads
     }
 }
 
-// Applies these reads, in order.
+// Makes of the store what these reads do, in order.
 #[inline(never)]
 fn apply_each_read<K: Eq + Hash, V, S: BuildHasher>(
     store: &mut Store<K, V, S>,
-    sketch: &mut FrequencySketch,
     reads: &[QueuedRead],
 )
 {
     let mut rest = reads;
     while let Some((read, behind)) = rest.split_first() {
-        apply_read(store, sketch, *read);
+        apply_read(store, *read);
         rest = behind;
     }
 }
 
-// Applies a read: its hash is counted, and the member of a record in the map comes to the back. Where the read renewed the
+// Makes of the store what a read does: the member of a record in the map comes to the back. Where the read renewed the
 // expiry, the timer is set again.
-fn apply_read<K: Eq + Hash, V, S: BuildHasher>(
-    store: &mut Store<K, V, S>,
-    sketch: &mut FrequencySketch,
-    queued: QueuedRead,
-)
+fn apply_read<K: Eq + Hash, V, S: BuildHasher>(store: &mut Store<K, V, S>, queued: QueuedRead)
 {
-    sketch.increment(queued.hash);
     let is_renewed = match queued.outcome {
         Outcome::Hit => false,
         Outcome::Renewal => true,

@@ -1,21 +1,9 @@
-use Rattle.std.proofs.Common.{◌≡◌, ◌⊎◌, ℕ, true, length, Contains}
-use Rattle.moka_parts.specs.declared.records.ReadOperation.TheVariants.{Hit}
-use Rattle.moka_parts.specs.Reads.{after_reads}
-use Rattle.moka_maintenance.specs.declared.queued.QueuedRead.{QueuedRead}
-use Rattle.moka_maintenance.specs.Queued.{IsReadAt, read_of, reads_of}
-use Rattle.moka_maintenance.specs.Steps.{contents_with}
-use Rattle.moka_maintenance.specs.Timers.{KeepsTimers, StandsAtExpiry}
+use Rattle.std.proofs.Common.{length}
+use Rattle.moka_maintenance.proofs.ReadsApplied.{AreLeft}
 use Rattle.moka_maintenance.proofs.admission.apply_each_read.Given as goal
 
 abbrev pub invariant-loop-read : goal.invariant-loop-read
-invariant-loop-read g l = record {
-  left : after_reads (contents_with l.sketch l.store) (reads_of l.rest) ≡ after_reads (contents_with l.initial.sketch l.initial.store) (reads_of l.reads);
-  rest : l.store ≡ record l.initial.store { access = l.store.access; timers = l.store.timers };
-  renewed : (q : QueuedRead) (n hash : ℕ) → Contains l.reads q → read_of q ≡ Hit n hash true → Contains l.rest q ⊎ StandsAtExpiry n l.store;
-  kept : (n : ℕ) → StandsAtExpiry n l.initial.store → StandsAtExpiry n l.store;
-  timers : KeepsTimers l.initial.store l.store;
-  located : (q : QueuedRead) → Contains l.rest q → IsReadAt l.store.places q.place (read_of q);
-}
+invariant-loop-read g l = AreLeft l.reads l.rest l.initial.store l.store
 
 abbrev pub decreases-loop-read : goal.decreases-loop-read
 decreases-loop-read g l = length l.rest
