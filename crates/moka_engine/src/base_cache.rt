@@ -434,8 +434,8 @@ impl<
             return Ok((self.inner.insert(key, own, hash, update), now));
         };
         let (policy, valid_after) = (&self.expiration_policy, self.valid_after);
-        let cause = causes::cause_of_replacement(found, policy, valid_after, now);
-        let expires = inserts::expires_at_update(found, policy, &key, &value, now);
+        let cause = causes::cause_of_replacement(&found, policy, valid_after, now);
+        let expires = inserts::expires_at_update(&found, policy, &key, &value, now);
         if let Err(error) = self.inner.reserve_operation() {
             return Err(InsertRefused { error, key, value });
         }
@@ -590,7 +590,7 @@ impl<
         ensures { option_copied result ≡ option_map (λ r. r.key) (record_of_key K.eq self.now.state.records key.now) }
     {
         match self.inner.find(key, self.inner.key_hash(key)) {
-            Some((_, found)) => Some(&found.key),
+            Some((_, found)) => Some(found.key()),
             None => None,
         }
     }

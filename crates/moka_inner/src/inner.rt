@@ -35,6 +35,7 @@ use moka_parts::housekeeper::Clock;
 use moka_parts::invalidator::Invalidator;
 use moka_parts::notification::{Listener, RemovalNotifier};
 use moka_parts::policy::Instant;
+use moka_parts::record_ref::RecordRef;
 use moka_parts::records::{Operation, ReadOperation, Record};
 use moka_sketch::frequency_sketch::FrequencySketch;
 use moka_store::{Handle, KeyHash, Store, Update};
@@ -177,12 +178,12 @@ impl<K: Eq + Hash, V, S: BuildHasher> Inner<K, V, S> {
 
     /// The record whose key is equal, with its handle, under the key's hash.
     #[inline(always)]
-    pub fn find(&self, key: &K, hash: KeyHash) -> Option<(Handle, &Record<K, V>)>
+    pub fn find(&self, key: &K, hash: KeyHash) -> Option<(Handle, RecordRef<'_, K, V>)>
         requires hashed { IsKeyHash S.build_hasher S.Hasher.finish S.Hasher.write self.now.kept.hasher (K.hash_input key.now) hash }
         ensures handle { IfSome result (λ f. IsHandle self.now.kept f.0) }
-        ensures numbered { IfSome result (λ f. finite.get self.now.kept.records f.0.number ≡ Some f.1.now) }
-        ensures found { option_map (λ f. f.1.now) result ≡ record_of_key K.eq self.now.kept.records key.now }
-        ensures hashed { IfSome result (λ f. IsKeyHash S.build_hasher S.Hasher.finish S.Hasher.write self.now.kept.hasher (K.hash_input f.1.now.key) hash) }
+        ensures numbered { IfSome result (λ f. finite.get self.now.kept.records f.0.number ≡ Some f.1) }
+        ensures found { option_map (λ f. f.1) result ≡ record_of_key K.eq self.now.kept.records key.now }
+        ensures hashed { IfSome result (λ f. IsKeyHash S.build_hasher S.Hasher.finish S.Hasher.write self.now.kept.hasher (K.hash_input f.1.key) hash) }
     {
         self.store.find_by_key(key, hash)
     }
@@ -284,7 +285,7 @@ impl<K: Eq + Hash, V, S: BuildHasher> Inner<K, V, S> {
         let Handle { number, place } = handle;
         let operation = Operation::Upsert {
             number,
-            generation: found.generation + 1,
+            generation: found.generation() + 1,
             weight: update.weight,
             hash,
         };

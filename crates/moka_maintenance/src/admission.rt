@@ -239,7 +239,7 @@ fn apply_upsert<K: Eq + Hash + Drop, V: Drop, S: BuildHasher, L: Listener<K, V>>
     let Some(found) = store.find(handle) else {
         return;
     };
-    if found.applied >= upsert.generation {
+    if found.applied() >= upsert.generation {
         pass(store, handle);
     } else if store.is_member(handle) {
         store.set_applied(handle, upsert.generation);
@@ -331,7 +331,7 @@ fn reject<K: Eq + Hash + Drop, V: Drop, S: BuildHasher, L: Listener<K, V>>(
     let Some(present) = store.find(handle) else {
         unreachable!()
     };
-    if present.generation == generation {
+    if present.generation() == generation {
         expel(store, notifier, handle, RemovalCause::Size);
     } else {
         store.set_applied(handle, generation);

@@ -96,7 +96,9 @@ fn frequency_of<K: Eq + Hash, V, S: BuildHasher>(
         f ≡ frequency sketch.now (hash_of (contents_with sketch.now store.now) (member handle.number counted)))) }
 {
     match store.find(handle) {
-        Some(found) if found.applied == found.generation => Some(sketch.frequency(found.hash)),
+        Some(found) if found.applied() == found.generation() => Some(sketch.frequency(
+            found.hash(),
+        )),
         _ => None,
     }
 }

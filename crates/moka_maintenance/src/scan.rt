@@ -165,10 +165,10 @@ where
     let Some(found) = store.find(handle) else {
         return false;
     };
-    if found.applied != found.generation {
+    if found.applied() != found.generation() {
         return false;
     }
-    if invalidator.apply_predicates(found) {
+    if invalidator.apply_predicates(&found) {
         expel(store, notifier, handle, RemovalCause::Explicit);
     }
     true
@@ -206,7 +206,7 @@ where
 {
     for place in 0..store.place_count() {
         if let Some(found) = store.record_at(place) {
-            if invalidator.covers_at(index, found) {
+            if invalidator.covers_at(index, &found) {
                 return true;
             }
         }

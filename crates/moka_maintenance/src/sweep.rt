@@ -20,7 +20,7 @@ use crate::expel::expel;
 use moka_parts::expiry::{is_expired_by_tti, is_expired_by_ttl, is_invalid_entry};
 use moka_parts::notification::{Listener, RemovalCause, RemovalNotifier};
 use moka_parts::policy::Instant;
-use moka_parts::records::Record;
+use moka_parts::record_ref::RecordRef;
 use moka_store::{Handle, Store};
 use std::hash::{BuildHasher, Hash};
 use std::time::Duration;
@@ -38,7 +38,7 @@ pub struct Tests {
 
 impl Tests {
     // Why a sweep removes a settled record that it has come to, if it does.
-    fn cause_of<K, V>(self, sweep: Sweep, found: &Record<K, V>) -> Option<RemovalCause>
+    fn cause_of<K, V>(self, sweep: Sweep, found: &RecordRef<'_, K, V>) -> Option<RemovalCause>
         ensures { MatchOption result
             ((c : Stock K V) (n : ℕ) → finite.get c.records n ≡ Some found.now → IsNext self sweep c n → IsAtRest self sweep c)
             (λ cause. (c : Stock K V) (n : ℕ) → IsNext self sweep c n → LeavesIn self sweep c n found.now cause) }
@@ -51,28 +51,28 @@ impl Tests {
     }
 
     // Why a record leaves by the moment of its last write, if it does.
-    fn cause_by_write<K, V>(self, found: &Record<K, V>) -> Option<RemovalCause>
+    fn cause_by_write<K, V>(self, found: &RecordRef<'_, K, V>) -> Option<RemovalCause>
         ensures cause { result ≡ cause_by_write (tests_in self) found.now }
         ensures none { IfNone result ((is_past_write (tests_in self) found.now ≡ false) × (is_written_before self.valid_after found.now ≡ false)) }
     {
-        if is_expired_by_ttl(self.time_to_live, found.written, self.now) {
+        if is_expired_by_ttl(self.time_to_live, found.written(), self.now) {
             return Some(RemovalCause::Expired);
         }
-        if is_invalid_entry(self.valid_after, found.written) {
+        if is_invalid_entry(self.valid_after, found.written()) {
             return Some(RemovalCause::Explicit);
         }
         None
     }
 
     // Why a record leaves by the moment of its last read, if it does.
-    fn cause_by_read<K, V>(self, found: &Record<K, V>) -> Option<RemovalCause>
+    fn cause_by_read<K, V>(self, found: &RecordRef<'_, K, V>) -> Option<RemovalCause>
         ensures cause { result ≡ cause_by_read (tests_in self) found.now }
         ensures none { IfNone result ((is_past_read (tests_in self) found.now ≡ false) × (is_read_before self.valid_after found.now ≡ false)) }
     {
-        if is_expired_by_tti(self.time_to_idle, found.read, self.now) {
+        if is_expired_by_tti(self.time_to_idle, found.read(), self.now) {
             return Some(RemovalCause::Expired);
         }
-        if is_invalid_entry(self.valid_after, found.read) {
+        if is_invalid_entry(self.valid_after, found.read()) {
             return Some(RemovalCause::Explicit);
         }
         None
@@ -173,7 +173,7 @@ fn take_turn<K: Eq + Hash + Drop, V: Drop, S: BuildHasher, L: Listener<K, V>>(
     let Some(found) = store.find(handle) else {
         unreachable!()
     };
-    let Some(cause) = tests.cause_of(sweep, found) else {
+    let Some(cause) = tests.cause_of(sweep, &found) else {
         return Turn::Ended;
     };
     expel(store, notifier, handle, cause);

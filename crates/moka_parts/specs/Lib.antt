@@ -31,3 +31,4 @@ pub mod Drives
 pub mod Synchronous
 pub mod Texts
 pub mod KeyTests
+pub mod RecordParts

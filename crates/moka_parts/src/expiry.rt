@@ -7,7 +7,7 @@ ghost use Rattle.moka_parts.specs.Time.{moment_of, is_same_duration};
 ghost use Rattle.moka_parts.specs.Expiry.{time_left, expires_after};
 
 use crate::policy::{ExpirationPolicy, Instant};
-use crate::records::Record;
+use crate::record_ref::RecordRef;
 use std::time::Duration;
 
 /// Whether an entry's own moment of expiry has come.
@@ -45,7 +45,7 @@ pub fn is_invalid_entry(valid_after: Option<Instant>, moment: Instant) -> bool
 /// Whether one of the tests by moments hides a record, whatever predicates say.
 #[inline(always)]
 pub fn has_lapsed<K, V, X>(
-    entry: &Record<K, V>,
+    entry: &RecordRef<'_, K, V>,
     policy: &ExpirationPolicy<X>,
     valid_after: Option<Instant>,
     now: Instant,
@@ -56,11 +56,11 @@ pub fn has_lapsed<K, V, X>(
         || is_before entry.now.written.0 (moment_of valid_after)
         || is_before entry.now.read.0 (moment_of valid_after)) }
 {
-    is_expired_by_per_entry_ttl(entry.expires, now)
-        || policy.is_past_time_to_live(entry.written, now)
-        || policy.is_past_time_to_idle(entry.read, now)
-        || is_invalid_entry(valid_after, entry.written)
-        || is_invalid_entry(valid_after, entry.read)
+    is_expired_by_per_entry_ttl(entry.expires(), now)
+        || policy.is_past_time_to_live(entry.written(), now)
+        || policy.is_past_time_to_idle(entry.read(), now)
+        || is_invalid_entry(valid_after, entry.written())
+        || is_invalid_entry(valid_after, entry.read())
 }
 
 /// The moment so much later, where a duration is given.

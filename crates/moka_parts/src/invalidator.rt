@@ -10,7 +10,8 @@ use crate::closures::PredicateFn;
 pub use crate::error::PredicateError;
 use crate::error::PredicateRefused;
 use crate::policy::Instant;
-use crate::records::{Record, Registered};
+use crate::record_ref::RecordRef;
+use crate::records::Registered;
 use std::alloc::Global;
 use std::marker::Model;
 use uuid::Uuid;
@@ -36,12 +37,12 @@ pub trait IdSource {
 impl<P> Registered<P> {
     // Whether it was registered no earlier than the record was written, and says yes to it. The predicate is asked
     // only where the moments allow it.
-    fn covers<K, V>(&self, entry: &Record<K, V>) -> bool
+    fn covers<K, V>(&self, entry: &RecordRef<'_, K, V>) -> bool
     where
         P: PredicateFn<K, V>,
         ensures { IsTrue result ↔ Covers P.says self.now entry.now }
     {
-        entry.written <= self.registered && self.predicate.applies(&entry.key, &entry.value)
+        entry.written() <= self.registered && self.predicate.applies(entry.key(), entry.value())
     }
 }
 
@@ -140,7 +141,7 @@ impl<P> Invalidator<P> {
 
     /// Whether a registered predicate covers the record: it was registered no earlier than the record was written,
     /// and says yes to it.
-    pub fn apply_predicates<K, V>(&self, entry: &Record<K, V>) -> bool
+    pub fn apply_predicates<K, V>(&self, entry: &RecordRef<'_, K, V>) -> bool
     where
         P: PredicateFn<K, V>,
         ensures { MatchBool result
@@ -153,7 +154,7 @@ impl<P> Invalidator<P> {
     }
 
     /// Whether the predicate at this place covers the record.
-    pub fn covers_at<K, V>(&self, index: usize, entry: &Record<K, V>) -> bool
+    pub fn covers_at<K, V>(&self, index: usize, entry: &RecordRef<'_, K, V>) -> bool
     where
         P: PredicateFn<K, V>,
         requires { index < length self.now }

@@ -13,5 +13,6 @@ pub mod key_test;
 pub mod laws;
 pub mod notification;
 pub mod policy;
+pub mod record_ref;
 pub mod records;
 pub mod structures;

@@ -5,7 +5,6 @@ use crate::policy::Instant;
 /// What the cache keeps of a key. moka: `common::concurrent::ValueEntry` with its `EntryInfo`.
 #[derive(Drop)]
 pub struct Record<K, V> {
-    // First what a look-up reads, side by side.
     /// The key of the first insert.
     pub key: K,
     /// The hash that came with the first insert.

@@ -5,11 +5,11 @@ use Rattle.std.specs.FinMap.{get, remove}
 use Rattle.std.specs.List.{IsDistinct, AllByRecursion}
 use Rattle.std.specs.Map.{keys_of}
 use Rattle.std.specs.Option.{option_map, option_and_then}
-use Rattle.moka_structures.proofs.TableCalls.{get-places, placed_row}
-use Rattle.moka_structures.proofs.TableMaps.{option-cases, remove-none}
-use Rattle.moka_structures.specs.declared.row.Membership.{Membership}
-use Rattle.moka_structures.specs.RecordTable.{Row}
-use Rattle.moka_structures.specs.RecordTable.{row_at, number_at, places_of}
+use Rattle.moka_store.proofs.TableCalls.{get-places, placed_row}
+use Rattle.moka_store.proofs.TableMaps.{option-cases, remove-none}
+use Rattle.moka_store.specs.declared.table.membership.Membership.{Membership}
+use Rattle.moka_store.specs.RecordTable.{Row}
+use Rattle.moka_store.specs.RecordTable.{row_at, number_at, places_of}
 use Rattle.moka_store.proofs.Nodes.{any-none, here, later, node-in}
 use Rattle.moka_store.proofs.Slots.{slot-row, no-node, one-node}
 use Rattle.moka_store.proofs.Ties.{counted-row, counted-unplaced}

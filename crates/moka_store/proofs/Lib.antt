@@ -1,3 +1,4 @@
+pub mod ColdRows
 pub mod Gets
 pub mod Keys
 pub mod KnownOrders
@@ -7,8 +8,11 @@ pub mod Members
 pub mod Nodes
 pub mod Orders
 pub mod Places
+pub mod RowCalls
 pub mod Slots
 pub mod Steps
+pub mod TableCalls
+pub mod TableMaps
 pub mod Tests
 pub mod Ties
 pub mod Timed

@@ -6,10 +6,10 @@ use Rattle.std.specs.Prelude.{IsPermutation}
 use Rattle.std.specs.FinMap.{FinMap, values, insert}
 use Rattle.std.specs.Option.{option_and_then}
 use Rattle.std.specs.Ordering.{nat_cmp}
-use Rattle.moka_structures.specs.RecordTable.{Row}
-use Rattle.moka_structures.specs.RecordTable.{row_at, stored_at, put_row, put_some, upto, records_of, IsNumbered}
-use Rattle.moka_structures.proofs.TableMaps.{upto-fresh, upto-past}
-use Rattle.moka_structures.proofs.TableCalls.{stored_row}
+use Rattle.moka_store.specs.RecordTable.{Row}
+use Rattle.moka_store.specs.RecordTable.{row_at, stored_at, put_row, put_some, upto, records_of, IsNumbered}
+use Rattle.moka_store.proofs.TableMaps.{upto-fresh, upto-past}
+use Rattle.moka_store.proofs.TableCalls.{stored_row}
 use Rattle.moka_parts.proofs.Values.{values_inserted, values-empty}
 use Rattle.moka_parts.specs.declared.records.Record.{Record}
 

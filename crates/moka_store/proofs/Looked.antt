@@ -1,9 +1,9 @@
 -- The row of which a look-up answers a number, or a number and a record.
 use Rattle.std.proofs.Common.{◌≡◌, ℕ, List, Option, Some, None, is_some, inl, inr, sym, ap, ◌∙◌}
 use Rattle.std.specs.Option.{option_map, option_map_or, option_and_then}
-use Rattle.moka_structures.specs.declared.row.Membership.{Membership}
-use Rattle.moka_structures.specs.RecordTable.{Row, row_at, number_at, stored_at, membership_at}
-use Rattle.moka_structures.proofs.TableCalls.{member_row, stored_row}
+use Rattle.moka_store.specs.declared.table.membership.Membership.{Membership}
+use Rattle.moka_store.specs.RecordTable.{Row, row_at, number_at, stored_at, membership_at}
+use Rattle.moka_store.proofs.TableCalls.{member_row, stored_row}
 use Rattle.moka_store.proofs.Gets.{option-cases}
 
 module _ {R : Type 0} (rows : List (Option (Row R))) (place number : ℕ) where

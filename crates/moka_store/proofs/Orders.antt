@@ -6,11 +6,11 @@ use Rattle.std.specs.Map.{lookup, remove_entry}
 use Rattle.std.specs.Option.{option_map, option_and_then, option_map_or}
 use Rattle.std.specs.Ordering.{nat_cmp}
 use Rattle.std.specs.Prelude.{IfSome, IfNone}
-use Rattle.moka_structures.proofs.TableMaps.{option-cases, remove-none}
-use Rattle.moka_structures.proofs.TableCalls.{get-places}
-use Rattle.moka_structures.specs.declared.row.Membership.{Membership}
-use Rattle.moka_structures.specs.RecordTable.{Row}
-use Rattle.moka_structures.specs.RecordTable.{row_at, number_at, membership_at, places_of, IsNumbered, ChangesAt}
+use Rattle.moka_store.proofs.TableMaps.{option-cases, remove-none}
+use Rattle.moka_store.proofs.TableCalls.{get-places}
+use Rattle.moka_store.specs.declared.table.membership.Membership.{Membership}
+use Rattle.moka_store.specs.RecordTable.{Row}
+use Rattle.moka_store.specs.RecordTable.{row_at, number_at, membership_at, places_of, IsNumbered, ChangesAt}
 use Rattle.moka_wheel.specs.Wheel.{Timer}
 use Rattle.moka_store.proofs.Nodes.{map-all, node-in}
 use Rattle.moka_store.proofs.Slots.{slot-row, number-of, node-of, listed-kept, listed-moved, listed-added, listed-removed, listed-empty}

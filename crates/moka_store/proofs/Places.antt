@@ -1,11 +1,11 @@
 -- Each record and each member has a row, and rows have narrow places.
-use Rattle.std.proofs.Common.{Bor, option_copied, ◌≡◌, ◌+◌, ◌<◌, ◌≤◌, ◌^◌, ℕ, ◌==◌, count_by, nat_le, Bool, true, false, cond, List, [], ◌∷◌, map, Option, Some, None, IfSome, IsSome, is_some, inl, inr, refl, sym, ap, ◌∙◌, Contains, arith}
+use Rattle.std.proofs.Common.{◌≡◌, ◌+◌, ◌<◌, ◌≤◌, ◌^◌, ℕ, ◌==◌, count_by, nat_le, Bool, true, false, cond, List, [], ◌∷◌, map, Option, Some, None, IfSome, IsSome, is_some, inl, inr, refl, sym, ap, ◌∙◌, Contains, arith}
 use Rattle.std.proofs.lemmas.Bool.{cases_Bool, cond-false, leb-true}
 use Rattle.std.proofs.lemmas.List.Elements.{Contains-append_right}
 use Rattle.std.specs.FinMap.{get}
 use Rattle.std.specs.Option.{option_and_then}
-use Rattle.moka_structures.specs.RecordTable.{Row, row_at, stored_at, records_of, places_of}
-use Rattle.moka_structures.proofs.TableCalls.{record_row, placed_row, get-places, get-records}
+use Rattle.moka_store.specs.RecordTable.{Row, row_at, stored_at, records_of, places_of}
+use Rattle.moka_store.proofs.TableCalls.{record_row, placed_row, get-places, get-records}
 use Rattle.moka_parts.specs.declared.records.Record.{Record}
 use Rattle.moka_parts.specs.declared.records.Member.{Member}
 use Rattle.moka_parts.specs.Records.{counted_of}
@@ -48,13 +48,13 @@ module _ {K V : Type 0} (eq : K → K → Bool) (rows : List (Option (Row (Recor
       sym (ap (λ (r : Row (Record K V)). r.number) same) ∙ w.2
 
   -- the record at a place is the one of its own number
-  pub stored-own : (place : ℕ) (o : Option (Bor (Record K V))) → option_copied o ≡ stored_at rows place → IfSome o (λ r. get (records_of rows) r.now.number ≡ Some r.now)
+  pub stored-own : (place : ℕ) (o : Option (Record K V)) → o ≡ stored_at rows place → IfSome o (λ r. get (records_of rows) r.number ≡ Some r)
   stored-own place None e = tt
-  stored-own place (Some b) e = elim (option-cases (row_at rows place)) as (λ _. get (records_of rows) b.now.number ≡ Some b.now) [
-    | inl none ↦ let bad : Some b.now ≡ None = e ∙ ap (option_and_then (λ (row : Row (Record K V)). row.stored)) none in cc
+  stored-own place (Some b) e = elim (option-cases (row_at rows place)) as (λ _. get (records_of rows) b.number ≡ Some b) [
+    | inl none ↦ let bad : Some b ≡ None = e ∙ ap (option_and_then (λ (row : Row (Record K V)). row.stored)) none in cc
     | inr row ↦
-        let is : row.0.stored ≡ Some b.now = sym (e ∙ ap (option_and_then (λ (row : Row (Record K V)). row.stored)) row.1) in
-        ap (get (records_of rows)) (t.named.same place row.0 b.now row.1 is) ∙ get-records rows t.numbered place row.0 row.1 ∙ is
+        let is : row.0.stored ≡ Some b = sym (e ∙ ap (option_and_then (λ (row : Row (Record K V)). row.stored)) row.1) in
+        ap (get (records_of rows)) (t.named.same place row.0 b row.1 is) ∙ get-records rows t.numbered place row.0 row.1 ∙ is
   ]
 
 -- where there is room for a row, all places that fit with no memory have 32 bits

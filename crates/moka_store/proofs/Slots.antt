@@ -5,8 +5,8 @@ use Rattle.std.specs.List.{IsDistinct}
 use Rattle.std.specs.Map.{lookup, remove_entry, keys_of}
 use Rattle.std.specs.Option.{option_and_then, option_map_or}
 use Rattle.moka_structures.proofs.Linked.{linked-same, linked-added, linked-removed}
-use Rattle.moka_structures.specs.RecordTable.{Row}
-use Rattle.moka_structures.specs.RecordTable.{row_at, number_at, IsNumbered}
+use Rattle.moka_store.specs.RecordTable.{Row}
+use Rattle.moka_store.specs.RecordTable.{row_at, number_at, IsNumbered}
 use Rattle.moka_store.proofs.Nodes.{in-nodes, length-nodes, length-nodes_below, distinct-none, distinct-push, distinct-remove, lookup-removed}
 use Rattle.moka_store.specs.StoreTies.{IsListed}
 use Rattle.moka_parts.specs.declared.records.Record.{Record}

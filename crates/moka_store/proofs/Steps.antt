@@ -8,11 +8,11 @@ use Rattle.std.specs.Map.{lookup, remove_entry}
 use Rattle.std.specs.Option.{option_map, option_and_then, option_map_or}
 use Rattle.std.specs.Ordering.{nat_cmp}
 use Rattle.std.specs.Prelude.{option_to_list}
-use Rattle.moka_structures.proofs.TableCalls.{get-records, get-places, record_row, placed_row, shows-inserted, shows-stored, shows-taken, shows-timed, shows-counted, shows-uncounted, shows-forgotten, with_stored-changes, count-with_stored}
+use Rattle.moka_store.proofs.TableCalls.{get-records, get-places, record_row, placed_row, shows-inserted, shows-stored, shows-taken, shows-timed, shows-counted, shows-uncounted, shows-forgotten, with_stored-changes, count-with_stored}
 use Rattle.moka_store.proofs.Gets.{option-cases, some_is, get-inserted, len-kept}
-use Rattle.moka_structures.specs.declared.row.Membership.{Membership}
-use Rattle.moka_structures.specs.RecordTable.{Row}
-use Rattle.moka_structures.specs.RecordTable.{Table, row_at, number_at, stored_at, membership_at, with_stored, ChangesAt, records_of, places_of}
+use Rattle.moka_store.specs.declared.table.membership.Membership.{Membership}
+use Rattle.moka_store.specs.RecordTable.{Row}
+use Rattle.moka_store.specs.RecordTable.{Table, row_at, number_at, stored_at, membership_at, with_stored, ChangesAt, records_of, places_of}
 use Rattle.moka_store.proofs.Keys.{index-same, index-added, index-removed}
 use Rattle.moka_store.proofs.Nodes.{in-nodes, node-in, lookup-remove, distinct-remove}
 use Rattle.moka_store.proofs.Orders.{stays-row}

@@ -2,7 +2,7 @@
 use Rattle.std.proofs.Common.{◌≡◌, refl, ℕ, Bool, false, Option, Some, None, List}
 use Rattle.std.specs.Option.{option_map_or}
 use Rattle.moka_parts.specs.declared.records.Record.{Record}
-use Rattle.moka_structures.specs.RecordTable.{Row, stored_at}
+use Rattle.moka_store.specs.RecordTable.{Row, stored_at}
 use Rattle.moka_store.specs.StoreRows.{has_key_at, passes_at}
 
 module _ {K V : Type 0} (eq : K → K → Bool) (passes : K → Bool) (key : K) (same : (y : K) → passes y ≡ eq key y) where

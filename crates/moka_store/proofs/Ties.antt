@@ -4,12 +4,12 @@ use Rattle.std.proofs.lemmas.Bool.{cases_eq, ne_eqb}
 use Rattle.std.specs.FinMap.{get}
 use Rattle.std.specs.Map.{lookup, remove_entry}
 use Rattle.std.specs.Option.{option_map, option_and_then, option_map_or}
-use Rattle.moka_structures.proofs.TableCalls.{get-places}
-use Rattle.moka_structures.proofs.TableMaps.{option-cases}
-use Rattle.moka_structures.specs.declared.row.Membership.{Membership}
-use Rattle.moka_structures.specs.RecordTable.{Row}
+use Rattle.moka_store.proofs.TableCalls.{get-places}
+use Rattle.moka_store.proofs.TableMaps.{option-cases}
+use Rattle.moka_store.specs.declared.table.membership.Membership.{Membership}
+use Rattle.moka_store.specs.RecordTable.{Row}
 use Rattle.moka_structures.specs.Order.{next_after}
-use Rattle.moka_structures.specs.RecordTable.{row_at, number_at, ChangesAt, places_of}
+use Rattle.moka_store.specs.RecordTable.{row_at, number_at, ChangesAt, places_of}
 use Rattle.moka_store.proofs.Nodes.{in-nodes, map-agree, counted-none, counted-found, behind-found, rest-found}
 use Rattle.moka_store.proofs.Slots.{node-of, no-node, one-node}
 use Rattle.moka_store.specs.Store.{member_after}

@@ -5,10 +5,10 @@ use Rattle.std.proofs.lemmas.List.{map-append}
 use Rattle.std.specs.Map.{lookup, remove_entry}
 use Rattle.std.specs.Option.{option_map, option_and_then}
 use Rattle.std.specs.Prelude.{IfSome, IfNone, slice_get}
-use Rattle.moka_structures.proofs.TableMaps.{option-cases}
-use Rattle.moka_structures.specs.RecordTable.{Row}
+use Rattle.moka_store.proofs.TableMaps.{option-cases}
+use Rattle.moka_store.specs.RecordTable.{Row}
 use Rattle.moka_structures.specs.Order.{next_after}
-use Rattle.moka_structures.specs.RecordTable.{row_at, number_at, IsNumbered}
+use Rattle.moka_store.specs.RecordTable.{row_at, number_at, IsNumbered}
 use Rattle.moka_store.proofs.Nodes.{in-nodes, node-in, map-agree, any-none, any-found, behind-none, rest-none, rest-found, behind-found, get-map}
 use Rattle.moka_store.proofs.Slots.{number-of, node-of, no-node, one-node}
 use Rattle.moka_store.specs.Listing.{IsCursor, node_past}

@@ -2,6 +2,7 @@
 #![tactic(auto)]
 
 pub mod store;
+pub mod table;
 mod timers;
 mod write_list;
 

@@ -13,13 +13,15 @@ ghost use Rattle.moka_parts.specs.Order.{IsListOf};
 ghost use Rattle.moka_parts.specs.Time.{moment_of};
 ghost use Rattle.moka_parts.specs.Records.{member, counted_of, record_of_key, with_record, without_member, is_member, is_settled, numbers_of, to_back, total_weight, is_listed, without_number, number_to_back, entered_by};
 
+use crate::table::{Membership, RecordTable};
 use crate::timers::Timers;
 use crate::write_list::WriteList;
 pub use hashing::KeyHash;
 use moka_index::PlaceIndex;
 use moka_parts::policy::Instant;
+use moka_parts::record_ref::RecordRef;
 use moka_parts::records::Record;
-use moka_structures::{Membership, OrderList, RecordTable};
+use moka_structures::OrderList;
 use std::alloc::{AllocError, Global};
 use std::hash::{BuildHasher, Hash};
 use std::marker::Model;
@@ -55,7 +57,7 @@ pub struct Store<K: Eq + Hash, V, S: BuildHasher> {
     hasher: S,
     // The place of each record, under the hash of its key.
     index: PlaceIndex,
-    table: RecordTable<Record<K, V>>,
+    table: RecordTable<K, V>,
     access: OrderList<u32>,
     written: WriteList,
     timers: Timers,
@@ -162,12 +164,12 @@ impl<K: Eq + Hash, V, S: BuildHasher> Store<K, V, S> {
 
     /// The record whose key is equal, with its handle, under the key's hash.
     #[inline(always)]
-    pub fn find_by_key(&self, key: &K, hash: KeyHash) -> Option<(Handle, &Record<K, V>)>
+    pub fn find_by_key(&self, key: &K, hash: KeyHash) -> Option<(Handle, RecordRef<'_, K, V>)>
         requires hashed { IsKeyHash S.build_hasher S.Hasher.finish S.Hasher.write self.now.hasher (K.hash_input key.now) hash }
         ensures handle { IfSome result (λ f. IsHandle self.now f.0) }
-        ensures found { IfSome result (λ f. finite.get self.now.records f.0.number ≡ Some f.1.now) }
-        ensures value { option_map (λ f. f.1.now) result ≡ record_of_key K.eq self.now.records key.now }
-        ensures hashed { IfSome result (λ f. IsKeyHash S.build_hasher S.Hasher.finish S.Hasher.write self.now.hasher (K.hash_input f.1.now.key) hash) }
+        ensures found { IfSome result (λ f. finite.get self.now.records f.0.number ≡ Some f.1) }
+        ensures value { option_map (λ f. f.1) result ≡ record_of_key K.eq self.now.records key.now }
+        ensures hashed { IfSome result (λ f. IsKeyHash S.build_hasher S.Hasher.finish S.Hasher.write self.now.hasher (K.hash_input f.1.key) hash) }
         ensures one_each { IsOneEach K.eq self.now.records }
     {
         let table = &self.table;
@@ -184,9 +186,9 @@ impl<K: Eq + Hash, V, S: BuildHasher> Store<K, V, S> {
 
     /// The record at this handle, if it is still there.
     #[inline(always)]
-    pub fn find(&self, handle: Handle) -> Option<&Record<K, V>>
-        ensures found { IsPlaced self.now handle → option_copied result ≡ finite.get self.now.records handle.number }
-        ensures elsewhere { (IsPlaced self.now handle → ⊥) → option_copied result ≡ None }
+    pub fn find(&self, handle: Handle) -> Option<RecordRef<'_, K, V>>
+        ensures found { IsPlaced self.now handle → result ≡ finite.get self.now.records handle.number }
+        ensures elsewhere { (IsPlaced self.now handle → ⊥) → result ≡ None }
         ensures handle { IsSome result → IsHandle self.now handle }
         ensures one_each { IsOneEach K.eq self.now.records }
     {
@@ -222,7 +224,7 @@ impl<K: Eq + Hash, V, S: BuildHasher> Store<K, V, S> {
         ensures access { self.new.access ≡ self.old.access }
     {
         let number = stored.number;
-        let place = self.table.insert(number, stored);
+        let place = self.table.insert(stored);
         // A place is below the table's capacity, so it has 32 bits.
         let _capacity = self.table.capacity();
         self.index.insert(hash.0, place);
@@ -241,7 +243,7 @@ impl<K: Eq + Hash, V, S: BuildHasher> Store<K, V, S> {
         ensures places { self.new.places ≡ self.old.places }
         ensures access { self.new.access ≡ self.old.access }
     {
-        changes::update(&mut self.table, handle.place, update)
+        self.table.update(handle.place, update)
     }
 
     /// The record at this handle was read at this moment, and expires then: as before, unless the read renewed it.
@@ -260,7 +262,7 @@ impl<K: Eq + Hash, V, S: BuildHasher> Store<K, V, S> {
         ensures places { self.new.places ≡ self.old.places }
         ensures access { self.new.access ≡ self.old.access }
     {
-        changes::touch(&mut self.table, handle.place, read, expires, is_renewed);
+        self.table.touch(handle.place, read, expires, is_renewed);
     }
 
     /// The operation of this generation was applied to the record at this handle.
@@ -272,7 +274,7 @@ impl<K: Eq + Hash, V, S: BuildHasher> Store<K, V, S> {
         ensures places { self.new.places ≡ self.old.places }
         ensures access { self.new.access ≡ self.old.access }
     {
-        changes::set_applied(&mut self.table, handle.place, generation);
+        self.table.set_applied(handle.place, generation);
     }
 
     // The hash under which the store has the record at this handle.
@@ -284,7 +286,7 @@ impl<K: Eq + Hash, V, S: BuildHasher> Store<K, V, S> {
         let Some(found) = self.find(handle) else {
             unreachable!()
         };
-        KeyHash::of(self.hash(&found.key))
+        KeyHash::of(self.hash(found.key()))
     }
 
     /// The record at this handle leaves the map, where it is under the hash of its key, and its number stays.
@@ -331,7 +333,7 @@ impl<K: Eq + Hash, V, S: BuildHasher> Store<K, V, S> {
         ensures { result ≡ is_settled self.now.records handle.number }
     {
         match self.find(handle) {
-            Some(found) => found.applied == found.generation,
+            Some(found) => found.applied() == found.generation(),
             None => false,
         }
     }
@@ -544,7 +546,7 @@ impl<K: Eq + Hash, V, S: BuildHasher> Store<K, V, S> {
         let mut keys = Vec::with_capacity(alloc, self.record_count())?;
         for place in 0..self.table.capacity() {
             if let Some(stored) = self.table.record(place) {
-                keys.push(stored.key.clone()?)?;
+                keys.push(stored.key().clone()?)?;
             }
         }
         Ok(keys)

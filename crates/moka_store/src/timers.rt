@@ -3,7 +3,7 @@ ghost use Rattle.std.specs.Prelude.{◌≡◌, ◌+◌, ◌<◌, ◌≤◌, ◌&
 ghost use Rattle.std.specs.FinMap.{empty, get, len};
 ghost use Rattle.moka_parts.specs.Time.{moment_of};
 ghost use Rattle.moka_store.specs.Timing.{timer_after};
-ghost use Rattle.moka_structures.specs.Slots.{IsSlot};
+ghost use Rattle.moka_store.specs.Slots.{IsSlot};
 ghost use Rattle.moka_wheel.specs.Wheel.{Timer};
 
 use moka_parts::policy::Instant;

@@ -1,4 +1,3 @@
-pub mod Gets
 pub mod Kept
 pub mod Linked
 pub mod Lookups
@@ -6,7 +5,4 @@ pub mod Newest
 pub mod Orders
 pub mod Parts
 pub mod Rings
-pub mod RowCalls
-pub mod TableMaps
-pub mod TableCalls
 pub mod Tickets

@@ -1,12 +1,8 @@
 pub mod Kept
-pub mod Lending
 pub mod Linked
 pub mod Links
 pub mod Newest
 pub mod Order
 pub mod Pending
-pub mod RecordTable
 pub mod Rings
-pub mod Slots
-pub mod States
 pub mod Tickets

@@ -18,6 +18,8 @@ mod script;
 #[cfg(test)]
 mod sketch;
 #[cfg(test)]
+mod store;
+#[cfg(test)]
 mod structures;
 #[cfg(test)]
 mod wheel;

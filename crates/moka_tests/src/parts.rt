@@ -8,3 +8,4 @@ mod invalidator;
 pub(crate) mod laws;
 mod notification;
 mod policy;
+mod record_ref;

@@ -2,4 +2,3 @@
 mod order_list;
 mod outstanding;
 mod plain_order;
-mod record_table;

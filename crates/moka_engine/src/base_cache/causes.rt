@@ -8,11 +8,11 @@ ghost use Rattle.moka_parts.specs.declared.notification.RemovalCause.TheVariants
 use moka_parts::expiry::{is_expired_by_tti, is_expired_by_ttl, is_invalid_entry};
 use moka_parts::notification::RemovalCause;
 use moka_parts::policy::{ExpirationPolicy, Instant};
-use moka_parts::records::Record;
+use moka_parts::record_ref::RecordRef;
 
 // Why a value leaves that an insert replaces.
 pub(super) fn cause_of_replacement<K, V, X>(
-    found: &Record<K, V>,
+    found: &RecordRef<'_, K, V>,
     policy: &ExpirationPolicy<X>,
     valid_after: Option<Instant>,
     now: Instant,
@@ -21,11 +21,11 @@ pub(super) fn cause_of_replacement<K, V, X>(
         else (if is_before found.now.written.0 (moment_of valid_after) then Explicit
         else (if has_passed (deadline policy.now.time_to_idle found.now.read.0) now.0 then Expired else Replaced))) }
 {
-    if is_expired_by_ttl(policy.time_to_live(), found.written, now) {
+    if is_expired_by_ttl(policy.time_to_live(), found.written(), now) {
         RemovalCause::Expired
-    } else if is_invalid_entry(valid_after, found.written) {
+    } else if is_invalid_entry(valid_after, found.written()) {
         RemovalCause::Explicit
-    } else if is_expired_by_tti(policy.time_to_idle(), found.read, now) {
+    } else if is_expired_by_tti(policy.time_to_idle(), found.read(), now) {
         RemovalCause::Expired
     } else {
         RemovalCause::Replaced

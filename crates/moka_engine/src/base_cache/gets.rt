@@ -18,7 +18,7 @@ use moka_parts::error::OutOfMemory;
 use moka_parts::expiry::{has_lapsed, remaining, renewed};
 use moka_parts::invalidator::Invalidator;
 use moka_parts::policy::{ExpirationPolicy, Expiry, Instant};
-use moka_parts::records::Record;
+use moka_parts::record_ref::RecordRef;
 use moka_store::{Handle, KeyHash};
 use std::hash::{BuildHasher, Hash};
 use std::time::Duration;
@@ -27,7 +27,7 @@ use std::time::Duration;
 // read where no test can hide one.
 #[inline(always)]
 pub(super) fn is_hidden<K, V, X>(
-    found: &Record<K, V>,
+    found: &RecordRef<'_, K, V>,
     policy: &ExpirationPolicy<X>,
     valid_after: Option<Instant>,
     now: Instant,
@@ -49,7 +49,7 @@ pub(super) fn find_unless<'a, K: Eq + Hash, V, S: BuildHasher, X, P, I: ValueTes
     sought: (&K, KeyHash),
     test: &mut I,
     now: Instant,
-) -> Option<(Handle, &'a Record<K, V>)>
+) -> Option<(Handle, RecordRef<'a, K, V>)>
 where
     P: PredicateFn<K, V>,
     requires own { IsKeyHash S.build_hasher S.Hasher.finish S.Hasher.write inner.now.kept.hasher (K.hash_input sought.0.now) sought.1 }
@@ -57,13 +57,13 @@ where
     requires askable { (v : V) → I.can_ask test.old v }
     ensures { (ignored : Bool)
         × IsAskedOnce I.asks (Some test.old) (value_of (record_of_key K.eq inner.now.kept.records sought.entry.0.now)) ignored (Some test.new)
-        × Finds K.eq inner.now.kept policy.now valid_after.now P.says invalidator.now sought.entry.0.now ignored now.0 (option_map (λ f. (f.0, f.1.now)) result) }
+        × Finds K.eq inner.now.kept policy.now valid_after.now P.says invalidator.now sought.entry.0.now ignored now.0 result }
 {
     let (key, own) = sought;
     let (handle, found) = inner.find(key, own)?;
-    if test.ignores(&found.value)
-        || is_hidden(found, policy, *valid_after, now)
-        || invalidator.apply_predicates(found)
+    if test.ignores(found.value())
+        || is_hidden(&found, policy, *valid_after, now)
+        || invalidator.apply_predicates(&found)
     {
         return None;
     }
@@ -79,12 +79,12 @@ pub(super) fn find_shown<'a, K: Eq + Hash, V, S: BuildHasher, X, P>(
     invalidator: &Invalidator<P>,
     sought: (&K, KeyHash),
     now: Instant,
-) -> Option<(Handle, &'a Record<K, V>)>
+) -> Option<(Handle, RecordRef<'a, K, V>)>
 where
     P: PredicateFn<K, V>,
     requires own { IsKeyHash S.build_hasher S.Hasher.finish S.Hasher.write inner.now.kept.hasher (K.hash_input sought.0.now) sought.1 }
     requires lasting { policy.now.expiry ≡ None → NoneExpires inner.now.kept.records }
-    ensures { Finds K.eq inner.now.kept policy.now valid_after.now P.says invalidator.now sought.entry.0.now false now.0 (option_map (λ f. (f.0, f.1.now)) result) }
+    ensures { Finds K.eq inner.now.kept policy.now valid_after.now P.says invalidator.now sought.entry.0.now false now.0 result }
 {
     find_unless(
         inner,
@@ -110,7 +110,7 @@ pub(super) struct Hit {
 // than the record was written.
 #[inline(always)]
 pub(super) fn hit_of<K, V, X: Expiry<K, V>>(
-    found: &Record<K, V>,
+    found: &RecordRef<'_, K, V>,
     policy: &ExpirationPolicy<X>,
     now: Instant,
 ) -> Hit
@@ -119,14 +119,14 @@ pub(super) fn hit_of<K, V, X: Expiry<K, V>>(
     let Some(expiry) = policy.expiry() else {
         return Hit {
             read: now,
-            expires: found.expires,
+            expires: found.expires(),
             is_renewed: false,
         };
     };
-    let (expires, written) = (found.expires, found.written);
+    let (expires, written) = (found.expires(), found.written());
     let read = now.max(written);
     let left = left_at(found, policy, read);
-    let answer = expiry.expire_after_read(&found.key, &found.value, read, left, written);
+    let answer = expiry.expire_after_read(found.key(), found.value(), read, left, written);
     let (expires, is_renewed) = renewed(expires, left, answer, read);
     Hit {
         read,
@@ -138,7 +138,7 @@ pub(super) fn hit_of<K, V, X: Expiry<K, V>>(
 // How long a record still lasts at a moment. Caches without an expiry ask nothing of it.
 #[cold]
 fn left_at<K, V, X>(
-    found: &Record<K, V>,
+    found: &RecordRef<'_, K, V>,
     policy: &ExpirationPolicy<X>,
     read: Instant,
 ) -> Option<Duration>
@@ -147,24 +147,31 @@ fn left_at<K, V, X>(
         (moment_of found.now.expires) found.now.written.0 found.now.read.0 read.0 }
 {
     let (live, idle) = (policy.time_to_live(), policy.time_to_idle());
-    remaining(found.expires, found.written, found.read, live, idle, read)
+    remaining(
+        found.expires(),
+        found.written(),
+        found.read(),
+        live,
+        idle,
+        read,
+    )
 }
 
 // A clone of the record's value, with one of its key where that is asked for.
 #[inline(always)]
 pub(super) fn entry_of<K: Clone, V: Clone>(
-    found: &Record<K, V>,
+    found: &RecordRef<'_, K, V>,
     need_key: bool,
 ) -> Result<Entry<K, V>, OutOfMemory>
     ensures { IfOk result (IsEntryCopy K.is_clone V.is_clone (entry_at need_key found.now)) }
 {
-    let Ok(value) = found.value.clone() else {
+    let Ok(value) = found.value().clone() else {
         return Err(OutOfMemory);
     };
     if !need_key {
         return Ok(Entry { key: None, value });
     }
-    let Ok(key) = found.key.clone() else {
+    let Ok(key) = found.key().clone() else {
         return Err(OutOfMemory);
     };
     let key = Some(key);

@@ -8,7 +8,7 @@ ghost use Rattle.moka_engine.specs.BaseCache.{expiring_by};
 use moka_parts::closures::Weigher;
 use moka_parts::expiry::{deadline_of, is_expired_by_per_entry_ttl, remaining, renewed};
 use moka_parts::policy::{ExpirationPolicy, Expiry, Instant};
-use moka_parts::records::Record;
+use moka_parts::record_ref::RecordRef;
 
 // What an entry weighs where no weigher is set.
 const DEFAULT_WEIGHT: u32 = 1;
@@ -44,7 +44,7 @@ pub(super) fn expires_at_creation<K, V, X: Expiry<K, V>>(
 // has expired.
 #[inline(always)]
 pub(super) fn expires_at_update<K, V, X: Expiry<K, V>>(
-    found: &Record<K, V>,
+    found: &RecordRef<'_, K, V>,
     policy: &ExpirationPolicy<X>,
     key: &K,
     value: &V,
@@ -52,7 +52,7 @@ pub(super) fn expires_at_update<K, V, X: Expiry<K, V>>(
 ) -> Option<Instant>
     ensures { result ≡ expires_updated X.created X.updated (expiring_by policy.now) policy.now.expiry key.now value.now (record found.now { written = now; read = now }) now.0 }
 {
-    let expires = found.expires;
+    let expires = found.expires();
     let Some(expiry) = policy.expiry() else {
         return expires;
     };

@@ -11,7 +11,7 @@ use moka_parts::expiry::{
 };
 use moka_parts::notification::Listener;
 use moka_parts::policy::{ExpirationPolicy, Expiry, Instant};
-use moka_parts::records::Record;
+use moka_parts::record_ref::RecordRef;
 use std::hash::{BuildHasher, Hash};
 
 /// What a look-up of a key meets at a moment. If several reasons hide a record, the first in this order is named.
@@ -50,10 +50,10 @@ impl<
         let Some((_, found)) = self.inner.find(key, own) else {
             return Sight::Absent;
         };
-        if let Some(lapse) = lapse_of(found, &self.expiration_policy, self.valid_after, now) {
+        if let Some(lapse) = lapse_of(&found, &self.expiration_policy, self.valid_after, now) {
             return lapse;
         }
-        if self.invalidator.apply_predicates(found) {
+        if self.invalidator.apply_predicates(&found) {
             Sight::Covered
         } else {
             Sight::Visible
@@ -66,27 +66,27 @@ impl<
     {
         let own = self.inner.key_hash(key);
         let (_, found) = self.inner.find(key, own)?;
-        Some(found.applied == found.generation)
+        Some(found.applied() == found.generation())
     }
 }
 
 // The first test by moments that hides a record, if one does.
 fn lapse_of<K, V, X>(
-    found: &Record<K, V>,
+    found: &RecordRef<'_, K, V>,
     policy: &ExpirationPolicy<X>,
     valid_after: Option<Instant>,
     now: Instant,
 ) -> Option<Sight>
     ensures { result ≡ lapse_of (expiring_by policy.now) valid_after found.now now.0 }
 {
-    if is_expired_by_per_entry_ttl(found.expires, now) {
+    if is_expired_by_per_entry_ttl(found.expires(), now) {
         Some(Sight::Expired)
-    } else if is_expired_by_ttl(policy.time_to_live(), found.written, now) {
+    } else if is_expired_by_ttl(policy.time_to_live(), found.written(), now) {
         Some(Sight::PastTimeToLive)
-    } else if is_expired_by_tti(policy.time_to_idle(), found.read, now) {
+    } else if is_expired_by_tti(policy.time_to_idle(), found.read(), now) {
         Some(Sight::PastTimeToIdle)
-    } else if is_invalid_entry(valid_after, found.written)
-        || is_invalid_entry(valid_after, found.read)
+    } else if is_invalid_entry(valid_after, found.written())
+        || is_invalid_entry(valid_after, found.read())
     {
         Some(Sight::Invalidated)
     } else {

@@ -1,5 +1,5 @@
 //! The visible entries in the order of access, least recently used first.
-ghost use Rattle.std.specs.Prelude.{◌≡◌, IfSome, option_copied, option_map};
+ghost use Rattle.std.specs.Prelude.{◌≡◌, IfSome, option_map};
 ghost use Rattle.moka_engine.specs.Snapshots.{scene_of, scene_at, FindsNext, StandsIn};
 
 use super::BaseCache;
@@ -9,7 +9,7 @@ use moka_parts::expiry::{has_lapsed, remaining};
 use moka_parts::invalidator::Invalidator;
 use moka_parts::notification::Listener;
 use moka_parts::policy::{ExpirationPolicy, Expiry, Instant};
-use moka_parts::records::Record;
+use moka_parts::record_ref::RecordRef;
 use moka_store::Handle;
 use std::hash::{BuildHasher, Hash};
 use std::marker::Model;
@@ -115,15 +115,15 @@ impl<'a, K: Eq + Hash, V, S: BuildHasher, X, P: PredicateFn<K, V>> Iterator
         );
         self.at = at;
         let found = found?;
-        let (written, read) = (found.written, found.read);
+        let (written, read) = (found.written(), found.read());
         let (live, idle) = (policy.time_to_live(), policy.time_to_idle());
         Some(SnapshotEntry {
-            key: &found.key,
-            value: &found.value,
+            key: found.key(),
+            value: found.value(),
             last_modified: written,
             last_accessed: read,
-            expires: found.expires,
-            remaining: remaining(found.expires, written, read, live, idle, now),
+            expires: found.expires(),
+            remaining: remaining(found.expires(), written, read, live, idle, now),
         })
     }
 }
@@ -136,10 +136,10 @@ fn next_shown<'a, K: Eq + Hash, V, S: BuildHasher, X, P: PredicateFn<K, V>>(
     valid_after: Option<Instant>,
     invalidator: &Invalidator<P>,
     now: Instant,
-) -> (Option<&'a Record<K, V>>, Option<Handle>)
+) -> (Option<RecordRef<'a, K, V>>, Option<Handle>)
     requires stands { IfSome at (StandsIn inner.now.kept) }
     ensures stands { IfSome result.1 (StandsIn inner.now.kept) }
-    ensures listed { FindsNext P.says (scene_at inner.now.kept policy.now valid_after invalidator.now now.0 at) (option_copied result.0)
+    ensures listed { FindsNext P.says (scene_at inner.now.kept policy.now valid_after invalidator.now now.0 at) result.0
         (scene_at inner.now.kept policy.now valid_after invalidator.now now.0 result.1) }
 {
     inner.members_stand_once();
@@ -149,7 +149,7 @@ fn next_shown<'a, K: Eq + Hash, V, S: BuildHasher, X, P: PredicateFn<K, V>>(
         let Some(found) = inner.record_at(handle) else {
             continue;
         };
-        if !has_lapsed(found, policy, valid_after, now) && !invalidator.apply_predicates(found) {
+        if !has_lapsed(&found, policy, valid_after, now) && !invalidator.apply_predicates(&found) {
             return (Some(found), at);
         }
     }

@@ -23,7 +23,8 @@ use moka_parts::invalidator::Invalidator;
 use moka_parts::key_test::KeyTest;
 use moka_parts::notification::Listener;
 use moka_parts::policy::{ExpirationPolicy, Expiry, Instant};
-use moka_parts::records::{ReadOperation, Record};
+use moka_parts::record_ref::RecordRef;
+use moka_parts::records::ReadOperation;
 use moka_store::{Handle, KeyHash};
 use std::hash::{BuildHasher, Hash};
 
@@ -37,16 +38,16 @@ fn find_by<'a, K: Eq + Hash, V, S: BuildHasher, X, P, T: KeyTest<K>>(
     invalidator: &Invalidator<P>,
     sought: (&T, KeyHash),
     now: Instant,
-) -> Option<(Handle, &'a Record<K, V>)>
+) -> Option<(Handle, RecordRef<'a, K, V>)>
 where
     P: PredicateFn<K, V>,
     requires lasting { policy.now.expiry ≡ None → NoneExpires inner.now.kept.records }
     requires own { (k : K) → T.passes sought.0.now k ≡ true → IsKeyHash S.build_hasher S.Hasher.finish S.Hasher.write inner.now.kept.hasher (K.hash_input k) sought.1 }
-    ensures { FindsBy inner.now.kept policy.now valid_after.now P.says invalidator.now (T.passes sought.entry.0.now) now.0 (option_map (λ f. (f.0, f.1.now)) result) }
+    ensures { FindsBy inner.now.kept policy.now valid_after.now P.says invalidator.now (T.passes sought.entry.0.now) now.0 result }
 {
     let (test, own) = sought;
     let (handle, found) = inner.find_by(test, own)?;
-    if gets::is_hidden(found, policy, *valid_after, now) || invalidator.apply_predicates(found) {
+    if gets::is_hidden(&found, policy, *valid_after, now) || invalidator.apply_predicates(&found) {
         return None;
     }
     Some((handle, found))
@@ -147,10 +148,10 @@ impl<
             self.record_miss(hash, now, clock);
             return Ok(None);
         };
-        let Ok(entry) = gets::entry_of(found, need_key) else {
+        let Ok(entry) = gets::entry_of(&found, need_key) else {
             return Err(OutOfMemory);
         };
-        let (first_hash, hit) = (found.hash, gets::hit_of(found, policy, now));
+        let (first_hash, hit) = (found.hash(), gets::hit_of(&found, policy, now));
         let Handle { number, place } = handle;
         let renewed = hit.is_renewed;
         self.inner

@@ -1,5 +1,5 @@
 //! The members in the order of access, and records that are put back.
-ghost use Rattle.std.specs.Prelude.{◌==◌, ◌≡◌, ◌+◌, ◌^◌, ◌<◌, IsSome, IfSome, None, option_copied, option_map, slice_get};
+ghost use Rattle.std.specs.Prelude.{◌==◌, ◌≡◌, ◌+◌, ◌^◌, ◌<◌, IsSome, IfSome, None, option_map, slice_get};
 ghost use Rattle.std.specs.FinMap as finite;
 ghost use Rattle.std.specs.List.{IsDistinct};
 ghost use Rattle.moka_parts.specs.Records.{counted_of, member, numbers_of, record_of_key, with_record};
@@ -12,6 +12,7 @@ use super::{Inner, first_record};
 use moka_maintenance::queued::PlacedWrite;
 use moka_parts::calls::Ticket;
 use moka_parts::policy::Instant;
+use moka_parts::record_ref::RecordRef;
 use moka_parts::records::{Operation, Record};
 use moka_store::{Handle, KeyHash, Update};
 use std::hash::{BuildHasher, Hash};
@@ -38,9 +39,9 @@ impl<K: Eq + Hash, V, S: BuildHasher> Inner<K, V, S> {
     }
 
     /// The record of the number at this handle, if it is in the map.
-    pub fn record_at(&self, handle: Handle) -> Option<&Record<K, V>>
+    pub fn record_at(&self, handle: Handle) -> Option<RecordRef<'_, K, V>>
         requires placed { IsPlaced self.now.kept handle }
-        ensures { option_copied result ≡ finite.get self.now.kept.records handle.number }
+        ensures { result ≡ finite.get self.now.kept.records handle.number }
     {
         self.store.find(handle)
     }

@@ -11,7 +11,8 @@ ghost use Rattle.moka_inner.specs.ReadNumber.{IsReadNumber};
 
 use super::Inner;
 use moka_parts::key_test::KeyTest;
-use moka_parts::records::{ReadOperation, Record};
+use moka_parts::record_ref::RecordRef;
+use moka_parts::records::ReadOperation;
 use moka_store::{Handle, KeyHash};
 use std::hash::{BuildHasher, Hash};
 
@@ -26,12 +27,16 @@ impl<K: Eq + Hash, V, S: BuildHasher> Inner<K, V, S> {
 
     /// The record whose key passes, with its handle, under the hash of the keys that do.
     #[inline(always)]
-    pub fn find_by<T: KeyTest<K>>(&self, test: &T, hash: KeyHash) -> Option<(Handle, &Record<K, V>)>
+    pub fn find_by<T: KeyTest<K>>(
+        &self,
+        test: &T,
+        hash: KeyHash,
+    ) -> Option<(Handle, RecordRef<'_, K, V>)>
         requires hashed { (k : K) → T.passes test.now k ≡ true → IsKeyHash S.build_hasher S.Hasher.finish S.Hasher.write self.now.kept.hasher (K.hash_input k) hash }
         ensures handle { IfSome result (λ f. IsHandle self.now.kept f.0) }
-        ensures numbered { IfSome result (λ f. finite.get self.now.kept.records f.0.number ≡ Some f.1.now) }
-        ensures passes { IfSome result (λ f. T.passes test.now f.1.now.key ≡ true) }
-        ensures found { option_map (λ f. f.1.now) result ≡ record_by (T.passes test.now) self.now.kept.records }
+        ensures numbered { IfSome result (λ f. finite.get self.now.kept.records f.0.number ≡ Some f.1) }
+        ensures passes { IfSome result (λ f. T.passes test.now f.1.key ≡ true) }
+        ensures found { option_map (λ f. f.1) result ≡ record_by (T.passes test.now) self.now.kept.records }
     {
         self.store.find_by(test, hash)
     }

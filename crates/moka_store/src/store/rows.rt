@@ -1,9 +1,9 @@
 //! Records by the places of their rows.
-ghost use Rattle.std.specs.Prelude.{◌≡◌, ◌<◌, ℕ, Some, IfSome, IsSome, option_copied};
+ghost use Rattle.std.specs.Prelude.{◌≡◌, ◌<◌, ℕ, Some, IfSome, IsSome};
 ghost use Rattle.std.specs.FinMap as finite;
 
 use super::Store;
-use moka_parts::records::Record;
+use moka_parts::record_ref::RecordRef;
 use std::hash::{BuildHasher, Hash};
 
 impl<K: Eq + Hash, V, S: BuildHasher> Store<K, V, S> {
@@ -16,9 +16,9 @@ impl<K: Eq + Hash, V, S: BuildHasher> Store<K, V, S> {
     }
 
     /// The record at this place, if there is one.
-    pub fn record_at(&self, place: usize) -> Option<&Record<K, V>>
-        ensures found { (n : ℕ) → finite.get self.now.places n ≡ Some place → option_copied result ≡ finite.get self.now.records n }
-        ensures stored { IfSome result (λ r. finite.get self.now.records r.now.number ≡ Some r.now) }
+    pub fn record_at(&self, place: usize) -> Option<RecordRef<'_, K, V>>
+        ensures found { (n : ℕ) → finite.get self.now.places n ≡ Some place → result ≡ finite.get self.now.records n }
+        ensures stored { IfSome result (λ r. finite.get self.now.records r.number ≡ Some r) }
     {
         self.table.record(place)
     }

@@ -9,22 +9,22 @@ ghost use Rattle.moka_store.specs.Store.{IsHandle};
 ghost use Rattle.moka_store.specs.StoreRows.{passes_at};
 
 use super::{Handle, KeyHash, Store};
+use crate::table::RecordTable;
 use moka_parts::key_test::KeyTest;
-use moka_parts::records::Record;
-use moka_structures::RecordTable;
+use moka_parts::record_ref::RecordRef;
 use std::hash::{BuildHasher, Hash};
 
 // Whether the key of the record at this place passes.
 #[inline(always)]
 fn is_key_at<K: Eq + Hash, V, T: KeyTest<K>>(
-    table: &RecordTable<Record<K, V>>,
+    table: &RecordTable<K, V>,
     place: usize,
     test: &T,
 ) -> bool
     ensures { result ≡ passes_at (T.passes test.now) table.now.rows place }
 {
     match table.record(place) {
-        Some(stored) => test.is_key(&stored.key),
+        Some(stored) => test.is_key(stored.key()),
         None => false,
     }
 }
@@ -40,12 +40,16 @@ impl<K: Eq + Hash, V, S: BuildHasher> Store<K, V, S> {
 
     /// The record whose key passes, with its handle, under the hash of the keys that do.
     #[inline(always)]
-    pub fn find_by<T: KeyTest<K>>(&self, test: &T, hash: KeyHash) -> Option<(Handle, &Record<K, V>)>
+    pub fn find_by<T: KeyTest<K>>(
+        &self,
+        test: &T,
+        hash: KeyHash,
+    ) -> Option<(Handle, RecordRef<'_, K, V>)>
         requires hashed { (k : K) → T.passes test.now k ≡ true → IsKeyHash S.build_hasher S.Hasher.finish S.Hasher.write self.now.hasher (K.hash_input k) hash }
         ensures handle { IfSome result (λ f. IsHandle self.now f.0) }
-        ensures found { IfSome result (λ f. finite.get self.now.records f.0.number ≡ Some f.1.now) }
-        ensures passes { IfSome result (λ f. T.passes test.now f.1.now.key ≡ true) }
-        ensures value { option_map (λ f. f.1.now) result ≡ record_by (T.passes test.now) self.now.records }
+        ensures found { IfSome result (λ f. finite.get self.now.records f.0.number ≡ Some f.1) }
+        ensures passes { IfSome result (λ f. T.passes test.now f.1.key ≡ true) }
+        ensures value { option_map (λ f. f.1) result ≡ record_by (T.passes test.now) self.now.records }
     {
         let table = &self.table;
         let is_match = |place| is_key_at(table, place, test);

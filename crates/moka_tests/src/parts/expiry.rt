@@ -5,6 +5,7 @@ use moka_parts::expiry::{
     is_invalid_entry, remaining, renewed,
 };
 use moka_parts::policy::{ExpirationPolicy, Instant, NoExpiry};
+use moka_parts::record_ref::{self, RecordRef};
 use moka_parts::records::Record;
 use std::time::Duration;
 
@@ -41,7 +42,7 @@ fn hides_what_has_lapsed(rt: HostRuntime) {
     let mut policy = ExpirationPolicy::<NoExpiry>::default();
     policy.set_time_to_live(Duration::from_secs(16));
     policy.set_time_to_idle(Duration::from_secs(7));
-    let record = Record {
+    let (front, cold) = record_ref::split(Record {
         number: 1,
         key: 'k',
         hash: 0,
@@ -52,7 +53,8 @@ fn hides_what_has_lapsed(rt: HostRuntime) {
         weight: 1,
         generation: 1,
         applied: 1,
-    };
+    });
+    let record = RecordRef::new(1, &front.hot, front.weight, front.expiring, &cold);
     for (valid_after, now, is_hidden) in [
         (None, 8_999, false),
         (None, 9_000, true),

@@ -3,6 +3,7 @@ use moka_parts::closures::PredicateFn;
 use moka_parts::error::PredicateError;
 use moka_parts::invalidator::{IdSource, Invalidator, PredicateId};
 use moka_parts::policy::Instant;
+use moka_parts::record_ref::{self, RecordRef};
 use moka_parts::records::Record;
 use std::cell::Cell;
 use std::process::Abort;
@@ -72,6 +73,13 @@ fn written(value: u64, written: Instant) -> Record<u8, u64> {
 
 type Registry = Invalidator<IsValue>;
 
+// Whether a predicate covers a record of this value, written then.
+fn covers(registry: &Registry, value: u64, moment: Instant) -> bool {
+    let (front, cold) = record_ref::split(written(value, moment));
+    let record = RecordRef::new(1, &front.hot, front.weight, front.expiring, &cold);
+    registry.apply_predicates(&record)
+}
+
 /// Registers the test for a value at a moment.
 fn register(
     registry: &mut Registry,
@@ -107,12 +115,14 @@ fn check_covered(rt: &impl Abort, registry: &Registry) {
         (9, Instant(6), false),
     ] {
         assert_eq!(rt;
-            registry.apply_predicates(&written(value, moment)),
+            covers(registry, value, moment),
             is_covered,
             "{value} written at {moment:?}"
         );
     }
-    assert!(rt; registry.covers_at(2, &written(7, Instant(6))));
+    let (front, cold) = record_ref::split(written(7, Instant(6)));
+    let record = RecordRef::new(1, &front.hot, front.weight, front.expiring, &cold);
+    assert!(rt; registry.covers_at(2, &record));
 }
 
 /// Removes each predicate, which was asked so often.
@@ -132,7 +142,7 @@ fn check_removed(rt: &impl Abort, registry: &mut Registry) {
 fn asks_only_what_was_registered_no_earlier(rt: HostRuntime) -> Result<(), Fail> {
     let mut registry = Invalidator::new(rt.alloc());
     assert!(rt; registry.is_empty());
-    assert!(rt; !registry.apply_predicates(&written(7, Instant(0))));
+    assert!(rt; !covers(&registry, 7, Instant(0)));
     register_three(&mut registry)?;
     check_covered(&rt, &registry);
     check_removed(&rt, &mut registry);

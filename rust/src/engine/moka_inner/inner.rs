@@ -15,6 +15,7 @@ use crate::engine::moka_parts::housekeeper::Clock;
 use crate::engine::moka_parts::invalidator::Invalidator;
 use crate::engine::moka_parts::notification::{Listener, RemovalNotifier};
 use crate::engine::moka_parts::policy::Instant;
+use crate::engine::moka_parts::record_ref::RecordRef;
 use crate::engine::moka_parts::records::{Operation, ReadOperation, Record};
 use crate::engine::moka_sketch::frequency_sketch::FrequencySketch;
 use crate::engine::moka_store::{Handle, KeyHash, Store, Update};
@@ -104,7 +105,7 @@ impl<K: Eq + Hash, V, S: BuildHasher> Inner<K, V, S> {
 
     /// The record whose key is equal, with its handle, under the key's hash.
     #[inline(always)]
-    pub fn find(&self, key: &K, hash: KeyHash) -> Option<(Handle, &Record<K, V>)>
+    pub fn find(&self, key: &K, hash: KeyHash) -> Option<(Handle, RecordRef<'_, K, V>)>
     {
         self.store.find_by_key(key, hash)
     }
@@ -181,7 +182,7 @@ impl<K: Eq + Hash, V, S: BuildHasher> Inner<K, V, S> {
         let Handle { number, place } = handle;
         let operation = Operation::Upsert {
             number,
-            generation: found.generation + 1,
+            generation: found.generation() + 1,
             weight: update.weight,
             hash,
         };

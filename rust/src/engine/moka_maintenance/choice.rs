@@ -80,7 +80,9 @@ fn frequency_of<K: Eq + Hash, V, S: BuildHasher>(
 ) -> Option<u8>
 {
     match store.find(handle) {
-        Some(found) if found.applied == found.generation => Some(sketch.frequency(found.hash)),
+        Some(found) if found.applied() == found.generation() => Some(sketch.frequency(
+            found.hash(),
+        )),
         _ => None,
     }
 }

@@ -44,7 +44,7 @@ fn expire<K: Eq + Hash, V, S: BuildHasher, L: Listener<K, V>>(
     let Some(found) = store.find(handle) else {
         unreachable!()
     };
-    if is_expired_by_per_entry_ttl(found.expires, tests.now) {
+    if is_expired_by_per_entry_ttl(found.expires(), tests.now) {
         expel(store, notifier, handle, RemovalCause::Expired);
         return true;
     }

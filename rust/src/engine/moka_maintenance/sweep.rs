@@ -9,7 +9,7 @@ use crate::engine::moka_maintenance::expel::expel;
 use crate::engine::moka_parts::expiry::{is_expired_by_tti, is_expired_by_ttl, is_invalid_entry};
 use crate::engine::moka_parts::notification::{Listener, RemovalCause, RemovalNotifier};
 use crate::engine::moka_parts::policy::Instant;
-use crate::engine::moka_parts::records::Record;
+use crate::engine::moka_parts::record_ref::RecordRef;
 use crate::engine::moka_store::{Handle, Store};
 use crate::support::hash::{BuildHasher, Hash};
 use crate::support::time::Duration;
@@ -27,7 +27,7 @@ pub struct Tests {
 
 impl Tests {
     // Why a sweep removes a settled record that it has come to, if it does.
-    fn cause_of<K, V>(self, sweep: Sweep, found: &Record<K, V>) -> Option<RemovalCause>
+    fn cause_of<K, V>(self, sweep: Sweep, found: &RecordRef<'_, K, V>) -> Option<RemovalCause>
     {
         match sweep {
             Sweep::Written => self.cause_by_write(found),
@@ -37,24 +37,24 @@ impl Tests {
     }
 
     // Why a record leaves by the moment of its last write, if it does.
-    fn cause_by_write<K, V>(self, found: &Record<K, V>) -> Option<RemovalCause>
+    fn cause_by_write<K, V>(self, found: &RecordRef<'_, K, V>) -> Option<RemovalCause>
     {
-        if is_expired_by_ttl(self.time_to_live, found.written, self.now) {
+        if is_expired_by_ttl(self.time_to_live, found.written(), self.now) {
             return Some(RemovalCause::Expired);
         }
-        if is_invalid_entry(self.valid_after, found.written) {
+        if is_invalid_entry(self.valid_after, found.written()) {
             return Some(RemovalCause::Explicit);
         }
         None
     }
 
     // Why a record leaves by the moment of its last read, if it does.
-    fn cause_by_read<K, V>(self, found: &Record<K, V>) -> Option<RemovalCause>
+    fn cause_by_read<K, V>(self, found: &RecordRef<'_, K, V>) -> Option<RemovalCause>
     {
-        if is_expired_by_tti(self.time_to_idle, found.read, self.now) {
+        if is_expired_by_tti(self.time_to_idle, found.read(), self.now) {
             return Some(RemovalCause::Expired);
         }
-        if is_invalid_entry(self.valid_after, found.read) {
+        if is_invalid_entry(self.valid_after, found.read()) {
             return Some(RemovalCause::Explicit);
         }
         None
@@ -150,7 +150,7 @@ fn take_turn<K: Eq + Hash, V, S: BuildHasher, L: Listener<K, V>>(
     let Some(found) = store.find(handle) else {
         unreachable!()
     };
-    let Some(cause) = tests.cause_of(sweep, found) else {
+    let Some(cause) = tests.cause_of(sweep, &found) else {
         return Turn::Ended;
     };
     expel(store, notifier, handle, cause);

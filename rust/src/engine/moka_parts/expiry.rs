@@ -4,7 +4,7 @@
 use crate::support::prelude::*;
 
 use crate::engine::moka_parts::policy::{ExpirationPolicy, Instant};
-use crate::engine::moka_parts::records::Record;
+use crate::engine::moka_parts::record_ref::RecordRef;
 use crate::support::time::Duration;
 
 /// Whether an entry's own moment of expiry has come.
@@ -38,17 +38,17 @@ pub fn is_invalid_entry(valid_after: Option<Instant>, moment: Instant) -> bool
 /// Whether one of the tests by moments hides a record, whatever predicates say.
 #[inline(always)]
 pub fn has_lapsed<K, V, X>(
-    entry: &Record<K, V>,
+    entry: &RecordRef<'_, K, V>,
     policy: &ExpirationPolicy<X>,
     valid_after: Option<Instant>,
     now: Instant,
 ) -> bool
 {
-    is_expired_by_per_entry_ttl(entry.expires, now)
-        || policy.is_past_time_to_live(entry.written, now)
-        || policy.is_past_time_to_idle(entry.read, now)
-        || is_invalid_entry(valid_after, entry.written)
-        || is_invalid_entry(valid_after, entry.read)
+    is_expired_by_per_entry_ttl(entry.expires(), now)
+        || policy.is_past_time_to_live(entry.written(), now)
+        || policy.is_past_time_to_idle(entry.read(), now)
+        || is_invalid_entry(valid_after, entry.written())
+        || is_invalid_entry(valid_after, entry.read())
 }
 
 /// The moment so much later, where a duration is given.

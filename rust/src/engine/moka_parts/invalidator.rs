@@ -7,7 +7,8 @@ use crate::engine::moka_parts::closures::PredicateFn;
 pub use crate::engine::moka_parts::error::PredicateError;
 use crate::engine::moka_parts::error::PredicateRefused;
 use crate::engine::moka_parts::policy::Instant;
-use crate::engine::moka_parts::records::{Record, Registered};
+use crate::engine::moka_parts::record_ref::RecordRef;
+use crate::engine::moka_parts::records::Registered;
 use crate::support::alloc::Global;
 use crate::support::uuid::Uuid;
 
@@ -29,11 +30,11 @@ pub trait IdSource {
 impl<P> Registered<P> {
     // Whether it was registered no earlier than the record was written, and says yes to it. The predicate is asked
     // only where the moments allow it.
-    fn covers<K, V>(&self, entry: &Record<K, V>) -> bool
+    fn covers<K, V>(&self, entry: &RecordRef<'_, K, V>) -> bool
     where
         P: PredicateFn<K, V>,
     {
-        entry.written <= self.registered && self.predicate.applies(&entry.key, &entry.value)
+        entry.written() <= self.registered && self.predicate.applies(entry.key(), entry.value())
     }
 }
 
@@ -112,7 +113,7 @@ impl<P> Invalidator<P> {
 
     /// Whether a registered predicate covers the record: it was registered no earlier than the record was written,
     /// and says yes to it.
-    pub fn apply_predicates<K, V>(&self, entry: &Record<K, V>) -> bool
+    pub fn apply_predicates<K, V>(&self, entry: &RecordRef<'_, K, V>) -> bool
     where
         P: PredicateFn<K, V>,
     {
@@ -122,7 +123,7 @@ impl<P> Invalidator<P> {
     }
 
     /// Whether the predicate at this place covers the record.
-    pub fn covers_at<K, V>(&self, index: usize, entry: &Record<K, V>) -> bool
+    pub fn covers_at<K, V>(&self, index: usize, entry: &RecordRef<'_, K, V>) -> bool
     where
         P: PredicateFn<K, V>,
     {

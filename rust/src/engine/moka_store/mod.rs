@@ -3,6 +3,7 @@
 use crate::support::prelude::*;
 
 pub mod store;
+pub mod table;
 mod timers;
 mod write_list;
 

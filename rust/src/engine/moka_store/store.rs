@@ -4,13 +4,15 @@
 //! moka: `sync::base_cache::Inner`, whose maps and deques these are.
 use crate::support::prelude::*;
 
+use crate::engine::moka_store::table::{Membership, RecordTable};
 use crate::engine::moka_store::timers::Timers;
 use crate::engine::moka_store::write_list::WriteList;
 pub use hashing::KeyHash;
 use crate::engine::moka_index::PlaceIndex;
 use crate::engine::moka_parts::policy::Instant;
+use crate::engine::moka_parts::record_ref::RecordRef;
 use crate::engine::moka_parts::records::Record;
-use crate::engine::moka_structures::{Membership, OrderList, RecordTable};
+use crate::engine::moka_structures::OrderList;
 use crate::support::alloc::{AllocError, Global};
 use crate::support::hash::{BuildHasher, Hash};
 
@@ -44,7 +46,7 @@ pub struct Store<K: Eq + Hash, V, S: BuildHasher> {
     hasher: S,
     // The place of each record, under the hash of its key.
     index: PlaceIndex,
-    table: RecordTable<Record<K, V>>,
+    table: RecordTable<K, V>,
     access: OrderList<u32>,
     written: WriteList,
     timers: Timers,
@@ -97,7 +99,7 @@ impl<K: Eq + Hash, V, S: BuildHasher> Store<K, V, S> {
 
     /// The record whose key is equal, with its handle, under the key's hash.
     #[inline(always)]
-    pub fn find_by_key(&self, key: &K, hash: KeyHash) -> Option<(Handle, &Record<K, V>)>
+    pub fn find_by_key(&self, key: &K, hash: KeyHash) -> Option<(Handle, RecordRef<'_, K, V>)>
     {
         let table = &self.table;
         let is_match = |place| changes::has_key(table, place, key);
@@ -113,7 +115,7 @@ impl<K: Eq + Hash, V, S: BuildHasher> Store<K, V, S> {
 
     /// The record at this handle, if it is still there.
     #[inline(always)]
-    pub fn find(&self, handle: Handle) -> Option<&Record<K, V>>
+    pub fn find(&self, handle: Handle) -> Option<RecordRef<'_, K, V>>
     {
         self.table.find(handle.place, handle.number)
     }
@@ -133,7 +135,7 @@ impl<K: Eq + Hash, V, S: BuildHasher> Store<K, V, S> {
     pub fn insert_new(&mut self, stored: Record<K, V>, hash: KeyHash) -> Handle
     {
         let number = stored.number;
-        let place = self.table.insert(number, stored);
+        let place = self.table.insert(stored);
         // A place is below the table's capacity, so it has 32 bits.
         let _capacity = self.table.capacity();
         self.index.insert(hash.0, place);
@@ -145,7 +147,7 @@ impl<K: Eq + Hash, V, S: BuildHasher> Store<K, V, S> {
     #[inline(always)]
     pub fn update(&mut self, handle: Handle, update: Update<V>) -> V
     {
-        changes::update(&mut self.table, handle.place, update)
+        self.table.update(handle.place, update)
     }
 
     /// The record at this handle was read at this moment, and expires then: as before, unless the read renewed it.
@@ -158,14 +160,14 @@ impl<K: Eq + Hash, V, S: BuildHasher> Store<K, V, S> {
         is_renewed: bool,
     )
     {
-        changes::touch(&mut self.table, handle.place, read, expires, is_renewed);
+        self.table.touch(handle.place, read, expires, is_renewed);
     }
 
     /// The operation of this generation was applied to the record at this handle.
     #[inline(always)]
     pub fn set_applied(&mut self, handle: Handle, generation: u64)
     {
-        changes::set_applied(&mut self.table, handle.place, generation);
+        self.table.set_applied(handle.place, generation);
     }
 
     // The hash under which the store has the record at this handle.
@@ -175,7 +177,7 @@ impl<K: Eq + Hash, V, S: BuildHasher> Store<K, V, S> {
         let Some(found) = self.find(handle) else {
             unreachable!()
         };
-        KeyHash::of(self.hash(&found.key))
+        KeyHash::of(self.hash(found.key()))
     }
 
     /// The record at this handle leaves the map, where it is under the hash of its key, and its number stays.
@@ -206,7 +208,7 @@ impl<K: Eq + Hash, V, S: BuildHasher> Store<K, V, S> {
     pub fn is_settled(&self, handle: Handle) -> bool
     {
         match self.find(handle) {
-            Some(found) => found.applied == found.generation,
+            Some(found) => found.applied() == found.generation(),
             None => false,
         }
     }
@@ -350,7 +352,7 @@ impl<K: Eq + Hash, V, S: BuildHasher> Store<K, V, S> {
         let mut keys = Vec::with_capacity(alloc, self.record_count())?;
         for place in 0..self.table.capacity() {
             if let Some(stored) = self.table.record(place) {
-                keys.push(stored.key.try_clone()?)?;
+                keys.push(stored.key().try_clone()?)?;
             }
         }
         Ok(keys)

@@ -19,6 +19,8 @@ mod script;
 #[cfg(test)]
 mod sketch;
 #[cfg(test)]
+mod store;
+#[cfg(test)]
 mod structures;
 #[cfg(test)]
 mod wheel;

@@ -10,3 +10,4 @@ mod invalidator;
 pub(crate) mod laws;
 mod notification;
 mod policy;
+mod record_ref;

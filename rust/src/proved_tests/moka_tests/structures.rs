@@ -4,4 +4,3 @@ use crate::support::prelude::*;
 mod order_list;
 mod outstanding;
 mod plain_order;
-mod record_table;

@@ -1,4 +1,4 @@
-use Rattle.std.proofs.Common.{refl, sym, ap, ◌∙◌, true≢false}
+use Rattle.std.proofs.Common.{arith, refl, sym, ap, ◌∙◌, true≢false}
 use Rattle.std.specs.FinMap as finite
 use Rattle.moka_parts.specs.Records.{number_to_back}
 use Rattle.moka_store.specs.Store.{Kept}
@@ -26,22 +26,22 @@ returns-in_default g c =
     (sym (c.in_default.ensures.found (c.has_row.ensures.placed.0 c.if-not-has_row.false))))
     (upkeep-none c.args.store.now)
 
-pub returns-then-found-upsert : goal.returns-then-found-upsert
-returns-then-found-upsert g c =
+pub returns-then-applied-upsert : goal.returns-then-applied-upsert
+returns-then-applied-upsert g c =
     applies-upsert _ _ _ _ _ c.args.upsert _ _
-    (applied-overtaken g.L.Listener.tells c.args.bounds.capacity c.args.bounds.policy c.args.store.now.ordered (contents_with c.args.sketch.now c.args.store.now) c.args.upsert.handle.number c.args.upsert.generation c.args.upsert.weight c.args.upsert.hash (contents_with c.args.sketch.now c.pass.new.store) c.args.store.now.written c.pass.new.store.written c.in-Some.found.now (sym (c.in-Some.ensures.found (c.has_row.ensures.placed.0 c.if-not-has_row.false))) c.args.notifier.now c.args.notifier.now
-    c.if-found-upsert.true (ap (λ (k : Kept g.row.K.Denot g.row.V.Denot g.row.S.Denot). contents_with c.args.sketch.now k) c.pass.ensures.step) (λ _. ap (λ (k : Kept g.row.K.Denot g.row.V.Denot g.row.S.Denot). k.written) c.pass.ensures.step) c.invariant_holds.ensures.listed refl)
+    (applied-overtaken g.L.Listener.tells c.args.bounds.capacity c.args.bounds.policy c.args.store.now.ordered (contents_with c.args.sketch.now c.args.store.now) c.args.upsert.handle.number c.args.upsert.generation c.args.upsert.weight c.args.upsert.hash (contents_with c.args.sketch.now c.pass.new.store) c.args.store.now.written c.pass.new.store.written c.in-Some.found (sym (c.in-Some.ensures.found (c.has_row.ensures.placed.0 c.if-not-has_row.false))) c.args.notifier.now c.args.notifier.now
+    (omega (arith, c.applied.ensures)) (ap (λ (k : Kept g.row.K.Denot g.row.V.Denot g.row.S.Denot). contents_with c.args.sketch.now k) c.pass.ensures.step) (λ _. ap (λ (k : Kept g.row.K.Denot g.row.V.Denot g.row.S.Denot). k.written) c.pass.ensures.step) c.invariant_holds.ensures.listed refl)
     c.pass.ensures.upkeep
 
 pub returns-then-is_member : goal.returns-then-is_member
 returns-then-is_member g c =
     let found = sym (c.in-Some.ensures.found (c.has_row.ensures.placed.0 c.if-not-has_row.false)) in
-    let seen = c.set_applied.ensures.step c.in-Some.found.now found in
+    let seen = c.set_applied.ensures.step c.in-Some.found found in
     applies-upsert _ _ _ _ _ c.args.upsert _ _
-    (applied-counted g.L.Listener.tells c.args.bounds.capacity c.args.bounds.policy c.args.store.now.ordered (contents_with c.args.sketch.now c.args.store.now) c.args.upsert.handle.number c.args.upsert.generation c.args.upsert.weight c.args.upsert.hash (contents_with c.args.sketch.now c.set_timer.new.self) c.args.store.now.written c.set_timer.new.self.written c.in-Some.found.now found c.args.notifier.now c.args.notifier.now
-    c.if-found-upsert.false (sym c.is_member.ensures.member ∙ c.if-is_member.true)
-    (entered-recounted c.args.store.now c.set_applied.new.self c.set_timer.new.self c.args.upsert.handle.number c.args.upsert.generation c.args.upsert.weight c.in-Some.found.now seen c.args.sketch.now (ap (λ (k : Kept g.row.K.Denot g.row.V.Denot g.row.S.Denot). contents_with c.args.sketch.now k) c.set_timer.ensures.rest ∙ ap (λ (k : Kept g.row.K.Denot g.row.V.Denot g.row.S.Denot). contents_with c.args.sketch.now k) c.recount.ensures.step))
+    (applied-counted g.L.Listener.tells c.args.bounds.capacity c.args.bounds.policy c.args.store.now.ordered (contents_with c.args.sketch.now c.args.store.now) c.args.upsert.handle.number c.args.upsert.generation c.args.upsert.weight c.args.upsert.hash (contents_with c.args.sketch.now c.set_timer.new.self) c.args.store.now.written c.set_timer.new.self.written c.in-Some.found found c.args.notifier.now c.args.notifier.now
+    (omega (arith, c.applied.ensures)) (sym c.is_member.ensures.member ∙ c.if-is_member.true)
+    (entered-recounted c.args.store.now c.set_applied.new.self c.set_timer.new.self c.args.upsert.handle.number c.args.upsert.generation c.args.upsert.weight c.in-Some.found seen c.args.sketch.now (ap (λ (k : Kept g.row.K.Denot g.row.V.Denot g.row.S.Denot). contents_with c.args.sketch.now k) c.set_timer.ensures.rest ∙ ap (λ (k : Kept g.row.K.Denot g.row.V.Denot g.row.S.Denot). contents_with c.args.sketch.now k) c.recount.ensures.step))
     (λ _. ap (λ (k : Kept g.row.K.Denot g.row.V.Denot g.row.S.Denot). k.written) c.set_timer.ensures.rest ∙ ap (λ (k : Kept g.row.K.Denot g.row.V.Denot g.row.S.Denot). k.written) c.recount.ensures.step ∙ ap (λ (k : Kept g.row.K.Denot g.row.V.Denot g.row.S.Denot). number_to_back c.args.upsert.handle.number k.written) seen)
     refl)
-    (entered-upkeep c.args.store.now c.set_applied.new.self c.recount.new.self c.args.upsert.handle.number c.args.upsert.generation c.args.upsert.weight c.in-Some.found.now seen c.set_timer.new.self
+    (entered-upkeep c.args.store.now c.set_applied.new.self c.recount.new.self c.args.upsert.handle.number c.args.upsert.generation c.args.upsert.weight c.in-Some.found seen c.set_timer.new.self
     c.recount.ensures.step c.recount.ensures.counted c.set_timer.ensures.step)

@@ -10,33 +10,33 @@ use Rattle.moka_parts.proofs.WriteList.{unlisted_taken_out}
 use Rattle.moka_store.proofs.Gets.{get-past_insert}
 use Rattle.moka_maintenance.proofs.admission.reject.Goals as goal
 
-pub returns-then-present-generation-clause-step : goal.returns-then-present-generation-clause-step
-returns-then-present-generation-clause-step g c = λ r found.
-    let same : r.generation ≡ c.args.generation = (let e = c.in-Some.ensures.found c.requires.handle.placed in let t = c.if-present-generation.true in let s = sym found ∙ sym e in cc) in
+pub returns-then-generation-clause-step : goal.returns-then-generation-clause-step
+returns-then-generation-clause-step g c = λ r found.
+    let same : r.generation ≡ c.args.generation = (let e = c.in-Some.ensures.found c.requires.handle.placed in let t = c.if-generation.true in let o = c.generation.ensures in let s = sym found ∙ sym e in cc) in
     rejected-gone (contents_in c.args.store.now) (contents_in c.expel.new.store) c.args.handle.number c.args.generation r same c.requires.apart (ap (λ (s : Stock g.row.K.Denot g.row.V.Denot). contents_of s) c.expel.ensures.step)
 
-pub returns-then-present-generation-clause-written : goal.returns-then-present-generation-clause-written
-returns-then-present-generation-clause-written g c = λ kept.
+pub returns-then-generation-clause-written : goal.returns-then-generation-clause-written
+returns-then-generation-clause-written g c = λ kept.
     ap (λ (s : Stock g.row.K.Denot g.row.V.Denot). s.written) c.expel.ensures.step ∙ unlisted_taken_out c.args.handle.number c.args.store.now.written ((c.invariant_holds.ensures.listed kept).1 c.args.handle.number ∙ ap is_some c.requires.apart)
 
-pub returns-else-present-generation-clause-written : goal.returns-else-present-generation-clause-written
-returns-else-present-generation-clause-written g c = λ _. ap (λ (k : Kept g.row.K.Denot g.row.V.Denot g.row.S.Denot). k.written) (c.set_applied.ensures.step c.in-Some.present.now (sym (c.in-Some.ensures.found c.requires.handle.placed)))
+pub returns-else-generation-clause-written : goal.returns-else-generation-clause-written
+returns-else-generation-clause-written g c = λ _. ap (λ (k : Kept g.row.K.Denot g.row.V.Denot g.row.S.Denot). k.written) (c.set_applied.ensures.step c.in-Some.present (sym (c.in-Some.ensures.found c.requires.handle.placed)))
 
-pub returns-then-present-generation-clause-upkeep : goal.returns-then-present-generation-clause-upkeep
-returns-then-present-generation-clause-upkeep g c = c.expel.ensures.upkeep.keeps
+pub returns-then-generation-clause-upkeep : goal.returns-then-generation-clause-upkeep
+returns-then-generation-clause-upkeep g c = c.expel.ensures.upkeep.keeps
 
-pub returns-else-present-generation-clause-upkeep : goal.returns-else-present-generation-clause-upkeep
-returns-else-present-generation-clause-upkeep g c =
+pub returns-else-generation-clause-upkeep : goal.returns-else-generation-clause-upkeep
+returns-else-generation-clause-upkeep g c =
     let n = c.args.handle.number in
-    let step = c.set_applied.ensures.step c.in-Some.present.now (sym (c.in-Some.ensures.found c.requires.handle.placed)) in
+    let step = c.set_applied.ensures.step c.in-Some.present (sym (c.in-Some.ensures.found c.requires.handle.placed)) in
     let room = ap (λ (k : Kept g.row.K.Denot g.row.V.Denot g.row.S.Denot). k.room) step in
     record {
       timers = keeps-outside c.args.store.now c.set_applied.new.self (ap (λ (k : Kept g.row.K.Denot g.row.V.Denot g.row.S.Denot). k.ordered) step) (ap (λ (k : Kept g.row.K.Denot g.row.V.Denot g.row.S.Denot). k.timed) step) (ap (λ (k : Kept g.row.K.Denot g.row.V.Denot g.row.S.Denot). k.hasher) step) n
           (ap (λ (k : Kept g.row.K.Denot g.row.V.Denot g.row.S.Denot). counted_of n k.access) step ∙ c.requires.apart)
-          (λ k other. ap (λ (s : Kept g.row.K.Denot g.row.V.Denot g.row.S.Denot). finite.get s.records k) step ∙ get-past_insert c.args.store.now.records n (record c.in-Some.present.now { applied = c.args.generation }) k other)
+          (λ k other. ap (λ (s : Kept g.row.K.Denot g.row.V.Denot g.row.S.Denot). finite.get s.records k) step ∙ get-past_insert c.args.store.now.records n (record c.in-Some.present { applied = c.args.generation }) k other)
           (λ k is_in. sym (ap (λ (s : Kept g.row.K.Denot g.row.V.Denot g.row.S.Denot). is_member k s.access) step) ∙ is_in)
           (λ k _. ap (λ (s : Kept g.row.K.Denot g.row.V.Denot g.row.S.Denot). finite.get s.timers k) step);
       places = λ k p at. sym (ap (λ m. finite.get m k) c.set_applied.ensures.places) ∙ at;
-      rows = rows-changed c.args.store.now c.set_applied.new.self n (record c.in-Some.present.now { applied = c.args.generation }) (ap (λ (k : Kept g.row.K.Denot g.row.V.Denot g.row.S.Denot). k.records) step);
+      rows = rows-changed c.args.store.now c.set_applied.new.self n (record c.in-Some.present { applied = c.args.generation }) (ap (λ (k : Kept g.row.K.Denot g.row.V.Denot g.row.S.Denot). k.records) step);
       room = omega arith;
     }

@@ -1,5 +1,6 @@
 use Rattle.std.proofs.Common.{refl, sym, ap, ◌∙◌}
 use Rattle.std.specs.FinMap as finite
+use Rattle.moka_parts.specs.Time.{has_passed, moment_of}
 use Rattle.moka_store.specs.Store.{Kept}
 use Rattle.moka_store.proofs.Gets.{get-removed}
 use Rattle.moka_maintenance.specs.Steps.{Stock, stock_in}
@@ -16,10 +17,10 @@ returns-then-not-is_settled-clause-reset g c = reset-waiting c.args.tests.now.0 
 pub returns-then-is_expired_by_per_entry_ttl-clause-expired : goal.returns-then-is_expired_by_per_entry_ttl-clause-expired
 returns-then-is_expired_by_per_entry_ttl-clause-expired g c =
     let n = c.args.handle.number in
-    let r = c.in-Some.found.now in
+    let r = c.in-Some.found in
     let found = sym (c.in-Some.ensures.found c.requires.member.placed) in
     expires-one g.L.Listener.tells c.args.tests (stock_in c.args.store.now) (stock_in c.expel.new.store) c.args.notifier.now c.expel.new.notifier n
-    (r, found, settled_member c.args.store.now.records c.args.store.now.access n c.requires.member.member (sym c.is_settled.ensures ∙ c.if-not-is_settled.false), (sym c.is_expired_by_per_entry_ttl.ensures ∙ c.if-is_expired_by_per_entry_ttl.true, refl))
+    (r, found, settled_member c.args.store.now.records c.args.store.now.access n c.requires.member.member (sym c.is_settled.ensures ∙ c.if-not-is_settled.false), (ap (λ e. has_passed (moment_of e) c.args.tests.now.0) (sym c.expires.ensures) ∙ sym c.is_expired_by_per_entry_ttl.ensures ∙ c.if-is_expired_by_per_entry_ttl.true, refl))
     c.expel.ensures.step c.expel.ensures.told
 
 pub returns-then-is_expired_by_per_entry_ttl-clause-reset : goal.returns-then-is_expired_by_per_entry_ttl-clause-reset
@@ -35,5 +36,5 @@ returns-clause-expired g c =
 
 pub returns-clause-reset : goal.returns-clause-reset
 returns-clause-reset g c =
-    reset-set c.args.tests.now.0 c.args.handle.number c.args.store.now c.set_timer.new.self c.requires.untimed c.in-Some.found.now (sym (c.in-Some.ensures.found c.requires.member.placed))
-    (sym c.is_expired_by_per_entry_ttl.ensures ∙ c.if-is_expired_by_per_entry_ttl.false) (c.set_timer.ensures.step c.in-Some.found.now (sym (c.in-Some.ensures.found c.requires.member.placed)))
+    reset-set c.args.tests.now.0 c.args.handle.number c.args.store.now c.set_timer.new.self c.requires.untimed c.in-Some.found (sym (c.in-Some.ensures.found c.requires.member.placed))
+    (ap (λ e. has_passed (moment_of e) c.args.tests.now.0) (sym c.expires.ensures) ∙ sym c.is_expired_by_per_entry_ttl.ensures ∙ c.if-is_expired_by_per_entry_ttl.false) (c.set_timer.ensures.step c.in-Some.found (sym (c.in-Some.ensures.found c.requires.member.placed)))

@@ -8,7 +8,7 @@ use Rattle.moka_maintenance.proofs.scan.covers_some.Goals as goal
 use Rattle.moka_maintenance.proofs.scan.covers_some.Goals.{in-Some+else-covers_at, in_default}
 
 pub returns-then-covers_at : goal.returns-then-covers_at
-returns-then-covers_at g c p at = (c.in-Some.found.now.number, c.in-Some.found.now, c.in-Some.ensures.stored, (c.if-covers_at.ensures p at).0 refl)
+returns-then-covers_at g c p at = (c.in-Some.found.number, c.in-Some.found, c.in-Some.ensures.stored, (c.if-covers_at.ensures p at).0 refl)
 
 pub loop-place-preserved : goal.loop-place-preserved
 loop-place-preserved g c p is n at r placed below there covers = elim (cases_eq at c.loop-place.place) [
@@ -17,8 +17,8 @@ loop-place-preserved g c p is n at r placed below there covers = elim (cases_eq 
       let placed_here : finite.get c.args.store.now.places n ≡ Some c.loop-place.place = placed ∙ ap (λ k. Some k) here in
       elim c.match-record_at.branch [
         | in-Some+else-covers_at w ↦
-            let same : Some w.in-Some.found.now ≡ Some r = w.in-Some.ensures.found n placed_here ∙ there in
-            let is_r : w.in-Some.found.now ≡ r = cc in
+            let same : Some w.in-Some.found ≡ Some r = w.in-Some.ensures.found n placed_here ∙ there in
+            let is_r : w.in-Some.found ≡ r = cc in
             let no = (w.if-covers_at.ensures p is).1 (subst (λ (x : Record g.row.K.Denot g.row.V.Denot). Covers g.P.PredicateFn.says p x) (sym is_r) covers) in
             cc
         | in_default w ↦ (let none = w.in_default.ensures.found n placed_here ∙ there in cc)

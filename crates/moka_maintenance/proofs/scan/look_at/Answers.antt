@@ -8,9 +8,9 @@ pub returns-then-apply_predicates : goal.returns-then-apply_predicates
 returns-then-apply_predicates g c =
     let n = c.args.handle.number in
     let old = c.args.store.now in
-    let r = c.in-Some.found.now in
+    let r = c.in-Some.found in
     let found = sym (c.in-Some.ensures.found c.requires.placed) in
-    let applied : is_applied r ≡ true = (let t = c.if-found.false in search (rules, t)) in
+    let applied : is_applied r ≡ true = (let t = c.if-applied-generation.false in let a = c.applied.ensures in let e = c.generation.ensures in search (rules, t, a, e)) in
     let settled : is_settled old.records n ≡ true = ap (λ o. option_map_or is_applied o false) found ∙ applied in (
       settled,
       inr (

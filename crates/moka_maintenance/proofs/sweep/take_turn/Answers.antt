@@ -7,7 +7,7 @@ use Rattle.moka_maintenance.proofs.sweep.take_turn.Goals as goal
 pub returns-clause-turn : goal.returns-clause-turn
 returns-clause-turn g c =
     let n = c.in-Some.handle.number in
-    let r = c.in-Some-find.found.now in
+    let r = c.in-Some-find.found in
     let found = sym (c.in-Some-find.ensures.found c.in-Some.ensures.0.placed) in (
       n,
       c.in-Some-cause_of.cause,

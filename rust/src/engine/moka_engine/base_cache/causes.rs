@@ -7,21 +7,21 @@ use crate::support::prelude::*;
 use crate::engine::moka_parts::expiry::{is_expired_by_tti, is_expired_by_ttl, is_invalid_entry};
 use crate::engine::moka_parts::notification::RemovalCause;
 use crate::engine::moka_parts::policy::{ExpirationPolicy, Instant};
-use crate::engine::moka_parts::records::Record;
+use crate::engine::moka_parts::record_ref::RecordRef;
 
 // Why a value leaves that an insert replaces.
 pub(super) fn cause_of_replacement<K, V, X>(
-    found: &Record<K, V>,
+    found: &RecordRef<'_, K, V>,
     policy: &ExpirationPolicy<X>,
     valid_after: Option<Instant>,
     now: Instant,
 ) -> RemovalCause
 {
-    if is_expired_by_ttl(policy.time_to_live(), found.written, now) {
+    if is_expired_by_ttl(policy.time_to_live(), found.written(), now) {
         RemovalCause::Expired
-    } else if is_invalid_entry(valid_after, found.written) {
+    } else if is_invalid_entry(valid_after, found.written()) {
         RemovalCause::Explicit
-    } else if is_expired_by_tti(policy.time_to_idle(), found.read, now) {
+    } else if is_expired_by_tti(policy.time_to_idle(), found.read(), now) {
         RemovalCause::Expired
     } else {
         RemovalCause::Replaced

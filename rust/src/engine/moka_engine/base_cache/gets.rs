@@ -9,7 +9,7 @@ use crate::engine::moka_parts::error::OutOfMemory;
 use crate::engine::moka_parts::expiry::{has_lapsed, remaining, renewed};
 use crate::engine::moka_parts::invalidator::Invalidator;
 use crate::engine::moka_parts::policy::{ExpirationPolicy, Expiry, Instant};
-use crate::engine::moka_parts::records::Record;
+use crate::engine::moka_parts::record_ref::RecordRef;
 use crate::engine::moka_store::{Handle, KeyHash};
 use crate::support::hash::{BuildHasher, Hash};
 use crate::support::time::Duration;
@@ -18,7 +18,7 @@ use crate::support::time::Duration;
 // read where no test can hide one.
 #[inline(always)]
 pub(super) fn is_hidden<K, V, X>(
-    found: &Record<K, V>,
+    found: &RecordRef<'_, K, V>,
     policy: &ExpirationPolicy<X>,
     valid_after: Option<Instant>,
     now: Instant,
@@ -38,15 +38,15 @@ pub(super) fn find_unless<'a, K: Eq + Hash, V, S: BuildHasher, X, P, I: ValueTes
     sought: (&K, KeyHash),
     test: &mut I,
     now: Instant,
-) -> Option<(Handle, &'a Record<K, V>)>
+) -> Option<(Handle, RecordRef<'a, K, V>)>
 where
     P: PredicateFn<K, V>,
 {
     let (key, own) = sought;
     let (handle, found) = inner.find(key, own)?;
-    if test.ignores(&found.value)
-        || is_hidden(found, policy, *valid_after, now)
-        || invalidator.apply_predicates(found)
+    if test.ignores(found.value())
+        || is_hidden(&found, policy, *valid_after, now)
+        || invalidator.apply_predicates(&found)
     {
         return None;
     }
@@ -62,7 +62,7 @@ pub(super) fn find_shown<'a, K: Eq + Hash, V, S: BuildHasher, X, P>(
     invalidator: &Invalidator<P>,
     sought: (&K, KeyHash),
     now: Instant,
-) -> Option<(Handle, &'a Record<K, V>)>
+) -> Option<(Handle, RecordRef<'a, K, V>)>
 where
     P: PredicateFn<K, V>,
 {
@@ -90,7 +90,7 @@ pub(super) struct Hit {
 // than the record was written.
 #[inline(always)]
 pub(super) fn hit_of<K, V, X: Expiry<K, V>>(
-    found: &Record<K, V>,
+    found: &RecordRef<'_, K, V>,
     policy: &ExpirationPolicy<X>,
     now: Instant,
 ) -> Hit
@@ -98,14 +98,14 @@ pub(super) fn hit_of<K, V, X: Expiry<K, V>>(
     let Some(expiry) = policy.expiry() else {
         return Hit {
             read: now,
-            expires: found.expires,
+            expires: found.expires(),
             is_renewed: false,
         };
     };
-    let (expires, written) = (found.expires, found.written);
+    let (expires, written) = (found.expires(), found.written());
     let read = now.max(written);
     let left = left_at(found, policy, read);
-    let answer = expiry.expire_after_read(&found.key, &found.value, read, left, written);
+    let answer = expiry.expire_after_read(found.key(), found.value(), read, left, written);
     let (expires, is_renewed) = renewed(expires, left, answer, read);
     Hit {
         read,
@@ -117,29 +117,36 @@ pub(super) fn hit_of<K, V, X: Expiry<K, V>>(
 // How long a record still lasts at a moment. Caches without an expiry ask nothing of it.
 #[cold]
 fn left_at<K, V, X>(
-    found: &Record<K, V>,
+    found: &RecordRef<'_, K, V>,
     policy: &ExpirationPolicy<X>,
     read: Instant,
 ) -> Option<Duration>
 {
     let (live, idle) = (policy.time_to_live(), policy.time_to_idle());
-    remaining(found.expires, found.written, found.read, live, idle, read)
+    remaining(
+        found.expires(),
+        found.written(),
+        found.read(),
+        live,
+        idle,
+        read,
+    )
 }
 
 // A clone of the record's value, with one of its key where that is asked for.
 #[inline(always)]
 pub(super) fn entry_of<K: Clone, V: Clone>(
-    found: &Record<K, V>,
+    found: &RecordRef<'_, K, V>,
     need_key: bool,
 ) -> Result<Entry<K, V>, OutOfMemory>
 {
-    let Ok(value) = found.value.try_clone() else {
+    let Ok(value) = found.value().try_clone() else {
         return Err(OutOfMemory);
     };
     if !need_key {
         return Ok(Entry { key: None, value });
     }
-    let Ok(key) = found.key.try_clone() else {
+    let Ok(key) = found.key().try_clone() else {
         return Err(OutOfMemory);
     };
     let key = Some(key);

@@ -6,7 +6,7 @@ use crate::support::prelude::*;
 use crate::engine::moka_parts::closures::Weigher;
 use crate::engine::moka_parts::expiry::{deadline_of, is_expired_by_per_entry_ttl, remaining, renewed};
 use crate::engine::moka_parts::policy::{ExpirationPolicy, Expiry, Instant};
-use crate::engine::moka_parts::records::Record;
+use crate::engine::moka_parts::record_ref::RecordRef;
 
 // What an entry weighs where no weigher is set.
 const DEFAULT_WEIGHT: u32 = 1;
@@ -40,14 +40,14 @@ pub(super) fn expires_at_creation<K, V, X: Expiry<K, V>>(
 // has expired.
 #[inline(always)]
 pub(super) fn expires_at_update<K, V, X: Expiry<K, V>>(
-    found: &Record<K, V>,
+    found: &RecordRef<'_, K, V>,
     policy: &ExpirationPolicy<X>,
     key: &K,
     value: &V,
     now: Instant,
 ) -> Option<Instant>
 {
-    let expires = found.expires;
+    let expires = found.expires();
     let Some(expiry) = policy.expiry() else {
         return expires;
     };

@@ -85,10 +85,10 @@ impl<
             self.record_miss(hashes.hash, now, clock);
             return Ok(None);
         };
-        let Ok(entry) = gets::entry_of(found, need_key) else {
+        let Ok(entry) = gets::entry_of(&found, need_key) else {
             return Err(OutOfMemory);
         };
-        let (hash, hit) = (found.hash, gets::hit_of(found, policy, now));
+        let (hash, hit) = (found.hash(), gets::hit_of(&found, policy, now));
         let Handle { number, place } = handle;
         let renewed = hit.is_renewed;
         self.inner
@@ -154,10 +154,10 @@ impl<
         let Some((handle, found)) = shown else {
             return Ok(None);
         };
-        let Ok(value) = found.value.try_clone() else {
+        let Ok(value) = found.value().try_clone() else {
             return Err(OutOfMemory);
         };
-        let hit = gets::hit_of(found, policy, now);
+        let hit = gets::hit_of(&found, policy, now);
         self.inner
             .touch(handle, hit.read, hit.expires, hit.is_renewed);
         Ok(Some(value))
@@ -179,7 +179,7 @@ impl<
         let Some((_, found)) = shown else {
             return Ok(None);
         };
-        match found.value.try_clone() {
+        match found.value().try_clone() {
             Ok(value) => Ok(Some(value)),
             Err(_) => Err(OutOfMemory),
         }

@@ -9,7 +9,7 @@ use crate::engine::moka_parts::expiry::{has_lapsed, remaining};
 use crate::engine::moka_parts::invalidator::Invalidator;
 use crate::engine::moka_parts::notification::Listener;
 use crate::engine::moka_parts::policy::{ExpirationPolicy, Expiry, Instant};
-use crate::engine::moka_parts::records::Record;
+use crate::engine::moka_parts::record_ref::RecordRef;
 use crate::engine::moka_store::Handle;
 use crate::support::hash::{BuildHasher, Hash};
 use crate::support::time::Duration;
@@ -81,15 +81,15 @@ impl<'a, K: Eq + Hash, V, S: BuildHasher, X, P: PredicateFn<K, V>> Iterator
         );
         self.at = at;
         let found = found?;
-        let (written, read) = (found.written, found.read);
+        let (written, read) = (found.written(), found.read());
         let (live, idle) = (policy.time_to_live(), policy.time_to_idle());
         Some(SnapshotEntry {
-            key: &found.key,
-            value: &found.value,
+            key: found.key(),
+            value: found.value(),
             last_modified: written,
             last_accessed: read,
-            expires: found.expires,
-            remaining: remaining(found.expires, written, read, live, idle, now),
+            expires: found.expires(),
+            remaining: remaining(found.expires(), written, read, live, idle, now),
         })
     }
 }
@@ -102,7 +102,7 @@ fn next_shown<'a, K: Eq + Hash, V, S: BuildHasher, X, P: PredicateFn<K, V>>(
     valid_after: Option<Instant>,
     invalidator: &Invalidator<P>,
     now: Instant,
-) -> (Option<&'a Record<K, V>>, Option<Handle>)
+) -> (Option<RecordRef<'a, K, V>>, Option<Handle>)
 {
     inner.members_stand_once();
     let mut at = at;
@@ -111,7 +111,7 @@ fn next_shown<'a, K: Eq + Hash, V, S: BuildHasher, X, P: PredicateFn<K, V>>(
         let Some(found) = inner.record_at(handle) else {
             continue;
         };
-        if !has_lapsed(found, policy, valid_after, now) && !invalidator.apply_predicates(found) {
+        if !has_lapsed(&found, policy, valid_after, now) && !invalidator.apply_predicates(&found) {
             return (Some(found), at);
         }
     }

@@ -12,7 +12,8 @@ use crate::engine::moka_parts::invalidator::Invalidator;
 use crate::engine::moka_parts::key_test::KeyTest;
 use crate::engine::moka_parts::notification::Listener;
 use crate::engine::moka_parts::policy::{ExpirationPolicy, Expiry, Instant};
-use crate::engine::moka_parts::records::{ReadOperation, Record};
+use crate::engine::moka_parts::record_ref::RecordRef;
+use crate::engine::moka_parts::records::ReadOperation;
 use crate::engine::moka_store::{Handle, KeyHash};
 use crate::support::hash::{BuildHasher, Hash};
 
@@ -26,13 +27,13 @@ fn find_by<'a, K: Eq + Hash, V, S: BuildHasher, X, P, T: KeyTest<K>>(
     invalidator: &Invalidator<P>,
     sought: (&T, KeyHash),
     now: Instant,
-) -> Option<(Handle, &'a Record<K, V>)>
+) -> Option<(Handle, RecordRef<'a, K, V>)>
 where
     P: PredicateFn<K, V>,
 {
     let (test, own) = sought;
     let (handle, found) = inner.find_by(test, own)?;
-    if gets::is_hidden(found, policy, *valid_after, now) || invalidator.apply_predicates(found) {
+    if gets::is_hidden(&found, policy, *valid_after, now) || invalidator.apply_predicates(&found) {
         return None;
     }
     Some((handle, found))
@@ -119,10 +120,10 @@ impl<
             self.record_miss(hash, now, clock);
             return Ok(None);
         };
-        let Ok(entry) = gets::entry_of(found, need_key) else {
+        let Ok(entry) = gets::entry_of(&found, need_key) else {
             return Err(OutOfMemory);
         };
-        let (first_hash, hit) = (found.hash, gets::hit_of(found, policy, now));
+        let (first_hash, hit) = (found.hash(), gets::hit_of(&found, policy, now));
         let Handle { number, place } = handle;
         let renewed = hit.is_renewed;
         self.inner

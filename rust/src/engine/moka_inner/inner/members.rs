@@ -6,6 +6,7 @@ use super::{Inner, first_record};
 use crate::engine::moka_maintenance::queued::PlacedWrite;
 use crate::engine::moka_parts::calls::Ticket;
 use crate::engine::moka_parts::policy::Instant;
+use crate::engine::moka_parts::record_ref::RecordRef;
 use crate::engine::moka_parts::records::{Operation, Record};
 use crate::engine::moka_store::{Handle, KeyHash, Update};
 use crate::support::hash::{BuildHasher, Hash};
@@ -24,7 +25,7 @@ impl<K: Eq + Hash, V, S: BuildHasher> Inner<K, V, S> {
     }
 
     /// The record of the number at this handle, if it is in the map.
-    pub fn record_at(&self, handle: Handle) -> Option<&Record<K, V>>
+    pub fn record_at(&self, handle: Handle) -> Option<RecordRef<'_, K, V>>
     {
         self.store.find(handle)
     }

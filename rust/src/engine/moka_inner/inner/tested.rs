@@ -4,7 +4,8 @@ use crate::support::prelude::*;
 
 use super::Inner;
 use crate::engine::moka_parts::key_test::KeyTest;
-use crate::engine::moka_parts::records::{ReadOperation, Record};
+use crate::engine::moka_parts::record_ref::RecordRef;
+use crate::engine::moka_parts::records::ReadOperation;
 use crate::engine::moka_store::{Handle, KeyHash};
 use crate::support::hash::{BuildHasher, Hash};
 
@@ -18,7 +19,11 @@ impl<K: Eq + Hash, V, S: BuildHasher> Inner<K, V, S> {
 
     /// The record whose key passes, with its handle, under the hash of the keys that do.
     #[inline(always)]
-    pub fn find_by<T: KeyTest<K>>(&self, test: &T, hash: KeyHash) -> Option<(Handle, &Record<K, V>)>
+    pub fn find_by<T: KeyTest<K>>(
+        &self,
+        test: &T,
+        hash: KeyHash,
+    ) -> Option<(Handle, RecordRef<'_, K, V>)>
     {
         self.store.find_by(test, hash)
     }

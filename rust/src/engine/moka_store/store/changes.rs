@@ -2,18 +2,16 @@
 //! Changes and reads at one place of the table.
 use crate::support::prelude::*;
 
-use super::{Handle, Update};
+use super::Handle;
+use crate::engine::moka_store::table::RecordTable;
 use crate::engine::moka_parts::policy::Instant;
-use crate::engine::moka_parts::records::Record;
-use crate::engine::moka_structures::RecordTable;
 use crate::support::alloc::AllocError;
-use std::mem;
 
 // A place in the index has 32 bits.
 const MOST_PLACES: usize = 1 << 32;
 
 // How many more rows fit with no memory, at places of 32 bits.
-fn row_room<R>(table: &RecordTable<R>) -> usize
+fn row_room<K, V>(table: &RecordTable<K, V>) -> usize
 {
     let (capacity, rows) = (table.capacity(), table.len());
     if capacity <= MOST_PLACES {
@@ -25,8 +23,8 @@ fn row_room<R>(table: &RecordTable<R>) -> usize
 
 // Makes room for `additional` more rows at places of 32 bits.
 #[inline(always)]
-pub(crate) fn reserve_rows<R>(
-    table: &mut RecordTable<R>,
+pub(crate) fn reserve_rows<K, V>(
+    table: &mut RecordTable<K, V>,
     additional: usize,
 ) -> Result<(), AllocError>
 {
@@ -42,84 +40,23 @@ pub(crate) fn reserve_rows<R>(
 
 // Whether the record at this place has an equal key.
 #[inline(always)]
-pub(crate) fn has_key<K: Eq, V>(table: &RecordTable<Record<K, V>>, place: usize, key: &K) -> bool
+pub(crate) fn has_key<K: Eq, V>(table: &RecordTable<K, V>, place: usize, key: &K) -> bool
 {
     match table.record(place) {
-        Some(stored) => *key == stored.key,
+        Some(stored) => *key == *stored.key(),
         None => false,
     }
 }
 
-// Writes what an update brings into a record. The answer is the old value.
-fn write_update<K, V>(stored: &mut Record<K, V>, update: Update<V>) -> V
-{
-    let Update {
-        value,
-        now,
-        expires,
-        weight,
-    } = update;
-    stored.written = now;
-    stored.read = now;
-    stored.expires = expires;
-    stored.weight = weight;
-    stored.generation += 1;
-    mem::replace(&mut stored.value, value)
-}
-
-// A new value, with what comes with it, for the record at this place.
-pub(crate) fn update<K, V>(
-    table: &mut RecordTable<Record<K, V>>,
-    place: usize,
-    update: Update<V>,
-) -> V
-{
-    let Some(stored) = table.record_mut(place) else {
-        unreachable!()
-    };
-    write_update(stored, update)
-}
-
-// When the record at this place was read, and when it expires.
-pub(crate) fn touch<K, V>(
-    table: &mut RecordTable<Record<K, V>>,
-    place: usize,
-    read: Instant,
-    expires: Option<Instant>,
-    is_renewed: bool,
-)
-{
-    let Some(stored) = table.record_mut(place) else {
-        unreachable!()
-    };
-    stored.read = read;
-    if is_renewed {
-        stored.expires = expires;
-    }
-}
-
-// The generation that was applied to the record at this place.
-pub(crate) fn set_applied<K, V>(
-    table: &mut RecordTable<Record<K, V>>,
-    place: usize,
-    generation: u64,
-)
-{
-    let Some(stored) = table.record_mut(place) else {
-        unreachable!()
-    };
-    stored.applied = generation;
-}
-
 // The handle of the row at this place, with its counted weight.
-pub(crate) fn member_at<K, V>(table: &RecordTable<Record<K, V>>, place: usize) -> (Handle, u32)
+pub(crate) fn member_at<K, V>(table: &RecordTable<K, V>, place: usize) -> (Handle, u32)
 {
     let handle = handle_at(table, place);
     (handle, table.counted(place).unwrap_or(0))
 }
 
 // The handle of the row at this place.
-pub(crate) fn handle_at<K, V>(table: &RecordTable<Record<K, V>>, place: usize) -> Handle
+pub(crate) fn handle_at<K, V>(table: &RecordTable<K, V>, place: usize) -> Handle
 {
     let Some(number) = table.number(place) else {
         unreachable!()
@@ -128,16 +65,13 @@ pub(crate) fn handle_at<K, V>(table: &RecordTable<Record<K, V>>, place: usize) -
 }
 
 // The slot in the write list of the row at this place.
-pub(crate) fn written_slot<K, V>(table: &RecordTable<Record<K, V>>, place: usize) -> Option<u32>
+pub(crate) fn written_slot<K, V>(table: &RecordTable<K, V>, place: usize) -> Option<u32>
 {
     table.membership(place)?.written
 }
 
 // The node of the write list that leads to the row at this place.
-pub(crate) fn written_node<K, V>(
-    table: &RecordTable<Record<K, V>>,
-    place: usize,
-) -> Option<(u32, u32)>
+pub(crate) fn written_node<K, V>(table: &RecordTable<K, V>, place: usize) -> Option<(u32, u32)>
 {
     let slot = written_slot(table, place)?;
     Some((slot, place as u32))
@@ -145,12 +79,12 @@ pub(crate) fn written_node<K, V>(
 
 // The timer of the row at this place, and when its record expires.
 pub(crate) fn timing_at<K, V>(
-    table: &RecordTable<Record<K, V>>,
+    table: &RecordTable<K, V>,
     place: usize,
 ) -> (Option<u32>, Option<Instant>)
 {
     let expires = match table.record(place) {
-        Some(stored) => stored.expires,
+        Some(stored) => stored.expires(),
         None => None,
     };
     (table.timer(place), expires)

@@ -3,7 +3,7 @@
 use crate::support::prelude::*;
 
 use super::Store;
-use crate::engine::moka_parts::records::Record;
+use crate::engine::moka_parts::record_ref::RecordRef;
 use crate::support::hash::{BuildHasher, Hash};
 
 impl<K: Eq + Hash, V, S: BuildHasher> Store<K, V, S> {
@@ -14,7 +14,7 @@ impl<K: Eq + Hash, V, S: BuildHasher> Store<K, V, S> {
     }
 
     /// The record at this place, if there is one.
-    pub fn record_at(&self, place: usize) -> Option<&Record<K, V>>
+    pub fn record_at(&self, place: usize) -> Option<RecordRef<'_, K, V>>
     {
         self.table.record(place)
     }

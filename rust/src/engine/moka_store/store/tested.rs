@@ -3,21 +3,21 @@
 use crate::support::prelude::*;
 
 use super::{Handle, KeyHash, Store};
+use crate::engine::moka_store::table::RecordTable;
 use crate::engine::moka_parts::key_test::KeyTest;
-use crate::engine::moka_parts::records::Record;
-use crate::engine::moka_structures::RecordTable;
+use crate::engine::moka_parts::record_ref::RecordRef;
 use crate::support::hash::{BuildHasher, Hash};
 
 // Whether the key of the record at this place passes.
 #[inline(always)]
 fn is_key_at<K: Eq + Hash, V, T: KeyTest<K>>(
-    table: &RecordTable<Record<K, V>>,
+    table: &RecordTable<K, V>,
     place: usize,
     test: &T,
 ) -> bool
 {
     match table.record(place) {
-        Some(stored) => test.is_key(&stored.key),
+        Some(stored) => test.is_key(stored.key()),
         None => false,
     }
 }
@@ -32,7 +32,11 @@ impl<K: Eq + Hash, V, S: BuildHasher> Store<K, V, S> {
 
     /// The record whose key passes, with its handle, under the hash of the keys that do.
     #[inline(always)]
-    pub fn find_by<T: KeyTest<K>>(&self, test: &T, hash: KeyHash) -> Option<(Handle, &Record<K, V>)>
+    pub fn find_by<T: KeyTest<K>>(
+        &self,
+        test: &T,
+        hash: KeyHash,
+    ) -> Option<(Handle, RecordRef<'_, K, V>)>
     {
         let table = &self.table;
         let is_match = |place| is_key_at(table, place, test);

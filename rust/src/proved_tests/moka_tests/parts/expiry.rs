@@ -9,6 +9,7 @@ use crate::engine::moka_parts::expiry::{
     is_invalid_entry, remaining, renewed,
 };
 use crate::engine::moka_parts::policy::{ExpirationPolicy, Instant, NoExpiry};
+use crate::engine::moka_parts::record_ref::{self, RecordRef};
 use crate::engine::moka_parts::records::Record;
 use crate::support::time::Duration;
 
@@ -48,7 +49,7 @@ fn hides_what_has_lapsed() {
     let mut policy = ExpirationPolicy::<NoExpiry>::default();
     policy.set_time_to_live(Duration::from_secs(16));
     policy.set_time_to_idle(Duration::from_secs(7));
-    let record = Record {
+    let (front, cold) = record_ref::split(Record {
         number: 1,
         key: 'k',
         hash: 0,
@@ -59,7 +60,8 @@ fn hides_what_has_lapsed() {
         weight: 1,
         generation: 1,
         applied: 1,
-    };
+    });
+    let record = RecordRef::new(1, &front.hot, front.weight, front.expiring, &cold);
     for (valid_after, now, is_hidden) in [
         (None, 8_999, false),
         (None, 9_000, true),

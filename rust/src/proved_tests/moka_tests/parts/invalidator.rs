@@ -7,6 +7,7 @@ use crate::engine::moka_parts::closures::PredicateFn;
 use crate::engine::moka_parts::error::PredicateError;
 use crate::engine::moka_parts::invalidator::{IdSource, Invalidator, PredicateId};
 use crate::engine::moka_parts::policy::Instant;
+use crate::engine::moka_parts::record_ref::{self, RecordRef};
 use crate::engine::moka_parts::records::Record;
 use std::cell::Cell;
 use crate::support::test::process::Abort;
@@ -67,6 +68,13 @@ fn written(value: u64, written: Instant) -> Record<u8, u64> {
 
 type Registry = Invalidator<IsValue>;
 
+// Whether a predicate covers a record of this value, written then.
+fn covers(registry: &Registry, value: u64, moment: Instant) -> bool {
+    let (front, cold) = record_ref::split(written(value, moment));
+    let record = RecordRef::new(1, &front.hot, front.weight, front.expiring, &cold);
+    registry.apply_predicates(&record)
+}
+
 /// Registers the test for a value at a moment.
 fn register(
     registry: &mut Registry,
@@ -102,12 +110,14 @@ fn check_covered(rt: &impl Abort, registry: &Registry) {
         (9, Instant(6), false),
     ] {
         assert_eq!(
-            registry.apply_predicates(&written(value, moment)),
+            covers(registry, value, moment),
             is_covered,
             "{value} written at {moment:?}"
         );
     }
-    assert!( registry.covers_at(2, &written(7, Instant(6))));
+    let (front, cold) = record_ref::split(written(7, Instant(6)));
+    let record = RecordRef::new(1, &front.hot, front.weight, front.expiring, &cold);
+    assert!( registry.covers_at(2, &record));
 }
 
 /// Removes each predicate, which was asked so often.
@@ -128,7 +138,7 @@ fn asks_only_what_was_registered_no_earlier() -> Result<(), Fail> {
     let rt = HostRuntime;
     let mut registry = Invalidator::new(rt.alloc());
     assert!( registry.is_empty());
-    assert!( !registry.apply_predicates(&written(7, Instant(0))));
+    assert!( !covers(&registry, 7, Instant(0)));
     register_three(&mut registry)?;
     check_covered(&rt, &registry);
     check_removed(&rt, &mut registry);

@@ -12,17 +12,17 @@ returns-in_default g c =
 pub returns-in_default-clone : goal.returns-in_default-clone
 returns-in_default-clone g c =
     let at = c.in-Some.ensures in
-    let found = peek_refused g.P.PredicateFn.says g.X.Expiry.read g.L.Listener.tells g.K.PartialEq.eq c.self.view_is c.args.key.now at.0 c.args.now c.self.invariant.cache c.self.inside.inner refl c.in-Some.handle.number c.in-Some.found.now at.2.numbered at.2.found at.2.accepted at.2.shown at.2.uncovered (record {}) in
+    let found = peek_refused g.P.PredicateFn.says g.X.Expiry.read g.L.Listener.tells g.K.PartialEq.eq c.self.view_is c.args.key.now at.0 c.args.now c.self.invariant.cache c.self.inside.inner refl c.in-Some.handle.number c.in-Some.found at.2.numbered at.2.found at.2.accepted at.2.shown at.2.uncovered (record {}) in
     (at.0, asked_of_cache c.self.view_is g.K.PartialEq.eq c.args.key.now g.I.ValueTest.asks c.args.test.now c.find_unless-shown.new.test at.0 at.1, (Err (record {}), found.0, refl), found.1)
 
 pub invariant_of-self : goal.invariant_of-self
 invariant_of-self g c =
     let at = c.in-Some.ensures in
-    record { cache = cache-touched c.self.invariant.cache c.self.inside.inner refl g.P.PredicateFn.says g.X.Expiry.read c.args.key.now c.in-Some.handle.number c.in-Some.found.now at.2.numbered at.2.found c.args.now.0 c.hit_of-hit.result.read c.hit_of-hit.result.expires c.hit_of-hit.result.is_renewed c.hit_of-hit.ensures c.touch.new.self c.touch.ensures.rest (c.touch.ensures.step c.in-Some.found.now at.2.numbered); store = stocked-read c.self.invariant.cache c.self.inside.inner refl g.P.PredicateFn.says g.X.Expiry.read c.args.key.now c.in-Some.handle.number c.in-Some.found.now at.2.numbered at.2.found c.args.now.0 c.hit_of-hit.result.read c.hit_of-hit.result.expires c.hit_of-hit.result.is_renewed c.hit_of-hit.ensures c.touch.new.self c.touch.ensures.rest (c.touch.ensures.step c.in-Some.found.now at.2.numbered) c.self.invariant.store }
+    record { cache = cache-touched c.self.invariant.cache c.self.inside.inner refl g.P.PredicateFn.says g.X.Expiry.read c.args.key.now c.in-Some.handle.number c.in-Some.found at.2.numbered at.2.found c.args.now.0 c.hit_of-hit.result.read c.hit_of-hit.result.expires c.hit_of-hit.result.is_renewed c.hit_of-hit.ensures c.touch.new.self c.touch.ensures.rest (c.touch.ensures.step c.in-Some.found at.2.numbered); store = stocked-read c.self.invariant.cache c.self.inside.inner refl g.P.PredicateFn.says g.X.Expiry.read c.args.key.now c.in-Some.handle.number c.in-Some.found at.2.numbered at.2.found c.args.now.0 c.hit_of-hit.result.read c.hit_of-hit.result.expires c.hit_of-hit.result.is_renewed c.hit_of-hit.ensures c.touch.new.self c.touch.ensures.rest (c.touch.ensures.step c.in-Some.found at.2.numbered) c.self.invariant.store }
 
 pub returns : goal.returns
 returns g c =
     let at = c.in-Some.ensures in
-    let found = peek_hits g.P.PredicateFn.says g.X.Expiry.read g.L.Listener.tells g.K.PartialEq.eq c.self.view_is c.args.key.now at.0 c.args.now c.self.invariant.cache c.self.inside.inner refl c.in-Some.handle.number c.in-Some.found.now at.2.numbered at.2.found at.2.accepted at.2.shown at.2.uncovered c.hit_of-hit.result.read c.hit_of-hit.result.expires c.hit_of-hit.result.is_renewed c.hit_of-hit.ensures
-    c.touch.new.self c.touch.ensures.rest (c.touch.ensures.step c.in-Some.found.now at.2.numbered) refl refl c.in-Some.found.now.value refl in
-    (at.0, asked_of_cache c.self.view_is g.K.PartialEq.eq c.args.key.now g.I.ValueTest.asks c.args.test.now c.find_unless-shown.new.test at.0 at.1, (Ok (Some c.in-Some.found.now.value), found.0, c.in-Ok.ensures.cases), found.1)
+    let found = peek_hits g.P.PredicateFn.says g.X.Expiry.read g.L.Listener.tells g.K.PartialEq.eq c.self.view_is c.args.key.now at.0 c.args.now c.self.invariant.cache c.self.inside.inner refl c.in-Some.handle.number c.in-Some.found at.2.numbered at.2.found at.2.accepted at.2.shown at.2.uncovered c.hit_of-hit.result.read c.hit_of-hit.result.expires c.hit_of-hit.result.is_renewed c.hit_of-hit.ensures
+    c.touch.new.self c.touch.ensures.rest (c.touch.ensures.step c.in-Some.found at.2.numbered) refl refl c.in-Some.found.value refl in
+    (at.0, asked_of_cache c.self.view_is g.K.PartialEq.eq c.args.key.now g.I.ValueTest.asks c.args.test.now c.find_unless-shown.new.test at.0 at.1, (Ok (Some c.in-Some.found.value), found.0, rw c.value.ensures at c.in-Ok.ensures.cases), found.1)

@@ -19,7 +19,7 @@ record_hit_by-requires-clause-due g c = ap (λ n. is_due c.self.inside.housekeep
 pub record_hit_by-requires-clause-own : goal.record_hit_by-requires-clause-own
 record_hit_by-requires-clause-own g c =
     let own = rw (← c.self.view_is) at c.requires.own in
-    let same = ap (λ (k : Kept g.row.K.Denot g.row.V.Denot g.row.S.Denot). k.hasher) (c.touch.ensures.step c.in-Some.found.now c.in-Some.ensures.numbered) in
+    let same = ap (λ (k : Kept g.row.K.Denot g.row.V.Denot g.row.S.Denot). k.hasher) (c.touch.ensures.step c.in-Some.found c.in-Some.ensures.numbered) in
     rw same (λ k passing. c.of-own.ensures ∙ ap index_hash (own k passing))
 
 pub record_hit_by-requires-clause-found : goal.record_hit_by-requires-clause-found
@@ -27,15 +27,15 @@ record_hit_by-requires-clause-found g c =
     let at = c.in-Some.ensures in
     let passes = g.T.KeyTest.passes c.args.test.now in
     let one_key = g.met.T.KeyTest.one_key c.args.test.now in
-    let key = c.in-Some.found.now.key in
+    let key = c.in-Some.found.key in
     let by_key = sym (record_by_key g.K.PartialEq.eq passes one_key c.self.inside.inner.kept.records key at.passing) ∙ at.found in
     ap (option_map (λ (r : Record g.row.K.Denot g.row.V.Denot). r.number)) (record_by_key g.K.PartialEq.eq passes one_key c.touch.new.self.kept.records key at.passing)
-    ∙ number-read c.self.invariant.cache c.self.inside.inner refl g.P.PredicateFn.says g.X.Expiry.read key c.in-Some.handle.number c.in-Some.found.now at.numbered by_key c.args.now.0 c.hit_of-hit.result.read c.hit_of-hit.result.expires c.hit_of-hit.result.is_renewed c.hit_of-hit.ensures c.touch.new.self c.touch.ensures.rest (c.touch.ensures.step c.in-Some.found.now at.numbered) g.met.K.Eq.laws
+    ∙ number-read c.self.invariant.cache c.self.inside.inner refl g.P.PredicateFn.says g.X.Expiry.read key c.in-Some.handle.number c.in-Some.found at.numbered by_key c.args.now.0 c.hit_of-hit.result.read c.hit_of-hit.result.expires c.hit_of-hit.result.is_renewed c.hit_of-hit.ensures c.touch.new.self c.touch.ensures.rest (c.touch.ensures.step c.in-Some.found at.numbered) g.met.K.Eq.laws
 
 pub queue_read-requires : goal.queue_read-requires
 queue_read-requires g c =
     let at = c.in-Some.ensures in
-    located-read c.self.invariant.cache c.self.inside.inner refl c.in-Some.handle.number c.in-Some.handle.place c.in-Some.found.now at.numbered at.placed.placed _ c.touch.new.self c.touch.ensures.rest (c.touch.ensures.step c.in-Some.found.now at.numbered)
+    located-read c.self.invariant.cache c.self.inside.inner refl c.in-Some.handle.number c.in-Some.handle.place c.in-Some.found at.numbered at.placed.placed _ c.touch.new.self c.touch.ensures.rest (c.touch.ensures.step c.in-Some.found at.numbered)
 
 pub returns-then-is_map_disabled : goal.returns-then-is_map_disabled
 returns-then-is_map_disabled g c =
@@ -54,10 +54,10 @@ returns-in_default-entry_of g c =
     let at = c.in-Some.ensures in
     let passes = g.T.KeyTest.passes c.args.test.now in
     let one_key = g.met.T.KeyTest.one_key c.args.test.now in
-    let key = c.in-Some.found.now.key in
+    let key = c.in-Some.found.key in
     let by_key = sym (record_by_key g.K.PartialEq.eq passes one_key c.self.inside.inner.kept.records key at.passing) ∙ at.found in
     let found = get_refused g.P.PredicateFn.says g.X.Expiry.read (λ (before : List ℕ). ListedRun g.P.PredicateFn.says g.X.Expiry.read before c.args.self.now.write_list) g.L.Listener.tells g.C.Clock.reads g.K.PartialEq.eq c.self.view_is key c.args.hash c.args.need_key false c.args.now c.args.clock.now
-    c.self.invariant.cache c.self.inside.inner refl c.in-Some.handle.number c.in-Some.found.now at.numbered by_key refl at.shown at.uncovered (record {}) in
+    c.self.invariant.cache c.self.inside.inner refl c.in-Some.handle.number c.in-Some.found at.numbered by_key refl at.shown at.uncovered (record {}) in
     let as_key = get_by_as_key g.P.PredicateFn.says g.X.Expiry.read (λ (before : List ℕ). ListedRun g.P.PredicateFn.says g.X.Expiry.read before c.args.self.now.write_list) g.L.Listener.tells g.C.Clock.reads c.self.view_is passes c.args.hash c.args.need_key c.args.now c.args.clock.now
     g.K.PartialEq.eq key (record_by_key g.K.PartialEq.eq passes one_key c.args.self.now.state.records key at.passing) _ _ _ found in
     (Err (record {}), as_key, refl)
@@ -65,11 +65,11 @@ returns-in_default-entry_of g c =
 pub invariant_of-self : goal.invariant_of-self
 invariant_of-self g c =
     let at = c.in-Some.ensures in
-    let key = c.in-Some.found.now.key in
+    let key = c.in-Some.found.key in
     let by_key = sym (record_by_key g.K.PartialEq.eq (g.T.KeyTest.passes c.args.test.now) (g.met.T.KeyTest.one_key c.args.test.now) c.self.inside.inner.kept.records key at.passing) ∙ at.found in
     record {
-      cache = cache-touched c.self.invariant.cache c.self.inside.inner refl g.P.PredicateFn.says g.X.Expiry.read key c.in-Some.handle.number c.in-Some.found.now at.numbered by_key c.args.now.0 c.hit_of-hit.result.read c.hit_of-hit.result.expires c.hit_of-hit.result.is_renewed c.hit_of-hit.ensures c.touch.new.self c.touch.ensures.rest (c.touch.ensures.step c.in-Some.found.now at.numbered);
-      store = stocked-read c.self.invariant.cache c.self.inside.inner refl g.P.PredicateFn.says g.X.Expiry.read key c.in-Some.handle.number c.in-Some.found.now at.numbered by_key c.args.now.0 c.hit_of-hit.result.read c.hit_of-hit.result.expires c.hit_of-hit.result.is_renewed c.hit_of-hit.ensures c.touch.new.self c.touch.ensures.rest (c.touch.ensures.step c.in-Some.found.now at.numbered) c.self.invariant.store;
+      cache = cache-touched c.self.invariant.cache c.self.inside.inner refl g.P.PredicateFn.says g.X.Expiry.read key c.in-Some.handle.number c.in-Some.found at.numbered by_key c.args.now.0 c.hit_of-hit.result.read c.hit_of-hit.result.expires c.hit_of-hit.result.is_renewed c.hit_of-hit.ensures c.touch.new.self c.touch.ensures.rest (c.touch.ensures.step c.in-Some.found at.numbered);
+      store = stocked-read c.self.invariant.cache c.self.inside.inner refl g.P.PredicateFn.says g.X.Expiry.read key c.in-Some.handle.number c.in-Some.found at.numbered by_key c.args.now.0 c.hit_of-hit.result.read c.hit_of-hit.result.expires c.hit_of-hit.result.is_renewed c.hit_of-hit.ensures c.touch.new.self c.touch.ensures.rest (c.touch.ensures.step c.in-Some.found at.numbered) c.self.invariant.store;
     }
 
 pub returns-then-should_apply_reads : goal.returns-then-should_apply_reads
@@ -77,24 +77,24 @@ returns-then-should_apply_reads g c =
     let at = c.in-Some.ensures in
     let passes = g.T.KeyTest.passes c.args.test.now in
     let one_key = g.met.T.KeyTest.one_key c.args.test.now in
-    let key = c.in-Some.found.now.key in
+    let key = c.in-Some.found.key in
     let by_key = sym (record_by_key g.K.PartialEq.eq passes one_key c.self.inside.inner.kept.records key at.passing) ∙ at.found in
     let found = get_hits g.P.PredicateFn.says g.X.Expiry.read (λ (before : List ℕ). ListedRun g.P.PredicateFn.says g.X.Expiry.read before c.record_hit_by.new.self.write_list) g.L.Listener.tells g.C.Clock.reads g.K.PartialEq.eq c.self.view_is key c.args.hash c.args.need_key false c.args.now c.args.clock.now
-    c.self.invariant.cache c.self.inside.inner refl c.in-Some.handle.number c.in-Some.found.now at.numbered by_key refl at.shown at.uncovered c.hit_of-hit.result.read c.hit_of-hit.result.expires c.hit_of-hit.result.is_renewed c.hit_of-hit.ensures
-    c.touch.new.self c.touch.ensures.rest (c.touch.ensures.step c.in-Some.found.now at.numbered) refl refl (entry_at c.args.need_key c.in-Some.found.now) refl refl c.record_hit_by.ensures in
+    c.self.invariant.cache c.self.inside.inner refl c.in-Some.handle.number c.in-Some.found at.numbered by_key refl at.shown at.uncovered c.hit_of-hit.result.read c.hit_of-hit.result.expires c.hit_of-hit.result.is_renewed c.hit_of-hit.ensures
+    c.touch.new.self c.touch.ensures.rest (c.touch.ensures.step c.in-Some.found at.numbered) refl refl (entry_at c.args.need_key c.in-Some.found) refl refl (rw c.hash-first_hash.ensures at c.record_hit_by.ensures) in
     let as_key = get_by_as_key g.P.PredicateFn.says g.X.Expiry.read (λ (before : List ℕ). ListedRun g.P.PredicateFn.says g.X.Expiry.read before c.record_hit_by.new.self.write_list) g.L.Listener.tells g.C.Clock.reads c.self.view_is passes c.args.hash c.args.need_key c.args.now c.args.clock.now
     g.K.PartialEq.eq key (record_by_key g.K.PartialEq.eq passes one_key c.args.self.now.state.records key at.passing) _ _ _ found in
-    (Ok (Some (entry_at c.args.need_key c.in-Some.found.now)), as_key, c.in-Ok.ensures)
+    (Ok (Some (entry_at c.args.need_key c.in-Some.found)), as_key, c.in-Ok.ensures)
 
 pub invariant_of-self-2 : goal.invariant_of-self-2
 invariant_of-self-2 g c =
     let at = c.in-Some.ensures in
-    let key = c.in-Some.found.now.key in
+    let key = c.in-Some.found.key in
     let by_key = sym (record_by_key g.K.PartialEq.eq (g.T.KeyTest.passes c.args.test.now) (g.met.T.KeyTest.one_key c.args.test.now) c.self.inside.inner.kept.records key at.passing) ∙ at.found in
-    let touched = cache-touched c.self.invariant.cache c.self.inside.inner refl g.P.PredicateFn.says g.X.Expiry.read key c.in-Some.handle.number c.in-Some.found.now at.numbered by_key c.args.now.0 c.hit_of-hit.result.read c.hit_of-hit.result.expires c.hit_of-hit.result.is_renewed c.hit_of-hit.ensures c.touch.new.self c.touch.ensures.rest (c.touch.ensures.step c.in-Some.found.now at.numbered) in
+    let touched = cache-touched c.self.invariant.cache c.self.inside.inner refl g.P.PredicateFn.says g.X.Expiry.read key c.in-Some.handle.number c.in-Some.found at.numbered by_key c.args.now.0 c.hit_of-hit.result.read c.hit_of-hit.result.expires c.hit_of-hit.result.is_renewed c.hit_of-hit.ensures c.touch.new.self c.touch.ensures.rest (c.touch.ensures.step c.in-Some.found at.numbered) in
     record {
-      cache = cache-queued touched c.touch.new.self refl (Hit c.in-Some.handle.number c.in-Some.found.now.hash c.hit_of-hit.result.is_renewed) c.queue_read.new.self c.queue_read.ensures;
-      store = rw c.queue_read.ensures (stocked-read c.self.invariant.cache c.self.inside.inner refl g.P.PredicateFn.says g.X.Expiry.read key c.in-Some.handle.number c.in-Some.found.now at.numbered by_key c.args.now.0 c.hit_of-hit.result.read c.hit_of-hit.result.expires c.hit_of-hit.result.is_renewed c.hit_of-hit.ensures c.touch.new.self c.touch.ensures.rest (c.touch.ensures.step c.in-Some.found.now at.numbered) c.self.invariant.store);
+      cache = cache-queued touched c.touch.new.self refl (Hit c.in-Some.handle.number c.in-Some.found.hash c.hit_of-hit.result.is_renewed) c.queue_read.new.self (rw c.hash-first_hash.ensures at c.queue_read.ensures);
+      store = rw c.queue_read.ensures (stocked-read c.self.invariant.cache c.self.inside.inner refl g.P.PredicateFn.says g.X.Expiry.read key c.in-Some.handle.number c.in-Some.found at.numbered by_key c.args.now.0 c.hit_of-hit.result.read c.hit_of-hit.result.expires c.hit_of-hit.result.is_renewed c.hit_of-hit.ensures c.touch.new.self c.touch.ensures.rest (c.touch.ensures.step c.in-Some.found at.numbered) c.self.invariant.store);
     }
 
 pub returns : goal.returns
@@ -102,15 +102,15 @@ returns g c =
     let at = c.in-Some.ensures in
     let passes = g.T.KeyTest.passes c.args.test.now in
     let one_key = g.met.T.KeyTest.one_key c.args.test.now in
-    let key = c.in-Some.found.now.key in
+    let key = c.in-Some.found.key in
     let by_key = sym (record_by_key g.K.PartialEq.eq passes one_key c.self.inside.inner.kept.records key at.passing) ∙ at.found in
     let due = ap (λ n. is_due c.self.inside.housekeeper.housekeeping n c.hit_of-hit.result.read.0) (sym c.read_count-queued.ensures) ∙ sym c.should_apply_reads.ensures ∙ c.if-should_apply_reads.false in
     let queued = queues_read g.P.PredicateFn.says g.X.Expiry.read (λ (before : List ℕ). ListedRun g.P.PredicateFn.says g.X.Expiry.read before c.queue_read.new.self.kept.written) g.L.Listener.tells g.C.Clock.reads g.K.PartialEq.eq c.self.view_is key c.args.hash c.args.need_key false c.args.now c.args.clock.now
-    c.self.invariant.cache c.self.inside.inner refl c.in-Some.handle.number c.in-Some.found.now at.numbered by_key refl at.shown at.uncovered c.hit_of-hit.result.read c.hit_of-hit.result.expires c.hit_of-hit.result.is_renewed c.hit_of-hit.ensures
-    c.touch.new.self c.touch.ensures.rest (c.touch.ensures.step c.in-Some.found.now at.numbered) due c.queue_read.new.self (Hit c.in-Some.handle.number c.in-Some.found.now.hash c.hit_of-hit.result.is_renewed) c.queue_read.ensures in
+    c.self.invariant.cache c.self.inside.inner refl c.in-Some.handle.number c.in-Some.found at.numbered by_key refl at.shown at.uncovered c.hit_of-hit.result.read c.hit_of-hit.result.expires c.hit_of-hit.result.is_renewed c.hit_of-hit.ensures
+    c.touch.new.self c.touch.ensures.rest (c.touch.ensures.step c.in-Some.found at.numbered) due c.queue_read.new.self (Hit c.in-Some.handle.number c.in-Some.found.hash c.hit_of-hit.result.is_renewed) (rw c.hash-first_hash.ensures at c.queue_read.ensures) in
     let found = get_hits g.P.PredicateFn.says g.X.Expiry.read (λ (before : List ℕ). ListedRun g.P.PredicateFn.says g.X.Expiry.read before c.queue_read.new.self.kept.written) g.L.Listener.tells g.C.Clock.reads g.K.PartialEq.eq c.self.view_is key c.args.hash c.args.need_key false c.args.now c.args.clock.now
-    c.self.invariant.cache c.self.inside.inner refl c.in-Some.handle.number c.in-Some.found.now at.numbered by_key refl at.shown at.uncovered c.hit_of-hit.result.read c.hit_of-hit.result.expires c.hit_of-hit.result.is_renewed c.hit_of-hit.ensures
-    c.touch.new.self c.touch.ensures.rest (c.touch.ensures.step c.in-Some.found.now at.numbered) refl refl (entry_at c.args.need_key c.in-Some.found.now) refl refl queued in
+    c.self.invariant.cache c.self.inside.inner refl c.in-Some.handle.number c.in-Some.found at.numbered by_key refl at.shown at.uncovered c.hit_of-hit.result.read c.hit_of-hit.result.expires c.hit_of-hit.result.is_renewed c.hit_of-hit.ensures
+    c.touch.new.self c.touch.ensures.rest (c.touch.ensures.step c.in-Some.found at.numbered) refl refl (entry_at c.args.need_key c.in-Some.found) refl refl queued in
     let as_key = get_by_as_key g.P.PredicateFn.says g.X.Expiry.read (λ (before : List ℕ). ListedRun g.P.PredicateFn.says g.X.Expiry.read before c.queue_read.new.self.kept.written) g.L.Listener.tells g.C.Clock.reads c.self.view_is passes c.args.hash c.args.need_key c.args.now c.args.clock.now
     g.K.PartialEq.eq key (record_by_key g.K.PartialEq.eq passes one_key c.args.self.now.state.records key at.passing) _ _ _ found in
-    (Ok (Some (entry_at c.args.need_key c.in-Some.found.now)), as_key, c.in-Ok.ensures)
+    (Ok (Some (entry_at c.args.need_key c.in-Some.found)), as_key, c.in-Ok.ensures)

@@ -14,12 +14,12 @@ record_hit_when_due-requires-clause-due g c = ap (λ n. is_due c.self.inside.hou
 pub record_hit_when_due-requires-clause-found : goal.record_hit_when_due-requires-clause-found
 record_hit_when_due-requires-clause-found g c =
     let at = c.in-Some.ensures in
-    number-read c.self.invariant.cache c.self.inside.inner refl g.P.PredicateFn.says g.X.Expiry.read c.args.key.now c.in-Some.handle.number c.in-Some.found.now at.2.numbered at.2.found c.args.now.0 c.hit_of-hit.result.read c.hit_of-hit.result.expires c.hit_of-hit.result.is_renewed c.hit_of-hit.ensures c.touch.new.self c.touch.ensures.rest (c.touch.ensures.step c.in-Some.found.now at.2.numbered) g.met.K.Eq.laws
+    number-read c.self.invariant.cache c.self.inside.inner refl g.P.PredicateFn.says g.X.Expiry.read c.args.key.now c.in-Some.handle.number c.in-Some.found at.2.numbered at.2.found c.args.now.0 c.hit_of-hit.result.read c.hit_of-hit.result.expires c.hit_of-hit.result.is_renewed c.hit_of-hit.ensures c.touch.new.self c.touch.ensures.rest (c.touch.ensures.step c.in-Some.found at.2.numbered) g.met.K.Eq.laws
 
 pub queue_read-requires : goal.queue_read-requires
 queue_read-requires g c =
     let at = c.in-Some.ensures in
-    located-read c.self.invariant.cache c.self.inside.inner refl c.in-Some.handle.number c.in-Some.handle.place c.in-Some.found.now at.2.numbered at.2.placed.placed _ c.touch.new.self c.touch.ensures.rest (c.touch.ensures.step c.in-Some.found.now at.2.numbered)
+    located-read c.self.invariant.cache c.self.inside.inner refl c.in-Some.handle.number c.in-Some.handle.place c.in-Some.found at.2.numbered at.2.placed.placed _ c.touch.new.self c.touch.ensures.rest (c.touch.ensures.step c.in-Some.found at.2.numbered)
 
 pub returns-then-is_map_disabled : goal.returns-then-is_map_disabled
 returns-then-is_map_disabled g c =
@@ -39,36 +39,36 @@ pub returns-in_default-entry_of : goal.returns-in_default-entry_of
 returns-in_default-entry_of g c =
     let at = c.in-Some.ensures in
     let found = get_refused g.P.PredicateFn.says g.X.Expiry.read (λ (before : List ℕ). ListedRun g.P.PredicateFn.says g.X.Expiry.read before c.args.self.now.write_list) g.L.Listener.tells g.C.Clock.reads g.K.PartialEq.eq c.self.view_is c.args.key.now c.args.hashes.hash c.args.need_key at.0 c.args.now c.args.clock.now
-    c.self.invariant.cache c.self.inside.inner refl c.in-Some.handle.number c.in-Some.found.now at.2.numbered at.2.found at.2.accepted at.2.shown at.2.uncovered (record {}) in
+    c.self.invariant.cache c.self.inside.inner refl c.in-Some.handle.number c.in-Some.found at.2.numbered at.2.found at.2.accepted at.2.shown at.2.uncovered (record {}) in
     (at.0, asked_of_cache c.self.view_is g.K.PartialEq.eq c.args.key.now g.I.ValueTest.asks c.args.test.now c.find_unless-shown.new.test at.0 at.1, (Err (record {}), found, refl))
 
 pub invariant_of-self : goal.invariant_of-self
 invariant_of-self g c =
     let at = c.in-Some.ensures in
-    record { cache = cache-touched c.self.invariant.cache c.self.inside.inner refl g.P.PredicateFn.says g.X.Expiry.read c.args.key.now c.in-Some.handle.number c.in-Some.found.now at.2.numbered at.2.found c.args.now.0 c.hit_of-hit.result.read c.hit_of-hit.result.expires c.hit_of-hit.result.is_renewed c.hit_of-hit.ensures c.touch.new.self c.touch.ensures.rest (c.touch.ensures.step c.in-Some.found.now at.2.numbered); store = stocked-read c.self.invariant.cache c.self.inside.inner refl g.P.PredicateFn.says g.X.Expiry.read c.args.key.now c.in-Some.handle.number c.in-Some.found.now at.2.numbered at.2.found c.args.now.0 c.hit_of-hit.result.read c.hit_of-hit.result.expires c.hit_of-hit.result.is_renewed c.hit_of-hit.ensures c.touch.new.self c.touch.ensures.rest (c.touch.ensures.step c.in-Some.found.now at.2.numbered) c.self.invariant.store }
+    record { cache = cache-touched c.self.invariant.cache c.self.inside.inner refl g.P.PredicateFn.says g.X.Expiry.read c.args.key.now c.in-Some.handle.number c.in-Some.found at.2.numbered at.2.found c.args.now.0 c.hit_of-hit.result.read c.hit_of-hit.result.expires c.hit_of-hit.result.is_renewed c.hit_of-hit.ensures c.touch.new.self c.touch.ensures.rest (c.touch.ensures.step c.in-Some.found at.2.numbered); store = stocked-read c.self.invariant.cache c.self.inside.inner refl g.P.PredicateFn.says g.X.Expiry.read c.args.key.now c.in-Some.handle.number c.in-Some.found at.2.numbered at.2.found c.args.now.0 c.hit_of-hit.result.read c.hit_of-hit.result.expires c.hit_of-hit.result.is_renewed c.hit_of-hit.ensures c.touch.new.self c.touch.ensures.rest (c.touch.ensures.step c.in-Some.found at.2.numbered) c.self.invariant.store }
 
 pub returns-then-should_apply_reads : goal.returns-then-should_apply_reads
 returns-then-should_apply_reads g c =
     let at = c.in-Some.ensures in
     let found = get_hits g.P.PredicateFn.says g.X.Expiry.read (λ (before : List ℕ). ListedRun g.P.PredicateFn.says g.X.Expiry.read before c.record_hit_when_due.new.self.write_list) g.L.Listener.tells g.C.Clock.reads g.K.PartialEq.eq c.self.view_is c.args.key.now c.args.hashes.hash c.args.need_key at.0 c.args.now c.args.clock.now
-    c.self.invariant.cache c.self.inside.inner refl c.in-Some.handle.number c.in-Some.found.now at.2.numbered at.2.found at.2.accepted at.2.shown at.2.uncovered c.hit_of-hit.result.read c.hit_of-hit.result.expires c.hit_of-hit.result.is_renewed c.hit_of-hit.ensures
-    c.touch.new.self c.touch.ensures.rest (c.touch.ensures.step c.in-Some.found.now at.2.numbered) refl refl (entry_at c.args.need_key c.in-Some.found.now) refl refl c.record_hit_when_due.ensures in
-    (at.0, asked_of_cache c.self.view_is g.K.PartialEq.eq c.args.key.now g.I.ValueTest.asks c.args.test.now c.find_unless-shown.new.test at.0 at.1, (Ok (Some (entry_at c.args.need_key c.in-Some.found.now)), found, c.in-Ok.ensures))
+    c.self.invariant.cache c.self.inside.inner refl c.in-Some.handle.number c.in-Some.found at.2.numbered at.2.found at.2.accepted at.2.shown at.2.uncovered c.hit_of-hit.result.read c.hit_of-hit.result.expires c.hit_of-hit.result.is_renewed c.hit_of-hit.ensures
+    c.touch.new.self c.touch.ensures.rest (c.touch.ensures.step c.in-Some.found at.2.numbered) refl refl (entry_at c.args.need_key c.in-Some.found) refl refl (rw c.hash-hash.ensures at c.record_hit_when_due.ensures) in
+    (at.0, asked_of_cache c.self.view_is g.K.PartialEq.eq c.args.key.now g.I.ValueTest.asks c.args.test.now c.find_unless-shown.new.test at.0 at.1, (Ok (Some (entry_at c.args.need_key c.in-Some.found)), found, c.in-Ok.ensures))
 
 pub invariant_of-self-2 : goal.invariant_of-self-2
 invariant_of-self-2 g c =
     let at = c.in-Some.ensures in
-    let touched = cache-touched c.self.invariant.cache c.self.inside.inner refl g.P.PredicateFn.says g.X.Expiry.read c.args.key.now c.in-Some.handle.number c.in-Some.found.now at.2.numbered at.2.found c.args.now.0 c.hit_of-hit.result.read c.hit_of-hit.result.expires c.hit_of-hit.result.is_renewed c.hit_of-hit.ensures c.touch.new.self c.touch.ensures.rest (c.touch.ensures.step c.in-Some.found.now at.2.numbered) in
-    record { cache = cache-queued touched c.touch.new.self refl (Hit c.in-Some.handle.number c.in-Some.found.now.hash c.hit_of-hit.result.is_renewed) c.queue_read.new.self c.queue_read.ensures; store = rw c.queue_read.ensures (stocked-read c.self.invariant.cache c.self.inside.inner refl g.P.PredicateFn.says g.X.Expiry.read c.args.key.now c.in-Some.handle.number c.in-Some.found.now at.2.numbered at.2.found c.args.now.0 c.hit_of-hit.result.read c.hit_of-hit.result.expires c.hit_of-hit.result.is_renewed c.hit_of-hit.ensures c.touch.new.self c.touch.ensures.rest (c.touch.ensures.step c.in-Some.found.now at.2.numbered) c.self.invariant.store) }
+    let touched = cache-touched c.self.invariant.cache c.self.inside.inner refl g.P.PredicateFn.says g.X.Expiry.read c.args.key.now c.in-Some.handle.number c.in-Some.found at.2.numbered at.2.found c.args.now.0 c.hit_of-hit.result.read c.hit_of-hit.result.expires c.hit_of-hit.result.is_renewed c.hit_of-hit.ensures c.touch.new.self c.touch.ensures.rest (c.touch.ensures.step c.in-Some.found at.2.numbered) in
+    record { cache = cache-queued touched c.touch.new.self refl (Hit c.in-Some.handle.number c.in-Some.found.hash c.hit_of-hit.result.is_renewed) c.queue_read.new.self (rw c.hash-hash.ensures at c.queue_read.ensures); store = rw c.queue_read.ensures (stocked-read c.self.invariant.cache c.self.inside.inner refl g.P.PredicateFn.says g.X.Expiry.read c.args.key.now c.in-Some.handle.number c.in-Some.found at.2.numbered at.2.found c.args.now.0 c.hit_of-hit.result.read c.hit_of-hit.result.expires c.hit_of-hit.result.is_renewed c.hit_of-hit.ensures c.touch.new.self c.touch.ensures.rest (c.touch.ensures.step c.in-Some.found at.2.numbered) c.self.invariant.store) }
 
 pub returns : goal.returns
 returns g c =
     let at = c.in-Some.ensures in
     let due = ap (λ n. is_due c.self.inside.housekeeper.housekeeping n c.hit_of-hit.result.read.0) (sym c.read_count-queued.ensures) ∙ sym c.should_apply_reads.ensures ∙ c.if-should_apply_reads.false in
     let queued = queues_read g.P.PredicateFn.says g.X.Expiry.read (λ (before : List ℕ). ListedRun g.P.PredicateFn.says g.X.Expiry.read before c.queue_read.new.self.kept.written) g.L.Listener.tells g.C.Clock.reads g.K.PartialEq.eq c.self.view_is c.args.key.now c.args.hashes.hash c.args.need_key at.0 c.args.now c.args.clock.now
-    c.self.invariant.cache c.self.inside.inner refl c.in-Some.handle.number c.in-Some.found.now at.2.numbered at.2.found at.2.accepted at.2.shown at.2.uncovered c.hit_of-hit.result.read c.hit_of-hit.result.expires c.hit_of-hit.result.is_renewed c.hit_of-hit.ensures
-    c.touch.new.self c.touch.ensures.rest (c.touch.ensures.step c.in-Some.found.now at.2.numbered) due c.queue_read.new.self (Hit c.in-Some.handle.number c.in-Some.found.now.hash c.hit_of-hit.result.is_renewed) c.queue_read.ensures in
+    c.self.invariant.cache c.self.inside.inner refl c.in-Some.handle.number c.in-Some.found at.2.numbered at.2.found at.2.accepted at.2.shown at.2.uncovered c.hit_of-hit.result.read c.hit_of-hit.result.expires c.hit_of-hit.result.is_renewed c.hit_of-hit.ensures
+    c.touch.new.self c.touch.ensures.rest (c.touch.ensures.step c.in-Some.found at.2.numbered) due c.queue_read.new.self (Hit c.in-Some.handle.number c.in-Some.found.hash c.hit_of-hit.result.is_renewed) (rw c.hash-hash.ensures at c.queue_read.ensures) in
     let found = get_hits g.P.PredicateFn.says g.X.Expiry.read (λ (before : List ℕ). ListedRun g.P.PredicateFn.says g.X.Expiry.read before c.queue_read.new.self.kept.written) g.L.Listener.tells g.C.Clock.reads g.K.PartialEq.eq c.self.view_is c.args.key.now c.args.hashes.hash c.args.need_key at.0 c.args.now c.args.clock.now
-    c.self.invariant.cache c.self.inside.inner refl c.in-Some.handle.number c.in-Some.found.now at.2.numbered at.2.found at.2.accepted at.2.shown at.2.uncovered c.hit_of-hit.result.read c.hit_of-hit.result.expires c.hit_of-hit.result.is_renewed c.hit_of-hit.ensures
-    c.touch.new.self c.touch.ensures.rest (c.touch.ensures.step c.in-Some.found.now at.2.numbered) refl refl (entry_at c.args.need_key c.in-Some.found.now) refl refl queued in
-    (at.0, asked_of_cache c.self.view_is g.K.PartialEq.eq c.args.key.now g.I.ValueTest.asks c.args.test.now c.find_unless-shown.new.test at.0 at.1, (Ok (Some (entry_at c.args.need_key c.in-Some.found.now)), found, c.in-Ok.ensures))
+    c.self.invariant.cache c.self.inside.inner refl c.in-Some.handle.number c.in-Some.found at.2.numbered at.2.found at.2.accepted at.2.shown at.2.uncovered c.hit_of-hit.result.read c.hit_of-hit.result.expires c.hit_of-hit.result.is_renewed c.hit_of-hit.ensures
+    c.touch.new.self c.touch.ensures.rest (c.touch.ensures.step c.in-Some.found at.2.numbered) refl refl (entry_at c.args.need_key c.in-Some.found) refl refl queued in
+    (at.0, asked_of_cache c.self.view_is g.K.PartialEq.eq c.args.key.now g.I.ValueTest.asks c.args.test.now c.find_unless-shown.new.test at.0 at.1, (Ok (Some (entry_at c.args.need_key c.in-Some.found)), found, c.in-Ok.ensures))

@@ -9,7 +9,7 @@ use Rattle.moka_engine.proofs.base_cache.BaseCache.insert_hashed.Goals as goal
 pub returns-in-Err-reserve_operation : goal.returns-in-Err-reserve_operation
 returns-in-Err-reserve_operation g c =
     update_refused g.X.Expiry.created g.X.Expiry.updated g.W.Weigher.weighs g.L.Listener.tells g.K.PartialEq.eq c.self.view_is c.self.inside.inner refl refl refl c.reserve_operation.new.self (ap without_room c.in-Err-reserve_operation.ensures.rest)
-    c.args.key c.args.hashes.hash c.args.value c.args.now c.in-Some.found.now (sym c.in-Some.ensures.found) c.in-Err-reserve_operation.error c.in-Err-reserve_operation.ensures.used_up
+    c.args.key c.args.hashes.hash c.args.value c.args.now c.in-Some.found (sym c.in-Some.ensures.found) c.in-Err-reserve_operation.error c.in-Err-reserve_operation.ensures.used_up
 
 pub invariant_of-self-2 : goal.invariant_of-self-2
 invariant_of-self-2 g c =
@@ -17,10 +17,10 @@ invariant_of-self-2 g c =
     record {
       cache = cache-updated c.self.invariant.cache c.self.inside.inner refl c.reserve_operation.new.self c.update-old.new.self (ap without_room c.in_default-reserve_operation.ensures.rest) g.X.Expiry.created g.X.Expiry.updated
           c.notify.new.self (still_set g.L.Listener.tells c.self.inside.notifier c.notify.new.self _ c.notify.ensures)
-          c.args.key c.in-Some.handle.number c.in-Some.found.now there (sym c.in-Some.ensures.found) c.args.hashes.hash c.args.value c.args.now c.weigh-weight.result c.expires_at_update-expires.result c.expires_at_update-expires.ensures
-          (c.update-old.ensures.step c.in-Some.found.now (rw c.in_default-reserve_operation.ensures.rest there));
-      store = stocked-updated c.self.invariant.cache c.self.inside.inner refl c.reserve_operation.new.self c.update-old.new.self (ap without_room c.in_default-reserve_operation.ensures.rest) c.self.invariant.store c.in-Some.handle.number c.in-Some.found.now there c.args.hashes.hash _
-          (c.update-old.ensures.step c.in-Some.found.now (rw c.in_default-reserve_operation.ensures.rest there));
+          c.args.key c.in-Some.handle.number c.in-Some.found there (sym c.in-Some.ensures.found) c.args.hashes.hash c.args.value c.args.now c.weigh-weight.result c.expires_at_update-expires.result c.expires_at_update-expires.ensures
+          (c.update-old.ensures.step c.in-Some.found (rw c.in_default-reserve_operation.ensures.rest there));
+      store = stocked-updated c.self.invariant.cache c.self.inside.inner refl c.reserve_operation.new.self c.update-old.new.self (ap without_room c.in_default-reserve_operation.ensures.rest) c.self.invariant.store c.in-Some.handle.number c.in-Some.found there c.args.hashes.hash _
+          (c.update-old.ensures.step c.in-Some.found (rw c.in_default-reserve_operation.ensures.rest there));
     }
 
 pub returns : goal.returns
@@ -28,9 +28,9 @@ returns g c =
     let there = c.in-Some.ensures.numbered in
     let rest = c.in_default-reserve_operation.ensures.rest in
     update_returns g.X.Expiry.created g.X.Expiry.updated g.W.Weigher.weighs g.L.Listener.tells g.K.PartialEq.eq c.self.view_is c.self.inside.inner refl refl refl c.reserve_operation.new.self (ap without_room c.in_default-reserve_operation.ensures.rest)
-    c.args.key c.args.hashes.hash c.args.value c.args.now c.self.inside.notifier c.self.invariant.cache refl c.notify.new.self c.update-old.new.self c.in-Some.handle.number c.in-Some.found.now there (sym c.in-Some.ensures.found) c.weigh-weight.result c.weigh-weight.ensures
+    c.args.key c.args.hashes.hash c.args.value c.args.now c.self.inside.notifier c.self.invariant.cache refl c.notify.new.self c.update-old.new.self c.in-Some.handle.number c.in-Some.found there (sym c.in-Some.ensures.found) c.weigh-weight.result c.weigh-weight.ensures
     (λ p. c.in_default-reserve_operation.not-Err NumbersUsedUp (c.reserve_operation.ensures.used_up.1 p)) c.update-old.result.1 c.update-old.ensures.ticket c.expires_at_update-expires.result c.expires_at_update-expires.ensures
-    (c.update-old.ensures.step c.in-Some.found.now (rw rest there)) c.update-old.result.0 (c.update-old.ensures.value c.in-Some.found.now (rw rest there)) c.cause_of_replacement-cause.result c.cause_of_replacement-cause.ensures c.notify.ensures
+    (c.update-old.ensures.step c.in-Some.found (rw rest there)) c.update-old.result.0 (c.update-old.ensures.value c.in-Some.found (rw rest there)) c.cause_of_replacement-cause.result c.cause_of_replacement-cause.ensures c.notify.ensures
 
 pub returns-in-Err : goal.returns-in-Err
 returns-in-Err g c =

@@ -7,7 +7,7 @@ use Rattle.moka_engine.proofs.base_cache.BaseCache.remove_by.Goals as goal
 pub invariant_of-self : goal.invariant_of-self
 invariant_of-self g c =
     let at = c.in_ok-handle.ensures in
-    let key = c.in_ok-handle.field-0-1.now.key in
+    let key = c.in_ok-handle.field-0-1.key in
     let by_key = record_by_key g.K.PartialEq.eq (g.T.KeyTest.passes c.args.test.now) (g.met.T.KeyTest.one_key c.args.test.now) c.self.inside.inner.kept.records key at.passes in
     record {
       cache = cache-removed c.self.invariant.cache c.self.inside.inner c.remove-record.new.self refl key c.in_ok-handle.handle.number c.remove-record.result.0

@@ -9,7 +9,7 @@ returns-in_err-handle g c = rw c.from_residual.ensures (nothing_found g.I.ValueT
 pub returns-then-ignores : goal.returns-then-ignores
 returns-then-ignores g c =
     let found = sym c.in_ok-handle.ensures.found in
-    let hidden = found_hidden g.I.ValueTest.asks g.K.PartialEq.eq c.args.inner.now.kept c.args.policy.now c.args.valid_after.now g.P.PredicateFn.says c.args.invalidator.now c.args.sought.0.now c.args.now.0 c.in_ok-handle.found.now found c.args.test.now c.ignores.new.self c.ignores.result c.ignores.ensures in
+    let hidden = found_hidden g.I.ValueTest.asks g.K.PartialEq.eq c.args.inner.now.kept c.args.policy.now c.args.valid_after.now g.P.PredicateFn.says c.args.invalidator.now c.args.sought.0.now c.args.now.0 c.in_ok-handle.found found c.args.test.now c.ignores.new.self c.ignores.result (rw c.value.ensures at c.ignores.ensures) in
     elim c.then-ignores.branch [
       | then-ignores-via-then-ignores w ↦ hidden (inl w.if-ignores.true)
       | then-ignores-via-else-ignores+then-is_hidden w ↦ hidden (inr (inl (sym w.is_hidden.ensures ∙ w.if-is_hidden.true)))
@@ -18,5 +18,5 @@ returns-then-ignores g c =
 
 pub returns : goal.returns
 returns g c =
-    found_shown g.I.ValueTest.asks g.K.PartialEq.eq c.args.inner.now.kept c.args.policy.now c.args.valid_after.now g.P.PredicateFn.says c.args.invalidator.now c.args.sought.0.now c.args.now.0 c.in_ok-handle.found.now (sym c.in_ok-handle.ensures.found) c.args.test.now c.ignores.new.self c.ignores.result c.ignores.ensures
+    found_shown g.I.ValueTest.asks g.K.PartialEq.eq c.args.inner.now.kept c.args.policy.now c.args.valid_after.now g.P.PredicateFn.says c.args.invalidator.now c.args.sought.0.now c.args.now.0 c.in_ok-handle.found (sym c.in_ok-handle.ensures.found) c.args.test.now c.ignores.new.self c.ignores.result (rw c.value.ensures at c.ignores.ensures)
     c.in_ok-handle.handle c.in_ok-handle.ensures.handle c.in_ok-handle.ensures.numbered c.if-ignores.false (sym c.is_hidden.ensures ∙ c.if-is_hidden.false) c.if-apply_predicates.ensures

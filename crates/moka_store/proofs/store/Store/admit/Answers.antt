@@ -2,7 +2,7 @@ use Rattle.std.specs.FinMap as finite
 use Rattle.std.proofs.Common.{◌<◌, ◌^◌, ◌≡◌, ◌+◌, map, length, refl, arith, sym, ap, ◌∙◌, subst}
 use Rattle.moka_store.proofs.Members.{counted-admitted}
 use Rattle.std.specs.Option.{option_map, option_and_then}
-use Rattle.moka_structures.specs.declared.row.Membership.{Membership}
+use Rattle.moka_store.specs.declared.table.membership.Membership.{Membership}
 use Rattle.moka_store.specs.StoreRows.{access_in, written_in}
 use Rattle.moka_store.proofs.Slots.{slots-below}
 use Rattle.moka_store.proofs.Orders.{enters}

@@ -1,7 +1,7 @@
 use Rattle.std.specs.FinMap as finite
 use Rattle.std.specs.Option.{option_and_then}
 use Rattle.std.proofs.Common.{None, refl, sym, ◌∙◌, arith, ap, subst}
-use Rattle.moka_structures.specs.RecordTable.{Row}
+use Rattle.moka_store.specs.RecordTable.{Row}
 use Rattle.moka_parts.specs.declared.records.Record.{Record}
 use Rattle.moka_store.proofs.Orders.{untimes}
 use Rattle.moka_store.proofs.Steps.{placed, retimed}

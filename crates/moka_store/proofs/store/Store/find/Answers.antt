@@ -1,14 +1,13 @@
 use Rattle.std.proofs.Common.{◌≡◌, IsSome, is_some, true, subst}
 use Rattle.std.specs.FinMap.{get}
-use Rattle.moka_structures.specs.RecordTable.{records_of}
-use Rattle.moka_structures.proofs.TableMaps.{copied-some}
+use Rattle.moka_store.specs.RecordTable.{records_of}
 use Rattle.moka_store.proofs.Steps.{one-each}
 use Rattle.moka_store.proofs.store.Store.find.Goals as goal
 
 pub returns-clause-handle : goal.returns-clause-handle
 returns-clause-handle g c h =
     let placed = c.find.ensures.placed h in
-    let some : IsSome (get (records_of c.self.inside.table.rows) c.args.handle.number) = subst (λ o. is_some o ≡ true) (c.find.ensures.found placed) (copied-some c.find.result h) in
+    let some : IsSome (get (records_of c.self.inside.table.rows) c.args.handle.number) = subst (λ o. is_some o ≡ true) (c.find.ensures.found placed) h in
     rw (← c.self.view_is) (record { placed = placed; stored = some })
 
 pub returns-clause-one_each : goal.returns-clause-one_each

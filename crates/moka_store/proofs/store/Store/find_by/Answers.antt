@@ -2,8 +2,8 @@ use Rattle.std.proofs.Common.{◌≡◌, ℕ, true, false, Some, None, rules, re
 use Rattle.std.specs.FinMap.{get}
 use Rattle.moka_parts.proofs.Lookup.{present_key}
 use Rattle.moka_parts.proofs.Tested.{record_by_key, record_by_each}
-use Rattle.moka_structures.proofs.TableCalls.{get-records, get-places}
-use Rattle.moka_structures.specs.RecordTable.{records_of}
+use Rattle.moka_store.proofs.TableCalls.{get-records, get-places}
+use Rattle.moka_store.specs.RecordTable.{records_of}
 use Rattle.moka_store.specs.StoreRows.{passes_at}
 use Rattle.moka_store.proofs.Steps.{record-of-absent, one-each}
 use Rattle.moka_store.proofs.Tests.{passes-as_key}
@@ -24,7 +24,7 @@ returns-in_default-clause-value g c =
 
 pub returns-clause-handle : goal.returns-clause-handle
 returns-clause-handle g c =
-    let w = live-row c.self.inside.table.rows c.in-Some.place c.in-Some-live.number c.in-Some-live.stored.now c.in-Some-live.ensures.number c.in-Some-live.ensures.stored in
+    let w = live-row c.self.inside.table.rows c.in-Some.place c.in-Some-live.number c.in-Some-live.stored c.in-Some-live.ensures.number c.in-Some-live.ensures.stored in
     rw (w.number_is, ← c.self.view_is) (record {
       placed = get-places _ c.self.invariant.tied.numbered _ _ w.at_is;
       stored = rw (get-records _ c.self.invariant.tied.numbered _ _ w.at_is, w.stored_is) refl;
@@ -32,17 +32,17 @@ returns-clause-handle g c =
 
 pub returns-clause-found : goal.returns-clause-found
 returns-clause-found g c =
-    let w = live-row c.self.inside.table.rows c.in-Some.place c.in-Some-live.number c.in-Some-live.stored.now c.in-Some-live.ensures.number c.in-Some-live.ensures.stored in
+    let w = live-row c.self.inside.table.rows c.in-Some.place c.in-Some-live.number c.in-Some-live.stored c.in-Some-live.ensures.number c.in-Some-live.ensures.stored in
     rw (w.number_is, ← c.self.view_is) (get-records _ c.self.invariant.tied.numbered _ _ w.at_is ∙ w.stored_is)
 
 pub returns-clause-value : goal.returns-clause-value
 returns-clause-value g c =
     let passes = g.T.KeyTest.passes c.args.test.now in
     let rows = c.self.inside.table.rows in
-    let key = c.in-Some-live.stored.now.key in
+    let key = c.in-Some-live.stored.key in
     let laws = g.met.K.Eq.laws in
     let passing : passes key ≡ true = search (rules, c.in-Some.ensures.passes, c.in-Some-live.ensures.stored) in
-    let w = live-row c.self.inside.table.rows c.in-Some.place c.in-Some-live.number c.in-Some-live.stored.now c.in-Some-live.ensures.number c.in-Some-live.ensures.stored in
+    let w = live-row c.self.inside.table.rows c.in-Some.place c.in-Some-live.number c.in-Some-live.stored c.in-Some-live.ensures.number c.in-Some-live.ensures.stored in
     let there = get-records _ c.self.invariant.tied.numbered _ _ w.at_is ∙ w.stored_is in
     let own = present_key g.K.PartialEq.eq (records_of rows) key laws (one-each _ _ _ _ c.self.invariant.tied laws).one_each _ _ there (laws.refl key) in
     rw (← c.self.view_is) (sym (record_by_key g.K.PartialEq.eq passes (g.met.T.KeyTest.one_key c.args.test.now) (records_of rows) key passing ∙ own))

@@ -1,6 +1,6 @@
 use Rattle.std.proofs.Common.{◌≡◌, ℕ, true, false, Some, rules, refl, sym, ap, ◌∙◌}
 use Rattle.std.specs.FinMap.{get}
-use Rattle.moka_structures.proofs.TableCalls.{get-records, get-places}
+use Rattle.moka_store.proofs.TableCalls.{get-records, get-places}
 use Rattle.moka_store.specs.StoreRows.{has_key_at}
 use Rattle.moka_store.proofs.Steps.{key-present, record-of-present, record-of-absent, one-each}
 use Rattle.moka_store.proofs.Looked.{live-row, stored-same}
@@ -18,7 +18,7 @@ returns-in_default-clause-one_each g c =
 
 pub returns-clause-handle : goal.returns-clause-handle
 returns-clause-handle g c =
-    let w = live-row c.self.inside.table.rows c.in-Some.place c.in-Some-live.number c.in-Some-live.stored.now c.in-Some-live.ensures.number c.in-Some-live.ensures.stored in
+    let w = live-row c.self.inside.table.rows c.in-Some.place c.in-Some-live.number c.in-Some-live.stored c.in-Some-live.ensures.number c.in-Some-live.ensures.stored in
     rw (w.number_is, ← c.self.view_is) (record {
       placed = get-places _ c.self.invariant.tied.numbered _ _ w.at_is;
       stored = rw (get-records _ c.self.invariant.tied.numbered _ _ w.at_is, w.stored_is) refl;
@@ -26,14 +26,14 @@ returns-clause-handle g c =
 
 pub returns-clause-found : goal.returns-clause-found
 returns-clause-found g c =
-    let w = live-row c.self.inside.table.rows c.in-Some.place c.in-Some-live.number c.in-Some-live.stored.now c.in-Some-live.ensures.number c.in-Some-live.ensures.stored in
+    let w = live-row c.self.inside.table.rows c.in-Some.place c.in-Some-live.number c.in-Some-live.stored c.in-Some-live.ensures.number c.in-Some-live.ensures.stored in
     rw (w.number_is, ← c.self.view_is) (get-records _ c.self.invariant.tied.numbered _ _ w.at_is ∙ w.stored_is)
 
 pub returns-clause-value : goal.returns-clause-value
 returns-clause-value g c =
     let test : has_key_at g.K.PartialEq.eq c.self.inside.table.rows c.args.key.now c.in-Some.place ≡ true = search (rules, c.in-Some.ensures.passes) in
     let w = key-present _ _ _ _ c.self.invariant.tied c.args.key.now c.in-Some.place test in
-    let same : Some w.stored ≡ Some c.in-Some-live.stored.now = stored-same c.self.inside.table.rows c.in-Some.place _ _ _ w.at_is w.stored_is c.in-Some-live.ensures.stored in
+    let same : Some w.stored ≡ Some c.in-Some-live.stored = stored-same c.self.inside.table.rows c.in-Some.place _ _ _ w.at_is w.stored_is c.in-Some-live.ensures.stored in
     rw (← c.self.view_is) (sym (record-of-present _ _ _ _ c.self.invariant.tied g.met.K.Eq.laws _ _ w ∙ same))
 
 pub returns-clause-hashed : goal.returns-clause-hashed
@@ -41,7 +41,7 @@ returns-clause-hashed g c =
     let hash = rw (← c.self.view_is) at c.requires.hashed in
     let test : has_key_at g.K.PartialEq.eq c.self.inside.table.rows c.args.key.now c.in-Some.place ≡ true = search (rules, c.in-Some.ensures.passes) in
     let w = key-present _ _ _ _ c.self.invariant.tied c.args.key.now c.in-Some.place test in
-    let same : w.stored ≡ c.in-Some-live.stored.now = (let e = stored-same c.self.inside.table.rows c.in-Some.place _ _ _ w.at_is w.stored_is c.in-Some-live.ensures.stored in cc) in
+    let same : w.stored ≡ c.in-Some-live.stored = (let e = stored-same c.self.inside.table.rows c.in-Some.place _ _ _ w.at_is w.stored_is c.in-Some-live.ensures.stored in cc) in
     rw (← c.self.view_is, ← same, ← g.met.K.Hash.respects_eq c.args.key.now w.stored.key w.same) hash
 
 pub returns-clause-one_each : goal.returns-clause-one_each

@@ -1,10 +1,10 @@
 use Rattle.std.specs.FinMap as finite
 use Rattle.std.proofs.Common.{None, refl, ap, ◌∙◌, arith, sym, subst}
 use Rattle.std.specs.FinMap.{get, remove}
-use Rattle.moka_structures.specs.RecordTable.{places_of}
-use Rattle.moka_structures.proofs.TableMaps.{get-past_remove}
+use Rattle.moka_store.specs.RecordTable.{places_of}
+use Rattle.moka_store.proofs.TableMaps.{get-past_remove}
 use Rattle.std.specs.Option.{option_and_then}
-use Rattle.moka_structures.specs.RecordTable.{Row}
+use Rattle.moka_store.specs.RecordTable.{Row}
 use Rattle.moka_parts.specs.declared.records.Record.{Record}
 use Rattle.moka_store.proofs.Orders.{stays-bare}
 use Rattle.moka_store.proofs.Gets.{after_remove}

@@ -1,8 +1,8 @@
 use Rattle.std.proofs.Common.{◌≡◌, Some, None, sym, ap, ◌∙◌}
 use Rattle.std.proofs.lemmas.Bool.{eq-eqb, eqb-true}
 use Rattle.std.specs.FinMap as finite
-use Rattle.moka_structures.specs.RecordTable.{places_of}
-use Rattle.moka_structures.proofs.TableCalls.{get-places, placed_row}
+use Rattle.moka_store.specs.RecordTable.{places_of}
+use Rattle.moka_store.proofs.TableCalls.{get-places, placed_row}
 use Rattle.moka_store.proofs.Looked.{no-row, numbered-row}
 use Rattle.moka_store.proofs.Places.{record-placed, member-placed, other-row}
 use Rattle.moka_store.proofs.store.Store.has_row.Goals as goal

@@ -2,7 +2,7 @@ use Rattle.std.proofs.Common.{[], ◌∷◌, ◌++◌, sym, subst, arith}
 use Rattle.std.specs.Prelude.{IsPermutation}
 use Rattle.std.proofs.lemmas.List.Elements.{AllZip-push}
 use Rattle.std.proofs.lemmas.List.Sorted.{IsPermutation-refl}
-use Rattle.moka_structures.specs.RecordTable.{stored_at}
+use Rattle.moka_store.specs.RecordTable.{stored_at}
 use Rattle.moka_store.proofs.Listed.{listed-first, listed-none, listed-some, listed-all}
 use Rattle.moka_store.proofs.store.Store.keys.Goals as goal
 use Rattle.moka_store.proofs.store.Store.keys.Goals.{in-Some+in_ok-clone+in_ok-push, in_default}
@@ -17,9 +17,9 @@ loop-place-preserved g c =
     let own = c.loop-place.invariant.0 in
     elim c.match-record.branch [
       | in-Some+in_ok-clone+in_ok-push w ↦
-          let key = w.in-Some.stored.now.key in
-          let more = listed-some rows c.self.invariant.tied.numbered place w.in-Some.stored.now own (sym {b = stored_at rows place} w.in-Some.ensures) c.loop-place.invariant.1 in
-          (own ++ key ∷ [], more, rw (w.keys-is, w.in_ok-push.ensures.items) (AllZip-push g.K.Clone.is_clone own c.loop-place.keys.items key _ c.loop-place.invariant.2 w.in_ok-clone.ensures.cases))
+          let key = w.in-Some.stored.key in
+          let more = listed-some rows c.self.invariant.tied.numbered place w.in-Some.stored own (sym {b = stored_at rows place} w.in-Some.ensures) c.loop-place.invariant.1 in
+          (own ++ key ∷ [], more, rw (w.keys-is, w.in_ok-push.ensures.items) (AllZip-push g.K.Clone.is_clone own c.loop-place.keys.items key _ c.loop-place.invariant.2 (subst (λ k. g.K.Clone.is_clone k w.in_ok-clone.field-0) w.key.ensures w.in_ok-clone.ensures.cases)))
       | in_default w ↦ rw (w.keys-is, listed-none rows place (sym {b = stored_at rows place} w.in_default.ensures)) c.loop-place.invariant
     ]
 

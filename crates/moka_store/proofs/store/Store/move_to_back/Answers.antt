@@ -1,6 +1,6 @@
 use Rattle.std.proofs.Common.{map, refl, sym, ◌∙◌, arith, subst, ap}
 use Rattle.std.specs.Option.{option_and_then}
-use Rattle.moka_structures.specs.declared.row.Membership.{Membership}
+use Rattle.moka_store.specs.declared.table.membership.Membership.{Membership}
 use Rattle.moka_store.specs.Listing.{Listing}
 use Rattle.moka_store.proofs.Orders.{slot-there, moves}
 use Rattle.moka_parts.proofs.AccessList.{counted-to_back}

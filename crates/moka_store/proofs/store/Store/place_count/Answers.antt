@@ -1,6 +1,6 @@
 use Rattle.std.proofs.Common.{arith}
-use Rattle.moka_structures.proofs.TableMaps.{row_at-within}
-use Rattle.moka_structures.proofs.TableCalls.{placed_row}
+use Rattle.moka_store.proofs.TableMaps.{row_at-within}
+use Rattle.moka_store.proofs.TableCalls.{placed_row}
 use Rattle.moka_store.proofs.Places.{record-placed}
 use Rattle.moka_store.proofs.store.Store.place_count.Goals as goal
 

@@ -1,7 +1,7 @@
 use Rattle.std.specs.FinMap as finite
 use Rattle.std.proofs.Common.{◌<◌, ◌^◌, ◌-◌, ◌+◌, map, refl, sym, ◌∙◌, arith, ap, subst, Some, is_some}
 use Rattle.std.specs.Option.{option_and_then}
-use Rattle.moka_structures.specs.declared.row.Membership.{Membership}
+use Rattle.moka_store.specs.declared.table.membership.Membership.{Membership}
 use Rattle.moka_store.specs.Listing.{Listing}
 use Rattle.moka_store.proofs.Orders.{slot-there, stays-row, moves}
 use Rattle.moka_store.proofs.Members.{counted-recounted}

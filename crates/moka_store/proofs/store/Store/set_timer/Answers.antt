@@ -1,7 +1,7 @@
 use Rattle.std.specs.FinMap as finite
 use Rattle.std.specs.Option.{option_and_then}
 use Rattle.std.proofs.Common.{◌&&◌, map, is_some, refl, sym, ◌∙◌, arith, ap, subst}
-use Rattle.moka_structures.specs.RecordTable.{Row}
+use Rattle.moka_store.specs.RecordTable.{Row}
 use Rattle.moka_parts.specs.declared.records.Record.{Record}
 use Rattle.moka_parts.specs.Records.{counted_of}
 use Rattle.moka_parts.specs.Time.{moment_of}

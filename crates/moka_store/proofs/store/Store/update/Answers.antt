@@ -26,34 +26,34 @@ returns-clause-value g c r e =
 pub invariant_of-self : goal.invariant_of-self
 invariant_of-self g c =
     let h = rw (← c.self.view_is) at c.requires.handle in
-    let at = handled_at _ g.met.K.Eq.laws _ c.update.new.table _ _ c.self.inside.written c.self.inside.timers _ _ _ _ c.self.invariant c.args.handle h in
+    let at = handled_at _ g.met.K.Eq.laws _ c.update.new.self _ _ c.self.inside.written c.self.inside.timers _ _ _ _ c.self.invariant c.args.handle h in
     let s = changed _ g.met.K.Eq.laws _ _ _ _ c.self.inside.written c.self.inside.timers _ _ _ _ c.self.invariant c.args.handle h at (updated c.args.update) refl refl (c.update.ensures.table at.stored at.stored_at_is) in
     s.store
 
 pub returns-clause-step : goal.returns-clause-step
 returns-clause-step g c =
     let h = rw (← c.self.view_is) at c.requires.handle in
-    let at = handled_at _ g.met.K.Eq.laws _ c.update.new.table _ _ c.self.inside.written c.self.inside.timers _ _ _ _ c.self.invariant c.args.handle h in
+    let at = handled_at _ g.met.K.Eq.laws _ c.update.new.self _ _ c.self.inside.written c.self.inside.timers _ _ _ _ c.self.invariant c.args.handle h in
     let s = changed _ g.met.K.Eq.laws _ _ _ _ c.self.inside.written c.self.inside.timers _ _ _ _ c.self.invariant c.args.handle h at (updated c.args.update) refl refl (c.update.ensures.table at.stored at.stored_at_is) in
     rw (← c.self.view_is) s.step
 
 pub returns-clause-handle : goal.returns-clause-handle
 returns-clause-handle g c =
     let h = rw (← c.self.view_is) at c.requires.handle in
-    let at = handled_at _ g.met.K.Eq.laws _ c.update.new.table _ _ c.self.inside.written c.self.inside.timers _ _ _ _ c.self.invariant c.args.handle h in
+    let at = handled_at _ g.met.K.Eq.laws _ c.update.new.self _ _ c.self.inside.written c.self.inside.timers _ _ _ _ c.self.invariant c.args.handle h in
     let s = changed _ g.met.K.Eq.laws _ _ _ _ c.self.inside.written c.self.inside.timers _ _ _ _ c.self.invariant c.args.handle h at (updated c.args.update) refl refl (c.update.ensures.table at.stored at.stored_at_is) in
     record { placed = rw (s.places) h.placed; stored = s.stored }
 
 pub returns-clause-places : goal.returns-clause-places
 returns-clause-places g c =
     let h = rw (← c.self.view_is) at c.requires.handle in
-    let at = handled_at _ g.met.K.Eq.laws _ c.update.new.table _ _ c.self.inside.written c.self.inside.timers _ _ _ _ c.self.invariant c.args.handle h in
+    let at = handled_at _ g.met.K.Eq.laws _ c.update.new.self _ _ c.self.inside.written c.self.inside.timers _ _ _ _ c.self.invariant c.args.handle h in
     let s = changed _ g.met.K.Eq.laws _ _ _ _ c.self.inside.written c.self.inside.timers _ _ _ _ c.self.invariant c.args.handle h at (updated c.args.update) refl refl (c.update.ensures.table at.stored at.stored_at_is) in
     rw (← c.self.view_is) s.places
 
 pub returns-clause-access : goal.returns-clause-access
 returns-clause-access g c =
     let h = rw (← c.self.view_is) at c.requires.handle in
-    let at = handled_at _ g.met.K.Eq.laws _ c.update.new.table _ _ c.self.inside.written c.self.inside.timers _ _ _ _ c.self.invariant c.args.handle h in
+    let at = handled_at _ g.met.K.Eq.laws _ c.update.new.self _ _ c.self.inside.written c.self.inside.timers _ _ _ _ c.self.invariant c.args.handle h in
     let s = changed _ g.met.K.Eq.laws _ _ _ _ c.self.inside.written c.self.inside.timers _ _ _ _ c.self.invariant c.args.handle h at (updated c.args.update) refl refl (c.update.ensures.table at.stored at.stored_at_is) in
     rw (← c.self.view_is) s.access

@@ -1,0 +1,110 @@
+use Rattle.std.proofs.Common.{◌≡◌, ◌+◌, ◌<◌, length, sym, ap, ◌∙◌, arith}
+use Rattle.std.proofs.lemmas.List.{length_push, length-set}
+use Rattle.moka_store.proofs.ColdRows.{count-whole, none_whole, inserted-last, inserted-within}
+use Rattle.moka_store.proofs.TableCalls.{shows-inserted}
+use Rattle.moka_store.proofs.table.RecordTable.insert.Goals as goal
+
+pub invariant_of-self : goal.invariant_of-self
+invariant_of-self g c =
+    let last : c.insert-place.result ≡ length c.self.inside.cold.items = omega arith in
+    let step = inserted-last c.self.inside.rows.rows c.insert-place.new.self.rows c.self.inside.cold.items c.insert-place.result c.args.stored c.split-front.result.0 c.split-front.result.1 c.split-front.ensures c.insert-place.ensures.changes last in
+    let fresh = rw (← c.self.view_is) at c.requires.fresh in
+    let s = shows-inserted _ _ _ c.self.invariant.numbered _ _ (none_whole _ _ _ c.insert-place.ensures.vacant) fresh step in
+    let grown = c.insert-place.ensures.pushed (omega (arith, c.self.invariant.beside)) in
+    let room = rw (← c.self.view_is) at c.requires.room in
+    let longer = length_push c.self.inside.cold.items c.split-front.result.1 in
+    rw c.push_reserved.ensures.items (record {
+      beside = omega (arith, grown.0, longer, c.self.invariant.beside);
+      places = omega (arith, grown.1, longer, room, c.self.invariant.beside);
+      rows_fit = omega (arith, c.insert-place.ensures.len, c.insert-place.ensures.room, c.self.invariant.rows_fit);
+      colds_fit = omega (arith, c.push_reserved.ensures.capacity, c.self.invariant.colds_fit);
+      numbered = s.numbered;
+    })
+
+pub invariant_of-self-else-place-len : goal.invariant_of-self-else-place-len
+invariant_of-self-else-place-len g c =
+    let within : c.insert-place.result < length c.self.inside.cold.items = (let f = c.insert-place.ensures.filled (λ e. omega (arith, c.self.invariant.beside)) in omega (arith, f.1, c.self.invariant.beside)) in
+    let step = inserted-within c.self.inside.rows.rows c.insert-place.new.self.rows c.self.inside.cold.items c.insert-place.result c.args.stored c.split-front.result.0 c.split-front.result.1 c.split-front.ensures c.insert-place.ensures.changes within in
+    let fresh = rw (← c.self.view_is) at c.requires.fresh in
+    let s = shows-inserted _ _ _ c.self.invariant.numbered _ _ (none_whole _ _ _ c.insert-place.ensures.vacant) fresh step in
+    let same = c.insert-place.ensures.filled (λ e. omega (arith, c.self.invariant.beside)) in
+    let many = length-set c.self.inside.cold.items c.insert-place.result c.split-front.result.1 in
+    record {
+      beside = omega (arith, same.0, many, c.self.invariant.beside);
+      places = omega (arith, many, c.self.invariant.places);
+      rows_fit = omega (arith, c.insert-place.ensures.len, c.insert-place.ensures.room, c.self.invariant.rows_fit);
+      colds_fit = c.self.invariant.colds_fit;
+      numbered = s.numbered;
+    }
+
+pub returns-then-place-len-clause-vacant : goal.returns-then-place-len-clause-vacant
+returns-then-place-len-clause-vacant g c = rw (← c.self.view_is) (none_whole _ _ _ c.insert-place.ensures.vacant)
+
+pub returns-then-place-len-clause-changes : goal.returns-then-place-len-clause-changes
+returns-then-place-len-clause-changes g c =
+    let last : c.insert-place.result ≡ length c.self.inside.cold.items = omega arith in
+    let step = inserted-last c.self.inside.rows.rows c.insert-place.new.self.rows c.self.inside.cold.items c.insert-place.result c.args.stored c.split-front.result.0 c.split-front.result.1 c.split-front.ensures c.insert-place.ensures.changes last in
+    rw (c.push_reserved.ensures.items, ← c.self.view_is) step
+
+pub returns-then-place-len-clause-records : goal.returns-then-place-len-clause-records
+returns-then-place-len-clause-records g c =
+    let last : c.insert-place.result ≡ length c.self.inside.cold.items = omega arith in
+    let step = inserted-last c.self.inside.rows.rows c.insert-place.new.self.rows c.self.inside.cold.items c.insert-place.result c.args.stored c.split-front.result.0 c.split-front.result.1 c.split-front.ensures c.insert-place.ensures.changes last in
+    let fresh = rw (← c.self.view_is) at c.requires.fresh in
+    let s = shows-inserted _ _ _ c.self.invariant.numbered _ _ (none_whole _ _ _ c.insert-place.ensures.vacant) fresh step in
+    rw (c.push_reserved.ensures.items, ← c.self.view_is) s.records_is
+
+pub returns-then-place-len-clause-counted : goal.returns-then-place-len-clause-counted
+returns-then-place-len-clause-counted g c =
+    let last : c.insert-place.result ≡ length c.self.inside.cold.items = omega arith in
+    let step = inserted-last c.self.inside.rows.rows c.insert-place.new.self.rows c.self.inside.cold.items c.insert-place.result c.args.stored c.split-front.result.0 c.split-front.result.1 c.split-front.ensures c.insert-place.ensures.changes last in
+    let fresh = rw (← c.self.view_is) at c.requires.fresh in
+    let s = shows-inserted _ _ _ c.self.invariant.numbered _ _ (none_whole _ _ _ c.insert-place.ensures.vacant) fresh step in
+    rw (c.push_reserved.ensures.items, ← c.self.view_is) s.counted_is
+
+pub returns-then-place-len-clause-places : goal.returns-then-place-len-clause-places
+returns-then-place-len-clause-places g c =
+    let last : c.insert-place.result ≡ length c.self.inside.cold.items = omega arith in
+    let step = inserted-last c.self.inside.rows.rows c.insert-place.new.self.rows c.self.inside.cold.items c.insert-place.result c.args.stored c.split-front.result.0 c.split-front.result.1 c.split-front.ensures c.insert-place.ensures.changes last in
+    let fresh = rw (← c.self.view_is) at c.requires.fresh in
+    let s = shows-inserted _ _ _ c.self.invariant.numbered _ _ (none_whole _ _ _ c.insert-place.ensures.vacant) fresh step in
+    rw (c.push_reserved.ensures.items, ← c.self.view_is) s.places_is
+
+pub returns-then-place-len-clause-len : goal.returns-then-place-len-clause-len
+returns-then-place-len-clause-len g c = rw (← c.self.view_is) (count-whole _ _ ∙ c.insert-place.ensures.len ∙ ap (λ n. n + 1) (sym (count-whole c.self.inside.rows.rows c.self.inside.cold.items)))
+
+pub returns-else-place-len-clause-vacant : goal.returns-else-place-len-clause-vacant
+returns-else-place-len-clause-vacant g c = rw (← c.self.view_is) (none_whole _ _ _ c.insert-place.ensures.vacant)
+
+pub returns-else-place-len-clause-changes : goal.returns-else-place-len-clause-changes
+returns-else-place-len-clause-changes g c =
+    let within : c.insert-place.result < length c.self.inside.cold.items = (let f = c.insert-place.ensures.filled (λ e. omega (arith, c.self.invariant.beside)) in omega (arith, f.1, c.self.invariant.beside)) in
+    let step = inserted-within c.self.inside.rows.rows c.insert-place.new.self.rows c.self.inside.cold.items c.insert-place.result c.args.stored c.split-front.result.0 c.split-front.result.1 c.split-front.ensures c.insert-place.ensures.changes within in
+    rw (← c.self.view_is) step
+
+pub returns-else-place-len-clause-records : goal.returns-else-place-len-clause-records
+returns-else-place-len-clause-records g c =
+    let within : c.insert-place.result < length c.self.inside.cold.items = (let f = c.insert-place.ensures.filled (λ e. omega (arith, c.self.invariant.beside)) in omega (arith, f.1, c.self.invariant.beside)) in
+    let step = inserted-within c.self.inside.rows.rows c.insert-place.new.self.rows c.self.inside.cold.items c.insert-place.result c.args.stored c.split-front.result.0 c.split-front.result.1 c.split-front.ensures c.insert-place.ensures.changes within in
+    let fresh = rw (← c.self.view_is) at c.requires.fresh in
+    let s = shows-inserted _ _ _ c.self.invariant.numbered _ _ (none_whole _ _ _ c.insert-place.ensures.vacant) fresh step in
+    rw (← c.self.view_is) s.records_is
+
+pub returns-else-place-len-clause-counted : goal.returns-else-place-len-clause-counted
+returns-else-place-len-clause-counted g c =
+    let within : c.insert-place.result < length c.self.inside.cold.items = (let f = c.insert-place.ensures.filled (λ e. omega (arith, c.self.invariant.beside)) in omega (arith, f.1, c.self.invariant.beside)) in
+    let step = inserted-within c.self.inside.rows.rows c.insert-place.new.self.rows c.self.inside.cold.items c.insert-place.result c.args.stored c.split-front.result.0 c.split-front.result.1 c.split-front.ensures c.insert-place.ensures.changes within in
+    let fresh = rw (← c.self.view_is) at c.requires.fresh in
+    let s = shows-inserted _ _ _ c.self.invariant.numbered _ _ (none_whole _ _ _ c.insert-place.ensures.vacant) fresh step in
+    rw (← c.self.view_is) s.counted_is
+
+pub returns-else-place-len-clause-places : goal.returns-else-place-len-clause-places
+returns-else-place-len-clause-places g c =
+    let within : c.insert-place.result < length c.self.inside.cold.items = (let f = c.insert-place.ensures.filled (λ e. omega (arith, c.self.invariant.beside)) in omega (arith, f.1, c.self.invariant.beside)) in
+    let step = inserted-within c.self.inside.rows.rows c.insert-place.new.self.rows c.self.inside.cold.items c.insert-place.result c.args.stored c.split-front.result.0 c.split-front.result.1 c.split-front.ensures c.insert-place.ensures.changes within in
+    let fresh = rw (← c.self.view_is) at c.requires.fresh in
+    let s = shows-inserted _ _ _ c.self.invariant.numbered _ _ (none_whole _ _ _ c.insert-place.ensures.vacant) fresh step in
+    rw (← c.self.view_is) s.places_is
+
+pub returns-else-place-len-clause-len : goal.returns-else-place-len-clause-len
+returns-else-place-len-clause-len g c = rw (← c.self.view_is) (count-whole _ _ ∙ c.insert-place.ensures.len ∙ ap (λ n. n + 1) (sym (count-whole c.self.inside.rows.rows c.self.inside.cold.items)))

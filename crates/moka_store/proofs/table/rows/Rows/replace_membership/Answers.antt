@@ -1,0 +1,33 @@
+use Rattle.std.proofs.Common.{ap, ◌∙◌}
+use Rattle.std.specs.Option.{option_and_then}
+use Rattle.slab.specs.Entry.{value_of}
+use Rattle.moka_store.proofs.TableMaps.{some_is}
+use Rattle.moka_store.proofs.RowCalls.{read_there, rewritten, length-rows}
+use Rattle.moka_store.proofs.table.rows.Rows.replace_membership.Goals as goal
+
+pub invariant_of-self : goal.invariant_of-self
+invariant_of-self g c =
+    let row = some_is _ (rw (← c.self.view_is) at c.requires.row) in
+    let after = c.set_membership.ensures row.0 (read_there c.self.inside.slots.items c.args.place _ _ row.1 c.index_mut-slot.ensures.value) in
+    (rewritten _ _ _ _ _ _ _ c.self.invariant row.1 after).sound
+
+pub returns-clause-changes : goal.returns-clause-changes
+returns-clause-changes g c = λ row at.
+    let there = rw (← c.self.view_is) at at in
+    let after = c.set_membership.ensures row (read_there c.self.inside.slots.items c.args.place _ _ there c.index_mut-slot.ensures.value) in
+    rw (← c.self.view_is) (rewritten _ _ _ _ _ _ _ c.self.invariant there after).changes
+
+pub returns-clause-len : goal.returns-clause-len
+returns-clause-len g c =
+    let row = some_is _ (rw (← c.self.view_is) at c.requires.row) in
+    let after = c.set_membership.ensures row.0 (read_there c.self.inside.slots.items c.args.place _ _ row.1 c.index_mut-slot.ensures.value) in
+    rw (← c.self.view_is) (rewritten _ _ _ _ _ _ _ c.self.invariant row.1 after).count
+
+pub returns-clause-old : goal.returns-clause-old
+returns-clause-old g c =
+    let row = some_is _ (rw (← c.self.view_is) at c.requires.row) in
+    let read = read_there c.self.inside.slots.items c.args.place _ _ row.1 c.index_mut-slot.ensures.value in
+    rw (← c.self.view_is, row.1) (c.membership-old.ensures.membership ∙ ap (λ e. option_and_then (λ row. row.membership) (value_of e)) read)
+
+pub returns-clause-length : goal.returns-clause-length
+returns-clause-length g c = rw (← c.self.view_is) (length-rows _ _ _)

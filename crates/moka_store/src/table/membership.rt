@@ -1,0 +1,76 @@
+//! The words of a row.
+ghost use Rattle.std.specs.Prelude.{◌≡◌, IfSome};
+ghost use Rattle.moka_store.specs.Slots.{slot_of, membership_of, IsSlot, HasSlots};
+
+/// A row's place in the cache's order. No slot is 0.
+#[derive(Clone, Copy)]
+pub struct Membership {
+    /// The weight that is counted for it.
+    pub counted: u32,
+    /// Its slot in the access list.
+    pub access: u32,
+    /// Its slot in the write list, where that list is kept.
+    pub written: Option<u32>,
+}
+
+// Slots are kept as words in which 0 stands for none, since an `Option` would take a word more for each.
+
+/// The slot for which a word stands.
+#[inline(always)]
+pub(crate) fn slot_of(word: u32) -> Option<u32>
+    ensures slot { result ≡ slot_of word }
+    ensures positive { IsSlot result }
+{
+    if word == 0 {
+        return None;
+    }
+    Some(word)
+}
+
+/// The word that stands for a slot.
+#[inline(always)]
+pub(crate) fn word_of(slot: Option<u32>) -> u32
+    requires { IsSlot slot }
+    ensures { slot_of result ≡ slot }
+{
+    match slot {
+        Some(slot) => slot,
+        None => 0,
+    }
+}
+
+/// The membership for which the words stand.
+#[inline(always)]
+pub(crate) fn membership_of(counted: u32, access: u32, written: u32) -> Option<Membership>
+    ensures membership { result ≡ membership_of counted access written }
+    ensures slots { IfSome result HasSlots }
+{
+    if access == 0 {
+        return None;
+    }
+    Some(Membership {
+        counted,
+        access,
+        written: slot_of(written),
+    })
+}
+
+/// Writes the words that stand for a membership, or for none.
+#[inline(always)]
+pub(crate) fn write_membership(
+    counted: &mut u32,
+    access: &mut u32,
+    written: &mut u32,
+    membership: Option<Membership>,
+)
+    requires { IfSome membership HasSlots }
+    ensures { membership_of counted.new access.new written.new ≡ membership }
+{
+    let Some(membership) = membership else {
+        *access = 0;
+        return;
+    };
+    *counted = membership.counted;
+    *access = membership.access;
+    *written = word_of(membership.written);
+}

@@ -1,0 +1,332 @@
+//! A place of the table, in as few bytes as it takes.
+ghost use Rattle.std.specs.Prelude.{◌≡◌, false, IfSome, IsSome, None, Some};
+ghost use Rattle.std.specs.Option.{option_and_then, option_map};
+ghost use Rattle.slab.specs.declared.Entry.TheVariants.{Vacant, Occupied};
+ghost use Rattle.slab.specs.Entry.{value_of};
+ghost use Rattle.moka_store.specs.declared.table.membership.Membership.{Membership};
+ghost use Rattle.moka_store.specs.RecordTable.{Row, stored_if};
+ghost use Rattle.moka_store.specs.Slots.{membership_of, slot_of, IsSlot, HasSlots};
+ghost use Rattle.moka_store.specs.States.{front_of, touched, rewritten};
+
+use super::membership::{Membership, membership_of, slot_of, word_of, write_membership};
+use crate::store::Update;
+use moka_parts::policy::Instant;
+use moka_parts::record_ref::{Front, Hot};
+use std::marker::Model;
+use std::mem;
+
+/// A row of the table but for the cold part of its record, or a vacant place with the next one. A row has a record, until
+/// it leaves the map; a membership, while it is a member; and a slot among the timers, while it has one.
+#[derive(Drop)]
+pub(crate) struct Slot<K, V> {
+    state: State<K, V>,
+}
+
+// With keys and values of a word each, a line of memory, of which the first 48 bytes are what look-ups read.
+#[derive(Drop)]
+enum State<K, V> {
+    Live {
+        expiring: bool,
+        access: u32,
+        number: u64,
+        hot: Hot<K, V>,
+        counted: u32,
+        written: u32,
+        timer: u32,
+        weight: u32,
+    },
+    // The record left the map.
+    Gone {
+        access: u32,
+        number: u64,
+        counted: u32,
+        written: u32,
+        timer: u32,
+    },
+    Vacant {
+        next: usize,
+    },
+}
+
+/// A record that is lent, but for its number and its cold part.
+#[derive(Drop)]
+pub(crate) struct FrontRef<'a, K, V> {
+    pub(crate) hot: &'a Hot<K, V>,
+    pub(crate) weight: u32,
+    pub(crate) expiring: bool,
+}
+
+impl<K, V> Model for Slot<K, V> {
+    ghost use Rattle.slab.specs.declared.Entry.{Entry};
+    ghost use Rattle.moka_parts.specs.RecordParts.{front_code};
+    ghost use Rattle.moka_parts.specs.declared.record_ref.Front.{Front};
+    ghost use Rattle.moka_store.specs.RecordTable.{Row, row_code};
+    ghost use Rattle.moka_store.specs.Slots.{entry_code};
+    ghost use Rattle.moka_store.specs.States.{entry_of};
+
+    ghost Value = { Entry (Row (Front K V)) };
+
+    ghost coded = { entry_code (row_code (front_code K.code V.code)) };
+
+    ghost view = { λ a. entry_of a.state };
+}
+
+impl<K, V> Slot<K, V> {
+    /// The row of a number whose record is in the map.
+    #[inline(always)]
+    pub(crate) fn full(number: u64, front: Front<K, V>) -> Self
+        ensures { result ≡ Occupied (record { number = number; stored = Some front; membership = None; timer = None }) }
+    {
+        let Front {
+            hot,
+            weight,
+            expiring,
+        } = front;
+        Slot {
+            state: State::Live {
+                expiring,
+                access: 0,
+                number,
+                hot,
+                counted: 0,
+                written: 0,
+                timer: 0,
+                weight,
+            },
+        }
+    }
+
+    /// A vacant place before this one.
+    #[inline(always)]
+    pub(crate) fn vacant(next: usize) -> Self
+        ensures { result ≡ Vacant next }
+    {
+        Slot {
+            state: State::Vacant { next },
+        }
+    }
+
+    /// The vacant place behind this one, which is vacant.
+    #[inline(always)]
+    pub(crate) fn into_next(self) -> usize
+        requires { value_of self ≡ None }
+        ensures { self ≡ Vacant result }
+    {
+        let Slot { state } = self;
+        match state {
+            State::Vacant { next } => next,
+            State::Live { .. } => unreachable!(),
+            State::Gone { .. } => unreachable!(),
+        }
+    }
+
+    /// The row's number, if there is a row.
+    #[inline(always)]
+    pub(crate) fn number(&self) -> Option<u64>
+        ensures { result ≡ option_map (λ row. row.number) (value_of self.now) }
+    {
+        match &self.state {
+            State::Live { number, .. } => Some(*number),
+            State::Gone { number, .. } => Some(*number),
+            State::Vacant { .. } => None,
+        }
+    }
+
+    /// The row's number and its record, if it is in the map.
+    #[inline(always)]
+    pub(crate) fn live(&self) -> Option<(u64, FrontRef<'_, K, V>)>
+        ensures number { IfSome result (λ f. option_map (λ row. row.number) (value_of self.now) ≡ Some f.0) }
+        ensures stored { option_map (λ f. front_of f.1) result ≡ option_and_then (λ row. row.stored) (value_of self.now) }
+    {
+        match &self.state {
+            State::Live {
+                expiring,
+                number,
+                hot,
+                weight,
+                ..
+            } => {
+                let front = FrontRef {
+                    hot,
+                    weight: *weight,
+                    expiring: *expiring,
+                };
+                Some((*number, front))
+            }
+            State::Gone { .. } => None,
+            State::Vacant { .. } => None,
+        }
+    }
+
+    /// The row's membership.
+    #[inline(always)]
+    pub(crate) fn membership(&self) -> Option<Membership>
+        ensures membership { result ≡ option_and_then (λ row. row.membership) (value_of self.now) }
+        ensures slots { IfSome result HasSlots }
+    {
+        match &self.state {
+            State::Live {
+                access,
+                counted,
+                written,
+                ..
+            } => membership_of(*counted, *access, *written),
+            State::Gone {
+                access,
+                counted,
+                written,
+                ..
+            } => membership_of(*counted, *access, *written),
+            State::Vacant { .. } => None,
+        }
+    }
+
+    /// The row's slot among the timers.
+    #[inline(always)]
+    pub(crate) fn timer(&self) -> Option<u32>
+        ensures timer { result ≡ option_and_then (λ row. row.timer) (value_of self.now) }
+        ensures slot { IsSlot result }
+    {
+        match &self.state {
+            State::Live { timer, .. } => slot_of(*timer),
+            State::Gone { timer, .. } => slot_of(*timer),
+            State::Vacant { .. } => None,
+        }
+    }
+
+    /// The record, which is in the map, was read at this moment, and now expires by itself or does not: as before, unless
+    /// that is renewed.
+    #[inline(always)]
+    pub(crate) fn touch(&mut self, moment: Instant, is_expiring: bool, is_renewed: bool)
+        requires stored { IsSome (option_and_then (λ row. row.stored) (value_of self.old)) }
+        requires kept { is_renewed ≡ false → (row : Row (Front K V)) (f : Front K V) → self.old ≡ Occupied row → row.stored ≡ Some f → is_expiring ≡ f.expiring }
+        ensures { (row : Row (Front K V)) (f : Front K V) → self.old ≡ Occupied row → row.stored ≡ Some f → self.new ≡ Occupied (record row { stored = Some (touched moment is_expiring f) }) }
+    {
+        let State::Live { hot, expiring, .. } = &mut self.state else {
+            unreachable!()
+        };
+        hot.read = moment;
+        if is_renewed {
+            *expiring = is_expiring;
+        }
+    }
+
+    /// The record, which is in the map, gets another value, with what comes with it. The answer is the old value.
+    #[inline(always)]
+    pub(crate) fn replace_value(&mut self, update: Update<V>) -> V
+        requires { IsSome (option_and_then (λ row. row.stored) (value_of self.old)) }
+        ensures value { (row : Row (Front K V)) (f : Front K V) → self.old ≡ Occupied row → row.stored ≡ Some f → result ≡ f.hot.value }
+        ensures new { (row : Row (Front K V)) (f : Front K V) → self.old ≡ Occupied row → row.stored ≡ Some f → self.new ≡ Occupied (record row { stored = Some (rewritten update f) }) }
+    {
+        let State::Live {
+            expiring,
+            hot,
+            weight,
+            ..
+        } = &mut self.state
+        else {
+            unreachable!()
+        };
+        *weight = update.weight;
+        *expiring = update.expires.is_some();
+        hot.read = update.now;
+        mem::replace(&mut hot.value, update.value)
+    }
+
+    /// The record leaves the row.
+    #[inline(always)]
+    pub(crate) fn take(&mut self) -> (u64, Front<K, V>)
+        requires { IsSome (option_and_then (λ row. row.stored) (value_of self.old)) }
+        ensures number { (row : Row (Front K V)) → self.old ≡ Occupied row → row.number ≡ result.0 }
+        ensures taken { option_and_then (λ row. row.stored) (value_of self.old) ≡ Some result.1 }
+        ensures left { (row : Row (Front K V)) → self.old ≡ Occupied row → self.new ≡ Occupied (record row { stored = None }) }
+    {
+        let State::Live {
+            access,
+            number,
+            counted,
+            written,
+            timer,
+            ..
+        } = &self.state
+        else {
+            unreachable!()
+        };
+        let gone = State::Gone {
+            access: *access,
+            number: *number,
+            counted: *counted,
+            written: *written,
+            timer: *timer,
+        };
+        match mem::replace(&mut self.state, gone) {
+            State::Live {
+                expiring,
+                number,
+                hot,
+                weight,
+                ..
+            } => {
+                let front = Front {
+                    hot,
+                    weight,
+                    expiring,
+                };
+                (number, front)
+            }
+            State::Gone { .. } => unreachable!(),
+            State::Vacant { .. } => unreachable!(),
+        }
+    }
+
+    /// The row gets another membership, or none.
+    #[inline(always)]
+    pub(crate) fn set_membership(&mut self, membership: Option<Membership>)
+        requires row { IsSome (value_of self.old) }
+        requires slots { IfSome membership HasSlots }
+        ensures { (row : Row (Front K V)) → self.old ≡ Occupied row → self.new ≡ Occupied (record row { membership = membership }) }
+    {
+        match &mut self.state {
+            State::Live {
+                access,
+                counted,
+                written,
+                ..
+            } => write_membership(counted, access, written, membership),
+            State::Gone {
+                access,
+                counted,
+                written,
+                ..
+            } => write_membership(counted, access, written, membership),
+            State::Vacant { .. } => unreachable!(),
+        }
+    }
+
+    /// The row, which is a member, gets another weight.
+    #[inline(always)]
+    pub(crate) fn set_counted(&mut self, weight: u32)
+        requires { IsSome (option_and_then (λ row. row.membership) (value_of self.old)) }
+        ensures { (row : Row (Front K V)) (m : Membership) → self.old ≡ Occupied row → row.membership ≡ Some m → self.new ≡ Occupied (record row { membership = Some (record m { counted = weight }) }) }
+    {
+        match &mut self.state {
+            State::Live { counted, .. } => *counted = weight,
+            State::Gone { counted, .. } => *counted = weight,
+            State::Vacant { .. } => unreachable!(),
+        }
+    }
+
+    /// The row gets another slot among the timers, or none.
+    #[inline(always)]
+    pub(crate) fn set_timer(&mut self, slot: Option<u32>)
+        requires row { IsSome (value_of self.old) }
+        requires slot { IsSlot slot }
+        ensures { (row : Row (Front K V)) → self.old ≡ Occupied row → self.new ≡ Occupied (record row { timer = slot }) }
+    {
+        match &mut self.state {
+            State::Live { timer, .. } => *timer = word_of(slot),
+            State::Gone { timer, .. } => *timer = word_of(slot),
+            State::Vacant { .. } => unreachable!(),
+        }
+    }
+}
