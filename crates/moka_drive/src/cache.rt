@@ -47,6 +47,14 @@ const MAX_LOG_SYNC_REPEATS: u32 = 4;
 // How many entries a sweep of a run of its own looks at in a pass.
 const EVICTION_BATCH_SIZE: u32 = 384;
 
+// What is put: a value under a key, which comes with its hash by the engine's own hasher.
+#[derive(Drop)]
+pub(crate) struct Put<K, V> {
+    pub(crate) key: K,
+    pub(crate) hash: u64,
+    pub(crate) value: V,
+}
+
 /// A cache that sends each operation as it is handed out, so that none waits between two calls. Each call is given the
 /// moment, and a clock for the runs of maintenance that it makes. moka: `sync::cache::Cache`.
 pub struct Cache<
@@ -227,15 +235,13 @@ impl<
         ensures counted { self.new.stats ≡ self.old.stats }
     {
         let hash = self.engine.hash(&key);
-        self.insert_hashed(key, hash, value, now, clock)
+        self.insert_hashed(Put { key, hash, value }, now, clock)
     }
 
     // An insert of a key with its hash.
     fn insert_hashed<C: Clock>(
         &mut self,
-        key: K,
-        hash: u64,
-        value: V,
+        put: Put<K, V>,
         now: Instant,
         clock: &mut C,
     ) -> Result<(), InsertRefused<K, V>>
@@ -243,16 +249,17 @@ impl<
         K: Drop,
         V: Drop,
         P: Drop,
-        requires own { hash ≡ S.Hasher.finish (fold S.Hasher.write (S.build_hasher self.old.engine.hasher) (K.hash_input key)) }
+        requires own { put.hash ≡ S.Hasher.finish (fold S.Hasher.write (S.build_hasher self.old.engine.hasher) (K.hash_input put.key)) }
         ensures made { Makes (meaning_of K.eq L.tells P.says W.weighs C.reads X.created X.read X.updated)
-            (InsertsEntry key (S.Hasher.finish (fold S.Hasher.write (S.build_hasher self.old.engine.hasher) (K.hash_input key))) value now result)
+            (InsertsEntry put.key (S.Hasher.finish (fold S.Hasher.write (S.build_hasher self.old.engine.hasher) (K.hash_input put.key))) put.value now result)
             self.old.engine clock.old self.new.engine clock.new }
-        ensures back { IfErr result (λ refused. (refused.key ≡ key) × (refused.value ≡ value)) }
+        ensures back { IfErr result (λ refused. (refused.key ≡ put.key) × (refused.value ≡ put.value)) }
         ensures unchanged { OnErr result ((self.new.engine.state ≡ self.old.engine.state) × (clock.new ≡ clock.old)) }
-        ensures kept { IfOk result (λ _. is_disabled self.old.engine.state.capacity ≡ false → IsThere K.eq self.new.engine.state key value now) }
-        ensures shown { IfOk result (λ _. is_disabled self.old.engine.state.capacity ≡ false → ShowsWrites self.old.engine.state now.0 → ContainsStep P.says K.eq self.new.engine.state key now.0 true) }
+        ensures kept { IfOk result (λ _. is_disabled self.old.engine.state.capacity ≡ false → IsThere K.eq self.new.engine.state put.key put.value now) }
+        ensures shown { IfOk result (λ _. is_disabled self.old.engine.state.capacity ≡ false → ShowsWrites self.old.engine.state now.0 → ContainsStep P.says K.eq self.new.engine.state put.key now.0 true) }
         ensures counted { self.new.stats ≡ self.old.stats }
     {
+        let Put { key, hash, value } = put;
         self.engine.invariant_holds();
         if self.engine.is_map_disabled() {
             return Ok(());
@@ -447,7 +454,7 @@ impl<
         }
         self.count_load();
         let value = init();
-        match self.insert_made_hashed(key, hash, value, now, clock) {
+        match self.insert_made_hashed(Put { key, hash, value }, now, clock) {
             Ok(copy) => Ok(copy),
             Err(refused) => Err(GetWithRefused::Insert(refused)),
         }
@@ -483,7 +490,7 @@ impl<
         let Some(value) = init() else {
             return Ok(None);
         };
-        match self.insert_made_hashed(key, hash, value, now, clock) {
+        match self.insert_made_hashed(Put { key, hash, value }, now, clock) {
             Ok(copy) => Ok(Some(copy)),
             Err(refused) => Err(GetWithRefused::Insert(refused)),
         }
@@ -520,7 +527,7 @@ impl<
             Ok(value) => value,
             Err(error) => return Ok(Err(error)),
         };
-        match self.insert_made_hashed(key, hash, value, now, clock) {
+        match self.insert_made_hashed(Put { key, hash, value }, now, clock) {
             Ok(copy) => Ok(Ok(copy)),
             Err(refused) => Err(GetWithRefused::Insert(refused)),
         }
@@ -529,9 +536,7 @@ impl<
     // Inserts a value that was made for a key with its hash, and hands out a clone of it.
     pub(crate) fn insert_made_hashed<C: Clock>(
         &mut self,
-        key: K,
-        hash: u64,
-        value: V,
+        put: Put<K, V>,
         now: Instant,
         clock: &mut C,
     ) -> Result<V, InsertRefused<K, V>>
@@ -539,18 +544,20 @@ impl<
         K: Drop,
         V: Clone + Drop,
         P: Drop,
-        requires own { hash ≡ S.Hasher.finish (fold S.Hasher.write (S.build_hasher self.old.engine.hasher) (K.hash_input key)) }
+        requires own { put.hash ≡ S.Hasher.finish (fold S.Hasher.write (S.build_hasher self.old.engine.hasher) (K.hash_input put.key)) }
         ensures made { (own : Result V (InsertRefused K V)) × HandsOutOwn V.is_clone own result
             × Makes (meaning_of K.eq L.tells P.says W.weighs C.reads X.created X.read X.updated)
-            (InsertsMade key (S.Hasher.finish (fold S.Hasher.write (S.build_hasher self.old.engine.hasher) (K.hash_input key))) now value own)
+            (InsertsMade put.key (S.Hasher.finish (fold S.Hasher.write (S.build_hasher self.old.engine.hasher) (K.hash_input put.key))) now put.value own)
             self.old.engine clock.old self.new.engine clock.new }
         ensures counted { self.new.stats ≡ self.old.stats }
     {
+        let Put { key, hash, value } = put;
         let Ok(copy) = value.clone() else {
             let error = InsertError::OutOfMemory;
             return Err(InsertRefused { error, key, value });
         };
-        match self.insert_hashed(key, hash, value, now, clock) {
+        let put = Put { key, hash, value };
+        match self.insert_hashed(put, now, clock) {
             Ok(()) => Ok(copy),
             Err(refused) => Err(refused),
         }

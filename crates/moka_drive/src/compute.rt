@@ -7,7 +7,7 @@ ghost use Rattle.moka_parts.specs.declared.error.OutOfMemory.{OutOfMemory};
 ghost use Rattle.moka_drive.specs.Computing.{HandsOutComputedPut, HandsOutTaken, AndUpserts, AndComputes};
 ghost use Rattle.moka_drive.specs.Synchronous.{InsertsMade, Makes, RemovesEntry, hears_clones, meaning_of};
 
-use crate::cache::Cache;
+use crate::cache::{Cache, Put};
 use crate::entry::{CacheEntry, found};
 use crate::error::{GetWithRefused, NotTold};
 use moka_parts::closures::{PredicateFn, Weigher};
@@ -113,7 +113,7 @@ impl<
         };
         let is_there = seen.is_some();
         let value = f(seen);
-        match self.insert_entry(key, hash, value, is_there, now, clock) {
+        match self.insert_entry(Put { key, hash, value }, is_there, now, clock) {
             Ok(entry) => Ok(entry),
             Err(refused) => Err(GetWithRefused::Insert(refused)),
         }
@@ -149,7 +149,7 @@ impl<
         };
         let is_there = seen.is_some();
         match f(seen.as_ref()) {
-            Op::Put(value) => self.put_computed(key, hash, value, is_there, now, clock),
+            Op::Put(value) => self.put_computed(Put { key, hash, value }, is_there, now, clock),
             Op::Nop => match seen {
                 Some(value) => Ok(CompResult::Unchanged(found(key, value))),
                 None => Ok(CompResult::StillNone(key)),
@@ -167,9 +167,7 @@ impl<
     // Puts the value that was computed, with the key's hash.
     fn put_computed<C: Clock>(
         &mut self,
-        key: K,
-        hash: u64,
-        value: V,
+        put: Put<K, V>,
         is_there: bool,
         now: Instant,
         clock: &mut C,
@@ -178,15 +176,15 @@ impl<
         K: Clone + Drop,
         V: Clone + Drop,
         P: Drop,
-        requires own { hash ≡ S.Hasher.finish (fold S.Hasher.write (S.build_hasher self.old.engine.hasher) (K.hash_input key)) }
+        requires own { put.hash ≡ S.Hasher.finish (fold S.Hasher.write (S.build_hasher self.old.engine.hasher) (K.hash_input put.key)) }
         ensures made { (own : Result V (InsertRefused K V))
-            × HandsOutComputedPut K.is_clone V.is_clone key is_there own result
+            × HandsOutComputedPut K.is_clone V.is_clone put.key is_there own result
             × Makes (meaning_of K.eq L.tells P.says W.weighs C.reads X.created X.read X.updated)
-            (InsertsMade key (S.Hasher.finish (fold S.Hasher.write (S.build_hasher self.old.engine.hasher) (K.hash_input key))) now value own)
+            (InsertsMade put.key (S.Hasher.finish (fold S.Hasher.write (S.build_hasher self.old.engine.hasher) (K.hash_input put.key))) now put.value own)
             self.old.engine clock.old self.new.engine clock.new }
         ensures counted { self.new.stats ≡ self.old.stats }
     {
-        let entry = match self.insert_entry(key, hash, value, is_there, now, clock) {
+        let entry = match self.insert_entry(put, is_there, now, clock) {
             Ok(entry) => entry,
             Err(refused) => return Err(ComputeRefused::Insert(refused)),
         };

@@ -8,7 +8,7 @@ ghost use Rattle.moka_parts.specs.declared.error.InsertRefused.{InsertRefused};
 ghost use Rattle.moka_drive.specs.Entries.{entry_value, IsFresh, OrInserts, OrInsertsMade, OrInsertsIfMade, OrInsertsIfNoError};
 ghost use Rattle.moka_drive.specs.Synchronous.{Makes, meaning_of, InsertsMade, HandsOutOwn};
 
-use crate::cache::Cache;
+use crate::cache::{Cache, Put};
 use crate::error::GetWithRefused;
 use moka_parts::closures::{PredicateFn, Weigher};
 use moka_parts::error::{InsertError, InsertRefused};
@@ -69,7 +69,7 @@ impl<
                 return Err(InsertRefused { error, key, value });
             }
         }
-        self.insert_entry(key, hash, value, false, now, clock)
+        self.insert_entry(Put { key, hash, value }, false, now, clock)
     }
 
     /// The entry of a key, with a clone of its value, if the key is there and visible at the moment `now`; and else the
@@ -103,7 +103,7 @@ impl<
         }
         self.count_load();
         let value = init();
-        match self.insert_entry(key, hash, value, false, now, clock) {
+        match self.insert_entry(Put { key, hash, value }, false, now, clock) {
             Ok(entry) => Ok(entry),
             Err(refused) => Err(GetWithRefused::Insert(refused)),
         }
@@ -140,7 +140,7 @@ impl<
         let Some(value) = init() else {
             return Ok(None);
         };
-        match self.insert_entry(key, hash, value, false, now, clock) {
+        match self.insert_entry(Put { key, hash, value }, false, now, clock) {
             Ok(entry) => Ok(Some(entry)),
             Err(refused) => Err(GetWithRefused::Insert(refused)),
         }
@@ -178,7 +178,7 @@ impl<
             Ok(value) => value,
             Err(error) => return Ok(Err(error)),
         };
-        match self.insert_entry(key, hash, value, false, now, clock) {
+        match self.insert_entry(Put { key, hash, value }, false, now, clock) {
             Ok(entry) => Ok(Ok(entry)),
             Err(refused) => Err(GetWithRefused::Insert(refused)),
         }
@@ -187,9 +187,7 @@ impl<
     // Inserts a value for a key with its hash, and hands out its entry.
     pub(crate) fn insert_entry<C: Clock>(
         &mut self,
-        key: K,
-        hash: u64,
-        value: V,
+        put: Put<K, V>,
         is_old_value_replaced: bool,
         now: Instant,
         clock: &mut C,
@@ -198,19 +196,20 @@ impl<
         K: Clone + Drop,
         V: Clone + Drop,
         P: Drop,
-        requires own { hash ≡ S.Hasher.finish (fold S.Hasher.write (S.build_hasher self.old.engine.hasher) (K.hash_input key)) }
+        requires own { put.hash ≡ S.Hasher.finish (fold S.Hasher.write (S.build_hasher self.old.engine.hasher) (K.hash_input put.key)) }
         ensures made { (own : Result V (InsertRefused K V)) × HandsOutOwn V.is_clone own (entry_value result)
             × Makes (meaning_of K.eq L.tells P.says W.weighs C.reads X.created X.read X.updated)
-            (InsertsMade key (S.Hasher.finish (fold S.Hasher.write (S.build_hasher self.old.engine.hasher) (K.hash_input key))) now value own)
+            (InsertsMade put.key (S.Hasher.finish (fold S.Hasher.write (S.build_hasher self.old.engine.hasher) (K.hash_input put.key))) now put.value own)
             self.old.engine clock.old self.new.engine clock.new }
-        ensures entry { IfOk result (λ e. IsFresh K.is_clone key e × (e.is_old_value_replaced ≡ is_old_value_replaced)) }
+        ensures entry { IfOk result (λ e. IsFresh K.is_clone put.key e × (e.is_old_value_replaced ≡ is_old_value_replaced)) }
         ensures counted { self.new.stats ≡ self.old.stats }
     {
+        let Put { key, hash, value } = put;
         let Ok(own_key) = key.clone() else {
             let error = InsertError::OutOfMemory;
             return Err(InsertRefused { error, key, value });
         };
-        match self.insert_made_hashed(key, hash, value, now, clock) {
+        match self.insert_made_hashed(Put { key, hash, value }, now, clock) {
             Ok(value) => Ok(CacheEntry {
                 key: own_key,
                 value,

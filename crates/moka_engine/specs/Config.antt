@@ -1,9 +1,10 @@
 -- What a cache is to be made with, and the cache that this makes.
-use Rattle.std.specs.Prelude.{ℕ, Bool, false, List, [], Option, Some, None, is_some}
+use Rattle.std.specs.Prelude.{ℕ, Bool, false, List, Option, Some, None, is_some}
 use Rattle.moka_parts.specs.declared.policy.EvictionPolicy.{EvictionPolicy}
 use Rattle.moka_parts.specs.declared.policy.EvictionPolicy.TheVariants.{TinyLfu}
 use Rattle.moka_parts.specs.Runs.{Cache}
-use Rattle.moka_parts.specs.State.{Settings, new_state}
+use Rattle.moka_parts.specs.State.{Settings}
+use Rattle.moka_engine.specs.BaseCache.{empty_cache}
 
 -- what was chosen; durations are in nanoseconds, the name is in bytes
 pub record Config (X L W : Type 0) : Type 0 where
@@ -118,11 +119,4 @@ module _ {X L W : Type 0} where
 
   -- the empty cache, made with this hasher at now
   abbrev pub new_cache : {K V S P : Type 0} → Config X L W → S → ℕ → Cache K V S X L P W
-  new_cache c hasher now = record {
-    name = c.name;
-    hasher = hasher;
-    state = new_state (chosen_settings c) c.max_capacity now c.first_ticket;
-    listener = c.listener;
-    write_list = [];
-    passes = 0;
-  }
+  new_cache c hasher now = empty_cache c.name hasher (chosen_settings c) c.max_capacity now c.first_ticket c.listener

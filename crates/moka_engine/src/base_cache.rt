@@ -9,15 +9,16 @@ ghost use Rattle.moka_parts.specs.Order.{IsWriteList};
 ghost use Rattle.moka_parts.specs.Records.{Notice, record_of_key};
 ghost use Rattle.moka_parts.specs.Runs.{Befalls};
 ghost use Rattle.moka_parts.specs.Settling.{IsValid};
-ghost use Rattle.moka_parts.specs.State.{Events, is_disabled, keeps_write_list, limits_of, new_state};
+ghost use Rattle.moka_parts.specs.State.{Events, is_disabled, keeps_write_list, limits_of};
 ghost use Rattle.moka_parts.specs.Surroundings.{Leads};
 ghost use Rattle.moka_store.specs.Hashing.{IsKeyHash};
 ghost use Rattle.moka_parts.specs.declared.calls.Call.TheVariants as call;
 ghost use Rattle.moka_parts.specs.declared.calls.Reply.TheVariants as reply;
-ghost use Rattle.moka_engine.specs.BaseCache.{IsServed, settings_of};
+ghost use Rattle.moka_engine.specs.BaseCache.{IsServed, empty_cache, settings_of};
 ghost use Rattle.moka_engine.specs.Makes.{Makes, meaning};
 
-use moka_inner::{Inner, Layout};
+use self::gets::Moments;
+use moka_inner::{Hashes, Inner, Layout};
 use moka_parts::calls::{Entry, KvEntry, Ticket};
 use moka_parts::closures::{NoTest, PredicateFn, Weigher};
 use moka_parts::error::{CapacityError, InsertRefused, OutOfMemory, SendError};
@@ -49,11 +50,21 @@ pub use snapshot::{Snapshot, SnapshotEntry};
 // How many segments the map has.
 const SEGMENTS: usize = 1;
 
-// The hash of a key that a caller hands in, and that under which the map has the key.
+// What a get looks up: a key with its hashes, whether its own key is to be cloned, and when.
+#[derive(Drop)]
+struct Look<'a, K> {
+    key: &'a K,
+    hashes: Hashes,
+    need_key: bool,
+    now: Instant,
+}
+
+// A hit that is to be queued: the record's number and first hash, and whether its expiry was renewed.
 #[derive(Clone, Copy)]
-struct Hashes {
+struct ReadHit {
+    number: u64,
     hash: u64,
-    own: KeyHash,
+    renewed: bool,
 }
 
 /// A cache. moka: `sync::base_cache::BaseCache`.
@@ -211,17 +222,10 @@ impl<
         P: Drop,
         W: Drop,
         requires first { 1 ≤ first_ticket }
-        ensures { IfOk result (λ c. c ≡ record {
-          name = option_map string_bytes name;
-          hasher = build_hasher;
-          state = new_state
-              (settings_of eviction_policy expiration_policy weigher invalidator_enabled
-              (new_keeper (is_some eviction_listener) housekeeper_config now.0))
-              max_capacity now.0 first_ticket;
-          listener = eviction_listener;
-          write_list = [];
-          passes = 0;
-        }) }
+        ensures { IfOk result (λ c. c ≡ empty_cache (option_map string_bytes name) build_hasher
+            (settings_of eviction_policy expiration_policy weigher invalidator_enabled
+            (new_keeper (is_some eviction_listener) housekeeper_config now.0))
+            max_capacity now.0 first_ticket eviction_listener) }
     {
         let initial_capacity = initial_capacity.unwrap_or(0);
         let ordered = needs_write_list(&expiration_policy, invalidator_enabled);
@@ -419,8 +423,7 @@ impl<
         ensures { (e : Events K V) × InsertStep X.created X.updated W.weighs K.eq self.old.state key hashes.hash value now result e self.new.state × Befalls L.tells e self.old self.new }
     {
         let weight = inserts::weigh(&self.weigher, &key, &value);
-        let Hashes { hash, own } = hashes;
-        let Some((handle, found)) = self.inner.find(&key, own) else {
+        let Some((handle, found)) = self.inner.find(&key, hashes.own) else {
             let expires = inserts::expires_at_creation(&self.expiration_policy, &key, &value, now);
             if let Err(error) = self.inner.reserve_record() {
                 return Err(InsertRefused { error, key, value });
@@ -431,7 +434,7 @@ impl<
                 expires,
                 weight,
             };
-            return Ok((self.inner.insert(key, own, hash, update), now));
+            return Ok((self.inner.insert(key, hashes, update), now));
         };
         let (policy, valid_after) = (&self.expiration_policy, self.valid_after);
         let cause = causes::cause_of_replacement(&found, policy, valid_after, now);
@@ -445,7 +448,7 @@ impl<
             expires,
             weight,
         };
-        let (old, ticket) = self.inner.update(handle, hash, update);
+        let (old, ticket) = self.inner.update(handle, hashes.hash, update);
         self.notifier.notify(key, old, cause);
         Ok((ticket, now))
     }
@@ -572,17 +575,12 @@ impl<
         requires own { IsKeyHash S.build_hasher S.Hasher.finish S.Hasher.write self.now.hasher (K.hash_input key.now) own }
         ensures { ContainsStep P.says K.eq self.now.state key.now now.0 result }
     {
-        let (policy, valid_after) = (&self.expiration_policy, &self.valid_after);
-        let invalidator = &self.invalidator;
-        gets::find_shown(
-            &self.inner,
-            policy,
-            valid_after,
-            invalidator,
-            (key, own),
+        let moments = Moments {
+            policy: &self.expiration_policy,
+            valid_after: &self.valid_after,
             now,
-        )
-        .is_some()
+        };
+        gets::find_shown(&self.inner, &moments, &self.invalidator, (key, own)).is_some()
     }
 
     /// The key that the cache keeps for an equal one, visible or not. Nothing is recorded.
@@ -645,7 +643,13 @@ impl<
             (reply.Get own) self.old self.new (λ e. Leads C.reads clock.old e.readings clock.new)) result }
     {
         let own = self.inner.key_hash(key);
-        self.get_hashed(key, Hashes { hash, own }, &mut NoTest, need_key, now, clock)
+        let look = Look {
+            key,
+            hashes: Hashes { hash, own },
+            need_key,
+            now,
+        };
+        self.get_hashed(look, &mut NoTest, clock)
     }
 
     /// As `get_with_hash` with the key's hash by the cache's own hasher, as `hash` tells it, which is not made again.
@@ -671,7 +675,13 @@ impl<
             (reply.Get own) self.old self.new (λ e. Leads C.reads clock.old e.readings clock.new)) result }
     {
         let own = KeyHash::of(hash);
-        self.get_hashed(key, Hashes { hash, own }, &mut NoTest, need_key, now, clock)
+        let look = Look {
+            key,
+            hashes: Hashes { hash, own },
+            need_key,
+            now,
+        };
+        self.get_hashed(look, &mut NoTest, clock)
     }
 }
 

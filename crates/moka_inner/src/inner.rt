@@ -63,6 +63,13 @@ pub struct Layout {
     pub timed: bool,
 }
 
+/// The hash of a key that a caller hands in, and that under which the map has the key.
+#[derive(Clone, Copy)]
+pub struct Hashes {
+    pub hash: u64,
+    pub own: KeyHash,
+}
+
 /// The inner part of the cache. moka: `sync::base_cache::Inner`.
 pub struct Inner<K: Eq + Hash, V, S: BuildHasher> {
     store: Store<K, V, S>,
@@ -234,23 +241,24 @@ impl<K: Eq + Hash, V, S: BuildHasher> Inner<K, V, S> {
     /// Puts a new record into the map under its key's hash there, and hands its upsert, with the hash of the call, out
     /// under the next ticket. It takes no memory.
     #[inline(always)]
-    pub fn insert(&mut self, key: K, key_hash: KeyHash, hash: u64, update: Update<V>) -> Ticket
+    pub fn insert(&mut self, key: K, hashes: Hashes, update: Update<V>) -> Ticket
         requires rows { 0 < self.old.kept.room }
         requires operations { 1 < self.old.operation_room }
         requires tickets { self.old.next_ticket + finite.len self.old.kept.records + 1 < 2 ^ 64 }
         requires fresh { record_of_key K.eq self.old.kept.records key ≡ None }
-        requires hashed { IsKeyHash S.build_hasher S.Hasher.finish S.Hasher.write self.old.kept.hasher (K.hash_input key) key_hash }
+        requires hashed { IsKeyHash S.build_hasher S.Hasher.finish S.Hasher.write self.old.kept.hasher (K.hash_input key) hashes.own }
         ensures ticket { result.0 ≡ self.old.next_ticket }
         ensures step { self.new ≡ record (handing_out_inside self.old
-            (with_record self.old.kept.records (first_record self.old.next_number key hash update))
-            (Upsert self.old.next_number 1 update.weight hash) self.new) { next_number = self.old.next_number + 1 } }
+            (with_record self.old.kept.records (first_record self.old.next_number key hashes.hash update))
+            (Upsert self.old.next_number 1 update.weight hashes.hash) self.new) { next_number = self.old.next_number + 1 } }
     {
+        let Hashes { hash, own } = hashes;
         let number = self.next_number;
         let ticket = self.last_ticket + 1;
         let weight = update.weight;
         let handle = self
             .store
-            .insert_new(first_record(number, key, hash, update), key_hash);
+            .insert_new(first_record(number, key, hash, update), own);
         let place = handle.place;
         let operation = Operation::Upsert {
             number,
@@ -382,7 +390,7 @@ impl<K: Eq + Hash, V, S: BuildHasher> Inner<K, V, S> {
 
     /// Queues a hit of the record of this number, which was the key's and may have left the map since. Its place is looked
     /// up by the key.
-    #[inline(always)]
+    #[cold]
     pub fn queue_hit(&mut self, key: &K, number: u64, hash: u64, renewed: bool)
         requires { IsReadNumber K.eq self.old.kept.records self.old.outstanding self.old.writes self.old.next_number key.now number }
         ensures { self.new ≡ record self.old { reads = if nat_lt (length self.old.reads) queue_length then self.old.reads ++ Hit number hash renewed ∷ [] else self.old.reads } }

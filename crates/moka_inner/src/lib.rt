@@ -3,4 +3,4 @@
 
 pub mod inner;
 
-pub use inner::{Inner, Layout};
+pub use inner::{Hashes, Inner, Layout};

@@ -16,12 +16,16 @@ abbrev pub SumsTo : {K V S X L P W : Type 0} → Option ℕ → List (Synchronou
 SumsTo None segments = ⊤
 SumsTo (Some capacity) segments = whole_capacity segments ≡ Some capacity
 
+-- a new segment with this configuration, and a clone of the hasher
+pub record IsSegment {K V S X L P W : Type 0} (routing : Routing S) (is_clone : S → S → Type 0) (now : ℕ) (config : Config X L W) (s : Synchronous K V S X L P W) : Type 0 where
+  pub hasher : S
+  pub cloned : is_clone routing.hasher hasher
+  pub is : s ≡ fresh (new_cache config hasher now)
+
 module _ {K V S X L P W : Type 0} (routing : Routing S) (whole : Option ℕ) (is_clone : S → S → Type 0) (now : ℕ) where
-  -- a new segment with this configuration but for the capacity, and a clone of the hasher
-  pub record IsBuilt (index : ℕ) (config : Config X L W) (s : Synchronous K V S X L P W) : Type 0 where
-    pub hasher : S
-    pub cloned : is_clone routing.hasher hasher
-    pub is : s ≡ fresh (new_cache (with_share routing.count index whole config) hasher now)
+  -- a new segment with this configuration but for the capacity
+  abbrev pub IsBuilt : ℕ → Config X L W → Synchronous K V S X L P W → Type 0
+  IsBuilt index config s = IsSegment routing is_clone now (with_share routing.count index whole config) s
 
   -- each is one, of a configuration that was made for its index
   abbrev pub AreBuilt : (ℕ → Config X L W → Type 0) → List (Synchronous K V S X L P W) → Type 0

@@ -1,6 +1,6 @@
 //! A new segmented cache. moka: `sync::builder`, `build` with `segments`.
 ghost use Rattle.std.specs.Prelude.{◌≡◌, IfOk, length, max};
-ghost use Rattle.moka_segments.specs.Built.{IsBuilt, IsNew, SumsTo, with_share};
+ghost use Rattle.moka_segments.specs.Built.{IsNew, IsSegment, SumsTo, with_share};
 ghost use Rattle.moka_segments.specs.Keys.{HoldNone};
 
 use crate::router::Router;
@@ -44,7 +44,8 @@ impl<
     {
         let mut segments = Vec::new(alloc);
         for index in 0..router.count() {
-            let segment = build_segment(&router, make(index), max_capacity, index, alloc, now)?;
+            let config = with_share(&router, make(index), max_capacity, index);
+            let segment = build_segment(&router, config, alloc, now)?;
             let Ok(()) = segments.push(segment) else {
                 return Err(OutOfMemory);
             };
@@ -100,7 +101,7 @@ fn with_share<S, X, L, P, W>(
     }
 }
 
-// The segment at an index, with its share of the capacity.
+// A segment with this configuration.
 fn build_segment<
     K: Eq + Hash + Drop,
     V: Drop,
@@ -112,14 +113,11 @@ fn build_segment<
 >(
     router: &Router<S>,
     config: CacheConfig<X, L, P, W>,
-    max_capacity: Option<u64>,
-    index: u32,
     alloc: Global,
     now: Instant,
 ) -> Result<Cache<K, V, X, L, P, W, S>, OutOfMemory>
-    ensures { IfOk result (λ s. IsBuilt router.now max_capacity S.is_clone now.0 index config s) }
+    ensures { IfOk result (λ s. IsSegment router.now S.is_clone now.0 config s) }
 {
-    let config = with_share(router, config, max_capacity, index);
     let Ok(hasher) = router.hasher().clone() else {
         return Err(OutOfMemory);
     };

@@ -17,4 +17,5 @@ pub mod Tests
 pub mod Ties
 pub mod Timed
 pub mod Weights
+pub mod WholeMaps
 pub mod Written

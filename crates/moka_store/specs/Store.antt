@@ -9,6 +9,7 @@ use Rattle.moka_store.specs.declared.store.Handle.{Handle}
 use Rattle.moka_parts.specs.declared.policy.Instant.{Instant}
 use Rattle.moka_parts.specs.declared.records.Record.{Record}
 use Rattle.moka_parts.specs.declared.records.Member.{Member}
+use Rattle.moka_parts.specs.RecordParts.{record_code}
 use Rattle.moka_parts.specs.Records.{Records, counted_of, is_listed}
 
 -- the records by number, both orders, the timers, the place of each number that has a row, and how many new records need no memory
@@ -27,20 +28,6 @@ pub record Kept (K V S : Type 0) : Type 0 where
   pub ordered : Bool
   pub timed : Bool
   pub hasher : S
-
--- a moment is stored as its number
-abbrev pub instant_code : Coded Instant
-instant_code = code_by ℕ coded_ℕ (λ i. i.0) (λ n. record { 0 = n }) (λ _. refl)
-
--- a record is stored as the tuple of its fields
-abbrev pub record_code : {K V : Type 0} → Coded K → Coded V → Coded (Record K V)
-record_code {K} {V} k v =
-    code_by
-    (ℕ × (K × (ℕ × (V × (Instant × (Instant × (Option Instant × (ℕ × (ℕ × ℕ)))))))))
-    (coded× coded_ℕ (coded× k (coded× coded_ℕ (coded× v (coded× instant_code (coded× instant_code (coded× (coded_option instant_code) (coded× coded_ℕ (coded× coded_ℕ coded_ℕ)))))))))
-    (λ r. (r.number, (r.key, (r.hash, (r.value, (r.written, (r.read, (r.expires, (r.weight, (r.generation, r.applied))))))))))
-    (λ p. record { number = p.0; key = p.1.0; hash = p.1.1.0; value = p.1.1.1.0; written = p.1.1.1.1.0; read = p.1.1.1.1.1.0; expires = p.1.1.1.1.1.1.0; weight = p.1.1.1.1.1.1.1.0; generation = p.1.1.1.1.1.1.1.1.0; applied = p.1.1.1.1.1.1.1.1.1 })
-    (λ _. refl)
 
 -- a member is stored as the pair of its fields
 abbrev pub member_code : Coded Member

@@ -1,5 +1,5 @@
 //! Rows for the cache's entries, each at a place that the table picks.
-ghost use Rattle.std.specs.Prelude.{◌≡◌, ◌≢◌, ◌+◌, ◌^◌, ◌<◌, ◌≤◌, [], false, length, OnOk, IsOk, IfSome, IsSome, None, Some, is_some, count_by};
+ghost use Rattle.std.specs.Prelude.{◌≡◌, ◌≢◌, ◌+◌, ◌^◌, ◌<◌, ◌≤◌, [], false, length, OnOk, IsOk, IfSome, IsSome, None, Some, is_some, count_by, option_copied};
 ghost use Rattle.std.specs.FinMap as map;
 ghost use Rattle.std.specs.Option.{option_map, option_and_then};
 ghost use Rattle.moka_parts.specs.declared.records.Record.{Record};
@@ -159,6 +159,14 @@ impl<K, V> RecordTable<K, V> {
         let (hot, cold) = (front.hot, &self.cold[place]);
         let found = RecordRef::new(number, hot, front.weight, front.expiring, cold);
         Some((number, found))
+    }
+
+    /// The key of the record at this place, if the record is in the map.
+    #[inline(always)]
+    pub fn key(&self, place: usize) -> Option<&K>
+        ensures { option_copied result ≡ option_map (λ r. r.key) (stored_at self.now.rows place) }
+    {
+        self.rows.key(place)
     }
 
     /// The record at this place.

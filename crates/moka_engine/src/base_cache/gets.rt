@@ -23,48 +23,50 @@ use moka_store::{Handle, KeyHash};
 use std::hash::{BuildHasher, Hash};
 use std::time::Duration;
 
-// Whether a test by moments hides a record, which has a moment of its own only if an expiry is set. The record is not
-// read where no test can hide one.
-#[inline(always)]
-pub(super) fn is_hidden<K, V, X>(
-    found: &RecordRef<'_, K, V>,
-    policy: &ExpirationPolicy<X>,
-    valid_after: Option<Instant>,
-    now: Instant,
-) -> bool
-    requires lasting { policy.now.expiry ≡ None → found.now.expires ≡ None }
-    ensures { result ≡ lapsed (expiring_by policy.now) valid_after found.now now.0 }
-{
-    (policy.is_set() | valid_after.is_some()) && has_lapsed(found, policy, valid_after, now)
+// What hides records by moments: their times to live and to idle, and invalidations.
+#[derive(Drop)]
+pub(super) struct Moments<'a, X> {
+    pub(super) policy: &'a ExpirationPolicy<X>,
+    pub(super) valid_after: &'a Option<Instant>,
+    pub(super) now: Instant,
+}
+
+impl<'a, X> Moments<'a, X> {
+    // Whether they hide a record, which has a moment of its own only if an expiry is set. The record is not read where
+    // none can hide one.
+    #[inline(always)]
+    pub(super) fn hide<K, V>(&self, found: &RecordRef<'_, K, V>) -> bool
+        requires lasting { self.now.policy.now.expiry ≡ None → found.now.expires ≡ None }
+        ensures { result ≡ lapsed (expiring_by self.entry.now.policy.now) self.entry.now.valid_after.now found.now self.entry.now.now.0 }
+    {
+        let (policy, valid_after) = (self.policy, *self.valid_after);
+        let may_hide = policy.is_set() | valid_after.is_some();
+        may_hide && has_lapsed(found, policy, valid_after, self.now)
+    }
 }
 
 // The record whose key is equal to the one sought, which comes with its hash in the map, unless the caller's test, which is asked of its value first, ignores
-// it, a test by moments hides it or a predicate covers it.
+// it, a moment hides it or a predicate covers it.
 #[inline(always)]
 pub(super) fn find_unless<'a, K: Eq + Hash, V, S: BuildHasher, X, P, I: ValueTest<V>>(
     inner: &'a Inner<K, V, S>,
-    policy: &ExpirationPolicy<X>,
-    valid_after: &Option<Instant>,
+    moments: &Moments<'_, X>,
     invalidator: &Invalidator<P>,
     sought: (&K, KeyHash),
     test: &mut I,
-    now: Instant,
 ) -> Option<(Handle, RecordRef<'a, K, V>)>
 where
     P: PredicateFn<K, V>,
     requires own { IsKeyHash S.build_hasher S.Hasher.finish S.Hasher.write inner.now.kept.hasher (K.hash_input sought.0.now) sought.1 }
-    requires lasting { policy.now.expiry ≡ None → NoneExpires inner.now.kept.records }
+    requires lasting { moments.now.policy.now.expiry ≡ None → NoneExpires inner.now.kept.records }
     requires askable { (v : V) → I.can_ask test.old v }
     ensures { (ignored : Bool)
         × IsAskedOnce I.asks (Some test.old) (value_of (record_of_key K.eq inner.now.kept.records sought.entry.0.now)) ignored (Some test.new)
-        × Finds K.eq inner.now.kept policy.now valid_after.now P.says invalidator.now sought.entry.0.now ignored now.0 result }
+        × Finds K.eq inner.now.kept moments.entry.now.policy.now moments.entry.now.valid_after.now P.says invalidator.now sought.entry.0.now ignored moments.entry.now.now.0 result }
 {
     let (key, own) = sought;
     let (handle, found) = inner.find(key, own)?;
-    if test.ignores(found.value())
-        || is_hidden(&found, policy, *valid_after, now)
-        || invalidator.apply_predicates(&found)
-    {
+    if test.ignores(found.value()) || moments.hide(&found) || invalidator.apply_predicates(&found) {
         return None;
     }
     Some((handle, found))
@@ -74,27 +76,17 @@ where
 #[inline(always)]
 pub(super) fn find_shown<'a, K: Eq + Hash, V, S: BuildHasher, X, P>(
     inner: &'a Inner<K, V, S>,
-    policy: &ExpirationPolicy<X>,
-    valid_after: &Option<Instant>,
+    moments: &Moments<'_, X>,
     invalidator: &Invalidator<P>,
     sought: (&K, KeyHash),
-    now: Instant,
 ) -> Option<(Handle, RecordRef<'a, K, V>)>
 where
     P: PredicateFn<K, V>,
     requires own { IsKeyHash S.build_hasher S.Hasher.finish S.Hasher.write inner.now.kept.hasher (K.hash_input sought.0.now) sought.1 }
-    requires lasting { policy.now.expiry ≡ None → NoneExpires inner.now.kept.records }
-    ensures { Finds K.eq inner.now.kept policy.now valid_after.now P.says invalidator.now sought.entry.0.now false now.0 result }
+    requires lasting { moments.now.policy.now.expiry ≡ None → NoneExpires inner.now.kept.records }
+    ensures { Finds K.eq inner.now.kept moments.entry.now.policy.now moments.entry.now.valid_after.now P.says invalidator.now sought.entry.0.now false moments.entry.now.now.0 result }
 {
-    find_unless(
-        inner,
-        policy,
-        valid_after,
-        invalidator,
-        sought,
-        &mut NoTest,
-        now,
-    )
+    find_unless(inner, moments, invalidator, sought, &mut NoTest)
 }
 
 // What a hit makes of a record.

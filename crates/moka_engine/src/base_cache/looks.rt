@@ -11,7 +11,9 @@ ghost use Rattle.moka_store.specs.Hashing.{IsKeyHash};
 ghost use Rattle.moka_engine.specs.Looks.{value_of};
 ghost use Rattle.moka_engine.specs.Makes.{Takes};
 
-use super::{BaseCache, Hashes, gets};
+use super::gets::{self, Moments};
+use super::{BaseCache, Look, ReadHit};
+use moka_inner::Hashes;
 use moka_parts::calls::Entry;
 use moka_parts::closures::{NoTest, PredicateFn, ValueTest, Weigher};
 use moka_parts::error::OutOfMemory;
@@ -61,7 +63,13 @@ impl<
         match ignore_if {
             Some(test) => {
                 let own = self.inner.key_hash(key);
-                self.get_hashed(key, Hashes { hash, own }, test, need_key, now, clock)
+                let look = Look {
+                    key,
+                    hashes: Hashes { hash, own },
+                    need_key,
+                    now,
+                };
+                self.get_hashed(look, test, clock)
             }
             None => self.get_with_hash(key, hash, need_key, now, clock),
         }
@@ -71,37 +79,37 @@ impl<
     #[inline(always)]
     pub(super) fn get_hashed<I: ValueTest<V>, C: Clock>(
         &mut self,
-        key: &K,
-        hashes: Hashes,
+        look: Look<'_, K>,
         test: &mut I,
-        need_key: bool,
-        now: Instant,
         clock: &mut C,
     ) -> Result<Option<Entry<K, V>>, OutOfMemory>
     where
         K: Clone + Drop,
         V: Clone + Drop,
         P: Drop,
-        requires own { IsKeyHash S.build_hasher S.Hasher.finish S.Hasher.write self.old.hasher (K.hash_input key.now) hashes.own }
+        requires own { IsKeyHash S.build_hasher S.Hasher.finish S.Hasher.write self.old.hasher (K.hash_input look.key.now) look.hashes.own }
         requires askable { (v : V) → I.can_ask test.old v }
         ensures { (ignored : Bool)
-            × IsAskedOnce I.asks (Some test.old) (value_of (record_of_key K.eq self.old.state.records key.now)) ignored (Some test.new)
+            × IsAskedOnce I.asks (Some test.old) (value_of (record_of_key K.eq self.old.state.records look.entry.key.now)) ignored (Some test.new)
             × HandsOut (IsEntryCopy K.is_clone V.is_clone)
             (λ own. Takes P.says X.read L.tells
-            (λ Runs s. GetStep P.says X.read Runs K.eq s key.now hashes.hash need_key ignored now.0 own)
+            (λ Runs s. GetStep P.says X.read Runs K.eq s look.entry.key.now look.entry.hashes.hash look.entry.need_key ignored look.entry.now.0 own)
             self.old self.new (λ e. Leads C.reads clock.old e.readings clock.new)) result }
     {
-        let policy = &self.expiration_policy;
-        let (invalidator, valid_after) = (&self.invalidator, &self.valid_after);
-        let shown = gets::find_unless(
-            &self.inner,
-            policy,
-            valid_after,
-            invalidator,
-            (key, hashes.own),
-            test,
+        let Look {
+            key,
+            hashes,
+            need_key,
             now,
-        );
+        } = look;
+        let policy = &self.expiration_policy;
+        let moments = Moments {
+            policy,
+            valid_after: &self.valid_after,
+            now,
+        };
+        let sought = (key, hashes.own);
+        let shown = gets::find_unless(&self.inner, &moments, &self.invalidator, sought, test);
         let Some((handle, found)) = shown else {
             // A disabled map holds nothing, so only a miss has to ask. It queues no reads.
             if self.is_map_disabled() {
@@ -120,7 +128,12 @@ impl<
             .touch(handle, hit.read, hit.expires, hit.is_renewed);
         let queued = self.inner.read_count();
         if self.housekeeper.should_apply_reads(queued, hit.read) {
-            self.record_hit_when_due(key, number, hash, renewed, hit.read, clock);
+            let read = ReadHit {
+                number,
+                hash,
+                renewed,
+            };
+            self.record_hit_when_due(key, read, hit.read, clock);
             return Ok(Some(entry));
         }
         let read = ReadOperation::Hit {
@@ -176,16 +189,13 @@ impl<
     {
         let own = self.inner.key_hash(key);
         let policy = &self.expiration_policy;
-        let (invalidator, valid_after) = (&self.invalidator, &self.valid_after);
-        let shown = gets::find_unless(
-            &self.inner,
+        let moments = Moments {
             policy,
-            valid_after,
-            invalidator,
-            (key, own),
-            test,
+            valid_after: &self.valid_after,
             now,
-        );
+        };
+        let sought = (key, own);
+        let shown = gets::find_unless(&self.inner, &moments, &self.invalidator, sought, test);
         let Some((handle, found)) = shown else {
             return Ok(None);
         };
@@ -208,10 +218,13 @@ impl<
         V: Clone,
         ensures { HandsOut V.is_clone (ScanStep P.says K.eq self.now.state key.now now.0) result }
     {
-        let (policy, valid_after) = (&self.expiration_policy, &self.valid_after);
-        let invalidator = &self.invalidator;
+        let moments = Moments {
+            policy: &self.expiration_policy,
+            valid_after: &self.valid_after,
+            now,
+        };
         let sought = (key, self.inner.key_hash(key));
-        let shown = gets::find_shown(&self.inner, policy, valid_after, invalidator, sought, now);
+        let shown = gets::find_shown(&self.inner, &moments, &self.invalidator, sought);
         let Some((_, found)) = shown else {
             return Ok(None);
         };

@@ -9,7 +9,7 @@ ghost use Rattle.moka_store.specs.Hashing.{IsKeyHash};
 ghost use Rattle.moka_engine.specs.Restores.{RestoreStep, restore_error};
 
 use super::{BaseCache, inserts};
-use moka_inner::Inner;
+use moka_inner::{Hashes, Inner};
 use moka_parts::calls::Ticket;
 use moka_parts::closures::{PredicateFn, Weigher};
 use moka_parts::error::InsertError;
@@ -137,7 +137,7 @@ impl<
             expires,
             weight,
         };
-        Ok(self.inner.restore(key, own, hash, update, read))
+        Ok(self.inner.restore(key, Hashes { hash, own }, update, read))
     }
 }
 

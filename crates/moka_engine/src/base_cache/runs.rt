@@ -16,7 +16,7 @@ ghost use Rattle.moka_parts.specs.declared.calls.Reply.TheVariants as reply;
 ghost use Rattle.moka_parts.specs.declared.records.ReadOperation.TheVariants.{Hit, Miss};
 ghost use Rattle.moka_engine.specs.Makes.{Makes, Takes, meaning};
 
-use super::BaseCache;
+use super::{BaseCache, ReadHit};
 use moka_maintenance::bounds::Bounds;
 use moka_maintenance::passes::Terms;
 use moka_maintenance::sweep::Tests;
@@ -157,13 +157,11 @@ impl<
 
     // Makes the run that is due, and queues a hit of the key's record. The run may remove that record, so its place is
     // looked up again.
-    #[cold]
+    #[inline(always)]
     pub(super) fn record_hit_when_due<C: Clock>(
         &mut self,
         key: &K,
-        number: u64,
-        hash: u64,
-        renewed: bool,
+        hit: ReadHit,
         now: Instant,
         clock: &mut C,
     )
@@ -172,12 +170,12 @@ impl<
         V: Drop,
         P: Drop,
         requires due { is_due self.old.state.housekeeping (length self.old.state.reads) now.0 ≡ true }
-        requires found { option_map (λ r. r.number) (record_of_key K.eq self.old.state.records key.now) ≡ Some number }
-        ensures { Takes P.says X.read L.tells (λ Runs s. RecordsRead Runs s now.0 (Hit number hash renewed)) self.old self.new
+        requires found { option_map (λ r. r.number) (record_of_key K.eq self.old.state.records key.now) ≡ Some hit.number }
+        ensures { Takes P.says X.read L.tells (λ Runs s. RecordsRead Runs s now.0 (Hit hit.number hit.hash hit.renewed)) self.old self.new
             (λ e. Leads C.reads clock.old e.readings clock.new) }
     {
         self.run_by_housekeeper(now, clock);
-        self.inner.queue_hit(key, number, hash, renewed);
+        self.inner.queue_hit(key, hit.number, hit.hash, hit.renewed);
     }
 
     // A run that the housekeeper makes.

@@ -3,12 +3,13 @@ ghost use Rattle.std.specs.Prelude.{◌≡◌, IfSome, option_map};
 ghost use Rattle.moka_engine.specs.Snapshots.{scene_of, scene_at, FindsNext, StandsIn};
 
 use super::BaseCache;
+use super::gets::Moments;
 use moka_inner::Inner;
 use moka_parts::closures::{PredicateFn, Weigher};
 use moka_parts::expiry::{has_lapsed, remaining};
 use moka_parts::invalidator::Invalidator;
 use moka_parts::notification::Listener;
-use moka_parts::policy::{ExpirationPolicy, Expiry, Instant};
+use moka_parts::policy::{Expiry, Instant};
 use moka_parts::record_ref::RecordRef;
 use moka_store::Handle;
 use std::hash::{BuildHasher, Hash};
@@ -19,10 +20,8 @@ use std::time::Duration;
 #[derive(Drop)]
 pub struct Snapshot<'a, K: Eq + Hash, V, S: BuildHasher, X, P> {
     inner: &'a Inner<K, V, S>,
-    policy: &'a ExpirationPolicy<X>,
+    moments: Moments<'a, X>,
     invalidator: &'a Invalidator<P>,
-    valid_after: Option<Instant>,
-    now: Instant,
     // The member to look at next.
     at: Option<Handle>,
 }
@@ -37,7 +36,7 @@ impl<'a, K: Eq + Hash, V, S: BuildHasher, X, P> Model for Snapshot<'a, K, V, S, 
 
     ghost coded = { Prim.hlevel (codes, finite.code, coded_ℕ, K.code, V.code, X.code, P.code) };
 
-    ghost view = { λ a. scene_at a.inner.now.kept a.policy.now a.valid_after a.invalidator.now a.now.0 a.at };
+    ghost view = { λ a. scene_at a.inner.now.kept a.moments.policy.now a.moments.valid_after.now a.invalidator.now a.moments.now.0 a.at };
 
     ghost invariant = { λ a. IfSome a.at (StandsIn a.inner.now.kept) };
 }
@@ -74,10 +73,12 @@ impl<
     {
         Snapshot {
             inner: &self.inner,
-            policy: &self.expiration_policy,
+            moments: Moments {
+                policy: &self.expiration_policy,
+                valid_after: &self.valid_after,
+                now,
+            },
             invalidator: &self.invalidator,
-            valid_after: self.valid_after,
-            now,
             at: handle_of(self.inner.front_member()),
         }
     }
@@ -104,16 +105,9 @@ impl<'a, K: Eq + Hash, V, S: BuildHasher, X, P: PredicateFn<K, V>> Iterator
     ghost remaining = { λ s. at_most (length s.members) };
 
     fn next(&mut self) -> Option<SnapshotEntry<'a, K, V>> {
-        let (policy, valid_after, now) = (self.policy, self.valid_after, self.now);
-        let (found, at) = next_shown(
-            self.inner,
-            self.at,
-            policy,
-            valid_after,
-            self.invalidator,
-            now,
-        );
+        let (found, at) = next_shown(self.inner, self.at, &self.moments, self.invalidator);
         self.at = at;
+        let (policy, now) = (self.moments.policy, self.moments.now);
         let found = found?;
         let (written, read) = (found.written(), found.read());
         let (live, idle) = (policy.time_to_live(), policy.time_to_idle());
@@ -132,17 +126,16 @@ impl<'a, K: Eq + Hash, V, S: BuildHasher, X, P: PredicateFn<K, V>> Iterator
 fn next_shown<'a, K: Eq + Hash, V, S: BuildHasher, X, P: PredicateFn<K, V>>(
     inner: &'a Inner<K, V, S>,
     at: Option<Handle>,
-    policy: &ExpirationPolicy<X>,
-    valid_after: Option<Instant>,
+    moments: &Moments<'_, X>,
     invalidator: &Invalidator<P>,
-    now: Instant,
 ) -> (Option<RecordRef<'a, K, V>>, Option<Handle>)
     requires stands { IfSome at (StandsIn inner.now.kept) }
     ensures stands { IfSome result.1 (StandsIn inner.now.kept) }
-    ensures listed { FindsNext P.says (scene_at inner.now.kept policy.now valid_after invalidator.now now.0 at) result.0
-        (scene_at inner.now.kept policy.now valid_after invalidator.now now.0 result.1) }
+    ensures listed { FindsNext P.says (scene_at inner.now.kept moments.entry.now.policy.now moments.entry.now.valid_after.now invalidator.now moments.entry.now.now.0 at) result.0
+        (scene_at inner.now.kept moments.entry.now.policy.now moments.entry.now.valid_after.now invalidator.now moments.entry.now.now.0 result.1) }
 {
     inner.members_stand_once();
+    let (policy, valid_after, now) = (moments.policy, *moments.valid_after, moments.now);
     let mut at = at;
     while let Some(handle) = at {
         at = handle_of(inner.next_member(handle));

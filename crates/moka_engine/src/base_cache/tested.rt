@@ -13,7 +13,8 @@ ghost use Rattle.moka_engine.specs.BaseCache.{NoneExpires};
 ghost use Rattle.moka_engine.specs.LooksBy.{FindsBy};
 ghost use Rattle.moka_engine.specs.Makes.{Takes};
 
-use super::{BaseCache, gets};
+use super::gets::{self, Moments};
+use super::{BaseCache, ReadHit};
 use moka_inner::Inner;
 use moka_parts::calls::{Entry, KvEntry, Ticket};
 use moka_parts::closures::{PredicateFn, Weigher};
@@ -22,32 +23,30 @@ use moka_parts::housekeeper::Clock;
 use moka_parts::invalidator::Invalidator;
 use moka_parts::key_test::KeyTest;
 use moka_parts::notification::Listener;
-use moka_parts::policy::{ExpirationPolicy, Expiry, Instant};
+use moka_parts::policy::{Expiry, Instant};
 use moka_parts::record_ref::RecordRef;
 use moka_parts::records::ReadOperation;
 use moka_store::{Handle, KeyHash};
 use std::hash::{BuildHasher, Hash};
 
-// The record whose key passes, unless a test by moments hides it or a predicate covers it. The test comes with the hash
+// The record whose key passes, unless a moment hides it or a predicate covers it. The test comes with the hash
 // in the map of the keys that pass.
 #[inline(always)]
 fn find_by<'a, K: Eq + Hash, V, S: BuildHasher, X, P, T: KeyTest<K>>(
     inner: &'a Inner<K, V, S>,
-    policy: &ExpirationPolicy<X>,
-    valid_after: &Option<Instant>,
+    moments: &Moments<'_, X>,
     invalidator: &Invalidator<P>,
     sought: (&T, KeyHash),
-    now: Instant,
 ) -> Option<(Handle, RecordRef<'a, K, V>)>
 where
     P: PredicateFn<K, V>,
-    requires lasting { policy.now.expiry ≡ None → NoneExpires inner.now.kept.records }
+    requires lasting { moments.now.policy.now.expiry ≡ None → NoneExpires inner.now.kept.records }
     requires own { (k : K) → T.passes sought.0.now k ≡ true → IsKeyHash S.build_hasher S.Hasher.finish S.Hasher.write inner.now.kept.hasher (K.hash_input k) sought.1 }
-    ensures { FindsBy inner.now.kept policy.now valid_after.now P.says invalidator.now (T.passes sought.entry.0.now) now.0 result }
+    ensures { FindsBy inner.now.kept moments.entry.now.policy.now moments.entry.now.valid_after.now P.says invalidator.now (T.passes sought.entry.0.now) moments.entry.now.now.0 result }
 {
     let (test, own) = sought;
     let (handle, found) = inner.find_by(test, own)?;
-    if gets::is_hidden(&found, policy, *valid_after, now) || invalidator.apply_predicates(&found) {
+    if moments.hide(&found) || invalidator.apply_predicates(&found) {
         return None;
     }
     Some((handle, found))
@@ -76,10 +75,13 @@ impl<
         requires own { (k : K) → T.passes test.now k ≡ true → hash ≡ S.Hasher.finish (fold S.Hasher.write (S.build_hasher self.now.hasher) (K.hash_input k)) }
         ensures { ContainsByStep P.says (T.passes test.now) self.now.state now.0 result }
     {
-        let (policy, valid_after) = (&self.expiration_policy, &self.valid_after);
-        let invalidator = &self.invalidator;
+        let moments = Moments {
+            policy: &self.expiration_policy,
+            valid_after: &self.valid_after,
+            now,
+        };
         let sought = (test, KeyHash::of(hash));
-        find_by(&self.inner, policy, valid_after, invalidator, sought, now).is_some()
+        find_by(&self.inner, &moments, &self.invalidator, sought).is_some()
     }
 
     /// As `remove_entry_with_own_hash` of the key that passes. `hash` is that of the keys that do, by the cache's own hasher.
@@ -131,15 +133,12 @@ impl<
     {
         let own = KeyHash::of(hash);
         let policy = &self.expiration_policy;
-        let (invalidator, valid_after) = (&self.invalidator, &self.valid_after);
-        let shown = find_by(
-            &self.inner,
+        let moments = Moments {
             policy,
-            valid_after,
-            invalidator,
-            (test, own),
+            valid_after: &self.valid_after,
             now,
-        );
+        };
+        let shown = find_by(&self.inner, &moments, &self.invalidator, (test, own));
         let Some((handle, found)) = shown else {
             // A disabled map holds nothing, so only a miss has to ask. It queues no reads.
             if self.is_map_disabled() {
@@ -158,7 +157,12 @@ impl<
             .touch(handle, hit.read, hit.expires, hit.is_renewed);
         let queued = self.inner.read_count();
         if self.housekeeper.should_apply_reads(queued, hit.read) {
-            self.record_hit_by((test, own), number, first_hash, renewed, hit.read, clock);
+            let read = ReadHit {
+                number,
+                hash: first_hash,
+                renewed,
+            };
+            self.record_hit_by((test, own), read, hit.read, clock);
             return Ok(Some(entry));
         }
         let read = ReadOperation::Hit {
@@ -172,13 +176,11 @@ impl<
 
     // Makes the run that is due, and queues a hit of the record whose key passes. The run may remove that record, so its
     // place is looked up again.
-    #[cold]
+    #[inline(always)]
     fn record_hit_by<T: KeyTest<K>, C: Clock>(
         &mut self,
         sought: (&T, KeyHash),
-        number: u64,
-        hash: u64,
-        renewed: bool,
+        hit: ReadHit,
         now: Instant,
         clock: &mut C,
     )
@@ -188,12 +190,12 @@ impl<
         P: Drop,
         requires own { (k : K) → T.passes sought.0.now k ≡ true → IsKeyHash S.build_hasher S.Hasher.finish S.Hasher.write self.old.hasher (K.hash_input k) sought.1 }
         requires due { is_due self.old.state.housekeeping (length self.old.state.reads) now.0 ≡ true }
-        requires found { option_map (λ r. r.number) (record_by (T.passes sought.0.now) self.old.state.records) ≡ Some number }
-        ensures { Takes P.says X.read L.tells (λ Runs s. RecordsRead Runs s now.0 (Hit number hash renewed)) self.old self.new
+        requires found { option_map (λ r. r.number) (record_by (T.passes sought.0.now) self.old.state.records) ≡ Some hit.number }
+        ensures { Takes P.says X.read L.tells (λ Runs s. RecordsRead Runs s now.0 (Hit hit.number hit.hash hit.renewed)) self.old self.new
             (λ e. Leads C.reads clock.old e.readings clock.new) }
     {
-        let (test, own) = sought;
         self.run_by_housekeeper(now, clock);
-        self.inner.queue_hit_by(test, own, number, hash, renewed);
+        self.inner
+            .queue_hit_by(sought, hit.number, hit.hash, hit.renewed);
     }
 }

@@ -8,13 +8,13 @@ ghost use Rattle.moka_store.specs.Hashing.{IsKeyHash};
 ghost use Rattle.moka_store.specs.Store.{IsHandle, IsPlaced, member_after};
 ghost use Rattle.moka_inner.specs.Interior.{first_record, handing_out_inside};
 
-use super::{Inner, first_record};
+use super::{Hashes, Inner, first_record};
 use moka_maintenance::queued::PlacedWrite;
 use moka_parts::calls::Ticket;
 use moka_parts::policy::Instant;
 use moka_parts::record_ref::RecordRef;
 use moka_parts::records::{Operation, Record};
-use moka_store::{Handle, KeyHash, Update};
+use moka_store::{Handle, Update};
 use std::hash::{BuildHasher, Hash};
 
 impl<K: Eq + Hash, V, S: BuildHasher> Inner<K, V, S> {
@@ -55,30 +55,24 @@ impl<K: Eq + Hash, V, S: BuildHasher> Inner<K, V, S> {
 
     /// Puts a new record into the map as `insert` does, which was last read at the moment `read` and may have been so at
     /// another moment than it was written. It takes no memory.
-    pub fn restore(
-        &mut self,
-        key: K,
-        key_hash: KeyHash,
-        hash: u64,
-        update: Update<V>,
-        read: Instant,
-    ) -> Ticket
+    pub fn restore(&mut self, key: K, hashes: Hashes, update: Update<V>, read: Instant) -> Ticket
         requires rows { 0 < self.old.kept.room }
         requires operations { 1 < self.old.operation_room }
         requires tickets { self.old.next_ticket + finite.len self.old.kept.records + 1 < 2 ^ 64 }
         requires fresh { record_of_key K.eq self.old.kept.records key ≡ None }
-        requires hashed { IsKeyHash S.build_hasher S.Hasher.finish S.Hasher.write self.old.kept.hasher (K.hash_input key) key_hash }
+        requires hashed { IsKeyHash S.build_hasher S.Hasher.finish S.Hasher.write self.old.kept.hasher (K.hash_input key) hashes.own }
         ensures ticket { result.0 ≡ self.old.next_ticket }
         ensures step { self.new ≡ record (handing_out_inside self.old
-            (with_record self.old.kept.records (record (first_record self.old.next_number key hash update) { read = read }))
-            (Upsert self.old.next_number 1 update.weight hash) self.new) { next_number = self.old.next_number + 1 } }
+            (with_record self.old.kept.records (record (first_record self.old.next_number key hashes.hash update) { read = read }))
+            (Upsert self.old.next_number 1 update.weight hashes.hash) self.new) { next_number = self.old.next_number + 1 } }
     {
+        let Hashes { hash, own } = hashes;
         let number = self.next_number;
         let ticket = self.last_ticket + 1;
         let weight = update.weight;
         let mut stored = first_record(number, key, hash, update);
         stored.read = read;
-        let handle = self.store.insert_new(stored, key_hash);
+        let handle = self.store.insert_new(stored, own);
         let place = handle.place;
         let operation = Operation::Upsert {
             number,

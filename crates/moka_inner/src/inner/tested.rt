@@ -42,20 +42,20 @@ impl<K: Eq + Hash, V, S: BuildHasher> Inner<K, V, S> {
     }
 
     /// Queues a hit of the record of this number, whose key passes and which may have left the map since. Its place is
-    /// looked up by the test.
-    #[inline(always)]
+    /// looked up by the test, which comes with the hash of the keys that pass.
+    #[cold]
     pub fn queue_hit_by<T: KeyTest<K>>(
         &mut self,
-        test: &T,
-        own: KeyHash,
+        sought: (&T, KeyHash),
         number: u64,
         hash: u64,
         renewed: bool,
     )
-        requires hashed { (k : K) → T.passes test.now k ≡ true → IsKeyHash S.build_hasher S.Hasher.finish S.Hasher.write self.old.kept.hasher (K.hash_input k) own }
-        requires known { (key : K) × (T.passes test.now key ≡ true) × IsReadNumber K.eq self.old.kept.records self.old.outstanding self.old.writes self.old.next_number key number }
+        requires hashed { (k : K) → T.passes sought.0.now k ≡ true → IsKeyHash S.build_hasher S.Hasher.finish S.Hasher.write self.old.kept.hasher (K.hash_input k) sought.1 }
+        requires known { (key : K) × (T.passes sought.0.now key ≡ true) × IsReadNumber K.eq self.old.kept.records self.old.outstanding self.old.writes self.old.next_number key number }
         ensures { self.new ≡ record self.old { reads = if nat_lt (length self.old.reads) queue_length then self.old.reads ++ Hit number hash renewed ∷ [] else self.old.reads } }
     {
+        let (test, own) = sought;
         let read = ReadOperation::Hit {
             number,
             hash,

@@ -53,8 +53,8 @@ pub(crate) fn reserve_rows<K, V>(
 pub(crate) fn has_key<K: Eq, V>(table: &RecordTable<K, V>, place: usize, key: &K) -> bool
     ensures { result ≡ has_key_at K.eq table.now.rows key.now place }
 {
-    match table.record(place) {
-        Some(stored) => *key == *stored.key(),
+    match table.key(place) {
+        Some(own) => *key == *own,
         None => false,
     }
 }

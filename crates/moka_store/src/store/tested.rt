@@ -23,8 +23,8 @@ fn is_key_at<K: Eq + Hash, V, T: KeyTest<K>>(
 ) -> bool
     ensures { result ≡ passes_at (T.passes test.now) table.now.rows place }
 {
-    match table.record(place) {
-        Some(stored) => test.is_key(stored.key()),
+    match table.key(place) {
+        Some(own) => test.is_key(own),
         None => false,
     }
 }

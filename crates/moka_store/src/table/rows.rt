@@ -1,5 +1,5 @@
 //! The rows of the table, by place. Of their numbers nothing is known.
-ghost use Rattle.std.specs.Prelude.{◌≡◌, ◌≢◌, ◌+◌, ◌<◌, ◌≤◌, [], false, length, count_by, is_some, IfSome, IsOk, IsSome, OnOk, None, Some};
+ghost use Rattle.std.specs.Prelude.{◌≡◌, ◌≢◌, ◌+◌, ◌<◌, ◌≤◌, [], false, length, count_by, is_some, IfSome, IsOk, IsSome, OnOk, None, Some, option_copied};
 ghost use Rattle.std.specs.Option.{option_and_then, option_map};
 ghost use Rattle.moka_parts.specs.declared.record_ref.Front.{Front};
 ghost use Rattle.moka_store.specs.declared.table.membership.Membership.{Membership};
@@ -122,6 +122,14 @@ impl<K, V> Rows<K, V> {
         ensures stored { option_map (λ f. front_of f.1) result ≡ stored_at self.now.rows place }
     {
         self.slots.get(place)?.live()
+    }
+
+    /// The key of the record at this place, if the record is in the map.
+    #[inline(always)]
+    pub(crate) fn key(&self, place: usize) -> Option<&K>
+        ensures { option_copied result ≡ option_map (λ f. f.hot.key) (stored_at self.now.rows place) }
+    {
+        self.slots.get(place)?.key()
     }
 
     /// The membership of the row at this place.

@@ -1,5 +1,5 @@
 //! A place of the table, in as few bytes as it takes.
-ghost use Rattle.std.specs.Prelude.{◌≡◌, false, IfSome, IsSome, None, Some};
+ghost use Rattle.std.specs.Prelude.{◌≡◌, false, IfSome, IsSome, None, Some, option_copied};
 ghost use Rattle.std.specs.Option.{option_and_then, option_map};
 ghost use Rattle.slab.specs.declared.Entry.TheVariants.{Vacant, Occupied};
 ghost use Rattle.slab.specs.Entry.{value_of};
@@ -153,6 +153,18 @@ impl<K, V> Slot<K, V> {
                 };
                 Some((*number, front))
             }
+            State::Gone { .. } => None,
+            State::Vacant { .. } => None,
+        }
+    }
+
+    /// The key of the record, if it is in the map.
+    #[inline(always)]
+    pub(crate) fn key(&self) -> Option<&K>
+        ensures { option_copied result ≡ option_map (λ f. f.hot.key) (option_and_then (λ row. row.stored) (value_of self.now)) }
+    {
+        match &self.state {
+            State::Live { hot, .. } => Some(&hot.key),
             State::Gone { .. } => None,
             State::Vacant { .. } => None,
         }

@@ -27,6 +27,13 @@ const MAX_LOG_SYNC_REPEATS: u32 = 4;
 // How many entries a sweep of a run of its own looks at in a pass.
 const EVICTION_BATCH_SIZE: u32 = 384;
 
+// What is put: a value under a key, which comes with its hash by the engine's own hasher.
+pub(crate) struct Put<K, V> {
+    pub(crate) key: K,
+    pub(crate) hash: u64,
+    pub(crate) value: V,
+}
+
 /// A cache that sends each operation as it is handed out, so that none waits between two calls. Each call is given the
 /// moment, and a clock for the runs of maintenance that it makes. moka: `sync::cache::Cache`.
 pub struct Cache<
@@ -137,19 +144,18 @@ impl<
     ) -> Result<(), InsertRefused<K, V>>
     {
         let hash = self.engine.hash(&key);
-        self.insert_hashed(key, hash, value, now, clock)
+        self.insert_hashed(Put { key, hash, value }, now, clock)
     }
 
     // An insert of a key with its hash.
     fn insert_hashed<C: Clock>(
         &mut self,
-        key: K,
-        hash: u64,
-        value: V,
+        put: Put<K, V>,
         now: Instant,
         clock: &mut C,
     ) -> Result<(), InsertRefused<K, V>>
     {
+        let Put { key, hash, value } = put;
         self.engine.invariant_holds();
         if self.engine.is_map_disabled() {
             return Ok(());
@@ -296,7 +302,7 @@ impl<
         }
         self.count_load();
         let value = init();
-        match self.insert_made_hashed(key, hash, value, now, clock) {
+        match self.insert_made_hashed(Put { key, hash, value }, now, clock) {
             Ok(copy) => Ok(copy),
             Err(refused) => Err(GetWithRefused::Insert(refused)),
         }
@@ -327,7 +333,7 @@ impl<
         let Some(value) = init() else {
             return Ok(None);
         };
-        match self.insert_made_hashed(key, hash, value, now, clock) {
+        match self.insert_made_hashed(Put { key, hash, value }, now, clock) {
             Ok(copy) => Ok(Some(copy)),
             Err(refused) => Err(GetWithRefused::Insert(refused)),
         }
@@ -359,7 +365,7 @@ impl<
             Ok(value) => value,
             Err(error) => return Ok(Err(error)),
         };
-        match self.insert_made_hashed(key, hash, value, now, clock) {
+        match self.insert_made_hashed(Put { key, hash, value }, now, clock) {
             Ok(copy) => Ok(Ok(copy)),
             Err(refused) => Err(GetWithRefused::Insert(refused)),
         }
@@ -368,20 +374,20 @@ impl<
     // Inserts a value that was made for a key with its hash, and hands out a clone of it.
     pub(crate) fn insert_made_hashed<C: Clock>(
         &mut self,
-        key: K,
-        hash: u64,
-        value: V,
+        put: Put<K, V>,
         now: Instant,
         clock: &mut C,
     ) -> Result<V, InsertRefused<K, V>>
     where
         V: Clone,
     {
+        let Put { key, hash, value } = put;
         let Ok(copy) = value.try_clone() else {
             let error = InsertError::OutOfMemory;
             return Err(InsertRefused { error, key, value });
         };
-        match self.insert_hashed(key, hash, value, now, clock) {
+        let put = Put { key, hash, value };
+        match self.insert_hashed(put, now, clock) {
             Ok(()) => Ok(copy),
             Err(refused) => Err(refused),
         }

@@ -2,7 +2,7 @@
 //! Entry calls that compute a key's value from the one that is there. moka: `ops::compute`, `sync::entry_selector`.
 use crate::support::prelude::*;
 
-use crate::engine::moka_drive::cache::Cache;
+use crate::engine::moka_drive::cache::{Cache, Put};
 use crate::engine::moka_drive::entry::{CacheEntry, found};
 use crate::engine::moka_drive::error::{GetWithRefused, NotTold};
 use crate::engine::moka_parts::closures::{PredicateFn, Weigher};
@@ -99,7 +99,7 @@ impl<
         };
         let is_there = seen.is_some();
         let value = f(seen);
-        match self.insert_entry(key, hash, value, is_there, now, clock) {
+        match self.insert_entry(Put { key, hash, value }, is_there, now, clock) {
             Ok(entry) => Ok(entry),
             Err(refused) => Err(GetWithRefused::Insert(refused)),
         }
@@ -130,7 +130,7 @@ impl<
         };
         let is_there = seen.is_some();
         match f(seen.as_ref()) {
-            Op::Put(value) => self.put_computed(key, hash, value, is_there, now, clock),
+            Op::Put(value) => self.put_computed(Put { key, hash, value }, is_there, now, clock),
             Op::Nop => match seen {
                 Some(value) => Ok(CompResult::Unchanged(found(key, value))),
                 None => Ok(CompResult::StillNone(key)),
@@ -148,9 +148,7 @@ impl<
     // Puts the value that was computed, with the key's hash.
     fn put_computed<C: Clock>(
         &mut self,
-        key: K,
-        hash: u64,
-        value: V,
+        put: Put<K, V>,
         is_there: bool,
         now: Instant,
         clock: &mut C,
@@ -159,7 +157,7 @@ impl<
         K: Clone,
         V: Clone,
     {
-        let entry = match self.insert_entry(key, hash, value, is_there, now, clock) {
+        let entry = match self.insert_entry(put, is_there, now, clock) {
             Ok(entry) => entry,
             Err(refused) => return Err(ComputeRefused::Insert(refused)),
         };

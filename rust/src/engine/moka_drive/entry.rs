@@ -4,7 +4,7 @@
 //! `cache.entry(key).or_insert(value, ..)` is `cache.get_or_insert(key, value, ..)`, and so on: each call names moka's.
 use crate::support::prelude::*;
 
-use crate::engine::moka_drive::cache::Cache;
+use crate::engine::moka_drive::cache::{Cache, Put};
 use crate::engine::moka_drive::error::GetWithRefused;
 use crate::engine::moka_parts::closures::{PredicateFn, Weigher};
 use crate::engine::moka_parts::error::{InsertError, InsertRefused};
@@ -61,7 +61,7 @@ impl<
                 return Err(InsertRefused { error, key, value });
             }
         }
-        self.insert_entry(key, hash, value, false, now, clock)
+        self.insert_entry(Put { key, hash, value }, false, now, clock)
     }
 
     /// The entry of a key, with a clone of its value, if the key is there and visible at the moment `now`; and else the
@@ -90,7 +90,7 @@ impl<
         }
         self.count_load();
         let value = init();
-        match self.insert_entry(key, hash, value, false, now, clock) {
+        match self.insert_entry(Put { key, hash, value }, false, now, clock) {
             Ok(entry) => Ok(entry),
             Err(refused) => Err(GetWithRefused::Insert(refused)),
         }
@@ -122,7 +122,7 @@ impl<
         let Some(value) = init() else {
             return Ok(None);
         };
-        match self.insert_entry(key, hash, value, false, now, clock) {
+        match self.insert_entry(Put { key, hash, value }, false, now, clock) {
             Ok(entry) => Ok(Some(entry)),
             Err(refused) => Err(GetWithRefused::Insert(refused)),
         }
@@ -155,7 +155,7 @@ impl<
             Ok(value) => value,
             Err(error) => return Ok(Err(error)),
         };
-        match self.insert_entry(key, hash, value, false, now, clock) {
+        match self.insert_entry(Put { key, hash, value }, false, now, clock) {
             Ok(entry) => Ok(Ok(entry)),
             Err(refused) => Err(GetWithRefused::Insert(refused)),
         }
@@ -164,9 +164,7 @@ impl<
     // Inserts a value for a key with its hash, and hands out its entry.
     pub(crate) fn insert_entry<C: Clock>(
         &mut self,
-        key: K,
-        hash: u64,
-        value: V,
+        put: Put<K, V>,
         is_old_value_replaced: bool,
         now: Instant,
         clock: &mut C,
@@ -175,11 +173,12 @@ impl<
         K: Clone,
         V: Clone,
     {
+        let Put { key, hash, value } = put;
         let Ok(own_key) = key.try_clone() else {
             let error = InsertError::OutOfMemory;
             return Err(InsertRefused { error, key, value });
         };
-        match self.insert_made_hashed(key, hash, value, now, clock) {
+        match self.insert_made_hashed(Put { key, hash, value }, now, clock) {
             Ok(value) => Ok(CacheEntry {
                 key: own_key,
                 value,

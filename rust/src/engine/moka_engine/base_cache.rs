@@ -2,7 +2,8 @@
 //! The cache. moka: `sync::base_cache`.
 use crate::support::prelude::*;
 
-use crate::engine::moka_inner::{Inner, Layout};
+use self::gets::Moments;
+use crate::engine::moka_inner::{Hashes, Inner, Layout};
 use crate::engine::moka_parts::calls::{Entry, KvEntry, Ticket};
 use crate::engine::moka_parts::closures::{NoTest, PredicateFn, Weigher};
 use crate::engine::moka_parts::error::{CapacityError, InsertRefused, OutOfMemory, SendError};
@@ -33,11 +34,20 @@ pub use snapshot::{Snapshot, SnapshotEntry};
 // How many segments the map has.
 const SEGMENTS: usize = 1;
 
-// The hash of a key that a caller hands in, and that under which the map has the key.
+// What a get looks up: a key with its hashes, whether its own key is to be cloned, and when.
+struct Look<'a, K> {
+    key: &'a K,
+    hashes: Hashes,
+    need_key: bool,
+    now: Instant,
+}
+
+// A hit that is to be queued: the record's number and first hash, and whether its expiry was renewed.
 #[derive(Clone, Copy)]
-struct Hashes {
+struct ReadHit {
+    number: u64,
     hash: u64,
-    own: KeyHash,
+    renewed: bool,
 }
 
 /// A cache. moka: `sync::base_cache::BaseCache`.
@@ -285,8 +295,7 @@ impl<
     ) -> Result<(Ticket, Instant), InsertRefused<K, V>>
     {
         let weight = inserts::weigh(&self.weigher, &key, &value);
-        let Hashes { hash, own } = hashes;
-        let Some((handle, found)) = self.inner.find(&key, own) else {
+        let Some((handle, found)) = self.inner.find(&key, hashes.own) else {
             let expires = inserts::expires_at_creation(&self.expiration_policy, &key, &value, now);
             if let Err(error) = self.inner.reserve_record() {
                 return Err(InsertRefused { error, key, value });
@@ -297,7 +306,7 @@ impl<
                 expires,
                 weight,
             };
-            return Ok((self.inner.insert(key, own, hash, update), now));
+            return Ok((self.inner.insert(key, hashes, update), now));
         };
         let (policy, valid_after) = (&self.expiration_policy, self.valid_after);
         let cause = causes::cause_of_replacement(&found, policy, valid_after, now);
@@ -311,7 +320,7 @@ impl<
             expires,
             weight,
         };
-        let (old, ticket) = self.inner.update(handle, hash, update);
+        let (old, ticket) = self.inner.update(handle, hashes.hash, update);
         self.notifier.notify(key, old, cause);
         Ok((ticket, now))
     }
@@ -413,17 +422,12 @@ impl<
     // The same with the key's hash in the map.
     fn contains_hashed(&self, key: &K, own: KeyHash, now: Instant) -> bool
     {
-        let (policy, valid_after) = (&self.expiration_policy, &self.valid_after);
-        let invalidator = &self.invalidator;
-        gets::find_shown(
-            &self.inner,
-            policy,
-            valid_after,
-            invalidator,
-            (key, own),
+        let moments = Moments {
+            policy: &self.expiration_policy,
+            valid_after: &self.valid_after,
             now,
-        )
-        .is_some()
+        };
+        gets::find_shown(&self.inner, &moments, &self.invalidator, (key, own)).is_some()
     }
 
     /// The key that the cache keeps for an equal one, visible or not. Nothing is recorded.
@@ -478,7 +482,13 @@ impl<
         V: Clone,
     {
         let own = self.inner.key_hash(key);
-        self.get_hashed(key, Hashes { hash, own }, &mut NoTest, need_key, now, clock)
+        let look = Look {
+            key,
+            hashes: Hashes { hash, own },
+            need_key,
+            now,
+        };
+        self.get_hashed(look, &mut NoTest, clock)
     }
 
     /// As `get_with_hash` with the key's hash by the cache's own hasher, as `hash` tells it, which is not made again.
@@ -499,7 +509,13 @@ impl<
         V: Clone,
     {
         let own = KeyHash::of(hash);
-        self.get_hashed(key, Hashes { hash, own }, &mut NoTest, need_key, now, clock)
+        let look = Look {
+            key,
+            hashes: Hashes { hash, own },
+            need_key,
+            now,
+        };
+        self.get_hashed(look, &mut NoTest, clock)
     }
 }
 

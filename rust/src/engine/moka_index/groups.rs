@@ -105,18 +105,25 @@ pub(crate) fn insert_entry(groups: &mut Vec<Group>, hash: u32, place: u32)
     for step in 0..count {
         let at = probe(first, step, count);
         if (groups[at].count as usize) < LANES {
-            push_at(groups, first, step as u32, at, hash, place);
+            push_at(groups, at, hash, place);
+            raise_reach(groups, first, step as u32);
             return;
         }
     }
     unreachable!()
 }
 
-// Adds a place to the group `at`, which is `step` groups past its home `first`.
+// Adds a place to a group.
 #[inline(always)]
-fn push_at(groups: &mut Vec<Group>, first: usize, step: u32, at: usize, hash: u32, place: u32)
+fn push_at(groups: &mut Vec<Group>, at: usize, hash: u32, place: u32)
 {
     groups[at].push(hash, place);
+}
+
+// Notes in a group that a place whose home it is stands so many groups past it.
+#[inline(always)]
+fn raise_reach(groups: &mut Vec<Group>, first: usize, step: u32)
+{
     let group = &mut groups[first];
     group.reach = group.reach.max(step);
 }

@@ -42,6 +42,13 @@ pub struct Layout {
     pub timed: bool,
 }
 
+/// The hash of a key that a caller hands in, and that under which the map has the key.
+#[derive(Clone, Copy)]
+pub struct Hashes {
+    pub hash: u64,
+    pub own: KeyHash,
+}
+
 /// The inner part of the cache. moka: `sync::base_cache::Inner`.
 pub struct Inner<K: Eq + Hash, V, S: BuildHasher> {
     store: Store<K, V, S>,
@@ -148,14 +155,15 @@ impl<K: Eq + Hash, V, S: BuildHasher> Inner<K, V, S> {
     /// Puts a new record into the map under its key's hash there, and hands its upsert, with the hash of the call, out
     /// under the next ticket. It takes no memory.
     #[inline(always)]
-    pub fn insert(&mut self, key: K, key_hash: KeyHash, hash: u64, update: Update<V>) -> Ticket
+    pub fn insert(&mut self, key: K, hashes: Hashes, update: Update<V>) -> Ticket
     {
+        let Hashes { hash, own } = hashes;
         let number = self.next_number;
         let ticket = self.last_ticket + 1;
         let weight = update.weight;
         let handle = self
             .store
-            .insert_new(first_record(number, key, hash, update), key_hash);
+            .insert_new(first_record(number, key, hash, update), own);
         let place = handle.place;
         let operation = Operation::Upsert {
             number,
@@ -255,7 +263,7 @@ impl<K: Eq + Hash, V, S: BuildHasher> Inner<K, V, S> {
 
     /// Queues a hit of the record of this number, which was the key's and may have left the map since. Its place is looked
     /// up by the key.
-    #[inline(always)]
+    #[cold]
     pub fn queue_hit(&mut self, key: &K, number: u64, hash: u64, renewed: bool)
     {
         let read = ReadOperation::Hit {

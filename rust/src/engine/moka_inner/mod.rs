@@ -4,4 +4,4 @@ use crate::support::prelude::*;
 
 pub mod inner;
 
-pub use inner::{Inner, Layout};
+pub use inner::{Hashes, Inner, Layout};

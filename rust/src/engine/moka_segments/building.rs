@@ -38,7 +38,8 @@ impl<
     {
         let mut segments = Vec::new(alloc);
         for index in 0..router.count() {
-            let segment = build_segment(&router, make(index), max_capacity, index, alloc, now)?;
+            let config = with_share(&router, make(index), max_capacity, index);
+            let segment = build_segment(&router, config, alloc, now)?;
             let Ok(()) = segments.push(segment) else {
                 return Err(OutOfMemory);
             };
@@ -87,7 +88,7 @@ fn with_share<S, X, L, P, W>(
     }
 }
 
-// The segment at an index, with its share of the capacity.
+// A segment with this configuration.
 fn build_segment<
     K: Eq + Hash,
     V,
@@ -99,13 +100,10 @@ fn build_segment<
 >(
     router: &Router<S>,
     config: CacheConfig<X, L, P, W>,
-    max_capacity: Option<u64>,
-    index: u32,
     alloc: Global,
     now: Instant,
 ) -> Result<Cache<K, V, X, L, P, W, S>, OutOfMemory>
 {
-    let config = with_share(router, config, max_capacity, index);
     let Ok(hasher) = router.hasher().try_clone() else {
         return Err(OutOfMemory);
     };

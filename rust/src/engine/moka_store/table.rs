@@ -103,6 +103,13 @@ impl<K, V> RecordTable<K, V> {
         Some((number, found))
     }
 
+    /// The key of the record at this place, if the record is in the map.
+    #[inline(always)]
+    pub fn key(&self, place: usize) -> Option<&K>
+    {
+        self.rows.key(place)
+    }
+
     /// The record at this place.
     #[inline(always)]
     pub fn record(&self, place: usize) -> Option<RecordRef<'_, K, V>>

@@ -42,17 +42,22 @@ impl<K, V> Expiry<K, V> for Lasts {
 /// Users' tokens.
 pub type Sessions = Engine<u64, u64, Lasts>;
 
-/// Opens a session at one moment, and tells whether it is open at another: it is until its time is over, and not from
-/// then on.
-pub fn is_open_at(
-    alloc: Global,
-    lasts: Duration,
-    user: u64,
-    token: u64,
-    opened: Instant,
-    asked: Instant,
-) -> Result<bool>
+/// A session that is opened: whose it is, its token, and when.
+#[derive(Clone, Copy)]
+pub struct Opened {
+    pub user: u64,
+    pub token: u64,
+    pub at: Instant,
+}
+
+/// Opens a session, and tells whether it is open at another moment: it is until its time is over, and not from then on.
+pub fn is_open_at(alloc: Global, lasts: Duration, session: Opened, asked: Instant) -> Result<bool>
 {
+    let Opened {
+        user,
+        token,
+        at: opened,
+    } = session;
     let config = CacheConfig::default().expire_after(Lasts(lasts));
     let mut sessions: Sessions = config.build(alloc, opened)?;
     let hash = sessions.hash(&user);

@@ -5,15 +5,20 @@ use crate::support::prelude::*;
 use crate::support::test::prelude::*;
 use crate::support::anyhow::Result;
 use crate::engine::moka_engine::Instant;
-use crate::proved_tests::moka_uses::expiring::is_open_at;
+use crate::proved_tests::moka_uses::expiring::{Opened, is_open_at};
 use crate::support::time::Duration;
 
 #[test]
 fn ends_at_the_very_moment() -> Result<()> {
     let rt = HostRuntime;
     let lasts = Duration::from_nanos(100);
+    let session = Opened {
+        user: 1,
+        token: 10,
+        at: Instant(5),
+    };
     for (asked, is_open) in [(5, true), (104, true), (105, false), (106, false)] {
-        let found = is_open_at(rt.alloc(), lasts, 1, 10, Instant(5), Instant(asked))?;
+        let found = is_open_at(rt.alloc(), lasts, session, Instant(asked))?;
         assert_eq!( found, is_open, "{asked}");
     }
     Ok(())

@@ -1,8 +1,9 @@
 use Rattle.std.proofs.Common.{◌≡◌, ◌<◌, ◌≤◌, List, length, slice_index_or, inl, inr, refl, sym, ap, subst, ◌∙◌, arith}
 use Rattle.std.proofs.lemmas.Bool.{cases_eq}
+use Rattle.std.proofs.lemmas.List.{length-set}
 use Rattle.std.specs.FinMap as finite
 use Rattle.moka_index.specs.declared.group.Group.{Group}
-use Rattle.moka_index.specs.Group.{home}
+use Rattle.moka_index.specs.Group.{home, with_entry}
 use Rattle.moka_index.specs.Groups.{probe, group_at, pushed, with_reach, entries_of, IsTight}
 use Rattle.moka_index.proofs.Probes.{home-lt}
 use Rattle.moka_index.proofs.Changes.{Leaves, full-len, pushed-leaves, pushed-tight}
@@ -18,15 +19,16 @@ probe-at-requires-clause-first c =
     let some : 0 < c.len-count.result = omega arith in
     subst (λ i. i < c.len-count.result) (sym c.home-first.ensures) (home-lt c.len-count.result c.args.hash some)
 
-pub push_at-requires-clause-first : goal.push_at-requires-clause-first
-push_at-requires-clause-first c =
+pub raise_reach-requires : goal.raise_reach-requires
+raise_reach-requires c =
     let some : 0 < c.len-count.result = omega arith in
     let h = subst (λ i. i < c.len-count.result) (sym c.home-first.ensures) (home-lt c.len-count.result c.args.hash some) in
     let same = c.loop-step.invariant.same in
     let n : length c.loop-step.groups.items ≡ length c.args.groups.now.items = ap (λ v. length v.items) same in
-    omega (arith, h, n)
+    let pushed_in : length c.push_at.new.groups.items ≡ length c.loop-step.groups.items = ap length c.push_at.ensures ∙ length-set c.loop-step.groups.items c.probe-at.result (with_entry (group_at c.loop-step.groups.items c.probe-at.result) c.args.hash c.args.place) in
+    omega (arith, h, n, pushed_in)
 
-left : (c : goal.After-push_at) → Leaves c.args.groups.now.items c.push_at.new.groups.items (finite.insert (entries_of c.args.groups.now.items) c.args.place c.args.hash) × (IsTight c.args.groups.now.items → IsTight c.push_at.new.groups.items)
+left : (c : goal.After-raise_reach) → Leaves c.args.groups.now.items c.raise_reach.new.groups.items (finite.insert (entries_of c.args.groups.now.items) c.args.place c.args.hash) × (IsTight c.args.groups.now.items → IsTight c.raise_reach.new.groups.items)
 left c =
     let items : List Group = c.args.groups.now.items in
     let same = c.loop-step.invariant.same in
@@ -39,8 +41,8 @@ left c =
     let there : c.probe-at.result ≡ probe (length items) c.home-first.result c.loop-step.step = c.probe-at.ensures.value ∙ ap (λ n. probe n c.home-first.result c.loop-step.step) n_is in
     let read : c.index.result.now ≡ group_at items c.probe-at.result = c.index.ensures ∙ ap (λ v. slice_index_or v.items c.probe-at.result c.index.result.now) same ∙ group-read items c.probe-at.result c.index.result.now at_in in
     let room : (group_at items c.probe-at.result).count < 7 = subst (λ x. x.count < 7) read c.if-index-lt-LANES.true in
-    let new_is : c.push_at.new.groups.items ≡ with_reach (pushed items c.probe-at.result c.args.hash c.args.place) c.home-first.result c.loop-step.step =
-    c.push_at.ensures ∙ ap (λ v. with_reach (pushed v.items c.probe-at.result c.args.hash c.args.place) c.home-first.result c.loop-step.step) same in
+    let new_is : c.raise_reach.new.groups.items ≡ with_reach (pushed items c.probe-at.result c.args.hash c.args.place) c.home-first.result c.loop-step.step =
+    c.raise_reach.ensures ∙ ap (λ v. with_reach v c.home-first.result c.loop-step.step) (c.push_at.ensures ∙ ap (λ v. pushed v.items c.probe-at.result c.args.hash c.args.place) same) in
     subst (λ new. Leaves items new (finite.insert (entries_of items) c.args.place c.args.hash) × (IsTight items → IsTight new)) (sym new_is) (
       pushed-leaves items c.requires.groups c.home-first.result c.probe-at.result c.loop-step.step c.args.hash c.args.place from first_in at_in step_in there room c.requires.fresh,
       pushed-tight items c.requires.groups c.home-first.result c.probe-at.result c.loop-step.step c.args.hash c.args.place from first_in at_in step_in there room c.requires.fresh,

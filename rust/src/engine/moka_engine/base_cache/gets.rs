@@ -14,40 +14,41 @@ use crate::engine::moka_store::{Handle, KeyHash};
 use crate::support::hash::{BuildHasher, Hash};
 use crate::support::time::Duration;
 
-// Whether a test by moments hides a record, which has a moment of its own only if an expiry is set. The record is not
-// read where no test can hide one.
-#[inline(always)]
-pub(super) fn is_hidden<K, V, X>(
-    found: &RecordRef<'_, K, V>,
-    policy: &ExpirationPolicy<X>,
-    valid_after: Option<Instant>,
-    now: Instant,
-) -> bool
-{
-    (policy.is_set() | valid_after.is_some()) && has_lapsed(found, policy, valid_after, now)
+// What hides records by moments: their times to live and to idle, and invalidations.
+pub(super) struct Moments<'a, X> {
+    pub(super) policy: &'a ExpirationPolicy<X>,
+    pub(super) valid_after: &'a Option<Instant>,
+    pub(super) now: Instant,
+}
+
+impl<'a, X> Moments<'a, X> {
+    // Whether they hide a record, which has a moment of its own only if an expiry is set. The record is not read where
+    // none can hide one.
+    #[inline(always)]
+    pub(super) fn hide<K, V>(&self, found: &RecordRef<'_, K, V>) -> bool
+    {
+        let (policy, valid_after) = (self.policy, *self.valid_after);
+        let may_hide = policy.is_set() | valid_after.is_some();
+        may_hide && has_lapsed(found, policy, valid_after, self.now)
+    }
 }
 
 // The record whose key is equal to the one sought, which comes with its hash in the map, unless the caller's test, which is asked of its value first, ignores
-// it, a test by moments hides it or a predicate covers it.
+// it, a moment hides it or a predicate covers it.
 #[inline(always)]
 pub(super) fn find_unless<'a, K: Eq + Hash, V, S: BuildHasher, X, P, I: ValueTest<V>>(
     inner: &'a Inner<K, V, S>,
-    policy: &ExpirationPolicy<X>,
-    valid_after: &Option<Instant>,
+    moments: &Moments<'_, X>,
     invalidator: &Invalidator<P>,
     sought: (&K, KeyHash),
     test: &mut I,
-    now: Instant,
 ) -> Option<(Handle, RecordRef<'a, K, V>)>
 where
     P: PredicateFn<K, V>,
 {
     let (key, own) = sought;
     let (handle, found) = inner.find(key, own)?;
-    if test.ignores(found.value())
-        || is_hidden(&found, policy, *valid_after, now)
-        || invalidator.apply_predicates(&found)
-    {
+    if test.ignores(found.value()) || moments.hide(&found) || invalidator.apply_predicates(&found) {
         return None;
     }
     Some((handle, found))
@@ -57,24 +58,14 @@ where
 #[inline(always)]
 pub(super) fn find_shown<'a, K: Eq + Hash, V, S: BuildHasher, X, P>(
     inner: &'a Inner<K, V, S>,
-    policy: &ExpirationPolicy<X>,
-    valid_after: &Option<Instant>,
+    moments: &Moments<'_, X>,
     invalidator: &Invalidator<P>,
     sought: (&K, KeyHash),
-    now: Instant,
 ) -> Option<(Handle, RecordRef<'a, K, V>)>
 where
     P: PredicateFn<K, V>,
 {
-    find_unless(
-        inner,
-        policy,
-        valid_after,
-        invalidator,
-        sought,
-        &mut NoTest,
-        now,
-    )
+    find_unless(inner, moments, invalidator, sought, &mut NoTest)
 }
 
 // What a hit makes of a record.

@@ -3,7 +3,9 @@
 //! moka: `sync::base_cache::BaseCache`, `common::concurrent::ScanningGet`.
 use crate::support::prelude::*;
 
-use super::{BaseCache, Hashes, gets};
+use super::gets::{self, Moments};
+use super::{BaseCache, Look, ReadHit};
+use crate::engine::moka_inner::Hashes;
 use crate::engine::moka_parts::calls::Entry;
 use crate::engine::moka_parts::closures::{NoTest, PredicateFn, ValueTest, Weigher};
 use crate::engine::moka_parts::error::OutOfMemory;
@@ -45,7 +47,13 @@ impl<
         match ignore_if {
             Some(test) => {
                 let own = self.inner.key_hash(key);
-                self.get_hashed(key, Hashes { hash, own }, test, need_key, now, clock)
+                let look = Look {
+                    key,
+                    hashes: Hashes { hash, own },
+                    need_key,
+                    now,
+                };
+                self.get_hashed(look, test, clock)
             }
             None => self.get_with_hash(key, hash, need_key, now, clock),
         }
@@ -55,28 +63,28 @@ impl<
     #[inline(always)]
     pub(super) fn get_hashed<I: ValueTest<V>, C: Clock>(
         &mut self,
-        key: &K,
-        hashes: Hashes,
+        look: Look<'_, K>,
         test: &mut I,
-        need_key: bool,
-        now: Instant,
         clock: &mut C,
     ) -> Result<Option<Entry<K, V>>, OutOfMemory>
     where
         K: Clone,
         V: Clone,
     {
-        let policy = &self.expiration_policy;
-        let (invalidator, valid_after) = (&self.invalidator, &self.valid_after);
-        let shown = gets::find_unless(
-            &self.inner,
-            policy,
-            valid_after,
-            invalidator,
-            (key, hashes.own),
-            test,
+        let Look {
+            key,
+            hashes,
+            need_key,
             now,
-        );
+        } = look;
+        let policy = &self.expiration_policy;
+        let moments = Moments {
+            policy,
+            valid_after: &self.valid_after,
+            now,
+        };
+        let sought = (key, hashes.own);
+        let shown = gets::find_unless(&self.inner, &moments, &self.invalidator, sought, test);
         let Some((handle, found)) = shown else {
             // A disabled map holds nothing, so only a miss has to ask. It queues no reads.
             if self.is_map_disabled() {
@@ -95,7 +103,12 @@ impl<
             .touch(handle, hit.read, hit.expires, hit.is_renewed);
         let queued = self.inner.read_count();
         if self.housekeeper.should_apply_reads(queued, hit.read) {
-            self.record_hit_when_due(key, number, hash, renewed, hit.read, clock);
+            let read = ReadHit {
+                number,
+                hash,
+                renewed,
+            };
+            self.record_hit_when_due(key, read, hit.read, clock);
             return Ok(Some(entry));
         }
         let read = ReadOperation::Hit {
@@ -141,16 +154,13 @@ impl<
     {
         let own = self.inner.key_hash(key);
         let policy = &self.expiration_policy;
-        let (invalidator, valid_after) = (&self.invalidator, &self.valid_after);
-        let shown = gets::find_unless(
-            &self.inner,
+        let moments = Moments {
             policy,
-            valid_after,
-            invalidator,
-            (key, own),
-            test,
+            valid_after: &self.valid_after,
             now,
-        );
+        };
+        let sought = (key, own);
+        let shown = gets::find_unless(&self.inner, &moments, &self.invalidator, sought, test);
         let Some((handle, found)) = shown else {
             return Ok(None);
         };
@@ -172,10 +182,13 @@ impl<
     where
         V: Clone,
     {
-        let (policy, valid_after) = (&self.expiration_policy, &self.valid_after);
-        let invalidator = &self.invalidator;
+        let moments = Moments {
+            policy: &self.expiration_policy,
+            valid_after: &self.valid_after,
+            now,
+        };
         let sought = (key, self.inner.key_hash(key));
-        let shown = gets::find_shown(&self.inner, policy, valid_after, invalidator, sought, now);
+        let shown = gets::find_shown(&self.inner, &moments, &self.invalidator, sought);
         let Some((_, found)) = shown else {
             return Ok(None);
         };

@@ -3,7 +3,7 @@
 use crate::support::prelude::*;
 
 use super::{BaseCache, inserts};
-use crate::engine::moka_inner::Inner;
+use crate::engine::moka_inner::{Hashes, Inner};
 use crate::engine::moka_parts::calls::Ticket;
 use crate::engine::moka_parts::closures::{PredicateFn, Weigher};
 use crate::engine::moka_parts::error::InsertError;
@@ -116,7 +116,7 @@ impl<
             expires,
             weight,
         };
-        Ok(self.inner.restore(key, own, hash, update, read))
+        Ok(self.inner.restore(key, Hashes { hash, own }, update, read))
     }
 }
 

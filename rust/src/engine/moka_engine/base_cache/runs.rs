@@ -2,7 +2,7 @@
 //! Runs of maintenance. moka: `sync::base_cache::Inner::do_run_pending_tasks`.
 use crate::support::prelude::*;
 
-use super::BaseCache;
+use super::{BaseCache, ReadHit};
 use crate::engine::moka_maintenance::bounds::Bounds;
 use crate::engine::moka_maintenance::passes::Terms;
 use crate::engine::moka_maintenance::sweep::Tests;
@@ -116,19 +116,17 @@ impl<
 
     // Makes the run that is due, and queues a hit of the key's record. The run may remove that record, so its place is
     // looked up again.
-    #[cold]
+    #[inline(always)]
     pub(super) fn record_hit_when_due<C: Clock>(
         &mut self,
         key: &K,
-        number: u64,
-        hash: u64,
-        renewed: bool,
+        hit: ReadHit,
         now: Instant,
         clock: &mut C,
     )
     {
         self.run_by_housekeeper(now, clock);
-        self.inner.queue_hit(key, number, hash, renewed);
+        self.inner.queue_hit(key, hit.number, hit.hash, hit.renewed);
     }
 
     // A run that the housekeeper makes.

@@ -3,12 +3,13 @@
 use crate::support::prelude::*;
 
 use super::BaseCache;
+use super::gets::Moments;
 use crate::engine::moka_inner::Inner;
 use crate::engine::moka_parts::closures::{PredicateFn, Weigher};
 use crate::engine::moka_parts::expiry::{has_lapsed, remaining};
 use crate::engine::moka_parts::invalidator::Invalidator;
 use crate::engine::moka_parts::notification::Listener;
-use crate::engine::moka_parts::policy::{ExpirationPolicy, Expiry, Instant};
+use crate::engine::moka_parts::policy::{Expiry, Instant};
 use crate::engine::moka_parts::record_ref::RecordRef;
 use crate::engine::moka_store::Handle;
 use crate::support::hash::{BuildHasher, Hash};
@@ -17,10 +18,8 @@ use crate::support::time::Duration;
 /// The visible entries of a cache at one moment, in the order of access. It takes no memory, and clones nothing.
 pub struct Snapshot<'a, K: Eq + Hash, V, S: BuildHasher, X, P> {
     inner: &'a Inner<K, V, S>,
-    policy: &'a ExpirationPolicy<X>,
+    moments: Moments<'a, X>,
     invalidator: &'a Invalidator<P>,
-    valid_after: Option<Instant>,
-    now: Instant,
     // The member to look at next.
     at: Option<Handle>,
 }
@@ -55,10 +54,12 @@ impl<
     {
         Snapshot {
             inner: &self.inner,
-            policy: &self.expiration_policy,
+            moments: Moments {
+                policy: &self.expiration_policy,
+                valid_after: &self.valid_after,
+                now,
+            },
             invalidator: &self.invalidator,
-            valid_after: self.valid_after,
-            now,
             at: handle_of(self.inner.front_member()),
         }
     }
@@ -70,16 +71,9 @@ impl<'a, K: Eq + Hash, V, S: BuildHasher, X, P: PredicateFn<K, V>> Iterator
     type Item = SnapshotEntry<'a, K, V>;
 
     fn next(&mut self) -> Option<SnapshotEntry<'a, K, V>> {
-        let (policy, valid_after, now) = (self.policy, self.valid_after, self.now);
-        let (found, at) = next_shown(
-            self.inner,
-            self.at,
-            policy,
-            valid_after,
-            self.invalidator,
-            now,
-        );
+        let (found, at) = next_shown(self.inner, self.at, &self.moments, self.invalidator);
         self.at = at;
+        let (policy, now) = (self.moments.policy, self.moments.now);
         let found = found?;
         let (written, read) = (found.written(), found.read());
         let (live, idle) = (policy.time_to_live(), policy.time_to_idle());
@@ -98,13 +92,12 @@ impl<'a, K: Eq + Hash, V, S: BuildHasher, X, P: PredicateFn<K, V>> Iterator
 fn next_shown<'a, K: Eq + Hash, V, S: BuildHasher, X, P: PredicateFn<K, V>>(
     inner: &'a Inner<K, V, S>,
     at: Option<Handle>,
-    policy: &ExpirationPolicy<X>,
-    valid_after: Option<Instant>,
+    moments: &Moments<'_, X>,
     invalidator: &Invalidator<P>,
-    now: Instant,
 ) -> (Option<RecordRef<'a, K, V>>, Option<Handle>)
 {
     inner.members_stand_once();
+    let (policy, valid_after, now) = (moments.policy, *moments.valid_after, moments.now);
     let mut at = at;
     while let Some(handle) = at {
         at = handle_of(inner.next_member(handle));

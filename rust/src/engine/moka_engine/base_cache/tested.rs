@@ -2,7 +2,8 @@
 //! Look-ups and removals by a test of the key in place of a key.
 use crate::support::prelude::*;
 
-use super::{BaseCache, gets};
+use super::gets::{self, Moments};
+use super::{BaseCache, ReadHit};
 use crate::engine::moka_inner::Inner;
 use crate::engine::moka_parts::calls::{Entry, KvEntry, Ticket};
 use crate::engine::moka_parts::closures::{PredicateFn, Weigher};
@@ -11,29 +12,27 @@ use crate::engine::moka_parts::housekeeper::Clock;
 use crate::engine::moka_parts::invalidator::Invalidator;
 use crate::engine::moka_parts::key_test::KeyTest;
 use crate::engine::moka_parts::notification::Listener;
-use crate::engine::moka_parts::policy::{ExpirationPolicy, Expiry, Instant};
+use crate::engine::moka_parts::policy::{Expiry, Instant};
 use crate::engine::moka_parts::record_ref::RecordRef;
 use crate::engine::moka_parts::records::ReadOperation;
 use crate::engine::moka_store::{Handle, KeyHash};
 use crate::support::hash::{BuildHasher, Hash};
 
-// The record whose key passes, unless a test by moments hides it or a predicate covers it. The test comes with the hash
+// The record whose key passes, unless a moment hides it or a predicate covers it. The test comes with the hash
 // in the map of the keys that pass.
 #[inline(always)]
 fn find_by<'a, K: Eq + Hash, V, S: BuildHasher, X, P, T: KeyTest<K>>(
     inner: &'a Inner<K, V, S>,
-    policy: &ExpirationPolicy<X>,
-    valid_after: &Option<Instant>,
+    moments: &Moments<'_, X>,
     invalidator: &Invalidator<P>,
     sought: (&T, KeyHash),
-    now: Instant,
 ) -> Option<(Handle, RecordRef<'a, K, V>)>
 where
     P: PredicateFn<K, V>,
 {
     let (test, own) = sought;
     let (handle, found) = inner.find_by(test, own)?;
-    if gets::is_hidden(&found, policy, *valid_after, now) || invalidator.apply_predicates(&found) {
+    if moments.hide(&found) || invalidator.apply_predicates(&found) {
         return None;
     }
     Some((handle, found))
@@ -59,10 +58,13 @@ impl<
     /// As `contains_key_with_own_hash` of the key that passes. `hash` is that of the keys that do, by the cache's own hasher.
     pub fn contains_by<T: KeyTest<K>>(&self, test: &T, hash: u64, now: Instant) -> bool
     {
-        let (policy, valid_after) = (&self.expiration_policy, &self.valid_after);
-        let invalidator = &self.invalidator;
+        let moments = Moments {
+            policy: &self.expiration_policy,
+            valid_after: &self.valid_after,
+            now,
+        };
         let sought = (test, KeyHash::of(hash));
-        find_by(&self.inner, policy, valid_after, invalidator, sought, now).is_some()
+        find_by(&self.inner, &moments, &self.invalidator, sought).is_some()
     }
 
     /// As `remove_entry_with_own_hash` of the key that passes. `hash` is that of the keys that do, by the cache's own hasher.
@@ -103,15 +105,12 @@ impl<
     {
         let own = KeyHash::of(hash);
         let policy = &self.expiration_policy;
-        let (invalidator, valid_after) = (&self.invalidator, &self.valid_after);
-        let shown = find_by(
-            &self.inner,
+        let moments = Moments {
             policy,
-            valid_after,
-            invalidator,
-            (test, own),
+            valid_after: &self.valid_after,
             now,
-        );
+        };
+        let shown = find_by(&self.inner, &moments, &self.invalidator, (test, own));
         let Some((handle, found)) = shown else {
             // A disabled map holds nothing, so only a miss has to ask. It queues no reads.
             if self.is_map_disabled() {
@@ -130,7 +129,12 @@ impl<
             .touch(handle, hit.read, hit.expires, hit.is_renewed);
         let queued = self.inner.read_count();
         if self.housekeeper.should_apply_reads(queued, hit.read) {
-            self.record_hit_by((test, own), number, first_hash, renewed, hit.read, clock);
+            let read = ReadHit {
+                number,
+                hash: first_hash,
+                renewed,
+            };
+            self.record_hit_by((test, own), read, hit.read, clock);
             return Ok(Some(entry));
         }
         let read = ReadOperation::Hit {
@@ -144,19 +148,17 @@ impl<
 
     // Makes the run that is due, and queues a hit of the record whose key passes. The run may remove that record, so its
     // place is looked up again.
-    #[cold]
+    #[inline(always)]
     fn record_hit_by<T: KeyTest<K>, C: Clock>(
         &mut self,
         sought: (&T, KeyHash),
-        number: u64,
-        hash: u64,
-        renewed: bool,
+        hit: ReadHit,
         now: Instant,
         clock: &mut C,
     )
     {
-        let (test, own) = sought;
         self.run_by_housekeeper(now, clock);
-        self.inner.queue_hit_by(test, own, number, hash, renewed);
+        self.inner
+            .queue_hit_by(sought, hit.number, hit.hash, hit.renewed);
     }
 }

@@ -2,13 +2,13 @@
 //! The members in the order of access, and records that are put back.
 use crate::support::prelude::*;
 
-use super::{Inner, first_record};
+use super::{Hashes, Inner, first_record};
 use crate::engine::moka_maintenance::queued::PlacedWrite;
 use crate::engine::moka_parts::calls::Ticket;
 use crate::engine::moka_parts::policy::Instant;
 use crate::engine::moka_parts::record_ref::RecordRef;
 use crate::engine::moka_parts::records::{Operation, Record};
-use crate::engine::moka_store::{Handle, KeyHash, Update};
+use crate::engine::moka_store::{Handle, Update};
 use crate::support::hash::{BuildHasher, Hash};
 
 impl<K: Eq + Hash, V, S: BuildHasher> Inner<K, V, S> {
@@ -38,21 +38,15 @@ impl<K: Eq + Hash, V, S: BuildHasher> Inner<K, V, S> {
 
     /// Puts a new record into the map as `insert` does, which was last read at the moment `read` and may have been so at
     /// another moment than it was written. It takes no memory.
-    pub fn restore(
-        &mut self,
-        key: K,
-        key_hash: KeyHash,
-        hash: u64,
-        update: Update<V>,
-        read: Instant,
-    ) -> Ticket
+    pub fn restore(&mut self, key: K, hashes: Hashes, update: Update<V>, read: Instant) -> Ticket
     {
+        let Hashes { hash, own } = hashes;
         let number = self.next_number;
         let ticket = self.last_ticket + 1;
         let weight = update.weight;
         let mut stored = first_record(number, key, hash, update);
         stored.read = read;
-        let handle = self.store.insert_new(stored, key_hash);
+        let handle = self.store.insert_new(stored, own);
         let place = handle.place;
         let operation = Operation::Upsert {
             number,

@@ -29,17 +29,17 @@ impl<K: Eq + Hash, V, S: BuildHasher> Inner<K, V, S> {
     }
 
     /// Queues a hit of the record of this number, whose key passes and which may have left the map since. Its place is
-    /// looked up by the test.
-    #[inline(always)]
+    /// looked up by the test, which comes with the hash of the keys that pass.
+    #[cold]
     pub fn queue_hit_by<T: KeyTest<K>>(
         &mut self,
-        test: &T,
-        own: KeyHash,
+        sought: (&T, KeyHash),
         number: u64,
         hash: u64,
         renewed: bool,
     )
     {
+        let (test, own) = sought;
         let read = ReadOperation::Hit {
             number,
             hash,

@@ -42,8 +42,8 @@ pub(crate) fn reserve_rows<K, V>(
 #[inline(always)]
 pub(crate) fn has_key<K: Eq, V>(table: &RecordTable<K, V>, place: usize, key: &K) -> bool
 {
-    match table.record(place) {
-        Some(stored) => *key == *stored.key(),
+    match table.key(place) {
+        Some(own) => *key == *own,
         None => false,
     }
 }

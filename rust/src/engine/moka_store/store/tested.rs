@@ -16,8 +16,8 @@ fn is_key_at<K: Eq + Hash, V, T: KeyTest<K>>(
     test: &T,
 ) -> bool
 {
-    match table.record(place) {
-        Some(stored) => test.is_key(stored.key()),
+    match table.key(place) {
+        Some(own) => test.is_key(own),
         None => false,
     }
 }

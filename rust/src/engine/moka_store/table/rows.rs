@@ -82,6 +82,13 @@ impl<K, V> Rows<K, V> {
         self.slots.get(place)?.live()
     }
 
+    /// The key of the record at this place, if the record is in the map.
+    #[inline(always)]
+    pub(crate) fn key(&self, place: usize) -> Option<&K>
+    {
+        self.slots.get(place)?.key()
+    }
+
     /// The membership of the row at this place.
     #[inline(always)]
     pub(crate) fn membership(&self, place: usize) -> Option<Membership>

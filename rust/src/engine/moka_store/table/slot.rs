@@ -126,6 +126,17 @@ impl<K, V> Slot<K, V> {
         }
     }
 
+    /// The key of the record, if it is in the map.
+    #[inline(always)]
+    pub(crate) fn key(&self) -> Option<&K>
+    {
+        match &self.state {
+            State::Live { hot, .. } => Some(&hot.key),
+            State::Gone { .. } => None,
+            State::Vacant { .. } => None,
+        }
+    }
+
     /// The row's membership.
     #[inline(always)]
     pub(crate) fn membership(&self) -> Option<Membership>

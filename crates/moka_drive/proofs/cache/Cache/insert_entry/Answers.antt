@@ -9,5 +9,5 @@ use Rattle.moka_drive.proofs.cache.Cache.insert_entry.Goals as goal
 pub returns-in_default-clause-made : goal.returns-in_default-clause-made
 returns-in_default-clause-made g c =
     let m : Meaning g.row.K.Denot g.row.V.Denot g.row.X.Denot g.row.L.Denot g.row.P.Denot g.row.W.Denot g.row.C.Denot (Unit {0}) = meaning_of g.K.PartialEq.eq g.L.Listener.tells g.P.PredicateFn.says g.W.Weigher.weighs g.C.Clock.reads g.X.Expiry.created g.X.Expiry.read g.X.Expiry.updated in
-    let hash : ℕ = g.S.Hasher.Hasher.finish (fold g.S.Hasher.Hasher.write (g.S.BuildHasher.build_hasher c.args.self.now.engine.hasher) (g.K.Hash.hash_input c.args.key)) in
-    (Err (record { error = insert_error.OutOfMemory; key = c.args.key; value = c.args.value }), refl, not_cloned g.V.Clone.is_clone m c.args.key hash c.args.now c.args.self.now.engine c.args.self.now.engine c.args.clock.now c.args.clock.now c.args.value)
+    let hash : ℕ = g.S.Hasher.Hasher.finish (fold g.S.Hasher.Hasher.write (g.S.BuildHasher.build_hasher c.args.self.now.engine.hasher) (g.K.Hash.hash_input c.args.put.key)) in
+    (Err (record { error = insert_error.OutOfMemory; key = c.args.put.key; value = c.args.put.value }), refl, not_cloned g.V.Clone.is_clone m c.args.put.key hash c.args.now c.args.self.now.engine c.args.self.now.engine c.args.clock.now c.args.clock.now c.args.put.value)

@@ -9,28 +9,28 @@ use Rattle.moka_drive.proofs.cache.Cache.insert_hashed.Goals as goal
 pub returns-then-is_map_disabled-clause-made : goal.returns-then-is_map_disabled-clause-made
 returns-then-is_map_disabled-clause-made g c =
     let m : Meaning g.row.K.Denot g.row.V.Denot g.row.X.Denot g.row.L.Denot g.row.P.Denot g.row.W.Denot g.row.C.Denot (Unit {0}) = meaning_of g.K.PartialEq.eq g.L.Listener.tells g.P.PredicateFn.says g.W.Weigher.weighs g.C.Clock.reads g.X.Expiry.created g.X.Expiry.read g.X.Expiry.updated in
-    rw (← c.self.view_is) (let_go m c.args.key _ c.args.value c.args.now c.self.inside.engine c.args.clock.now (sym c.is_map_disabled.ensures ∙ c.if-is_map_disabled.true))
+    rw (← c.self.view_is) (let_go m c.args.put.key _ c.args.put.value c.args.now c.self.inside.engine c.args.clock.now (sym c.is_map_disabled.ensures ∙ c.if-is_map_disabled.true))
 
 pub returns-in-Err-clause-made : goal.returns-in-Err-clause-made
 returns-in-Err-clause-made g c =
     let own = rw (← c.self.view_is) at c.requires.own in
     let m : Meaning g.row.K.Denot g.row.V.Denot g.row.X.Denot g.row.L.Denot g.row.P.Denot g.row.W.Denot g.row.C.Denot (Unit {0}) = meaning_of g.K.PartialEq.eq g.L.Listener.tells g.P.PredicateFn.says g.W.Weigher.weighs g.C.Clock.reads g.X.Expiry.created g.X.Expiry.read g.X.Expiry.updated in
     let put = c.in-Err.ensures in
-    rw (← c.self.view_is, ← own) (insert_refused m c.args.key c.args.hash c.args.value c.args.now c.self.inside.engine c.do_insert_with_own_hash.new.self c.args.clock.now (sym c.is_map_disabled.ensures ∙ c.if-is_map_disabled.false) c.in-Err.refused put.0 put.1.1 put.2)
+    rw (← c.self.view_is, ← own) (insert_refused m c.args.put.key c.args.put.hash c.args.put.value c.args.now c.self.inside.engine c.do_insert_with_own_hash.new.self c.args.clock.now (sym c.is_map_disabled.ensures ∙ c.if-is_map_disabled.false) c.in-Err.refused put.0 put.1.1 put.2)
 
 pub returns-clause-made : goal.returns-clause-made
 returns-clause-made g c =
     let own = rw (← c.self.view_is) at c.requires.own in
     let m : Meaning g.row.K.Denot g.row.V.Denot g.row.X.Denot g.row.L.Denot g.row.P.Denot g.row.W.Denot g.row.C.Denot (Unit {0}) = meaning_of g.K.PartialEq.eq g.L.Listener.tells g.P.PredicateFn.says g.W.Weigher.weighs g.C.Clock.reads g.X.Expiry.created g.X.Expiry.read g.X.Expiry.updated in
     let put = c.in-Ok.ensures in
-    rw (← c.self.view_is, ← own) (inserted m c.args.key c.args.hash c.args.value c.args.now c.self.inside.engine c.do_insert_with_own_hash.new.self c.args.clock.now (sym c.is_map_disabled.ensures ∙ c.if-is_map_disabled.false) (c.in-Ok.ticket, c.in-Ok.field-0-1) put.0 put.1.1 put.2 c.post.new.engine c.post.new.clock c.post.ensures.made)
+    rw (← c.self.view_is, ← own) (inserted m c.args.put.key c.args.put.hash c.args.put.value c.args.now c.self.inside.engine c.do_insert_with_own_hash.new.self c.args.clock.now (sym c.is_map_disabled.ensures ∙ c.if-is_map_disabled.false) (c.in-Ok.ticket, c.in-Ok.field-0-1) put.0 put.1.1 put.2 c.post.new.engine c.post.new.clock c.post.ensures.made)
 
 pub returns-clause-kept : goal.returns-clause-kept
 returns-clause-kept g c =
     let put = c.in-Ok.ensures in
     let laws = g.met.K.Eq.laws in
-    let is_put = put_by_insert g.K.PartialEq.eq laws c.args.key c.args.value c.args.now g.X.Expiry.created g.X.Expiry.updated g.W.Weigher.weighs c.self.inside.engine.state c.args.hash (c.in-Ok.ticket, c.in-Ok.field-0-1) put.0 c.do_insert_with_own_hash.new.self.state c.invariant_holds.ensures.valid put.1.1 in
-    λ enabled. kept_where_held g.K.PartialEq.eq laws c.args.key c.args.value c.args.now _ c.do_insert_with_own_hash.new.self.state c.post.new.engine.state c.invariant_holds-2.ensures.valid is_put (c.post.ensures.holds is_put.made.number is_put.made is_put.older is_put.held)
+    let is_put = put_by_insert g.K.PartialEq.eq laws c.args.put.key c.args.put.value c.args.now g.X.Expiry.created g.X.Expiry.updated g.W.Weigher.weighs c.self.inside.engine.state c.args.put.hash (c.in-Ok.ticket, c.in-Ok.field-0-1) put.0 c.do_insert_with_own_hash.new.self.state c.invariant_holds.ensures.valid put.1.1 in
+    λ enabled. kept_where_held g.K.PartialEq.eq laws c.args.put.key c.args.put.value c.args.now _ c.do_insert_with_own_hash.new.self.state c.post.new.engine.state c.invariant_holds-2.ensures.valid is_put (c.post.ensures.holds is_put.made.number is_put.made is_put.older is_put.held)
 
 pub returns-clause-shown : goal.returns-clause-shown
 returns-clause-shown g c =
@@ -38,7 +38,7 @@ returns-clause-shown g c =
     let laws = g.met.K.Eq.laws in
     let old = c.self.inside.engine.state in
     let mid = c.do_insert_with_own_hash.new.self.state in
-    let is_put = put_by_insert g.K.PartialEq.eq laws c.args.key c.args.value c.args.now g.X.Expiry.created g.X.Expiry.updated g.W.Weigher.weighs old c.args.hash (c.in-Ok.ticket, c.in-Ok.field-0-1) put.0 mid c.invariant_holds.ensures.valid put.1.1 in
-    let alike = then old mid c.post.new.engine.state (insert_hides g.X.Expiry.created g.X.Expiry.updated g.W.Weigher.weighs g.K.PartialEq.eq old c.args.key c.args.hash c.args.value c.args.now (c.in-Ok.ticket, c.in-Ok.field-0-1) put.0 mid put.1.1) c.post.ensures.hides in
-    rw (← c.self.view_is) (λ enabled shows. shown_where_held g.K.PartialEq.eq laws c.args.key c.args.value c.args.now g.P.PredicateFn.says _ mid c.post.new.engine.state c.invariant_holds-2.ensures.valid is_put (c.post.ensures.holds is_put.made.number is_put.made is_put.older is_put.held)
+    let is_put = put_by_insert g.K.PartialEq.eq laws c.args.put.key c.args.put.value c.args.now g.X.Expiry.created g.X.Expiry.updated g.W.Weigher.weighs old c.args.put.hash (c.in-Ok.ticket, c.in-Ok.field-0-1) put.0 mid c.invariant_holds.ensures.valid put.1.1 in
+    let alike = then old mid c.post.new.engine.state (insert_hides g.X.Expiry.created g.X.Expiry.updated g.W.Weigher.weighs g.K.PartialEq.eq old c.args.put.key c.args.put.hash c.args.put.value c.args.now (c.in-Ok.ticket, c.in-Ok.field-0-1) put.0 mid put.1.1) c.post.ensures.hides in
+    rw (← c.self.view_is) (λ enabled shows. shown_where_held g.K.PartialEq.eq laws c.args.put.key c.args.put.value c.args.now g.P.PredicateFn.says _ mid c.post.new.engine.state c.invariant_holds-2.ensures.valid is_put (c.post.ensures.holds is_put.made.number is_put.made is_put.older is_put.held)
     (shows.unexpiring, c.invariant_holds.ensures.served.unexpiring shows.unexpiring) (still_shows old c.post.new.engine.state c.args.now.0 alike shows))

@@ -14,7 +14,7 @@ record_hit_when_due-requires-clause-due g c = ap (λ n. is_due c.self.inside.hou
 pub record_hit_when_due-requires-clause-found : goal.record_hit_when_due-requires-clause-found
 record_hit_when_due-requires-clause-found g c =
     let at = c.in-Some.ensures in
-    number-read c.self.invariant.cache c.self.inside.inner refl g.P.PredicateFn.says g.X.Expiry.read c.args.key.now c.in-Some.handle.number c.in-Some.found at.2.numbered at.2.found c.args.now.0 c.hit_of-hit.result.read c.hit_of-hit.result.expires c.hit_of-hit.result.is_renewed c.hit_of-hit.ensures c.touch.new.self c.touch.ensures.rest (c.touch.ensures.step c.in-Some.found at.2.numbered) g.met.K.Eq.laws
+    number-read c.self.invariant.cache c.self.inside.inner refl g.P.PredicateFn.says g.X.Expiry.read c.args.look.key.now c.in-Some.handle.number c.in-Some.found at.2.numbered at.2.found c.args.look.now.0 c.hit_of-hit.result.read c.hit_of-hit.result.expires c.hit_of-hit.result.is_renewed c.hit_of-hit.ensures c.touch.new.self c.touch.ensures.rest (c.touch.ensures.step c.in-Some.found at.2.numbered) g.met.K.Eq.laws
 
 pub queue_read-requires : goal.queue_read-requires
 queue_read-requires g c =
@@ -24,51 +24,51 @@ queue_read-requires g c =
 pub returns-then-is_map_disabled : goal.returns-then-is_map_disabled
 returns-then-is_map_disabled g c =
     let at = c.in_default.ensures in
-    let found = get_finds_nothing g.P.PredicateFn.says g.X.Expiry.read (λ (before : List ℕ). ListedRun g.P.PredicateFn.says g.X.Expiry.read before c.args.self.now.write_list) g.L.Listener.tells g.C.Clock.reads g.K.PartialEq.eq refl c.args.key.now c.args.hashes.hash c.args.need_key at.0 c.args.now c.args.clock.now (sym c.is_map_disabled.ensures ∙ c.if-is_map_disabled.true) in
-    (at.0, asked_of_cache c.self.view_is g.K.PartialEq.eq c.args.key.now g.I.ValueTest.asks c.args.test.now c.find_unless-shown.new.test at.0 at.1, (Ok None, found, refl))
+    let found = get_finds_nothing g.P.PredicateFn.says g.X.Expiry.read (λ (before : List ℕ). ListedRun g.P.PredicateFn.says g.X.Expiry.read before c.args.self.now.write_list) g.L.Listener.tells g.C.Clock.reads g.K.PartialEq.eq refl c.args.look.key.now c.args.look.hashes.hash c.args.look.need_key at.0 c.args.look.now c.args.clock.now (sym c.is_map_disabled.ensures ∙ c.if-is_map_disabled.true) in
+    (at.0, asked_of_cache c.self.view_is g.K.PartialEq.eq c.args.look.key.now g.I.ValueTest.asks c.args.test.now c.find_unless-shown.new.test at.0 at.1, (Ok None, found, refl))
 
 pub returns-in_default : goal.returns-in_default
 returns-in_default g c =
     let enabled = ap (λ (x : Cache g.row.K.Denot g.row.V.Denot g.row.S.Denot g.row.X.Denot g.row.L.Denot g.row.P.Denot g.row.W.Denot). is_disabled x.state.capacity) c.self.view_is ∙ (sym c.is_map_disabled.ensures ∙ c.if-is_map_disabled.false) in
     let at = c.in_default.ensures in
-    let found = get_misses g.P.PredicateFn.says g.X.Expiry.read (λ (before : List ℕ). ListedRun g.P.PredicateFn.says g.X.Expiry.read before c.record_miss.new.self.write_list) g.L.Listener.tells g.C.Clock.reads g.K.PartialEq.eq c.self.view_is c.args.key.now c.args.hashes.hash c.args.need_key at.0 c.args.now c.args.clock.now
+    let found = get_misses g.P.PredicateFn.says g.X.Expiry.read (λ (before : List ℕ). ListedRun g.P.PredicateFn.says g.X.Expiry.read before c.record_miss.new.self.write_list) g.L.Listener.tells g.C.Clock.reads g.K.PartialEq.eq c.self.view_is c.args.look.key.now c.args.look.hashes.hash c.args.look.need_key at.0 c.args.look.now c.args.clock.now
     c.self.invariant.cache c.self.inside.inner refl enabled at.2 c.record_miss.ensures in
-    (at.0, asked_of_cache c.self.view_is g.K.PartialEq.eq c.args.key.now g.I.ValueTest.asks c.args.test.now c.find_unless-shown.new.test at.0 at.1, (Ok None, found, refl))
+    (at.0, asked_of_cache c.self.view_is g.K.PartialEq.eq c.args.look.key.now g.I.ValueTest.asks c.args.test.now c.find_unless-shown.new.test at.0 at.1, (Ok None, found, refl))
 
 pub returns-in_default-entry_of : goal.returns-in_default-entry_of
 returns-in_default-entry_of g c =
     let at = c.in-Some.ensures in
-    let found = get_refused g.P.PredicateFn.says g.X.Expiry.read (λ (before : List ℕ). ListedRun g.P.PredicateFn.says g.X.Expiry.read before c.args.self.now.write_list) g.L.Listener.tells g.C.Clock.reads g.K.PartialEq.eq c.self.view_is c.args.key.now c.args.hashes.hash c.args.need_key at.0 c.args.now c.args.clock.now
+    let found = get_refused g.P.PredicateFn.says g.X.Expiry.read (λ (before : List ℕ). ListedRun g.P.PredicateFn.says g.X.Expiry.read before c.args.self.now.write_list) g.L.Listener.tells g.C.Clock.reads g.K.PartialEq.eq c.self.view_is c.args.look.key.now c.args.look.hashes.hash c.args.look.need_key at.0 c.args.look.now c.args.clock.now
     c.self.invariant.cache c.self.inside.inner refl c.in-Some.handle.number c.in-Some.found at.2.numbered at.2.found at.2.accepted at.2.shown at.2.uncovered (record {}) in
-    (at.0, asked_of_cache c.self.view_is g.K.PartialEq.eq c.args.key.now g.I.ValueTest.asks c.args.test.now c.find_unless-shown.new.test at.0 at.1, (Err (record {}), found, refl))
+    (at.0, asked_of_cache c.self.view_is g.K.PartialEq.eq c.args.look.key.now g.I.ValueTest.asks c.args.test.now c.find_unless-shown.new.test at.0 at.1, (Err (record {}), found, refl))
 
 pub invariant_of-self : goal.invariant_of-self
 invariant_of-self g c =
     let at = c.in-Some.ensures in
-    record { cache = cache-touched c.self.invariant.cache c.self.inside.inner refl g.P.PredicateFn.says g.X.Expiry.read c.args.key.now c.in-Some.handle.number c.in-Some.found at.2.numbered at.2.found c.args.now.0 c.hit_of-hit.result.read c.hit_of-hit.result.expires c.hit_of-hit.result.is_renewed c.hit_of-hit.ensures c.touch.new.self c.touch.ensures.rest (c.touch.ensures.step c.in-Some.found at.2.numbered); store = stocked-read c.self.invariant.cache c.self.inside.inner refl g.P.PredicateFn.says g.X.Expiry.read c.args.key.now c.in-Some.handle.number c.in-Some.found at.2.numbered at.2.found c.args.now.0 c.hit_of-hit.result.read c.hit_of-hit.result.expires c.hit_of-hit.result.is_renewed c.hit_of-hit.ensures c.touch.new.self c.touch.ensures.rest (c.touch.ensures.step c.in-Some.found at.2.numbered) c.self.invariant.store }
+    record { cache = cache-touched c.self.invariant.cache c.self.inside.inner refl g.P.PredicateFn.says g.X.Expiry.read c.args.look.key.now c.in-Some.handle.number c.in-Some.found at.2.numbered at.2.found c.args.look.now.0 c.hit_of-hit.result.read c.hit_of-hit.result.expires c.hit_of-hit.result.is_renewed c.hit_of-hit.ensures c.touch.new.self c.touch.ensures.rest (c.touch.ensures.step c.in-Some.found at.2.numbered); store = stocked-read c.self.invariant.cache c.self.inside.inner refl g.P.PredicateFn.says g.X.Expiry.read c.args.look.key.now c.in-Some.handle.number c.in-Some.found at.2.numbered at.2.found c.args.look.now.0 c.hit_of-hit.result.read c.hit_of-hit.result.expires c.hit_of-hit.result.is_renewed c.hit_of-hit.ensures c.touch.new.self c.touch.ensures.rest (c.touch.ensures.step c.in-Some.found at.2.numbered) c.self.invariant.store }
 
 pub returns-then-should_apply_reads : goal.returns-then-should_apply_reads
 returns-then-should_apply_reads g c =
     let at = c.in-Some.ensures in
-    let found = get_hits g.P.PredicateFn.says g.X.Expiry.read (λ (before : List ℕ). ListedRun g.P.PredicateFn.says g.X.Expiry.read before c.record_hit_when_due.new.self.write_list) g.L.Listener.tells g.C.Clock.reads g.K.PartialEq.eq c.self.view_is c.args.key.now c.args.hashes.hash c.args.need_key at.0 c.args.now c.args.clock.now
+    let found = get_hits g.P.PredicateFn.says g.X.Expiry.read (λ (before : List ℕ). ListedRun g.P.PredicateFn.says g.X.Expiry.read before c.record_hit_when_due.new.self.write_list) g.L.Listener.tells g.C.Clock.reads g.K.PartialEq.eq c.self.view_is c.args.look.key.now c.args.look.hashes.hash c.args.look.need_key at.0 c.args.look.now c.args.clock.now
     c.self.invariant.cache c.self.inside.inner refl c.in-Some.handle.number c.in-Some.found at.2.numbered at.2.found at.2.accepted at.2.shown at.2.uncovered c.hit_of-hit.result.read c.hit_of-hit.result.expires c.hit_of-hit.result.is_renewed c.hit_of-hit.ensures
-    c.touch.new.self c.touch.ensures.rest (c.touch.ensures.step c.in-Some.found at.2.numbered) refl refl (entry_at c.args.need_key c.in-Some.found) refl refl (rw c.hash-hash.ensures at c.record_hit_when_due.ensures) in
-    (at.0, asked_of_cache c.self.view_is g.K.PartialEq.eq c.args.key.now g.I.ValueTest.asks c.args.test.now c.find_unless-shown.new.test at.0 at.1, (Ok (Some (entry_at c.args.need_key c.in-Some.found)), found, c.in-Ok.ensures))
+    c.touch.new.self c.touch.ensures.rest (c.touch.ensures.step c.in-Some.found at.2.numbered) refl refl (entry_at c.args.look.need_key c.in-Some.found) refl refl (rw c.hash-hash.ensures at c.record_hit_when_due.ensures) in
+    (at.0, asked_of_cache c.self.view_is g.K.PartialEq.eq c.args.look.key.now g.I.ValueTest.asks c.args.test.now c.find_unless-shown.new.test at.0 at.1, (Ok (Some (entry_at c.args.look.need_key c.in-Some.found)), found, c.in-Ok.ensures))
 
 pub invariant_of-self-2 : goal.invariant_of-self-2
 invariant_of-self-2 g c =
     let at = c.in-Some.ensures in
-    let touched = cache-touched c.self.invariant.cache c.self.inside.inner refl g.P.PredicateFn.says g.X.Expiry.read c.args.key.now c.in-Some.handle.number c.in-Some.found at.2.numbered at.2.found c.args.now.0 c.hit_of-hit.result.read c.hit_of-hit.result.expires c.hit_of-hit.result.is_renewed c.hit_of-hit.ensures c.touch.new.self c.touch.ensures.rest (c.touch.ensures.step c.in-Some.found at.2.numbered) in
-    record { cache = cache-queued touched c.touch.new.self refl (Hit c.in-Some.handle.number c.in-Some.found.hash c.hit_of-hit.result.is_renewed) c.queue_read.new.self (rw c.hash-hash.ensures at c.queue_read.ensures); store = rw c.queue_read.ensures (stocked-read c.self.invariant.cache c.self.inside.inner refl g.P.PredicateFn.says g.X.Expiry.read c.args.key.now c.in-Some.handle.number c.in-Some.found at.2.numbered at.2.found c.args.now.0 c.hit_of-hit.result.read c.hit_of-hit.result.expires c.hit_of-hit.result.is_renewed c.hit_of-hit.ensures c.touch.new.self c.touch.ensures.rest (c.touch.ensures.step c.in-Some.found at.2.numbered) c.self.invariant.store) }
+    let touched = cache-touched c.self.invariant.cache c.self.inside.inner refl g.P.PredicateFn.says g.X.Expiry.read c.args.look.key.now c.in-Some.handle.number c.in-Some.found at.2.numbered at.2.found c.args.look.now.0 c.hit_of-hit.result.read c.hit_of-hit.result.expires c.hit_of-hit.result.is_renewed c.hit_of-hit.ensures c.touch.new.self c.touch.ensures.rest (c.touch.ensures.step c.in-Some.found at.2.numbered) in
+    record { cache = cache-queued touched c.touch.new.self refl (Hit c.in-Some.handle.number c.in-Some.found.hash c.hit_of-hit.result.is_renewed) c.queue_read.new.self (rw c.hash-hash.ensures at c.queue_read.ensures); store = rw c.queue_read.ensures (stocked-read c.self.invariant.cache c.self.inside.inner refl g.P.PredicateFn.says g.X.Expiry.read c.args.look.key.now c.in-Some.handle.number c.in-Some.found at.2.numbered at.2.found c.args.look.now.0 c.hit_of-hit.result.read c.hit_of-hit.result.expires c.hit_of-hit.result.is_renewed c.hit_of-hit.ensures c.touch.new.self c.touch.ensures.rest (c.touch.ensures.step c.in-Some.found at.2.numbered) c.self.invariant.store) }
 
 pub returns : goal.returns
 returns g c =
     let at = c.in-Some.ensures in
     let due = ap (λ n. is_due c.self.inside.housekeeper.housekeeping n c.hit_of-hit.result.read.0) (sym c.read_count-queued.ensures) ∙ sym c.should_apply_reads.ensures ∙ c.if-should_apply_reads.false in
-    let queued = queues_read g.P.PredicateFn.says g.X.Expiry.read (λ (before : List ℕ). ListedRun g.P.PredicateFn.says g.X.Expiry.read before c.queue_read.new.self.kept.written) g.L.Listener.tells g.C.Clock.reads g.K.PartialEq.eq c.self.view_is c.args.key.now c.args.hashes.hash c.args.need_key at.0 c.args.now c.args.clock.now
+    let queued = queues_read g.P.PredicateFn.says g.X.Expiry.read (λ (before : List ℕ). ListedRun g.P.PredicateFn.says g.X.Expiry.read before c.queue_read.new.self.kept.written) g.L.Listener.tells g.C.Clock.reads g.K.PartialEq.eq c.self.view_is c.args.look.key.now c.args.look.hashes.hash c.args.look.need_key at.0 c.args.look.now c.args.clock.now
     c.self.invariant.cache c.self.inside.inner refl c.in-Some.handle.number c.in-Some.found at.2.numbered at.2.found at.2.accepted at.2.shown at.2.uncovered c.hit_of-hit.result.read c.hit_of-hit.result.expires c.hit_of-hit.result.is_renewed c.hit_of-hit.ensures
     c.touch.new.self c.touch.ensures.rest (c.touch.ensures.step c.in-Some.found at.2.numbered) due c.queue_read.new.self (Hit c.in-Some.handle.number c.in-Some.found.hash c.hit_of-hit.result.is_renewed) (rw c.hash-hash.ensures at c.queue_read.ensures) in
-    let found = get_hits g.P.PredicateFn.says g.X.Expiry.read (λ (before : List ℕ). ListedRun g.P.PredicateFn.says g.X.Expiry.read before c.queue_read.new.self.kept.written) g.L.Listener.tells g.C.Clock.reads g.K.PartialEq.eq c.self.view_is c.args.key.now c.args.hashes.hash c.args.need_key at.0 c.args.now c.args.clock.now
+    let found = get_hits g.P.PredicateFn.says g.X.Expiry.read (λ (before : List ℕ). ListedRun g.P.PredicateFn.says g.X.Expiry.read before c.queue_read.new.self.kept.written) g.L.Listener.tells g.C.Clock.reads g.K.PartialEq.eq c.self.view_is c.args.look.key.now c.args.look.hashes.hash c.args.look.need_key at.0 c.args.look.now c.args.clock.now
     c.self.invariant.cache c.self.inside.inner refl c.in-Some.handle.number c.in-Some.found at.2.numbered at.2.found at.2.accepted at.2.shown at.2.uncovered c.hit_of-hit.result.read c.hit_of-hit.result.expires c.hit_of-hit.result.is_renewed c.hit_of-hit.ensures
-    c.touch.new.self c.touch.ensures.rest (c.touch.ensures.step c.in-Some.found at.2.numbered) refl refl (entry_at c.args.need_key c.in-Some.found) refl refl queued in
-    (at.0, asked_of_cache c.self.view_is g.K.PartialEq.eq c.args.key.now g.I.ValueTest.asks c.args.test.now c.find_unless-shown.new.test at.0 at.1, (Ok (Some (entry_at c.args.need_key c.in-Some.found)), found, c.in-Ok.ensures))
+    c.touch.new.self c.touch.ensures.rest (c.touch.ensures.step c.in-Some.found at.2.numbered) refl refl (entry_at c.args.look.need_key c.in-Some.found) refl refl queued in
+    (at.0, asked_of_cache c.self.view_is g.K.PartialEq.eq c.args.look.key.now g.I.ValueTest.asks c.args.test.now c.find_unless-shown.new.test at.0 at.1, (Ok (Some (entry_at c.args.look.need_key c.in-Some.found)), found, c.in-Ok.ensures))

@@ -18,7 +18,7 @@ queue_hit_by-requires-clause-known g c =
     let passes = g.T.KeyTest.passes c.args.sought.0.now in
     let one_key = g.met.T.KeyTest.one_key c.args.sought.0.now in
     let ran = c.run_by_housekeeper.ensures.step in
-    let found = number_found (record_by passes s.records) c.args.number c.requires.found in
+    let found = number_found (record_by passes s.records) c.args.hit.number c.requires.found in
     let passing = (record_by_found eq passes one_key s.records found.0 found.1).2 in
     let by_key = sym (record_by_key eq passes one_key s.records found.0.key passing) ∙ found.1 in
     let after = subst (λ (x : Cache g.row.K.Denot g.row.V.Denot g.row.S.Denot g.row.X.Denot g.row.L.Denot g.row.P.Denot g.row.W.Denot). IsValid g.K.PartialEq.eq x.state) c.self.view_is c.self.invariant.cache.valid in
@@ -27,17 +27,17 @@ queue_hit_by-requires-clause-known g c =
     let is = subst (IsReadNumberIn g.K.PartialEq.eq g.met.K.Eq.laws mid.state found.0.key) found.2 known in (
       found.0.key,
       passing,
-      subst (λ (x : Cache g.row.K.Denot g.row.V.Denot g.row.S.Denot g.row.X.Denot g.row.L.Denot g.row.P.Denot g.row.W.Denot). IsReadNumberIn g.K.PartialEq.eq g.met.K.Eq.laws x.state found.0.key c.args.number) (sym c.self.view_is) is,
+      subst (λ (x : Cache g.row.K.Denot g.row.V.Denot g.row.S.Denot g.row.X.Denot g.row.L.Denot g.row.P.Denot g.row.W.Denot). IsReadNumberIn g.K.PartialEq.eq g.met.K.Eq.laws x.state found.0.key c.args.hit.number) (sym c.self.view_is) is,
     )
 
 pub invariant_of-self : goal.invariant_of-self
 invariant_of-self g c = record {
   store = rw c.queue_hit_by.ensures c.self.invariant.store;
-  cache = cache-queued c.self.invariant.cache c.self.inside.inner refl (Hit c.args.number c.args.hash c.args.renewed) c.queue_hit_by.new.self c.queue_hit_by.ensures;
+  cache = cache-queued c.self.invariant.cache c.self.inside.inner refl (Hit c.args.hit.number c.args.hit.hash c.args.hit.renewed) c.queue_hit_by.new.self c.queue_hit_by.ensures;
 }
 
 pub returns : goal.returns
 returns g c =
     let ran = c.run_by_housekeeper.ensures.step in
     read_follows (λ (after : List ℕ). ListedRun g.P.PredicateFn.says g.X.Expiry.read c.args.self.now.write_list after) g.L.Listener.tells g.C.Clock.reads c.args.self.now c.args.now.0 c.args.clock.now c.run_by_housekeeper.new.clock c.self.view_is (ran.0, rw c.requires.due ran.1, ran.2, ran.3)
-    c.self.inside.inner c.queue_hit_by.new.self refl refl refl (Hit c.args.number c.args.hash c.args.renewed) c.queue_hit_by.ensures
+    c.self.inside.inner c.queue_hit_by.new.self refl refl refl (Hit c.args.hit.number c.args.hit.hash c.args.hit.renewed) c.queue_hit_by.ensures

@@ -17,7 +17,7 @@ loop-at-smaller-in_default-record_at g c =
 pub loop-at-preserved-in_default-record_at : goal.loop-at-preserved-in_default-record_at
 loop-at-preserved-in_default-record_at g c =
     let kept = c.args.inner.now.kept in
-    let scene : Scene g.row.K.Denot g.row.V.Denot g.row.X.Denot g.row.P.Denot = scene_at kept c.args.policy.now c.args.valid_after c.args.invalidator.now c.args.now.0 c.args.at in
+    let scene : Scene g.row.K.Denot g.row.V.Denot g.row.X.Denot g.row.P.Denot = scene_at kept c.args.moments.now.policy.now c.args.moments.now.valid_after.now c.args.invalidator.now c.args.moments.now.now.0 c.args.at in
     let on = goes_on kept.access c.members_stand_once.ensures c.in-Some.handle c.loop-at.at c.in-Some.is (rw c.in-Some.is at c.loop-at.invariant.stands).1 c.next_member.result c.next_member.ensures.next c.handle_of-at.result c.handle_of-at.ensures in
     record {
       stands = stands_next kept c.next_member.result c.next_member.ensures.placed c.next_member.ensures.member c.handle_of-at.result c.handle_of-at.ensures;
@@ -28,7 +28,7 @@ pub returns-then-not-apply_predicates-clause-listed :
     goal.returns-then-not-apply_predicates-clause-listed
 returns-then-not-apply_predicates-clause-listed g c =
     let kept = c.args.inner.now.kept in
-    let scene : Scene g.row.K.Denot g.row.V.Denot g.row.X.Denot g.row.P.Denot = scene_at kept c.args.policy.now c.args.valid_after c.args.invalidator.now c.args.now.0 c.args.at in
+    let scene : Scene g.row.K.Denot g.row.V.Denot g.row.X.Denot g.row.P.Denot = scene_at kept c.args.moments.now.policy.now c.args.moments.now.valid_after.now c.args.invalidator.now c.args.moments.now.now.0 c.args.at in
     let on = goes_on kept.access c.members_stand_once.ensures c.in-Some.handle c.loop-at.at c.in-Some.is (rw c.in-Some.is at c.loop-at.invariant.stands).1 c.next_member.result c.next_member.ensures.next c.handle_of-at.result c.handle_of-at.ensures in
     passes_found g.P.PredicateFn.says scene _ _ on.0 on.2 c.in-Some-record_at.found (ap (get kept.records) on.1 ∙ sym c.in-Some-record_at.ensures) (sym c.has_lapsed.ensures ∙ c.if-not-has_lapsed.true, c.if-not-apply_predicates.ensures) c.loop-at.invariant.passes
 
@@ -41,7 +41,7 @@ loop-at-smaller g c =
 pub loop-at-preserved : goal.loop-at-preserved
 loop-at-preserved g c =
     let kept = c.args.inner.now.kept in
-    let scene : Scene g.row.K.Denot g.row.V.Denot g.row.X.Denot g.row.P.Denot = scene_at kept c.args.policy.now c.args.valid_after c.args.invalidator.now c.args.now.0 c.args.at in
+    let scene : Scene g.row.K.Denot g.row.V.Denot g.row.X.Denot g.row.P.Denot = scene_at kept c.args.moments.now.policy.now c.args.moments.now.valid_after.now c.args.invalidator.now c.args.moments.now.now.0 c.args.at in
     let on = goes_on kept.access c.members_stand_once.ensures c.in-Some.handle c.loop-at.at c.in-Some.is (rw c.in-Some.is at c.loop-at.invariant.stands).1 c.next_member.result c.next_member.ensures.next c.handle_of-at.result c.handle_of-at.ensures in
     let hidden : IsHiddenIn g.P.PredicateFn.says scene c.in-Some-record_at.found = elim c.else-not-has_lapsed.branch [
       | else-not-has_lapsed-via-then-not-has_lapsed+else-not-apply_predicates w ↦ inr w.if-not-apply_predicates.ensures

@@ -6,7 +6,7 @@ use Rattle.moka_engine.proofs.base_cache.snapshot.next_shown.Given as goal
 abbrev pub invariant-loop-at : goal.invariant-loop-at
 invariant-loop-at g l = record {
   stands : IfSome l.at (StandsIn l.inner.kept);
-  passes : PassesTo g.P.PredicateFn.says (scene_at l.inner.kept l.policy l.valid_after l.invalidator l.now.0 l.fn.at) (members_from (option_map (λ h. h.number) l.at) l.inner.kept.access);
+  passes : PassesTo g.P.PredicateFn.says (scene_at l.inner.kept l.moments.policy.now l.moments.valid_after.now l.invalidator l.moments.now.0 l.fn.at) (members_from (option_map (λ h. h.number) l.at) l.inner.kept.access);
 }
 
 abbrev pub decreases-loop-at : goal.decreases-loop-at

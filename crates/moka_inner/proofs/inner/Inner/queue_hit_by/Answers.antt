@@ -12,7 +12,7 @@ queue_read-requires g c =
     let is = c.self.view_is in
     let known = c.requires.known in
     let records = c.self.inside.store.records in
-    let by_key = record_by_key g.K.PartialEq.eq (g.T.KeyTest.passes c.args.test.now) (g.met.T.KeyTest.one_key c.args.test.now) records known.0 known.1 in
+    let by_key = record_by_key g.K.PartialEq.eq (g.T.KeyTest.passes c.args.sought.0.now) (g.met.T.KeyTest.one_key c.args.sought.0.now) records known.0 known.1 in
     let number = known.2.alone c.in-Some.field-0-0.number c.in-Some.field-0-1
     (sym (ap (λ (i : Interior g.row.K.Denot g.row.V.Denot g.row.S.Denot). finite.get i.kept.records c.in-Some.field-0-0.number) is) ∙ c.in-Some.ensures.found)
     (sym (ap (λ (i : Interior g.row.K.Denot g.row.V.Denot g.row.S.Denot). record_of_key g.K.PartialEq.eq i.kept.records known.0) is) ∙ sym by_key ∙ sym c.in-Some.ensures.value) in
@@ -29,7 +29,7 @@ pub queue_read-requires-in-None : goal.queue_read-requires-in-None
 queue_read-requires-in-None g c =
     let is = c.self.view_is in
     let known = c.requires.known in
-    let by_key = record_by_key g.K.PartialEq.eq (g.T.KeyTest.passes c.args.test.now) (g.met.T.KeyTest.one_key c.args.test.now) c.self.inside.store.records known.0 known.1 in
+    let by_key = record_by_key g.K.PartialEq.eq (g.T.KeyTest.passes c.args.sought.0.now) (g.met.T.KeyTest.one_key c.args.sought.0.now) c.self.inside.store.records known.0 known.1 in
     let gone =
     ap (λ (i : Interior g.row.K.Denot g.row.V.Denot g.row.S.Denot). finite.get i.kept.records c.args.number) is
     ∙ known.2.own

@@ -13,10 +13,10 @@ invariant_of-self g c =
     let tickets = ap (λ (i : Interior g.row.K.Denot g.row.V.Denot g.row.S.Denot). i.next_ticket + finite.len i.kept.records) c.self.view_is in
     let room = ap (λ (i : Interior g.row.K.Denot g.row.V.Denot g.row.S.Denot). i.operation_room) c.self.view_is in
     let step = c.insert_new-handle.ensures.step in
-    let first : Record g.row.K.Denot g.row.V.Denot = first_record c.self.inside.next_number c.args.key c.args.hash c.args.update in
+    let first : Record g.row.K.Denot g.row.V.Denot = first_record c.self.inside.next_number c.args.key c.args.hashes.hash c.args.update in
     inner-inserted c.self.inside.store c.insert_new-handle.new.self c.self.inside.outstanding c.hand_out.new.self c.self.inside.writes c.self.inside.reads (c.self.inside.last_ticket + 1) c.self.inside.next_number c.self.invariant
     (record first { read = c.args.read })
-    (record { place = c.insert_new-handle.result.place; operation = Upsert c.self.inside.next_number 1 c.args.update.weight c.args.hash })
+    (record { place = c.insert_new-handle.result.place; operation = Upsert c.self.inside.next_number 1 c.args.update.weight c.args.hashes.hash })
     (rw c.first_record-stored.ensures at (ap (λ (k : Kept g.row.K.Denot g.row.V.Denot g.row.S.Denot). k.records) step))
     (rw c.first_record-stored.ensures at (ap (λ (k : Kept g.row.K.Denot g.row.V.Denot g.row.S.Denot). k.places) step))
     c.hand_out.ensures.items

@@ -12,7 +12,7 @@ loop-index-init g c = record {
 pub loop-index-preserved : goal.loop-index-preserved
 loop-index-preserved g c = record {
   as_many = omega (arith, ap length c.in-Ok.ensures.items, length-append c.loop-index.segments.items (c.in_ok-segment.segment ∷ []), c.loop-index.invariant.as_many);
-  built = more_built c.args.router c.args.max_capacity g.S.Clone.is_clone c.args.now.0 (λ index config. goal.F-post g c.args.make index config) c.loop-index.segments.items c.push.new.self.items c.in_ok-segment.segment c.loop-index.index c.make.result c.loop-index.invariant.built c.loop-index.invariant.as_many c.in-Ok.ensures.items c.make.ensures c.in_ok-segment.ensures;
+  built = more_built c.args.router c.args.max_capacity g.S.Clone.is_clone c.args.now.0 (λ index config. goal.F-post g c.args.make index config) c.loop-index.segments.items c.push.new.self.items c.in_ok-segment.segment c.loop-index.index c.make.result c.loop-index.invariant.built c.loop-index.invariant.as_many c.in-Ok.ensures.items c.make.ensures (rw c.with_share-config.ensures at c.in_ok-segment.ensures);
 }
 
 pub returns-clause-new : goal.returns-clause-new

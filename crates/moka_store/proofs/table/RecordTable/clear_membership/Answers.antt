@@ -2,6 +2,7 @@ use Rattle.std.proofs.Common.{None, refl, sym, ◌∙◌, arith}
 use Rattle.moka_store.proofs.ColdRows.{count-whole, keeps, keeps-row, beside_after, whole-step}
 use Rattle.moka_store.proofs.TableMaps.{some_is}
 use Rattle.moka_store.proofs.TableCalls.{shows-uncounted}
+use Rattle.moka_store.proofs.WholeMaps.{whole-uncounted}
 use Rattle.moka_store.proofs.table.RecordTable.clear_membership.Goals as goal
 
 pub replace_membership-requires-clause-row : goal.replace_membership-requires-clause-row
@@ -9,9 +10,7 @@ replace_membership-requires-clause-row g c = keeps-row _ _ _ (rw (← c.self.vie
 
 pub invariant_of-self : goal.invariant_of-self
 invariant_of-self g c =
-    let w = some_is _ (rw (← c.self.view_is) at c.requires) in
-    let step = whole-step c.self.inside.rows.rows c.self.inside.cold.items c.args.place c.replace_membership.new.self.rows (λ row. record row { membership = None }) (λ row. record row { membership = None }) (λ cold row. refl) c.replace_membership.ensures.changes in
-    let s = shows-uncounted _ _ _ c.self.invariant.numbered _ w.1 (step _ w.1) in
+    let s = whole-uncounted _ _ _ _ c.self.invariant.numbered (rw (← c.self.view_is) at c.requires) c.replace_membership.ensures.changes in
     beside_after _ _ _ _ _ _ c.self.invariant c.replace_membership.ensures.length refl (omega (arith, c.replace_membership.ensures.len, c.replace_membership.ensures.room)) s.numbered
 
 pub returns-clause-old : goal.returns-clause-old
@@ -24,23 +23,17 @@ returns-clause-changes g c = λ row at.
 
 pub returns-clause-records : goal.returns-clause-records
 returns-clause-records g c =
-    let w = some_is _ (rw (← c.self.view_is) at c.requires) in
-    let step = whole-step c.self.inside.rows.rows c.self.inside.cold.items c.args.place c.replace_membership.new.self.rows (λ row. record row { membership = None }) (λ row. record row { membership = None }) (λ cold row. refl) c.replace_membership.ensures.changes in
-    let s = shows-uncounted _ _ _ c.self.invariant.numbered _ w.1 (step _ w.1) in
+    let s = whole-uncounted _ _ _ _ c.self.invariant.numbered (rw (← c.self.view_is) at c.requires) c.replace_membership.ensures.changes in
     rw (← c.self.view_is) s.records_is
 
 pub returns-clause-counted : goal.returns-clause-counted
 returns-clause-counted g c =
-    let w = some_is _ (rw (← c.self.view_is) at c.requires) in
-    let step = whole-step c.self.inside.rows.rows c.self.inside.cold.items c.args.place c.replace_membership.new.self.rows (λ row. record row { membership = None }) (λ row. record row { membership = None }) (λ cold row. refl) c.replace_membership.ensures.changes in
-    let s = shows-uncounted _ _ _ c.self.invariant.numbered _ w.1 (step _ w.1) in
-    rw (← c.self.view_is, w.1) s.counted_is
+    let s = whole-uncounted _ _ _ _ c.self.invariant.numbered (rw (← c.self.view_is) at c.requires) c.replace_membership.ensures.changes in
+    rw (← c.self.view_is) s.counted_is
 
 pub returns-clause-places : goal.returns-clause-places
 returns-clause-places g c =
-    let w = some_is _ (rw (← c.self.view_is) at c.requires) in
-    let step = whole-step c.self.inside.rows.rows c.self.inside.cold.items c.args.place c.replace_membership.new.self.rows (λ row. record row { membership = None }) (λ row. record row { membership = None }) (λ cold row. refl) c.replace_membership.ensures.changes in
-    let s = shows-uncounted _ _ _ c.self.invariant.numbered _ w.1 (step _ w.1) in
+    let s = whole-uncounted _ _ _ _ c.self.invariant.numbered (rw (← c.self.view_is) at c.requires) c.replace_membership.ensures.changes in
     rw (← c.self.view_is) s.places_is
 
 pub returns-clause-len : goal.returns-clause-len

@@ -1,6 +1,7 @@
 use Rattle.std.proofs.Common.{refl, sym, ap, ◌∙◌, arith, is_some}
 use Rattle.moka_store.proofs.ColdRows.{count-whole, keeps, whole-recounts, beside_after}
 use Rattle.moka_store.proofs.TableCalls.{shows-counted, member_row}
+use Rattle.moka_store.proofs.WholeMaps.{whole-recounted}
 use Rattle.moka_store.proofs.table.RecordTable.set_counted.Goals as goal
 
 pub recount-requires : goal.recount-requires
@@ -10,9 +11,7 @@ recount-requires g c =
 
 pub invariant_of-self : goal.invariant_of-self
 invariant_of-self g c =
-    let w = member_row _ c.args.place (rw (← c.self.view_is) at c.requires) in
-    let step = whole-recounts c.self.inside.rows.rows c.self.inside.cold.items c.args.place c.recount.new.self.rows c.args.weight c.recount.ensures.changes in
-    let s = shows-counted _ _ _ c.self.invariant.numbered _ w.2 (record w.1 { counted = c.args.weight }) (step _ _ w.2 w.3) in
+    let s = whole-recounted _ _ _ _ c.self.invariant.numbered c.args.weight (rw (← c.self.view_is) at c.requires) c.recount.ensures.changes in
     beside_after _ _ _ _ _ _ c.self.invariant c.recount.ensures.length refl (omega (arith, c.recount.ensures.len, c.recount.ensures.room)) s.numbered
 
 pub returns-clause-changes : goal.returns-clause-changes
@@ -22,23 +21,17 @@ returns-clause-changes g c = λ row m at is.
 
 pub returns-clause-records : goal.returns-clause-records
 returns-clause-records g c =
-    let w = member_row _ c.args.place (rw (← c.self.view_is) at c.requires) in
-    let step = whole-recounts c.self.inside.rows.rows c.self.inside.cold.items c.args.place c.recount.new.self.rows c.args.weight c.recount.ensures.changes in
-    let s = shows-counted _ _ _ c.self.invariant.numbered _ w.2 (record w.1 { counted = c.args.weight }) (step _ _ w.2 w.3) in
+    let s = whole-recounted _ _ _ _ c.self.invariant.numbered c.args.weight (rw (← c.self.view_is) at c.requires) c.recount.ensures.changes in
     rw (← c.self.view_is) s.records_is
 
 pub returns-clause-counted : goal.returns-clause-counted
 returns-clause-counted g c =
-    let w = member_row _ c.args.place (rw (← c.self.view_is) at c.requires) in
-    let step = whole-recounts c.self.inside.rows.rows c.self.inside.cold.items c.args.place c.recount.new.self.rows c.args.weight c.recount.ensures.changes in
-    let s = shows-counted _ _ _ c.self.invariant.numbered _ w.2 (record w.1 { counted = c.args.weight }) (step _ _ w.2 w.3) in
-    rw (← c.self.view_is, w.2) s.counted_is
+    let s = whole-recounted _ _ _ _ c.self.invariant.numbered c.args.weight (rw (← c.self.view_is) at c.requires) c.recount.ensures.changes in
+    rw (← c.self.view_is) s.counted_is
 
 pub returns-clause-places : goal.returns-clause-places
 returns-clause-places g c =
-    let w = member_row _ c.args.place (rw (← c.self.view_is) at c.requires) in
-    let step = whole-recounts c.self.inside.rows.rows c.self.inside.cold.items c.args.place c.recount.new.self.rows c.args.weight c.recount.ensures.changes in
-    let s = shows-counted _ _ _ c.self.invariant.numbered _ w.2 (record w.1 { counted = c.args.weight }) (step _ _ w.2 w.3) in
+    let s = whole-recounted _ _ _ _ c.self.invariant.numbered c.args.weight (rw (← c.self.view_is) at c.requires) c.recount.ensures.changes in
     rw (← c.self.view_is) s.places_is
 
 pub returns-clause-len : goal.returns-clause-len

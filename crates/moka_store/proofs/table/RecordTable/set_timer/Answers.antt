@@ -2,6 +2,7 @@ use Rattle.std.proofs.Common.{refl, sym, ◌∙◌, arith}
 use Rattle.moka_store.proofs.ColdRows.{count-whole, keeps, keeps-row, beside_after, whole-step}
 use Rattle.moka_store.proofs.TableMaps.{some_is}
 use Rattle.moka_store.proofs.TableCalls.{shows-timed}
+use Rattle.moka_store.proofs.WholeMaps.{whole-timed}
 use Rattle.moka_store.proofs.table.RecordTable.set_timer.Goals as goal
 
 pub replace_timer-requires-clause-row : goal.replace_timer-requires-clause-row
@@ -9,9 +10,7 @@ replace_timer-requires-clause-row g c = keeps-row _ _ _ (rw (← c.self.view_is)
 
 pub invariant_of-self : goal.invariant_of-self
 invariant_of-self g c =
-    let w = some_is _ (rw (← c.self.view_is) at c.requires.row) in
-    let step = whole-step c.self.inside.rows.rows c.self.inside.cold.items c.args.place c.replace_timer.new.self.rows (λ row. record row { timer = c.args.timer }) (λ row. record row { timer = c.args.timer }) (λ cold row. refl) c.replace_timer.ensures.changes in
-    let s = shows-timed _ _ _ c.self.invariant.numbered _ w.1 c.args.timer (step _ w.1) in
+    let s = whole-timed _ _ _ _ c.self.invariant.numbered c.args.timer (rw (← c.self.view_is) at c.requires.row) c.replace_timer.ensures.changes in
     beside_after _ _ _ _ _ _ c.self.invariant c.replace_timer.ensures.length refl (omega (arith, c.replace_timer.ensures.len, c.replace_timer.ensures.room)) s.numbered
 
 pub returns-clause-old : goal.returns-clause-old
@@ -24,23 +23,17 @@ returns-clause-changes g c = λ row at.
 
 pub returns-clause-records : goal.returns-clause-records
 returns-clause-records g c =
-    let w = some_is _ (rw (← c.self.view_is) at c.requires.row) in
-    let step = whole-step c.self.inside.rows.rows c.self.inside.cold.items c.args.place c.replace_timer.new.self.rows (λ row. record row { timer = c.args.timer }) (λ row. record row { timer = c.args.timer }) (λ cold row. refl) c.replace_timer.ensures.changes in
-    let s = shows-timed _ _ _ c.self.invariant.numbered _ w.1 c.args.timer (step _ w.1) in
+    let s = whole-timed _ _ _ _ c.self.invariant.numbered c.args.timer (rw (← c.self.view_is) at c.requires.row) c.replace_timer.ensures.changes in
     rw (← c.self.view_is) s.records_is
 
 pub returns-clause-counted : goal.returns-clause-counted
 returns-clause-counted g c =
-    let w = some_is _ (rw (← c.self.view_is) at c.requires.row) in
-    let step = whole-step c.self.inside.rows.rows c.self.inside.cold.items c.args.place c.replace_timer.new.self.rows (λ row. record row { timer = c.args.timer }) (λ row. record row { timer = c.args.timer }) (λ cold row. refl) c.replace_timer.ensures.changes in
-    let s = shows-timed _ _ _ c.self.invariant.numbered _ w.1 c.args.timer (step _ w.1) in
+    let s = whole-timed _ _ _ _ c.self.invariant.numbered c.args.timer (rw (← c.self.view_is) at c.requires.row) c.replace_timer.ensures.changes in
     rw (← c.self.view_is) s.counted_is
 
 pub returns-clause-places : goal.returns-clause-places
 returns-clause-places g c =
-    let w = some_is _ (rw (← c.self.view_is) at c.requires.row) in
-    let step = whole-step c.self.inside.rows.rows c.self.inside.cold.items c.args.place c.replace_timer.new.self.rows (λ row. record row { timer = c.args.timer }) (λ row. record row { timer = c.args.timer }) (λ cold row. refl) c.replace_timer.ensures.changes in
-    let s = shows-timed _ _ _ c.self.invariant.numbered _ w.1 c.args.timer (step _ w.1) in
+    let s = whole-timed _ _ _ _ c.self.invariant.numbered c.args.timer (rw (← c.self.view_is) at c.requires.row) c.replace_timer.ensures.changes in
     rw (← c.self.view_is) s.places_is
 
 pub returns-clause-len : goal.returns-clause-len

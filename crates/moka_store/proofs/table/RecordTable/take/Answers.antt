@@ -2,6 +2,7 @@ use Rattle.std.proofs.Common.{None, Some, refl, sym, ap, ◌∙◌, arith}
 use Rattle.moka_parts.specs.RecordParts.{joined}
 use Rattle.moka_store.proofs.ColdRows.{count-whole, keeps-stored, stored-lent, whole-step, beside_after}
 use Rattle.moka_store.proofs.TableCalls.{shows-taken, stored_row}
+use Rattle.moka_store.proofs.WholeMaps.{whole-taken}
 use Rattle.moka_store.proofs.table.RecordTable.take.Goals as goal
 
 pub take_stored-number-requires : goal.take_stored-number-requires
@@ -9,9 +10,7 @@ take_stored-number-requires g c = keeps-stored _ _ _ (rw (← c.self.view_is) at
 
 pub invariant_of-self : goal.invariant_of-self
 invariant_of-self g c =
-    let w = stored_row _ c.args.place (rw (← c.self.view_is) at c.requires) in
-    let step = whole-step c.self.inside.rows.rows c.self.inside.cold.items c.args.place c.take_stored-number.new.self.rows (λ row. record row { stored = None }) (λ row. record row { stored = None }) (λ cold row. refl) c.take_stored-number.ensures.changes in
-    let s = shows-taken _ _ _ c.self.invariant.numbered _ w.2 (step _ w.2) in
+    let s = whole-taken _ _ _ _ c.self.invariant.numbered (rw (← c.self.view_is) at c.requires) c.take_stored-number.ensures.changes in
     beside_after _ _ _ _ _ _ c.self.invariant c.take_stored-number.ensures.length refl (omega (arith, c.take_stored-number.ensures.len, c.take_stored-number.ensures.room)) s.numbered
 
 pub returns-clause-changes : goal.returns-clause-changes
@@ -21,23 +20,17 @@ returns-clause-changes g c = λ row at.
 
 pub returns-clause-records : goal.returns-clause-records
 returns-clause-records g c =
-    let w = stored_row _ c.args.place (rw (← c.self.view_is) at c.requires) in
-    let step = whole-step c.self.inside.rows.rows c.self.inside.cold.items c.args.place c.take_stored-number.new.self.rows (λ row. record row { stored = None }) (λ row. record row { stored = None }) (λ cold row. refl) c.take_stored-number.ensures.changes in
-    let s = shows-taken _ _ _ c.self.invariant.numbered _ w.2 (step _ w.2) in
-    rw (← c.self.view_is, w.2) s.records_is
+    let s = whole-taken _ _ _ _ c.self.invariant.numbered (rw (← c.self.view_is) at c.requires) c.take_stored-number.ensures.changes in
+    rw (← c.self.view_is) s.records_is
 
 pub returns-clause-counted : goal.returns-clause-counted
 returns-clause-counted g c =
-    let w = stored_row _ c.args.place (rw (← c.self.view_is) at c.requires) in
-    let step = whole-step c.self.inside.rows.rows c.self.inside.cold.items c.args.place c.take_stored-number.new.self.rows (λ row. record row { stored = None }) (λ row. record row { stored = None }) (λ cold row. refl) c.take_stored-number.ensures.changes in
-    let s = shows-taken _ _ _ c.self.invariant.numbered _ w.2 (step _ w.2) in
+    let s = whole-taken _ _ _ _ c.self.invariant.numbered (rw (← c.self.view_is) at c.requires) c.take_stored-number.ensures.changes in
     rw (← c.self.view_is) s.counted_is
 
 pub returns-clause-places : goal.returns-clause-places
 returns-clause-places g c =
-    let w = stored_row _ c.args.place (rw (← c.self.view_is) at c.requires) in
-    let step = whole-step c.self.inside.rows.rows c.self.inside.cold.items c.args.place c.take_stored-number.new.self.rows (λ row. record row { stored = None }) (λ row. record row { stored = None }) (λ cold row. refl) c.take_stored-number.ensures.changes in
-    let s = shows-taken _ _ _ c.self.invariant.numbered _ w.2 (step _ w.2) in
+    let s = whole-taken _ _ _ _ c.self.invariant.numbered (rw (← c.self.view_is) at c.requires) c.take_stored-number.ensures.changes in
     rw (← c.self.view_is) s.places_is
 
 pub returns-clause-len : goal.returns-clause-len
