@@ -14,6 +14,7 @@ ghost use Rattle.moka_parts.specs.Surroundings.{Leads};
 ghost use Rattle.moka_store.specs.Hashing.{IsKeyHash};
 ghost use Rattle.moka_parts.specs.declared.calls.Call.TheVariants as call;
 ghost use Rattle.moka_parts.specs.declared.calls.Reply.TheVariants as reply;
+ghost use Rattle.moka_parts.specs.declared.records.ReadOperation.TheVariants.{Hit};
 ghost use Rattle.moka_engine.specs.BaseCache.{IsServed, empty_cache, settings_of};
 ghost use Rattle.moka_engine.specs.Makes.{Makes, meaning};
 
@@ -26,6 +27,7 @@ use moka_parts::housekeeper::{Clock, Housekeeper, HousekeeperConfig};
 use moka_parts::invalidator::Invalidator;
 use moka_parts::notification::{Listener, RemovalNotifier};
 use moka_parts::policy::{EvictionPolicy, ExpirationPolicy, Expiry, Instant, Policy};
+use moka_parts::records::ReadOperation;
 use moka_store::{KeyHash, Update};
 use std::alloc::Global;
 use std::hash::{BuildHasher, Hash};
@@ -65,6 +67,24 @@ struct ReadHit {
     number: u64,
     hash: u64,
     renewed: bool,
+}
+
+impl ReadHit {
+    #[inline(always)]
+    fn operation(self) -> ReadOperation
+        ensures { result ≡ Hit self.number self.hash self.renewed }
+    {
+        let ReadHit {
+            number,
+            hash,
+            renewed,
+        } = self;
+        ReadOperation::Hit {
+            number,
+            hash,
+            renewed,
+        }
+    }
 }
 
 /// A cache. moka: `sync::base_cache::BaseCache`.

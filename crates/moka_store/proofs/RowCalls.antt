@@ -19,6 +19,10 @@ module _ {R : Type 0} (es : List (Entry (Row R))) (place : ℕ) where
       let same : row ≡ found.0 = cc in
       found.1 ∙ ap (λ r. Some (Occupied r)) (sym same)
 
+  -- so the place is one of the list's
+  pub row_within : (row : Row R) → row_at (map value_of es) place ≡ Some row → place < length es
+  row_within row at = slice_get_within es place _ (row_there row at)
+
   -- which a read of that place gives
   pub read_there : (row : Row R) (e : Entry (Row R)) → row_at (map value_of es) place ≡ Some row → e ≡ get_or es place e → e ≡ Occupied row
   read_there row e at read = read ∙ get_or_from_slice_get es place _ e (row_there row at)
@@ -64,11 +68,10 @@ pub record Rewritten {R : Type 0} (es : List (Entry (Row R))) (len next place : 
 pub rewritten : {R : Type 0} (es : List (Entry (Row R))) (len next place : ℕ) (new : Entry (Row R)) (was row : Row R) → IsSound es len next → row_at (map value_of es) place ≡ Some was → new ≡ Occupied row → Rewritten es len next place new row
 rewritten es len next place new was row sound at same =
     let found = row_there es place was at in
-    let within = slice_get_within es place _ found in
     rw same (record {
       sound = IsSound-rewrite es len next place was row sound found;
       length = length-rows es place (Occupied row);
       rows = map-set value_of es place (Occupied row);
-      changes = set-changes es place (Occupied row) within;
+      changes = set-changes es place (Occupied row) (row_within es place was at);
       count = omega (arith, count-set es place (Occupied was) (Occupied row) found);
     })

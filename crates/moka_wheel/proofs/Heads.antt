@@ -1,7 +1,7 @@
 -- The lists as they are made.
-use Rattle.std.proofs.Common.{◌≡◌, ℕ, zero, suc, ◌/◌, ◌<◌, inl, inr, List, [], length, get_or, replicate, refl, sym, ap, ◌∙◌, subst, arith}
-use Rattle.std.proofs.lemmas.Bool.{cases_lt}
-use Rattle.std.proofs.lemmas.List.{get_or_past}
+use Rattle.std.proofs.Common.{◌≡◌, ℕ, zero, suc, ◌+◌, ◌/◌, ◌<◌, inl, inr, List, [], ◌∷◌, ◌++◌, length, get_or, replicate, refl, sym, ap, ◌∙◌, subst, arith}
+use Rattle.std.proofs.lemmas.Bool.{cases_eq, cases_lt}
+use Rattle.std.proofs.lemmas.List.{get_or_append_left, get_or_past, get_or_push}
 use Rattle.std.specs.FinMap.{empty, get, len, get-empty, len-empty}
 use Rattle.std.specs.Ordering.{nat_cmp}
 use Rattle.moka_links.proofs.Chains.{no-frees}
@@ -17,6 +17,13 @@ use Rattle.moka_wheel.proofs.Bits.{bit-of_zero}
 -- a head alone in its list
 abbrev pub head : ℕ → Node
 head i = record { value = record { number = 0; at = 0; bucket = i }; before = i; behind = i }
+
+-- one more head behind those that are there
+pub more-heads : (ns : List Node) (n : ℕ) → length ns ≡ n → ((i : ℕ) → i < n → at ns i ≡ head i) → (i : ℕ) → i < n + 1 → at (ns ++ head n ∷ []) i ≡ head i
+more-heads ns n size heads i l = elim (cases_eq i n) as (λ _. at (ns ++ head n ∷ []) i ≡ head i) [
+  | inl e ↦ get_or_push ns (head n) blank i (size ∙ sym e) ∙ ap head (sym e)
+  | inr ne ↦ get_or_append_left ns (head n ∷ []) blank i (omega arith) ∙ heads i (omega arith)
+]
 
 pub heads-placed : (ns : List Node) (ws : List ℕ) (w : ℕ) → length ns ≡ 2049 → ((i : ℕ) → i < 2049 → at ns i ≡ head i) → ((k : ℕ) → get_or ws k 0 ≡ 0) → IsPlaced ns ws w 2048
 heads-placed ns ws w size heads off =

@@ -20,8 +20,6 @@ use moka_parts::error::OutOfMemory;
 use moka_parts::housekeeper::Clock;
 use moka_parts::notification::Listener;
 use moka_parts::policy::{Expiry, Instant};
-use moka_parts::records::ReadOperation;
-use moka_store::Handle;
 use std::hash::{BuildHasher, Hash};
 
 impl<
@@ -122,26 +120,19 @@ impl<
             return Err(OutOfMemory);
         };
         let (hash, hit) = (found.hash(), gets::hit_of(&found, policy, now));
-        let Handle { number, place } = handle;
-        let renewed = hit.is_renewed;
+        let read = ReadHit {
+            number: handle.number,
+            hash,
+            renewed: hit.is_renewed,
+        };
         self.inner
             .touch(handle, hit.read, hit.expires, hit.is_renewed);
         let queued = self.inner.read_count();
         if self.housekeeper.should_apply_reads(queued, hit.read) {
-            let read = ReadHit {
-                number,
-                hash,
-                renewed,
-            };
             self.record_hit_when_due(key, read, hit.read, clock);
             return Ok(Some(entry));
         }
-        let read = ReadOperation::Hit {
-            number,
-            hash,
-            renewed,
-        };
-        self.inner.queue_read(place, read);
+        self.inner.queue_read(handle.place, read.operation());
         Ok(Some(entry))
     }
 

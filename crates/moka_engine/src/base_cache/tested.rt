@@ -25,7 +25,6 @@ use moka_parts::key_test::KeyTest;
 use moka_parts::notification::Listener;
 use moka_parts::policy::{Expiry, Instant};
 use moka_parts::record_ref::RecordRef;
-use moka_parts::records::ReadOperation;
 use moka_store::{Handle, KeyHash};
 use std::hash::{BuildHasher, Hash};
 
@@ -151,26 +150,19 @@ impl<
             return Err(OutOfMemory);
         };
         let (first_hash, hit) = (found.hash(), gets::hit_of(&found, policy, now));
-        let Handle { number, place } = handle;
-        let renewed = hit.is_renewed;
+        let read = ReadHit {
+            number: handle.number,
+            hash: first_hash,
+            renewed: hit.is_renewed,
+        };
         self.inner
             .touch(handle, hit.read, hit.expires, hit.is_renewed);
         let queued = self.inner.read_count();
         if self.housekeeper.should_apply_reads(queued, hit.read) {
-            let read = ReadHit {
-                number,
-                hash: first_hash,
-                renewed,
-            };
             self.record_hit_by((test, own), read, hit.read, clock);
             return Ok(Some(entry));
         }
-        let read = ReadOperation::Hit {
-            number,
-            hash: first_hash,
-            renewed,
-        };
-        self.inner.queue_read(place, read);
+        self.inner.queue_read(handle.place, read.operation());
         Ok(Some(entry))
     }
 

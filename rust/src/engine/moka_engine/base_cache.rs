@@ -11,6 +11,7 @@ use crate::engine::moka_parts::housekeeper::{Clock, Housekeeper, HousekeeperConf
 use crate::engine::moka_parts::invalidator::Invalidator;
 use crate::engine::moka_parts::notification::{Listener, RemovalNotifier};
 use crate::engine::moka_parts::policy::{EvictionPolicy, ExpirationPolicy, Expiry, Instant, Policy};
+use crate::engine::moka_parts::records::ReadOperation;
 use crate::engine::moka_store::{KeyHash, Update};
 use crate::support::alloc::Global;
 use crate::support::hash::{BuildHasher, Hash};
@@ -48,6 +49,23 @@ struct ReadHit {
     number: u64,
     hash: u64,
     renewed: bool,
+}
+
+impl ReadHit {
+    #[inline(always)]
+    fn operation(self) -> ReadOperation
+    {
+        let ReadHit {
+            number,
+            hash,
+            renewed,
+        } = self;
+        ReadOperation::Hit {
+            number,
+            hash,
+            renewed,
+        }
+    }
 }
 
 /// A cache. moka: `sync::base_cache::BaseCache`.

@@ -1,5 +1,6 @@
 use Rattle.std.proofs.Common.{◌≡◌, sym, ap, ◌∙◌, arith, is_some}
 use Rattle.std.specs.FinMap as finite
+use Rattle.std.proofs.lemmas.Bool.{eq-eqb}
 use Rattle.moka_parts.specs.Records.{counted_of, is_member}
 use Rattle.moka_store.specs.Store.{Kept}
 use Rattle.moka_maintenance.proofs.Fates.{rejected-gone}
@@ -12,7 +13,10 @@ use Rattle.moka_maintenance.proofs.admission.reject.Goals as goal
 
 pub returns-then-generation-clause-step : goal.returns-then-generation-clause-step
 returns-then-generation-clause-step g c = λ r found.
-    let same : r.generation ≡ c.args.generation = (let e = c.in-Some.ensures.found c.requires.handle.placed in let t = c.if-generation.true in let o = c.generation.ensures in let s = sym found ∙ sym e in cc) in
+    let there = sym found ∙ sym (c.in-Some.ensures.found c.requires.handle.placed) in
+    let kept = c.generation.ensures in
+    let equal = c.if-generation.true in
+    let same : r.generation ≡ c.args.generation = cc in
     rejected-gone (contents_in c.args.store.now) (contents_in c.expel.new.store) c.args.handle.number c.args.generation r same c.requires.apart (ap (λ (s : Stock g.row.K.Denot g.row.V.Denot). contents_of s) c.expel.ensures.step)
 
 pub returns-then-generation-clause-written : goal.returns-then-generation-clause-written
@@ -40,3 +44,11 @@ returns-else-generation-clause-upkeep g c =
       rows = rows-changed c.args.store.now c.set_applied.new.self n (record c.in-Some.present { applied = c.args.generation }) (ap (λ (k : Kept g.row.K.Denot g.row.V.Denot g.row.S.Denot). k.records) step);
       room = omega arith;
     }
+
+pub returns-then-generation-clause-told : goal.returns-then-generation-clause-told
+returns-then-generation-clause-told g c = λ r found.
+    let there = sym found ∙ sym (c.in-Some.ensures.found c.requires.handle.placed) in
+    let kept = c.generation.ensures in
+    let equal = c.if-generation.true in
+    let same : r.generation ≡ c.args.generation = cc in
+    rw (eq-eqb r.generation c.args.generation same) (rw found at c.expel.ensures.told)

@@ -1,4 +1,4 @@
-use Rattle.std.proofs.Common.{refl, sym, ap, ◌∙◌}
+use Rattle.std.proofs.Common.{refl, sym, ap, ◌∙◌, true≢false}
 use Rattle.std.specs.FinMap as finite
 use Rattle.moka_parts.specs.Time.{has_passed, moment_of}
 use Rattle.moka_store.specs.Store.{Kept}
@@ -38,3 +38,9 @@ pub returns-clause-reset : goal.returns-clause-reset
 returns-clause-reset g c =
     reset-set c.args.tests.now.0 c.args.handle.number c.args.store.now c.set_timer.new.self c.requires.untimed c.in-Some.found (sym (c.in-Some.ensures.found c.requires.member.placed))
     (ap (λ e. has_passed (moment_of e) c.args.tests.now.0) (sym c.expires.ensures) ∙ sym c.is_expired_by_per_entry_ttl.ensures ∙ c.if-is_expired_by_per_entry_ttl.false) (c.set_timer.ensures.step c.in-Some.found (sym (c.in-Some.ensures.found c.requires.member.placed)))
+
+pub unreachable-requires : goal.unreachable-requires
+unreachable-requires g c =
+    let settled = sym c.is_settled.ensures ∙ c.if-not-is_settled.false in
+    let none = sym (c.in_default.ensures.found c.requires.member.placed) in
+    true≢false (sym (rw none at settled))

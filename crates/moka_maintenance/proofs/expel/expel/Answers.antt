@@ -23,3 +23,6 @@ returns g c =
       whole = whole;
       upkeep = subst (λ (k : Kept g.row.K.Denot g.row.V.Denot g.row.S.Denot). SetsNoTimer c.args.store.now k) (sym whole) (untimed-gone c.args.store.now n new.room more);
     }
+
+pub forget-requires-clause-placed : goal.forget-requires-clause-placed
+forget-requires-clause-placed g c = ap (λ places. finite.get places c.args.handle.number) c.take_out-key.ensures.places ∙ c.requires.placed

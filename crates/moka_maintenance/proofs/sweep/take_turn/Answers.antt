@@ -1,4 +1,4 @@
-use Rattle.std.proofs.Common.{sym, ◌∙◌}
+use Rattle.std.proofs.Common.{ap, refl, sym, ◌∙◌}
 use Rattle.moka_maintenance.specs.Steps.{stock_in}
 use Rattle.moka_maintenance.proofs.Fronts.{settled_member}
 use Rattle.moka_maintenance.proofs.Upkeep.{untimed-moved}
@@ -21,3 +21,9 @@ returns-clause-turn g c =
 
 pub returns-then-not-is_settled-clause-upkeep : goal.returns-then-not-is_settled-clause-upkeep
 returns-then-not-is_settled-clause-upkeep g c = untimed-moved c.args.store.now c.move_to_back.new.self c.move_to_back.ensures.step c.move_to_back.ensures.counted
+
+pub returns-then-not-is_settled-clause-turn : goal.returns-then-not-is_settled-clause-turn
+returns-then-not-is_settled-clause-turn g c =
+    let front = c.in-Some.ensures in
+    let unsettled = sym c.is_settled.ensures ∙ c.if-not-is_settled.true in
+    (c.in-Some.handle.number, (front.1, (front.0.member, unsettled)), ap stock_in c.move_to_back.ensures.step, refl)

@@ -14,7 +14,6 @@ use crate::engine::moka_parts::key_test::KeyTest;
 use crate::engine::moka_parts::notification::Listener;
 use crate::engine::moka_parts::policy::{Expiry, Instant};
 use crate::engine::moka_parts::record_ref::RecordRef;
-use crate::engine::moka_parts::records::ReadOperation;
 use crate::engine::moka_store::{Handle, KeyHash};
 use crate::support::hash::{BuildHasher, Hash};
 
@@ -123,26 +122,19 @@ impl<
             return Err(OutOfMemory);
         };
         let (first_hash, hit) = (found.hash(), gets::hit_of(&found, policy, now));
-        let Handle { number, place } = handle;
-        let renewed = hit.is_renewed;
+        let read = ReadHit {
+            number: handle.number,
+            hash: first_hash,
+            renewed: hit.is_renewed,
+        };
         self.inner
             .touch(handle, hit.read, hit.expires, hit.is_renewed);
         let queued = self.inner.read_count();
         if self.housekeeper.should_apply_reads(queued, hit.read) {
-            let read = ReadHit {
-                number,
-                hash: first_hash,
-                renewed,
-            };
             self.record_hit_by((test, own), read, hit.read, clock);
             return Ok(Some(entry));
         }
-        let read = ReadOperation::Hit {
-            number,
-            hash: first_hash,
-            renewed,
-        };
-        self.inner.queue_read(place, read);
+        self.inner.queue_read(handle.place, read.operation());
         Ok(Some(entry))
     }
 

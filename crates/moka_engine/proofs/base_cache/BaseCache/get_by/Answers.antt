@@ -35,7 +35,7 @@ record_hit_by-requires-clause-found g c =
 pub queue_read-requires : goal.queue_read-requires
 queue_read-requires g c =
     let at = c.in-Some.ensures in
-    located-read c.self.invariant.cache c.self.inside.inner refl c.in-Some.handle.number c.in-Some.handle.place c.in-Some.found at.numbered at.placed.placed _ c.touch.new.self c.touch.ensures.rest (c.touch.ensures.step c.in-Some.found at.numbered)
+    rw c.operation.ensures (located-read c.self.invariant.cache c.self.inside.inner refl c.in-Some.handle.number c.in-Some.handle.place c.in-Some.found at.numbered at.placed.placed _ c.touch.new.self c.touch.ensures.rest (c.touch.ensures.step c.in-Some.found at.numbered))
 
 pub returns-then-is_map_disabled : goal.returns-then-is_map_disabled
 returns-then-is_map_disabled g c =
@@ -93,7 +93,7 @@ invariant_of-self-2 g c =
     let by_key = sym (record_by_key g.K.PartialEq.eq (g.T.KeyTest.passes c.args.test.now) (g.met.T.KeyTest.one_key c.args.test.now) c.self.inside.inner.kept.records key at.passing) ∙ at.found in
     let touched = cache-touched c.self.invariant.cache c.self.inside.inner refl g.P.PredicateFn.says g.X.Expiry.read key c.in-Some.handle.number c.in-Some.found at.numbered by_key c.args.now.0 c.hit_of-hit.result.read c.hit_of-hit.result.expires c.hit_of-hit.result.is_renewed c.hit_of-hit.ensures c.touch.new.self c.touch.ensures.rest (c.touch.ensures.step c.in-Some.found at.numbered) in
     record {
-      cache = cache-queued touched c.touch.new.self refl (Hit c.in-Some.handle.number c.in-Some.found.hash c.hit_of-hit.result.is_renewed) c.queue_read.new.self (rw c.hash-first_hash.ensures at c.queue_read.ensures);
+      cache = cache-queued touched c.touch.new.self refl (Hit c.in-Some.handle.number c.in-Some.found.hash c.hit_of-hit.result.is_renewed) c.queue_read.new.self (rw (c.operation.ensures, c.hash-first_hash.ensures) at c.queue_read.ensures);
       store = rw c.queue_read.ensures (stocked-read c.self.invariant.cache c.self.inside.inner refl g.P.PredicateFn.says g.X.Expiry.read key c.in-Some.handle.number c.in-Some.found at.numbered by_key c.args.now.0 c.hit_of-hit.result.read c.hit_of-hit.result.expires c.hit_of-hit.result.is_renewed c.hit_of-hit.ensures c.touch.new.self c.touch.ensures.rest (c.touch.ensures.step c.in-Some.found at.numbered) c.self.invariant.store);
     }
 
@@ -107,7 +107,7 @@ returns g c =
     let due = ap (λ n. is_due c.self.inside.housekeeper.housekeeping n c.hit_of-hit.result.read.0) (sym c.read_count-queued.ensures) ∙ sym c.should_apply_reads.ensures ∙ c.if-should_apply_reads.false in
     let queued = queues_read g.P.PredicateFn.says g.X.Expiry.read (λ (before : List ℕ). ListedRun g.P.PredicateFn.says g.X.Expiry.read before c.queue_read.new.self.kept.written) g.L.Listener.tells g.C.Clock.reads g.K.PartialEq.eq c.self.view_is key c.args.hash c.args.need_key false c.args.now c.args.clock.now
     c.self.invariant.cache c.self.inside.inner refl c.in-Some.handle.number c.in-Some.found at.numbered by_key refl at.shown at.uncovered c.hit_of-hit.result.read c.hit_of-hit.result.expires c.hit_of-hit.result.is_renewed c.hit_of-hit.ensures
-    c.touch.new.self c.touch.ensures.rest (c.touch.ensures.step c.in-Some.found at.numbered) due c.queue_read.new.self (Hit c.in-Some.handle.number c.in-Some.found.hash c.hit_of-hit.result.is_renewed) (rw c.hash-first_hash.ensures at c.queue_read.ensures) in
+    c.touch.new.self c.touch.ensures.rest (c.touch.ensures.step c.in-Some.found at.numbered) due c.queue_read.new.self (Hit c.in-Some.handle.number c.in-Some.found.hash c.hit_of-hit.result.is_renewed) (rw (c.operation.ensures, c.hash-first_hash.ensures) at c.queue_read.ensures) in
     let found = get_hits g.P.PredicateFn.says g.X.Expiry.read (λ (before : List ℕ). ListedRun g.P.PredicateFn.says g.X.Expiry.read before c.queue_read.new.self.kept.written) g.L.Listener.tells g.C.Clock.reads g.K.PartialEq.eq c.self.view_is key c.args.hash c.args.need_key false c.args.now c.args.clock.now
     c.self.invariant.cache c.self.inside.inner refl c.in-Some.handle.number c.in-Some.found at.numbered by_key refl at.shown at.uncovered c.hit_of-hit.result.read c.hit_of-hit.result.expires c.hit_of-hit.result.is_renewed c.hit_of-hit.ensures
     c.touch.new.self c.touch.ensures.rest (c.touch.ensures.step c.in-Some.found at.numbered) refl refl (entry_at c.args.need_key c.in-Some.found) refl refl queued in

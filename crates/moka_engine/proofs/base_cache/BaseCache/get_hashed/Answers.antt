@@ -19,7 +19,7 @@ record_hit_when_due-requires-clause-found g c =
 pub queue_read-requires : goal.queue_read-requires
 queue_read-requires g c =
     let at = c.in-Some.ensures in
-    located-read c.self.invariant.cache c.self.inside.inner refl c.in-Some.handle.number c.in-Some.handle.place c.in-Some.found at.2.numbered at.2.placed.placed _ c.touch.new.self c.touch.ensures.rest (c.touch.ensures.step c.in-Some.found at.2.numbered)
+    rw c.operation.ensures (located-read c.self.invariant.cache c.self.inside.inner refl c.in-Some.handle.number c.in-Some.handle.place c.in-Some.found at.2.numbered at.2.placed.placed _ c.touch.new.self c.touch.ensures.rest (c.touch.ensures.step c.in-Some.found at.2.numbered))
 
 pub returns-then-is_map_disabled : goal.returns-then-is_map_disabled
 returns-then-is_map_disabled g c =
@@ -59,7 +59,7 @@ pub invariant_of-self-2 : goal.invariant_of-self-2
 invariant_of-self-2 g c =
     let at = c.in-Some.ensures in
     let touched = cache-touched c.self.invariant.cache c.self.inside.inner refl g.P.PredicateFn.says g.X.Expiry.read c.args.look.key.now c.in-Some.handle.number c.in-Some.found at.2.numbered at.2.found c.args.look.now.0 c.hit_of-hit.result.read c.hit_of-hit.result.expires c.hit_of-hit.result.is_renewed c.hit_of-hit.ensures c.touch.new.self c.touch.ensures.rest (c.touch.ensures.step c.in-Some.found at.2.numbered) in
-    record { cache = cache-queued touched c.touch.new.self refl (Hit c.in-Some.handle.number c.in-Some.found.hash c.hit_of-hit.result.is_renewed) c.queue_read.new.self (rw c.hash-hash.ensures at c.queue_read.ensures); store = rw c.queue_read.ensures (stocked-read c.self.invariant.cache c.self.inside.inner refl g.P.PredicateFn.says g.X.Expiry.read c.args.look.key.now c.in-Some.handle.number c.in-Some.found at.2.numbered at.2.found c.args.look.now.0 c.hit_of-hit.result.read c.hit_of-hit.result.expires c.hit_of-hit.result.is_renewed c.hit_of-hit.ensures c.touch.new.self c.touch.ensures.rest (c.touch.ensures.step c.in-Some.found at.2.numbered) c.self.invariant.store) }
+    record { cache = cache-queued touched c.touch.new.self refl (Hit c.in-Some.handle.number c.in-Some.found.hash c.hit_of-hit.result.is_renewed) c.queue_read.new.self (rw (c.operation.ensures, c.hash-hash.ensures) at c.queue_read.ensures); store = rw c.queue_read.ensures (stocked-read c.self.invariant.cache c.self.inside.inner refl g.P.PredicateFn.says g.X.Expiry.read c.args.look.key.now c.in-Some.handle.number c.in-Some.found at.2.numbered at.2.found c.args.look.now.0 c.hit_of-hit.result.read c.hit_of-hit.result.expires c.hit_of-hit.result.is_renewed c.hit_of-hit.ensures c.touch.new.self c.touch.ensures.rest (c.touch.ensures.step c.in-Some.found at.2.numbered) c.self.invariant.store) }
 
 pub returns : goal.returns
 returns g c =
@@ -67,7 +67,7 @@ returns g c =
     let due = ap (λ n. is_due c.self.inside.housekeeper.housekeeping n c.hit_of-hit.result.read.0) (sym c.read_count-queued.ensures) ∙ sym c.should_apply_reads.ensures ∙ c.if-should_apply_reads.false in
     let queued = queues_read g.P.PredicateFn.says g.X.Expiry.read (λ (before : List ℕ). ListedRun g.P.PredicateFn.says g.X.Expiry.read before c.queue_read.new.self.kept.written) g.L.Listener.tells g.C.Clock.reads g.K.PartialEq.eq c.self.view_is c.args.look.key.now c.args.look.hashes.hash c.args.look.need_key at.0 c.args.look.now c.args.clock.now
     c.self.invariant.cache c.self.inside.inner refl c.in-Some.handle.number c.in-Some.found at.2.numbered at.2.found at.2.accepted at.2.shown at.2.uncovered c.hit_of-hit.result.read c.hit_of-hit.result.expires c.hit_of-hit.result.is_renewed c.hit_of-hit.ensures
-    c.touch.new.self c.touch.ensures.rest (c.touch.ensures.step c.in-Some.found at.2.numbered) due c.queue_read.new.self (Hit c.in-Some.handle.number c.in-Some.found.hash c.hit_of-hit.result.is_renewed) (rw c.hash-hash.ensures at c.queue_read.ensures) in
+    c.touch.new.self c.touch.ensures.rest (c.touch.ensures.step c.in-Some.found at.2.numbered) due c.queue_read.new.self (Hit c.in-Some.handle.number c.in-Some.found.hash c.hit_of-hit.result.is_renewed) (rw (c.operation.ensures, c.hash-hash.ensures) at c.queue_read.ensures) in
     let found = get_hits g.P.PredicateFn.says g.X.Expiry.read (λ (before : List ℕ). ListedRun g.P.PredicateFn.says g.X.Expiry.read before c.queue_read.new.self.kept.written) g.L.Listener.tells g.C.Clock.reads g.K.PartialEq.eq c.self.view_is c.args.look.key.now c.args.look.hashes.hash c.args.look.need_key at.0 c.args.look.now c.args.clock.now
     c.self.invariant.cache c.self.inside.inner refl c.in-Some.handle.number c.in-Some.found at.2.numbered at.2.found at.2.accepted at.2.shown at.2.uncovered c.hit_of-hit.result.read c.hit_of-hit.result.expires c.hit_of-hit.result.is_renewed c.hit_of-hit.ensures
     c.touch.new.self c.touch.ensures.rest (c.touch.ensures.step c.in-Some.found at.2.numbered) refl refl (entry_at c.args.look.need_key c.in-Some.found) refl refl queued in

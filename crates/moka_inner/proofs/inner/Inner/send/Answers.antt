@@ -1,6 +1,6 @@
-use Rattle.std.proofs.Common.{◌≡◌, ◌+◌, Option, Some, None, is_some, option_map, true, refl, sym, ◌∙◌}
+use Rattle.std.proofs.Common.{◌≡◌, ◌+◌, length, Option, Some, None, is_some, option_map, true, refl, sym, ◌∙◌, arith, rules}
 use Rattle.std.specs.FinMap.{get}
-use Rattle.std.proofs.lemmas.List.{map-append}
+use Rattle.std.proofs.lemmas.List.{length-map, map-append}
 use Rattle.moka_parts.proofs.Values.{remove_absent}
 use Rattle.moka_store.proofs.Gets.{none-of}
 use Rattle.moka_maintenance.specs.declared.queued.PlacedWrite.{PlacedWrite}
@@ -49,3 +49,15 @@ pub returns-clause-ok : goal.returns-clause-ok
 returns-clause-ok g c =
     let there = sym c.take.ensures.item ∙ c.in-Some.is in
     rw (← c.self.view_is, get-map_values, there, c.in-Ok.ensures.ok, c.take.ensures.items, map_values-remove, map-append) (c.in-Some.write.operation, refl, refl)
+
+pub returns-clause-room : goal.returns-clause-room
+returns-clause-room g c =
+    let fits = c.in-Ok.ensures.variant.0 refl in
+    let q = c.self.invariant.write_queue in
+    rw (← c.self.view_is, length-map) (omega arith)
+
+pub returns-then-contains-clause-full : goal.returns-then-contains-clause-full
+returns-then-contains-clause-full g c =
+    let q = c.self.invariant.write_queue in
+    let full : length c.self.inside.writes.items ≡ c.self.inside.writes.capacity = search rules in
+    rw (← c.self.view_is, length-map) (λ _. omega arith)

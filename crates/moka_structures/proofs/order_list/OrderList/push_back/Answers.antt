@@ -1,8 +1,11 @@
-use Rattle.std.proofs.Common.{◌≡◌, ◌<◌, ◌^◌, length, nat_eq, arith, ap, ◌∙◌, refl}
-use Rattle.moka_structures.proofs.Orders.{reuse-leaves, fresh-leaves, added-reuse, added-fresh, free-fresh, free-positive, fits, new-fresh, length-members, distinct-members}
+use Rattle.std.proofs.Common.{◌≡◌, ◌<◌, ◌^◌, [], ◌∷◌, length, nat_eq, arith, ap, ◌∙◌, refl}
+use Rattle.std.proofs.lemmas.List.{get_or_append_left}
+use Rattle.moka_structures.proofs.Orders.{befores-any, reuse-leaves, fresh-leaves, added-reuse, added-fresh, free-fresh, free-positive, fits, new-fresh, length-members, distinct-members}
+use Rattle.moka_structures.proofs.Parts.{last-in, parts-of}
 use Rattle.moka_structures.proofs.Lookups.{lookup-pushed}
 use Rattle.std.specs.Map.{lookup}
 use Rattle.moka_links.specs.declared.Node.{Node}
+use Rattle.moka_structures.specs.Links.{befores, blank}
 use Rattle.moka_structures.proofs.order_list.OrderList.push_back.Goals as goal
 
 pub invariant_of-self : goal.invariant_of-self
@@ -92,3 +95,19 @@ returns-then-self-len-clause-positive g c = free-positive _ _ _ _ c.self.invaria
 
 pub returns-clause-positive : goal.returns-clause-positive
 returns-clause-positive g c = omega (arith, fits _ _ _ _ c.self.invariant)
+
+pub reuse-self-inside-requires-clause-last : goal.reuse-self-inside-requires-clause-last
+reuse-self-inside-requires-clause-last g c past =
+    let s = c.self.inside in
+    let o = c.self.invariant in
+    omega (arith, befores-any past s.blank s.nodes.items 0, last-in s.blank s.nodes.items o.slots o.frees s.free (parts-of s.blank s.nodes.items s.len s.free o))
+
+pub append-requires-clause-last : goal.append-requires-clause-last
+append-requires-clause-last g c past =
+    let s = c.self.inside in
+    let ns = s.nodes.items in
+    let o = c.self.invariant in
+    let v : Node g.row.T.Denot = record { value = c.args.value; before = 0; behind = 0 } in
+    let same : befores past c.push_reserved.new.self.items 0 ≡ befores past ns 0 =
+    ap (λ ns. befores past ns 0) c.push_reserved.ensures.items ∙ ap (λ n. n.before) (get_or_append_left ns (v ∷ []) (blank past) 0 (omega (arith, o.total))) in
+    omega (arith, same, befores-any past s.blank ns 0, last-in s.blank ns o.slots o.frees s.free (parts-of s.blank ns s.len s.free o))

@@ -48,3 +48,8 @@ returns-clause-placed c =
     let sized = c.loop-self.invariant.placed.links.sized in
     let r1 = ap (λ (n : Node). n.behind) (get_or_read ns c.args.bucket c.index.result.now (omega (arith, sized)) c.index.ensures blank) in
     empty-placed ns c.loop-self.self.occupied c.unmark.new.occupied c.loop-self.self.moment c.args.bucket c.loop-self.invariant.placed c.requires.within (sym r1 ∙ c.loop-self-test.false) c.unmark.ensures.here c.unmark.ensures.others
+
+pub detach-requires-clause-slot : goal.detach-requires-clause-slot
+detach-requires-clause-slot c =
+    let f = first-read _ _ _ c.args.bucket _ _ c.loop-self.invariant.placed c.requires.within c.index.ensures c.index-in-loop-self.ensures c.loop-self-test.true in
+    omega (arith, f.leaves.timer.within)

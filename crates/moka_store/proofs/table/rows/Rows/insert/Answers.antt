@@ -56,3 +56,29 @@ pub returns-clause-filled : goal.returns-clause-filled
 returns-clause-filled g c = λ other.
     let within = next_within _ _ _ c.self.invariant (λ e. omega arith) in
     rw (← c.self.view_is, c.replace.ensures.after, c.full-slot.ensures) (length-rows _ _ _, omega (arith, within, length-map c.self.inside.slots.items value_of))
+
+pub returns-then-place-len-clause-vacant : goal.returns-then-place-len-clause-vacant
+returns-then-place-len-clause-vacant g c = rw (← c.self.view_is) (next_is_vacant _ _ _ c.self.invariant)
+
+pub returns-then-place-len-clause-filled : goal.returns-then-place-len-clause-filled
+returns-then-place-len-clause-filled g c = λ other.
+    absurd (other (rw (← c.self.view_is) (omega (arith, length-map c.self.inside.slots.items value_of))))
+
+pub returns-then-place-len-clause-room : goal.returns-then-place-len-clause-room
+returns-then-place-len-clause-room g c =
+    let room = rw (← c.self.view_is) at c.requires in
+    rw (← c.self.view_is) (omega (arith, c.push_reserved.ensures.capacity))
+
+pub returns-clause-pushed : goal.returns-clause-pushed
+returns-clause-pushed g c = λ same.
+    absurd (omega (arith, length-map c.self.inside.slots.items value_of, rw (← c.self.view_is) at same))
+
+pub returns-clause-room : goal.returns-clause-room
+returns-clause-room g c =
+    let room = rw (← c.self.view_is) at c.requires in
+    rw (← c.self.view_is) (omega arith)
+
+pub returns-then-place-len-clause-len : goal.returns-then-place-len-clause-len
+returns-then-place-len-clause-len g c =
+    let counted = (IsSound-push c.self.inside.slots.items c.self.inside.len c.self.inside.vacant (record { number = c.args.number; stored = Some c.args.front; membership = None; timer = None }) c.self.invariant (omega arith)).counted in
+    rw (← c.self.view_is, c.push_reserved.ensures.items, c.full-slot.ensures) (omega (arith, counted, c.self.invariant.counted))

@@ -5,6 +5,11 @@ use Rattle.slab.proofs.EntryLemmas.{occupied_at, count-set, IsSound-vacate}
 use Rattle.moka_store.proofs.RowCalls.{set-changes, length-rows}
 use Rattle.moka_store.proofs.table.rows.Rows.remove.Goals as goal
 
+pub index_mut-requires : goal.index_mut-requires
+index_mut-requires g c =
+    let found = occupied_at c.self.inside.slots.items c.args.place (rw (← c.self.view_is) at c.requires) in
+    omega (arith, slice_get_within c.self.inside.slots.items c.args.place (Occupied found.0) found.1)
+
 pub invariant_of-self : goal.invariant_of-self
 invariant_of-self g c =
     let found = occupied_at c.self.inside.slots.items c.args.place (rw (← c.self.view_is) at c.requires) in
@@ -29,3 +34,9 @@ returns-clause-room g c =
     let found = occupied_at c.self.inside.slots.items c.args.place (rw (← c.self.view_is) at c.requires) in
     let counted = count-set c.self.inside.slots.items c.args.place (Occupied found.0) (Vacant c.self.inside.vacant) found.1 in
     rw (← c.self.view_is) (omega (arith, counted, c.self.invariant.counted, c.self.invariant.total))
+
+pub overflow_sub-self : goal.overflow_sub-self
+overflow_sub-self g c =
+    let found = occupied_at c.self.inside.slots.items c.args.place (rw (← c.self.view_is) at c.requires) in
+    let counted = count-set c.self.inside.slots.items c.args.place (Occupied found.0) (Vacant c.self.inside.vacant) found.1 in
+    omega (arith, counted, c.self.invariant.counted)

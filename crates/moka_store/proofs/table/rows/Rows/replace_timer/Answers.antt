@@ -1,9 +1,15 @@
-use Rattle.std.proofs.Common.{ap, ◌∙◌}
+use Rattle.std.proofs.Common.{map, ap, ◌∙◌, arith, refl}
 use Rattle.std.specs.Option.{option_and_then}
 use Rattle.slab.specs.Entry.{value_of}
+use Rattle.moka_store.specs.RecordTable.{row_at}
 use Rattle.moka_store.proofs.TableMaps.{some_is}
-use Rattle.moka_store.proofs.RowCalls.{read_there, rewritten, length-rows}
+use Rattle.moka_store.proofs.RowCalls.{read_there, rewritten, length-rows, row_within}
 use Rattle.moka_store.proofs.table.rows.Rows.replace_timer.Goals as goal
+
+pub index_mut-slot-requires : goal.index_mut-slot-requires
+index_mut-slot-requires g c =
+    let row = some_is (row_at (map value_of c.self.inside.slots.items) c.args.place) (rw (← c.self.view_is) at c.requires.row) in
+    omega (arith, row_within c.self.inside.slots.items c.args.place row.0 row.1)
 
 pub invariant_of-self : goal.invariant_of-self
 invariant_of-self g c =
@@ -31,3 +37,11 @@ returns-clause-old g c =
 
 pub returns-clause-length : goal.returns-clause-length
 returns-clause-length g c = rw (← c.self.view_is) (length-rows _ _ _)
+
+pub returns-clause-room : goal.returns-clause-room
+returns-clause-room g c = rw (← c.self.view_is) refl
+
+pub set_timer-requires-clause-row : goal.set_timer-requires-clause-row
+set_timer-requires-clause-row g c =
+    let row = some_is (row_at (map value_of c.self.inside.slots.items) c.args.place) (rw (← c.self.view_is) at c.requires.row) in
+    rw (read_there c.self.inside.slots.items c.args.place _ _ row.1 c.index_mut-slot.ensures.value) refl

@@ -1,6 +1,12 @@
+use Rattle.std.proofs.Common.{arith, refl}
 use Rattle.moka_store.proofs.TableCalls.{stored_row}
-use Rattle.moka_store.proofs.RowCalls.{read_there, rewritten}
+use Rattle.moka_store.proofs.RowCalls.{read_there, rewritten, row_within}
 use Rattle.moka_store.proofs.table.rows.Rows.replace_value.Goals as goal
+
+pub index_mut-requires : goal.index_mut-requires
+index_mut-requires g c =
+    let row = stored_row _ c.args.place (rw (← c.self.view_is) at c.requires) in
+    omega (arith, row_within c.self.inside.slots.items c.args.place row.0 row.2)
 
 pub invariant_of-self : goal.invariant_of-self
 invariant_of-self g c =
@@ -20,3 +26,12 @@ returns-clause-rows g c = λ f is.
     let own = rw (← c.self.view_is, row.2) at is in
     let after = c.replace_value.ensures.new row.0 f (read_there c.self.inside.slots.items c.args.place _ _ row.2 c.index_mut.ensures.value) own in
     rw (← c.self.view_is, row.2) (rewritten _ _ _ _ _ _ _ c.self.invariant row.2 after).rows
+
+pub replace_value-requires : goal.replace_value-requires
+replace_value-requires g c =
+    let row = stored_row _ c.args.place (rw (← c.self.view_is) at c.requires) in
+    let read = read_there c.self.inside.slots.items c.args.place _ _ row.2 c.index_mut.ensures.value in
+    rw (read, row.3) refl
+
+pub returns-clause-room : goal.returns-clause-room
+returns-clause-room g c = rw (← c.self.view_is) refl

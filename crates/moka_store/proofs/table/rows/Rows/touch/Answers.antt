@@ -1,7 +1,14 @@
-use Rattle.std.proofs.Common.{refl}
+use Rattle.moka_store.specs.RecordTable.{row_at}
+use Rattle.slab.specs.Entry.{value_of}
+use Rattle.std.proofs.Common.{refl, arith, ◌≡◌, map, Some, ap, sym, ◌∙◌}
 use Rattle.moka_store.proofs.TableCalls.{stored_row}
-use Rattle.moka_store.proofs.RowCalls.{read_there, rewritten}
+use Rattle.moka_store.proofs.RowCalls.{read_there, rewritten, row_within}
 use Rattle.moka_store.proofs.table.rows.Rows.touch.Goals as goal
+
+pub index_mut-requires : goal.index_mut-requires
+index_mut-requires g c =
+    let row = stored_row _ c.args.place (rw (← c.self.view_is) at c.requires.stored) in
+    omega (arith, row_within c.self.inside.slots.items c.args.place row.0 row.2)
 
 pub touch-requires-clause-stored : goal.touch-requires-clause-stored
 touch-requires-clause-stored g c =
@@ -21,3 +28,13 @@ returns-clause-rows g c = λ f is.
     let own = rw (← c.self.view_is, row.2) at is in
     let after = c.touch.ensures row.0 f (read_there c.self.inside.slots.items c.args.place _ _ row.2 c.index_mut.ensures.value) own in
     rw (← c.self.view_is, row.2) (rewritten _ _ _ _ _ _ _ c.self.invariant row.2 after).rows
+
+pub touch-requires-clause-kept : goal.touch-requires-clause-kept
+touch-requires-clause-kept g c = λ same row f is stored.
+    let own = stored_row _ c.args.place (rw (← c.self.view_is) at c.requires.stored) in
+    let read = read_there c.self.inside.slots.items c.args.place _ _ own.2 c.index_mut.ensures.value in
+    let there : row_at (map value_of c.self.inside.slots.items) c.args.place ≡ Some row = own.2 ∙ ap value_of (sym read ∙ is) in
+    (rw (← c.self.view_is) at c.requires.kept) same f (rw there stored)
+
+pub returns-clause-room : goal.returns-clause-room
+returns-clause-room g c = rw (← c.self.view_is) refl
