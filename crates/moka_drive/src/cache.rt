@@ -277,6 +277,7 @@ impl<
     ///
     /// # Errors
     /// `OutOfMemory` where memory for the clone is refused. Nothing has changed.
+    #[inline(always)]
     pub fn get<C: Clock>(
         &mut self,
         key: &K,
@@ -302,6 +303,7 @@ impl<
     }
 
     // A get of a key with its hash.
+    #[inline(always)]
     pub(crate) fn get_hashed<C: Clock>(
         &mut self,
         key: &K,
@@ -670,6 +672,7 @@ impl<
 }
 
 // The value of the entry that a get found.
+#[inline(always)]
 fn value_of<K: Drop, V>(
     entry: Result<Option<Entry<K, V>>, OutOfMemory>,
 ) -> Result<Option<V>, OutOfMemory>

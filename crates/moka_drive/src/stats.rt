@@ -29,6 +29,7 @@ impl Stats {
     }
 
     /// Counts a look-up.
+    #[inline(always)]
     pub fn count_look_up<V>(&mut self, found: &Result<Option<V>, OutOfMemory>)
         ensures { self.new ≡ after_look_up found.now self.old }
     {

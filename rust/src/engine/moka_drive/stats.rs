@@ -28,6 +28,7 @@ impl Stats {
     }
 
     /// Counts a look-up.
+    #[inline(always)]
     pub fn count_look_up<V>(&mut self, found: &Result<Option<V>, OutOfMemory>)
     {
         match found {
