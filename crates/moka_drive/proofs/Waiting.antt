@@ -115,10 +115,6 @@ module _ {K V X P W : Type 0} where
     pub outstanding : t.outstanding ≡ insert s.outstanding ticket.0 operation
     pub capacity : t.capacity ≡ s.capacity
 
-  -- where none waited, it waits alone
-  pub waits_alone : (s : State K V X P W) (ticket : Ticket) (t : State K V X P W) → HandsOut s ticket t → s.outstanding ≡ empty → (o : Operation) × (t.outstanding ≡ insert empty ticket.0 o)
-  waits_alone s ticket t h none = (h.operation, h.outstanding ∙ ap (λ m. insert m ticket.0 h.operation) none)
-
   -- an insert hands out, at its moment, and asks for no identifiers
   pub insert_hands_out : (created : X → K → V → ℕ → Option ℕ) (updated : X → K → V → ℕ → Option ℕ → Option ℕ) (weighs : W → K → V → ℕ → Type 0) (eq : K → K → Bool) (s : State K V X P W) (key : K) (hash : ℕ) (value : V) (now : Instant) (a : Ticket × Instant) (e : Events K V) (t : State K V X P W)
       → InsertStep created updated weighs eq s key hash value now (Ok a) e t → HandsOut s a.0 t × (a.1 ≡ now) × (e.ids ≡ []) × (e.readings ≡ [])
@@ -158,14 +154,6 @@ module _ {K V X P W : Type 0} where
       go (Some r) found h =
           let ticket : a.1.0 ≡ s.next_ticket = ap (λ (x : KvEntry K V × Ticket). x.1.0) (same_some a (entry_of r, record { 0 = s.next_ticket }) h.0) in
           (record { operation = Removal r.number (r.generation + 1); outstanding = ap (λ (x : State K V X P W). x.outstanding) h.1 ∙ ap (λ n. insert s.outstanding n (Removal r.number (r.generation + 1))) (sym ticket); capacity = ap (λ (x : State K V X P W). x.capacity) h.1 }, enabled r found (is_disabled s.capacity) refl)
-
-  -- one that finds none changes nothing
-  pub remove_finds_none : (eq : K → K → Bool) (s : State K V X P W) (key : K) (t : State K V X P W) → RemoveStep eq s key None t → t ≡ s
-  remove_finds_none eq s key t step = go (record_of_key eq s.records key) step
-    where
-      go : (o : Option (Record K V)) → RemovesAt s o None t → t ≡ s
-      go None h = h.1
-      go (Some r) h = (let impossible = h.0 in absurd (cc))
 
   -- ---- sends
 

@@ -96,10 +96,6 @@ module _ {K V X P : Type 0} (says : P → K → V → Bool → Type 0) (c : Scen
   abbrev pub PassesTo : List Member → Type 0
   PassesTo rest = (hidden : List Member) × (c.members ≡ hidden ++ rest) × ArePassed says c hidden
 
-  -- none before the first
-  pub passes_first : PassesTo c.members
-  passes_first = ([], refl, tt)
-
   passed_more : (hidden : List Member) (a : Member) → ArePassed says c hidden → IsPassed says c a → ArePassed says c (hidden ++ a ∷ [])
   passed_more [] a all one = (one, tt)
   passed_more (b ∷ hidden) a all one = (all.0, passed_more hidden a all.1 one)
@@ -107,10 +103,6 @@ module _ {K V X P : Type 0} (says : P → K → V → Bool → Type 0) (c : Scen
   -- one more
   pub passes_one : (rest after : List Member) (a : Member) → rest ≡ a ∷ after → IsPassed says c a → PassesTo rest → PassesTo after
   passes_one rest after a is one (hidden, so, all) = (hidden ++ a ∷ [], so ∙ ap (λ r. hidden ++ r) is ∙ sym (append_assoc hidden (a ∷ []) after), passed_more hidden a all one)
-
-  -- all
-  pub passes_all : (rest : List Member) → rest ≡ [] → PassesTo rest → FindsNext says c None (record c { members = rest })
-  passes_all rest none (hidden, so, all) = (subst (ArePassed says c) (sym (so ∙ ap (λ r. hidden ++ r) none ∙ append-nil hidden)) all, ap (λ r. record c { members = r }) none)
 
   -- all up to one that is visible
   pub passes_found : (rest after : List Member) (a : Member) → rest ≡ a ∷ after → (r : Record K V) → get c.records a.number ≡ Some r → IsShownIn says c r → PassesTo rest → FindsNext says c (Some r) (record c { members = after })

@@ -38,6 +38,5 @@ pub use Rattle.moka_parts.specs.Runs
 pub use Rattle.moka_parts.specs.Listed
 pub use Rattle.moka_parts.specs.Laws
 pub use Rattle.moka_parts.specs.Drives
-pub use Rattle.moka_parts.specs.Synchronous
 pub use Rattle.moka_parts.specs.Texts
 pub use Rattle.moka_parts.specs.KeyTests

@@ -70,6 +70,7 @@ struct ReadHit {
 }
 
 impl ReadHit {
+    // The read to queue.
     #[inline(always)]
     fn operation(self) -> ReadOperation
         ensures { result ≡ Hit self.number self.hash self.renewed }

@@ -16,7 +16,7 @@ use Rattle.moka_parts.proofs.OneMore.{removed_by_append}
 use Rattle.moka_store.proofs.Gets.{after_remove, get-past_remove}
 use Rattle.moka_parts.proofs.AccessList.{counted-to_back}
 use Rattle.moka_store.proofs.Members.{counted-without}
-use Rattle.moka_maintenance.specs.Steps.{Stock, after_step, after_steps, left_by_step, left_by_steps, MayStep, MayLeave, MayRun, MayAll, AreAllMembers, HasUnsettled, Told, IsStepped}
+use Rattle.moka_maintenance.specs.Steps.{Stock, after_step, after_steps, left_by_step, left_by_steps, MayLeave, MayRun, MayAll, AreAllMembers, HasUnsettled, Told, IsStepped}
 use Rattle.moka_maintenance.specs.Scanning.{MayScan}
 use Rattle.moka_maintenance.proofs.Told.{told-none, told-on}
 
@@ -97,42 +97,28 @@ shrinks c (Drops i ∷ xs) may = absurd may.0
 
 -- ---- what one rule allows, another does
 
-module _ {K V : Type 0} (q : Tests) where
-  pub step_leaves : (c : Stock K V) (x : Choice) → MayStep q c x → MayLeave c x
-  step_leaves c (Removes n cause) may = (may.0, may.1, may.2)
-  step_leaves c (MovesToBack n) may = may
-  step_leaves c (Drops i) may = absurd may
+module _ {K V P : Type 0} (q : Tests) (says : P → K → V → Bool → Type 0) (ps : List (Registered P)) where
+  pub scan_runs : (c : Stock K V) (x : Choice) → MayScan says ps c x → MayRun says ps q c x
+  scan_runs c (Removes n Expired) may = (let e = may.4 in cc)
+  scan_runs c (Removes n Explicit) may = (may.0, may.1, may.2, inr may.3)
+  scan_runs c (Removes n Size) may = (let e = may.4 in cc)
+  scan_runs c (Removes n Replaced) may = (let e = may.4 in cc)
+  scan_runs c (MovesToBack n) may = absurd may
+  scan_runs c (Drops i) may = absurd may
 
-  module _ {P : Type 0} (says : P → K → V → Bool → Type 0) (ps : List (Registered P)) where
-    pub step_runs : (c : Stock K V) (x : Choice) → MayStep q c x → MayRun says ps q c x
-    step_runs c (Removes n Expired) may = may
-    step_runs c (Removes n Explicit) may = (may.0, may.1, may.2, inl may.3)
-    step_runs c (Removes n Size) may = may
-    step_runs c (Removes n Replaced) may = absurd may.3
-    step_runs c (MovesToBack n) may = may
-    step_runs c (Drops i) may = absurd may
+  pub run_leaves : (c : Stock K V) (x : Choice) → MayRun says ps q c x → MayLeave c x
+  run_leaves c (Removes n cause) may = (may.0, may.1, may.2)
+  run_leaves c (MovesToBack n) may = may
+  run_leaves c (Drops i) may = absurd may
 
-    pub scan_runs : (c : Stock K V) (x : Choice) → MayScan says ps c x → MayRun says ps q c x
-    scan_runs c (Removes n Expired) may = (let e = may.4 in cc)
-    scan_runs c (Removes n Explicit) may = (may.0, may.1, may.2, inr may.3)
-    scan_runs c (Removes n Size) may = (let e = may.4 in cc)
-    scan_runs c (Removes n Replaced) may = (let e = may.4 in cc)
-    scan_runs c (MovesToBack n) may = absurd may
-    scan_runs c (Drops i) may = absurd may
-
-    pub run_leaves : (c : Stock K V) (x : Choice) → MayRun says ps q c x → MayLeave c x
-    run_leaves c (Removes n cause) may = (may.0, may.1, may.2)
-    run_leaves c (MovesToBack n) may = may
-    run_leaves c (Drops i) may = absurd may
-
-    -- by fewer predicates
-    pub fewer_run : (qs : List (Registered P)) → ((r : Record K V) → SomeCovers says qs r → SomeCovers says ps r) → (c : Stock K V) (x : Choice) → MayRun says qs q c x → MayRun says ps q c x
-    fewer_run qs less c (Removes n Expired) may = may
-    fewer_run qs less c (Removes n Explicit) may = elim may.3 [ inl ground ↦ (may.0, may.1, may.2, inl ground) | inr covered ↦ (may.0, may.1, may.2, inr (less may.0 covered)) ]
-    fewer_run qs less c (Removes n Size) may = may
-    fewer_run qs less c (Removes n Replaced) may = absurd may.3
-    fewer_run qs less c (MovesToBack n) may = may
-    fewer_run qs less c (Drops i) may = absurd may
+  -- by fewer predicates
+  pub fewer_run : (qs : List (Registered P)) → ((r : Record K V) → SomeCovers says qs r → SomeCovers says ps r) → (c : Stock K V) (x : Choice) → MayRun says qs q c x → MayRun says ps q c x
+  fewer_run qs less c (Removes n Expired) may = may
+  fewer_run qs less c (Removes n Explicit) may = elim may.3 [ inl ground ↦ (may.0, may.1, may.2, inl ground) | inr covered ↦ (may.0, may.1, may.2, inr (less may.0 covered)) ]
+  fewer_run qs less c (Removes n Size) may = may
+  fewer_run qs less c (Removes n Replaced) may = absurd may.3
+  fewer_run qs less c (MovesToBack n) may = may
+  fewer_run qs less c (Drops i) may = absurd may
 
 -- ---- members that are not settled
 

@@ -9,7 +9,7 @@ use Rattle.moka_parts.specs.declared.records.Registered.{Registered}
 use Rattle.moka_parts.specs.Records.{Records, Notice, when_listening, is_member, is_settled, settled_members, without_member, to_back, without_number, number_to_back, is_applied}
 use Rattle.moka_parts.specs.State.{Contents}
 use Rattle.moka_parts.specs.Surroundings.{Heard}
-use Rattle.moka_parts.specs.Maintenance.{Choice, Removes, MovesToBack, Drops, Tests, HasGround, HasCause, left_by_choice}
+use Rattle.moka_parts.specs.Maintenance.{Choice, Removes, MovesToBack, Drops, Tests, HasCause, left_by_choice}
 use Rattle.moka_sketch.specs.Frequency.{Table}
 use Rattle.moka_store.specs.Store.{Kept}
 
@@ -71,19 +71,13 @@ module _ {K V : Type 0} where
   left_by_steps c [] = []
   left_by_steps c (x ∷ xs) = left_by_step c x ++ left_by_steps (after_step c x) xs
 
-  -- a step may be taken by the tests: a settled member leaves on a ground of its own, an unsettled one goes to the back
-  abbrev pub MayStep : Tests → Stock K V → Choice → Type 0
-  MayStep q c (Removes n cause) = (r : Record K V) × (get c.records n ≡ Some r) × (is_member n c.access && is_settled c.records n ≡ true) × HasGround q (contents_of c) n r cause
-  MayStep q c (MovesToBack n) = (is_member n c.access ≡ true) × (is_settled c.records n ≡ false)
-  MayStep q c (Drops i) = ⊥
-
   -- a settled member leaves, or an unsettled one goes to the back
   abbrev pub MayLeave : Stock K V → Choice → Type 0
   MayLeave c (Removes n cause) = (r : Record K V) × (get c.records n ≡ Some r) × (is_member n c.access && is_settled c.records n ≡ true)
   MayLeave c (MovesToBack n) = (is_member n c.access ≡ true) × (is_settled c.records n ≡ false)
   MayLeave c (Drops i) = ⊥
 
-  -- a step may be taken by the tests or by the predicates
+  -- a step may be taken by the tests or by the predicates: a settled member leaves on a ground of its own, an unsettled one goes to the back
   abbrev pub MayRun : {P : Type 0} → (P → K → V → Bool → Type 0) → List (Registered P) → Tests → Stock K V → Choice → Type 0
   MayRun says ps q c (Removes n cause) = (r : Record K V) × (get c.records n ≡ Some r) × (is_member n c.access && is_settled c.records n ≡ true) × HasCause says q (contents_of c) ps n r cause
   MayRun says ps q c (MovesToBack n) = (is_member n c.access ≡ true) × (is_settled c.records n ≡ false)

@@ -16,7 +16,7 @@ use Rattle.moka_maintenance.specs.declared.sweep.Sweep.{Sweep}
 use Rattle.moka_maintenance.specs.declared.sweep.Sweep.TheVariants.{Written, Read, Surplus}
 use Rattle.moka_maintenance.specs.declared.sweep.Turn.{Turn}
 use Rattle.moka_maintenance.specs.declared.sweep.Turn.TheVariants.{Removed, Passed, Ended}
-use Rattle.moka_maintenance.specs.Steps.{Stock, MayStep, HasUnsettled, HasNoSettled, IsStepped, Told, after_step, contents_of, left_by_step}
+use Rattle.moka_maintenance.specs.Steps.{Stock, MayLeave, HasUnsettled, HasNoSettled, IsStepped, Told, after_step, contents_of, left_by_step}
 
 -- the reference cache's tests of these
 abbrev pub tests_in : Tests → parts.Tests
@@ -48,7 +48,7 @@ module _ {K V : Type 0} (q : Tests) where
   -- the step may be a turn of the sweep
   abbrev pub MayTurn : Sweep → Stock K V → Choice → Type 0
   MayTurn sweep c (Removes n cause) = IsNext sweep c n × MayTake (λ _. ⊥) (tests_in q) (ground_of sweep) (contents_of c) (Removes n cause)
-  MayTurn sweep c (MovesToBack n) = IsNext sweep c n × MayStep (tests_in q) c (MovesToBack n)
+  MayTurn sweep c (MovesToBack n) = IsNext sweep c n × MayLeave c (MovesToBack n)
   MayTurn sweep c (Drops i) = ⊥
 
   -- the step removes a settled member whose own expiry has come

@@ -28,7 +28,6 @@ pub mod Runs
 pub mod Listed
 pub mod Laws
 pub mod Drives
-pub mod Synchronous
 pub mod Texts
 pub mod KeyTests
 pub mod RecordParts

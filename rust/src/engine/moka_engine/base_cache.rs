@@ -52,6 +52,7 @@ struct ReadHit {
 }
 
 impl ReadHit {
+    // The read to queue.
     #[inline(always)]
     fn operation(self) -> ReadOperation
     {
