@@ -15,6 +15,9 @@ loop-index-preserved g c = record {
   built = more_built c.args.router c.args.max_capacity g.S.Clone.is_clone c.args.now.0 (λ index config. goal.F-post g c.args.make index config) c.loop-index.segments.items c.push.new.self.items c.in_ok-segment.segment c.loop-index.index c.make.result c.loop-index.invariant.built c.loop-index.invariant.as_many c.in-Ok.ensures.items c.make.ensures (rw c.with_share-config.ensures at c.in_ok-segment.ensures);
 }
 
+pub from_parts-requires : goal.from_parts-requires
+from_parts-requires g c = at_end (length c.loop-index.segments.items) c.loop-index.index c.count-index-end.result c.args.router.count c.loop-index.invariant.as_many c.loop-index-test.false c.loop-index.auto.index-end c.count-index-end.ensures.same
+
 pub returns-clause-new : goal.returns-clause-new
 returns-clause-new g c = is_new c.args.router c.args.max_capacity g.S.Clone.is_clone c.args.now.0 (λ index config. goal.F-post g c.args.make index config) c.loop-index.segments.items c.from_parts.result c.from_parts.ensures (subst (λ n. 0 < n) c.count-index-end.ensures.same c.count-index-end.ensures.some) (at_end (length c.loop-index.segments.items) c.loop-index.index c.count-index-end.result c.args.router.count c.loop-index.invariant.as_many c.loop-index-test.false c.loop-index.auto.index-end c.count-index-end.ensures.same) c.loop-index.invariant.built
 
