@@ -1,10 +1,10 @@
 //! Entry calls, each made for a text that is not there and then for one that is.
 use crate::report::{tell_refused, text};
-use crate::synchronous::{Cached, Removal, insert_made, take_out, told_by};
+use crate::synchronous::{Cached, Removal, Told, insert_made, take_out, told_by};
 use anyhow::Result;
 use moka_drive::{CacheEntry, CompResult, ComputeRefused, GetWithRefused, Op};
 use moka_engine::{FixedClock, Instant, OutOfMemory};
-use std::alloc::Global;
+use std::alloc::{AllocError, Global};
 use std::io::Write;
 
 /// A call that puts a text and hands its entry out.
@@ -65,24 +65,61 @@ struct Asked {
     word: &'static str,
 }
 
+/// Whether a key is there, and the value that an entry call is to hand out.
+#[derive(Drop)]
+struct Expected {
+    is_there: bool,
+    value: String,
+}
+
+type Answer = Result<Option<CacheEntry<String, String>>, GetWithRefused<String, String>>;
+
 impl Asked {
-    /// The entry. If `or_insert` is refused and the key is there, it was so at the look-up.
-    fn ask(
-        self,
-        cache: &mut Cached,
-        key: String,
-        made: String,
-    ) -> Result<Option<CacheEntry<String, String>>, GetWithRefused<String, String>> {
+    fn key(self, alloc: Global) -> Result<String, AllocError> {
+        text(alloc, "entry", self.number)
+    }
+
+    fn made(self, alloc: Global) -> Result<String, AllocError> {
+        text(alloc, self.word, self.number)
+    }
+
+    /// The text that is put, or the one that was made before.
+    fn expected(self, alloc: Global, cache: &Cached, key: &String) -> Result<Expected, AllocError> {
+        let is_there = cache.contains_key(key, Instant(self.number));
+        let is_kept = is_there && !self.entry.replaces();
+        let word = if is_kept { "made" } else { self.word };
+        let value = text(alloc, word, self.number)?;
+        Ok(Expected { is_there, value })
+    }
+
+    /// The entry.
+    fn ask(self, cache: &mut Cached, key: String, made: String) -> Answer {
+        match self.entry {
+            Entry::OrInsert => self.insert(cache, key, made),
+            Entry::AndUpsertWith => {
+                let (now, clock) = (Instant(self.number), &mut FixedClock(Instant(self.number)));
+                Ok(Some(cache.entry(key).and_upsert_with(|_| made, now, clock)?))
+            }
+            _ => self.make(cache, key, made),
+        }
+    }
+
+    /// The entry, by `or_insert`. If that is refused and the key is there, it was so at the look-up.
+    fn insert(self, cache: &mut Cached, key: String, made: String) -> Answer {
         let (now, clock) = (Instant(self.number), &mut FixedClock(Instant(self.number)));
         let is_there = cache.contains_key(&key, now);
+        match cache.entry(key).or_insert(made, now, clock) {
+            Ok(entry) => Ok(Some(entry)),
+            Err(refused) if is_there => Err(GetWithRefused::Lookup(refused.key)),
+            Err(refused) => Err(GetWithRefused::Insert(refused)),
+        }
+    }
+
+    /// The entry, by a call that makes its value.
+    fn make(self, cache: &mut Cached, key: String, made: String) -> Answer {
+        let (now, clock) = (Instant(self.number), &mut FixedClock(Instant(self.number)));
         let selected = cache.entry(key);
         match self.entry {
-            Entry::OrInsert => match selected.or_insert(made, now, clock) {
-                Ok(entry) => Ok(Some(entry)),
-                Err(refused) if is_there => Err(GetWithRefused::Lookup(refused.key)),
-                Err(refused) => Err(GetWithRefused::Insert(refused)),
-            },
-            Entry::OrInsertWith => Ok(Some(selected.or_insert_with(|| made, now, clock)?)),
             Entry::OrOptionallyInsertWith => {
                 selected.or_optionally_insert_with(|| Some(made), now, clock)
             }
@@ -90,63 +127,78 @@ impl Asked {
                 let init = || Ok::<String, OutOfMemory>(made);
                 Ok(selected.or_try_insert_with(init, now, clock)?.ok())
             }
-            Entry::AndUpsertWith => Ok(Some(selected.and_upsert_with(|_| made, now, clock)?)),
+            _ => Ok(Some(selected.or_insert_with(|| made, now, clock)?)),
         }
     }
 
-    /// Whether the entry is the one that is expected, if its key was there or not.
-    fn is_right(
-        self,
-        found: Option<CacheEntry<String, String>>,
-        is_there: bool,
-        expected: &String,
-    ) -> bool {
+    /// Whether the entry is the one that is expected.
+    fn is_right(self, found: Option<CacheEntry<String, String>>, expected: &Expected) -> bool {
         let Some(found) = found else {
             return false;
         };
-        let is_replaced = is_there && self.entry.replaces();
-        found.value == *expected
-            && found.is_fresh == (!is_there || is_replaced)
+        let is_replaced = expected.is_there && self.entry.replaces();
+        found.value == expected.value
+            && found.is_fresh == (!expected.is_there || is_replaced)
             && found.is_old_value_replaced == is_replaced
+    }
+
+    /// The call that was refused, and what the cache is to tell then.
+    fn told(
+        self,
+        refused: &GetWithRefused<String, String>,
+        before: Told,
+        is_there: bool,
+    ) -> (&'static str, Told) {
+        if let GetWithRefused::Lookup(_) = refused {
+            return (self.entry.at_look_up(), before);
+        }
+        let looked_up = before.after_look_ups(u64::from(is_there), u64::from(!is_there));
+        let after = if self.entry.is_load() {
+            looked_up.after_load()
+        } else {
+            looked_up
+        };
+        (self.entry.at_insert(), after)
+    }
+
+    /// Whether the text is the one that is expected once the call is made again with what came back of it.
+    fn is_right_again(
+        self,
+        alloc: Global,
+        cache: &mut Cached,
+        refused: GetWithRefused<String, String>,
+        expected: Expected,
+    ) -> Result<bool> {
+        match refused {
+            GetWithRefused::Lookup(key) => {
+                let found = self.ask(cache, key, self.made(alloc)?)?;
+                Ok(self.is_right(found, &expected))
+            }
+            GetWithRefused::Insert(refused) => {
+                let value = insert_made(cache, refused, Instant(self.number))?;
+                Ok(value == Some(expected.value))
+            }
+        }
     }
 }
 
-/// Whether an entry call hands out what it should: the text that it puts, or the one that was made before. A look-up that
-/// is refused is made again with the key that came back, and an insert with key and value.
+/// Whether an entry call hands out what it should. One that is refused is made again.
 fn is_asked<W: Write>(
     alloc: Global,
     out: &mut W,
     cache: &mut Cached,
     asked: Asked,
 ) -> Result<bool> {
-    let Asked {
-        entry,
-        number,
-        word,
-    } = asked;
-    let now = Instant(number);
-    let key = text(alloc, "entry", number)?;
-    let is_there = cache.contains_key(&key, now);
-    let is_kept = is_there && !entry.replaces();
-    let expected = text(alloc, if is_kept { "made" } else { word }, number)?;
-    let made = text(alloc, word, number)?;
+    let key = asked.key(alloc)?;
+    let expected = asked.expected(alloc, cache, &key)?;
+    let made = asked.made(alloc)?;
     let before = told_by(cache);
     match asked.ask(cache, key, made) {
-        Ok(found) => Ok(asked.is_right(found, is_there, &expected)),
-        Err(GetWithRefused::Lookup(key)) => {
-            tell_refused(out, entry.at_look_up(), &before, &told_by(cache))?;
-            let found = asked.ask(cache, key, text(alloc, word, number)?)?;
-            Ok(asked.is_right(found, is_there, &expected))
-        }
-        Err(GetWithRefused::Insert(refused)) => {
-            let looked_up = before.after_look_ups(u64::from(is_there), u64::from(!is_there));
-            let after = if entry.is_load() {
-                looked_up.after_load()
-            } else {
-                looked_up
-            };
-            tell_refused(out, entry.at_insert(), &after, &told_by(cache))?;
-            Ok(insert_made(cache, refused, now)? == Some(expected))
+        Ok(found) => Ok(asked.is_right(found, &expected)),
+        Err(refused) => {
+            let (call, after) = asked.told(&refused, before, expected.is_there);
+            tell_refused(out, call, &after, &told_by(cache))?;
+            asked.is_right_again(alloc, cache, refused, expected)
         }
     }
 }
@@ -195,39 +247,43 @@ fn is_done(done: &CompResult<String, String>, choice: Choice, is_there: bool) ->
     }
 }
 
-/// Whether what is computed is done. What is refused is done by hand with what came back.
-fn is_computed<W: Write>(
+/// The call that was refused, and what the cache is to tell then.
+fn told_of(
+    refused: &ComputeRefused<String, String>,
+    before: Told,
+    is_there: bool,
+) -> (&'static str, Told) {
+    let looked_up = before.after_look_ups(u64::from(is_there), u64::from(!is_there));
+    match refused {
+        ComputeRefused::Lookup(_) => ("Cache::compute_with at the look-up", before),
+        ComputeRefused::Insert(_) => ("Cache::compute_with at the insert", looked_up),
+        ComputeRefused::NotTold(_, _) => {
+            let after = looked_up.after_writes(1);
+            ("Cache::compute_with at the removal", after)
+        }
+    }
+}
+
+/// Whether what is computed is done once what was refused is done by hand, with what came back of it.
+fn is_done_by_hand(
     alloc: Global,
-    out: &mut W,
     cache: &mut Cached,
     choice: Choice,
+    refused: ComputeRefused<String, String>,
     number: u64,
 ) -> Result<bool> {
     let (now, clock) = (Instant(number), &mut FixedClock(Instant(number)));
-    let (key, value) = (
-        text(alloc, "computed", number)?,
-        text(alloc, "value", number)?,
-    );
-    let is_there = cache.contains_key(&key, now);
-    let before = told_by(cache);
-    let looked_up = before.after_look_ups(u64::from(is_there), u64::from(!is_there));
-    match compute(cache, choice, key, value, now) {
-        Ok(done) => Ok(is_done(&done, choice, is_there)),
-        Err(ComputeRefused::Lookup(key)) => {
-            let call = "Cache::compute_with at the look-up";
-            tell_refused(out, call, &before, &told_by(cache))?;
+    match refused {
+        ComputeRefused::Lookup(key) => {
+            let is_there = cache.contains_key(&key, now);
             let done = compute(cache, choice, key, text(alloc, "value", number)?, now)?;
             Ok(is_done(&done, choice, is_there))
         }
-        Err(ComputeRefused::Insert(refused)) => {
-            let call = "Cache::compute_with at the insert";
-            tell_refused(out, call, &looked_up, &told_by(cache))?;
+        ComputeRefused::Insert(refused) => {
             cache.insert(refused.key, refused.value, now, clock)?;
             Ok(choice == Choice::Put)
         }
-        Err(ComputeRefused::NotTold(key, refused)) => {
-            let call = "Cache::compute_with at the removal";
-            tell_refused(out, call, &looked_up.after_writes(1), &told_by(cache))?;
+        ComputeRefused::NotTold(key, refused) => {
             cache.insert(key.clone()?, refused.value, now, clock)?;
             cache.remove(&key, now, clock)?;
             Ok(choice == Choice::Remove)
@@ -235,9 +291,38 @@ fn is_computed<W: Write>(
     }
 }
 
-/// Makes each call with texts of this number; then a run is made.
-pub fn round<W: Write>(alloc: Global, out: &mut W, cache: &mut Cached, number: u64) -> Result<()> {
+/// Whether what is computed is done.
+fn is_computed<W: Write>(
+    alloc: Global,
+    out: &mut W,
+    cache: &mut Cached,
+    choice: Choice,
+    number: u64,
+) -> Result<bool> {
     let now = Instant(number);
+    let (key, value) = (
+        text(alloc, "computed", number)?,
+        text(alloc, "value", number)?,
+    );
+    let is_there = cache.contains_key(&key, now);
+    let before = told_by(cache);
+    match compute(cache, choice, key, value, now) {
+        Ok(done) => Ok(is_done(&done, choice, is_there)),
+        Err(refused) => {
+            let (call, after) = told_of(&refused, before, is_there);
+            tell_refused(out, call, &after, &told_by(cache))?;
+            is_done_by_hand(alloc, cache, choice, refused, number)
+        }
+    }
+}
+
+/// Makes each entry call with texts of this number, for one that is not there and for one that is.
+fn ask_entries<W: Write>(
+    alloc: Global,
+    out: &mut W,
+    cache: &mut Cached,
+    number: u64,
+) -> Result<bool> {
     let mut is_right = true;
     for entry in ENTRIES {
         for word in ["made", "other"] {
@@ -248,17 +333,19 @@ pub fn round<W: Write>(alloc: Global, out: &mut W, cache: &mut Cached, number: u
             };
             is_right = is_asked(alloc, out, cache, asked)? && is_right;
         }
-        take_out(
-            out,
-            cache,
-            Removal::Invalidate,
-            &text(alloc, "entry", number)?,
-            now,
-        )?;
+        let key = text(alloc, "entry", number)?;
+        take_out(out, cache, Removal::Invalidate, &key, Instant(number))?;
     }
+    Ok(is_right)
+}
+
+/// Makes each call with texts of this number; then a run is made.
+pub fn round<W: Write>(alloc: Global, out: &mut W, cache: &mut Cached, number: u64) -> Result<()> {
+    let mut is_right = ask_entries(alloc, out, cache, number)?;
     for choice in CHOICES {
         is_right = is_computed(alloc, out, cache, choice, number)? && is_right;
     }
+    let now = Instant(number);
     let is_more = cache.run_pending_tasks(now, &mut FixedClock(now));
     let told = told_by(cache);
     writeln!(out, "{number}: right {is_right}, more {is_more}, {told:?}")?;

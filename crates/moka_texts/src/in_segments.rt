@@ -170,6 +170,65 @@ fn list<W: Write>(out: &mut W, cache: &Segmented, now: Instant) -> Result<(u64, 
     Ok((count, bytes))
 }
 
+/// Puts a text in twice, and asks for it.
+fn put_and_get<W: Write>(
+    alloc: Global,
+    out: &mut W,
+    cache: &mut Segmented,
+    number: u64,
+) -> Result<bool> {
+    let now = Instant(number);
+    for word in ["first", "value"] {
+        let (key, value) = (text(alloc, "key", number)?, text(alloc, word, number)?);
+        put(out, cache, key, value, now)?;
+    }
+    let (key, value) = (text(alloc, "key", number)?, text(alloc, "value", number)?);
+    Ok(get(out, cache, &key, now)? == Some(value))
+}
+
+/// Whether what is made is handed out again.
+fn is_made_once<W: Write>(
+    alloc: Global,
+    out: &mut W,
+    cache: &mut Segmented,
+    number: u64,
+) -> Result<bool> {
+    let first = made(alloc, out, cache, number)?;
+    Ok(first == made(alloc, out, cache, number)?)
+}
+
+/// Takes each third text out.
+fn take_some_out<W: Write>(
+    alloc: Global,
+    out: &mut W,
+    cache: &mut Segmented,
+    number: u64,
+) -> Result<()> {
+    if number % 3 == 2 {
+        let key = text(alloc, "key", number)?;
+        take_out(out, cache, &key, Instant(number))?;
+    }
+    Ok(())
+}
+
+/// Makes a run, and says what the cache tells then, and how many texts by how many bytes were listed.
+fn run<W: Write>(
+    out: &mut W,
+    cache: &mut Segmented,
+    number: u64,
+    is_right: bool,
+    (count, bytes): (u64, usize),
+) -> Result<()> {
+    let now = Instant(number);
+    let is_more = cache.run_pending_tasks(now, &mut FixedClock(now));
+    let (entries, stats) = (cache.entry_count(), cache.stats());
+    writeln!(
+        out,
+        "{number}: right {is_right}, {count} texts by {bytes} bytes, {entries} entries, more {is_more}, {stats:?}"
+    )?;
+    Ok(())
+}
+
 /// Makes each call with texts of this number; then a run is made.
 pub fn round<W: Write>(
     alloc: Global,
@@ -177,26 +236,10 @@ pub fn round<W: Write>(
     cache: &mut Segmented,
     number: u64,
 ) -> Result<()> {
-    let now = Instant(number);
-    let key = text(alloc, "key", number)?;
-    for word in ["first", "value"] {
-        let value = text(alloc, word, number)?;
-        put(out, cache, text(alloc, "key", number)?, value, now)?;
-    }
-    let found = get(out, cache, &key, now)?;
-    let is_found = found == Some(text(alloc, "value", number)?);
-    let first = made(alloc, out, cache, number)?;
-    let is_made = first == made(alloc, out, cache, number)?;
-    register(out, cache, now)?;
-    let (count, bytes) = list(out, cache, now)?;
-    if number % 3 == 2 {
-        take_out(out, cache, &key, now)?;
-    }
-    let is_more = cache.run_pending_tasks(now, &mut FixedClock(now));
-    let (is_right, entries, stats) = (is_found && is_made, cache.entry_count(), cache.stats());
-    writeln!(
-        out,
-        "{number}: right {is_right}, {count} texts by {bytes} bytes, {entries} entries, more {is_more}, {stats:?}"
-    )?;
-    Ok(())
+    let is_found = put_and_get(alloc, out, cache, number)?;
+    let is_made = is_made_once(alloc, out, cache, number)?;
+    register(out, cache, Instant(number))?;
+    let listed = list(out, cache, Instant(number))?;
+    take_some_out(alloc, out, cache, number)?;
+    run(out, cache, number, is_found && is_made, listed)
 }

@@ -34,32 +34,48 @@ type Config = CacheConfig<NoExpiry, Report, NoPredicate, NoWeigher>;
 
 fn main(rt: HostRuntime) -> Result<()> {
     let mut out = rt.stdout();
-    let mut cache = match empty(rt.alloc()) {
-        Ok(cache) => cache,
-        Err(_) => {
-            writeln!(out, "refused: build")?;
-            empty(rt.alloc())?
-        }
-    };
+    ask_engine(rt.alloc(), &mut out)?;
+    ask_synchronous(rt.alloc(), &mut out)?;
+    ask_in_segments(rt.alloc(), &mut out)
+}
+
+fn ask_engine<W: Write>(alloc: Global, out: &mut W) -> Result<()> {
+    let mut cache = new_engine(alloc, out)?;
     for number in 0..TEXTS {
-        rounds::round(rt.alloc(), &mut out, &mut cache, number)?;
+        rounds::round(alloc, out, &mut cache, number)?;
     }
-    let mut cached = new_cached(rt.alloc(), &mut out)?;
+    Ok(())
+}
+
+fn ask_synchronous<W: Write>(alloc: Global, out: &mut W) -> Result<()> {
+    let mut cached = new_cached(alloc, out)?;
     for number in 0..TEXTS {
-        synchronous::round(rt.alloc(), &mut out, &mut cached, number)?;
+        synchronous::round(alloc, out, &mut cached, number)?;
     }
     for number in 0..TEXTS {
-        entries::round(rt.alloc(), &mut out, &mut cached, number)?;
+        entries::round(alloc, out, &mut cached, number)?;
     }
-    let mut first = new_cached(rt.alloc(), &mut out)?;
+    ask_many(alloc, out)?;
+    save_and_ask(alloc, out, &mut cached)
+}
+
+fn ask_many<W: Write>(alloc: Global, out: &mut W) -> Result<()> {
+    let mut cached = new_cached(alloc, out)?;
     for number in 0..TEXTS {
-        many::round(rt.alloc(), &mut out, &mut first, number)?;
+        many::round(alloc, out, &mut cached, number)?;
     }
-    let mut second = new_cached(rt.alloc(), &mut out)?;
-    saved::save_and_ask(rt.alloc(), &mut out, &mut cached, &mut second, 4)?;
-    let mut segmented = new_segmented(rt.alloc(), &mut out)?;
+    Ok(())
+}
+
+fn save_and_ask<W: Write>(alloc: Global, out: &mut W, first: &mut Cached) -> Result<()> {
+    let mut second = new_cached(alloc, out)?;
+    saved::save_and_ask(alloc, out, first, &mut second, 4)
+}
+
+fn ask_in_segments<W: Write>(alloc: Global, out: &mut W) -> Result<()> {
+    let mut segmented = new_segmented(alloc, out)?;
     for number in 0..TEXTS {
-        in_segments::round(rt.alloc(), &mut out, &mut segmented, number)?;
+        in_segments::round(alloc, out, &mut segmented, number)?;
     }
     Ok(())
 }
@@ -72,6 +88,17 @@ fn config() -> Config {
         .time_to_live(Duration::from_secs(1))
         .eviction_listener(Report::default())
         .support_invalidation_closures()
+}
+
+/// An empty cache with tickets.
+fn new_engine<W: Write>(alloc: Global, out: &mut W) -> Result<Texts> {
+    match empty(alloc) {
+        Ok(cache) => Ok(cache),
+        Err(_) => {
+            writeln!(out, "refused: build")?;
+            Ok(empty(alloc)?)
+        }
+    }
 }
 
 fn empty(alloc: Global) -> Result<Texts, OutOfMemory> {

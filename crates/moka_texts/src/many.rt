@@ -74,31 +74,38 @@ fn put_all<W: Write>(alloc: Global, out: &mut W, cache: &mut Cached, number: u64
     Ok(())
 }
 
-/// How many of the keys are there.
+/// How many of the keys that begin with a word are there.
 fn hits_of<W: Write>(
     alloc: Global,
     out: &mut W,
     cache: &mut Cached,
-    keys: &[String],
-    now: Instant,
+    word: &str,
+    number: u64,
 ) -> Result<u64> {
-    let clock = &mut FixedClock(now);
+    let (now, clock) = (Instant(number), &mut FixedClock(Instant(number)));
+    let keys = texts(alloc, word, number)?;
     let before = told_by(cache);
-    match cache.get_many(alloc, keys, now, clock) {
+    match cache.get_many(alloc, &keys, now, clock) {
         Ok(found) => Ok(hits(&found)),
         Err(GetManyRefused { found }) => {
-            let mut hits = hits(&found);
+            let hits = hits(&found);
             let misses = (found.len() as u64).wrapping_sub(hits);
             let after = before.after_look_ups(hits, misses);
             tell_refused(out, "Cache::get_many", &after, &told_by(cache))?;
-            for key in keys.iter().skip(found.len()) {
-                if cache.get(key, now, clock)?.is_some() {
-                    hits = hits.wrapping_add(1);
-                }
-            }
-            Ok(hits)
+            Ok(hits.wrapping_add(hits_past(cache, &keys, found.len(), now)?))
         }
     }
+}
+
+/// How many of the keys from this one on are there.
+fn hits_past(cache: &mut Cached, keys: &[String], done: usize, now: Instant) -> Result<u64> {
+    let mut hits = 0_u64;
+    for key in keys.iter().skip(done) {
+        if cache.get(key, now, &mut FixedClock(now))?.is_some() {
+            hits = hits.wrapping_add(1);
+        }
+    }
+    Ok(hits)
 }
 
 /// How many texts are visible.
@@ -113,53 +120,66 @@ fn visible<W: Write>(out: &mut W, cache: &Cached, now: Instant) -> Result<usize>
     }
 }
 
-/// Takes the texts of these keys out. The one of which the listener was not told is put in and taken out again.
-fn take_all_out<W: Write>(
-    out: &mut W,
+/// How many these are, and how many bytes they have.
+fn counted(keys: &[String], values: &[String], done: usize) -> (u64, usize) {
+    let (mut count, mut bytes) = (0_u64, 0_usize);
+    for (key, value) in keys.iter().zip(values).take(done) {
+        count = count.wrapping_add(1);
+        bytes = bytes.wrapping_add(key.len()).wrapping_add(value.len());
+    }
+    (count, bytes)
+}
+
+/// Takes the texts of the keys from this one on out. The listener was not told of the first, so that is put in before.
+fn take_rest_out(
     cache: &mut Cached,
     keys: &[String],
-    values: &[String],
+    done: usize,
+    value: String,
     now: Instant,
 ) -> Result<()> {
     let clock = &mut FixedClock(now);
-    let before = told_by(cache);
-    if let Err(InvalidateManyRefused { done, refused }) = cache.invalidate_many(keys, now, clock) {
-        let (mut notices, mut bytes) = (0_u64, 0_usize);
-        for (key, value) in keys.iter().zip(values).take(done) {
-            notices = notices.wrapping_add(1);
-            bytes = bytes.wrapping_add(key.len()).wrapping_add(value.len());
-        }
-        let after = before
-            .after_writes(done.wrapping_add(1))
-            .after_notices(notices, bytes);
-        tell_refused(out, "Cache::invalidate_many", &after, &told_by(cache))?;
-        let mut rest = keys.iter().skip(done);
-        if let Some(key) = rest.next() {
-            cache.insert(key.clone()?, refused.value, now, clock)?;
-            cache.invalidate(key, now, clock)?;
-        }
-        for key in rest {
-            cache.invalidate(key, now, clock)?;
-        }
+    if let Some(key) = keys.get(done) {
+        cache.insert(key.clone()?, value, now, clock)?;
+    }
+    for key in keys.iter().skip(done) {
+        cache.invalidate(key, now, clock)?;
     }
     Ok(())
 }
 
-/// Makes each call with texts of this number; then a run is made.
-pub fn round<W: Write>(alloc: Global, out: &mut W, cache: &mut Cached, number: u64) -> Result<()> {
+/// Takes the texts of this number out.
+fn take_all_out<W: Write>(
+    alloc: Global,
+    out: &mut W,
+    cache: &mut Cached,
+    number: u64,
+) -> Result<()> {
     let now = Instant(number);
-    let (keys, values) = (
-        texts(alloc, "many", number)?,
-        texts(alloc, "value", number)?,
-    );
-    let none = texts(alloc, "none", number)?;
-    put_all(alloc, out, cache, number)?;
-    let found = hits_of(alloc, out, cache, &keys, now)?;
-    let missed = hits_of(alloc, out, cache, &none, now)?;
-    let visible = visible(out, cache, now)?;
-    if number % 2 == 1 {
-        take_all_out(out, cache, &keys, &values, now)?;
+    let keys = texts(alloc, "many", number)?;
+    let values = texts(alloc, "value", number)?;
+    let before = told_by(cache);
+    if let Err(refused) = cache.invalidate_many(&keys, now, &mut FixedClock(now)) {
+        let InvalidateManyRefused { done, refused } = refused;
+        let (notices, bytes) = counted(&keys, &values, done);
+        let after = before
+            .after_writes(done.wrapping_add(1))
+            .after_notices(notices, bytes);
+        tell_refused(out, "Cache::invalidate_many", &after, &told_by(cache))?;
+        take_rest_out(cache, &keys, done, refused.value, now)?;
     }
+    Ok(())
+}
+
+/// Makes a run, and says what the cache tells then, and how many of which keys were there, and how many visible.
+fn run<W: Write>(
+    out: &mut W,
+    cache: &mut Cached,
+    number: u64,
+    (found, missed): (u64, u64),
+    visible: usize,
+) -> Result<()> {
+    let now = Instant(number);
     let is_more = cache.run_pending_tasks(now, &mut FixedClock(now));
     let told = told_by(cache);
     writeln!(
@@ -167,4 +187,16 @@ pub fn round<W: Write>(alloc: Global, out: &mut W, cache: &mut Cached, number: u
         "{number}: {found} and {missed} found, {visible} visible, more {is_more}, {told:?}"
     )?;
     Ok(())
+}
+
+/// Makes each call with texts of this number; then a run is made.
+pub fn round<W: Write>(alloc: Global, out: &mut W, cache: &mut Cached, number: u64) -> Result<()> {
+    put_all(alloc, out, cache, number)?;
+    let found = hits_of(alloc, out, cache, "many", number)?;
+    let missed = hits_of(alloc, out, cache, "none", number)?;
+    let visible = visible(out, cache, Instant(number))?;
+    if number % 2 == 1 {
+        take_all_out(alloc, out, cache, number)?;
+    }
+    run(out, cache, number, (found, missed), visible)
 }

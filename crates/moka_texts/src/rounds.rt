@@ -108,29 +108,37 @@ fn take_out<W: Write>(out: &mut W, cache: &mut Texts, key: &String, now: Instant
     Ok(())
 }
 
-/// Puts a text in, asks for it, replaces it, and takes each third one out again; then a run is made.
-pub fn round<W: Write>(alloc: Global, out: &mut W, cache: &mut Texts, number: u64) -> Result<()> {
+/// Puts a text whose value begins with a word in.
+fn put_word<W: Write>(
+    alloc: Global,
+    out: &mut W,
+    cache: &mut Texts,
+    word: &str,
+    number: u64,
+) -> Result<()> {
+    let (key, value) = (text(alloc, "key", number)?, text(alloc, word, number)?);
+    put(out, cache, key, value, Instant(number))
+}
+
+/// Asks for a text, and takes each third one out.
+fn ask_and_take_out<W: Write>(
+    alloc: Global,
+    out: &mut W,
+    cache: &mut Texts,
+    number: u64,
+) -> Result<()> {
     let now = Instant(number);
-    let key = text(alloc, "key", number)?;
-    let value = text(alloc, "value", number)?;
-    put(
-        out,
-        cache,
-        text(alloc, "key", number)?,
-        text(alloc, "first", number)?,
-        now,
-    )?;
-    put(
-        out,
-        cache,
-        text(alloc, "key", number)?,
-        text(alloc, "value", number)?,
-        now,
-    )?;
+    let (key, value) = (text(alloc, "key", number)?, text(alloc, "value", number)?);
     ask_all(out, cache, &key, &value, now)?;
     if number % 3 == 2 {
         take_out(out, cache, &key, now)?;
     }
+    Ok(())
+}
+
+/// Makes a run, and says what the cache tells then.
+fn run<W: Write>(out: &mut W, cache: &mut Texts, number: u64) -> Result<()> {
+    let now = Instant(number);
     let is_more = cache.run_pending_tasks(now, &mut FixedClock(now), None, 4, 384);
     let state = state_of(cache);
     writeln!(
@@ -139,4 +147,12 @@ pub fn round<W: Write>(alloc: Global, out: &mut W, cache: &mut Texts, number: u6
         state.entries, state.report
     )?;
     Ok(())
+}
+
+/// Puts a text in, asks for it, replaces it, and takes each third one out again; then a run is made.
+pub fn round<W: Write>(alloc: Global, out: &mut W, cache: &mut Texts, number: u64) -> Result<()> {
+    put_word(alloc, out, cache, "first", number)?;
+    put_word(alloc, out, cache, "value", number)?;
+    ask_and_take_out(alloc, out, cache, number)?;
+    run(out, cache, number)
 }

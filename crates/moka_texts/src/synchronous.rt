@@ -277,21 +277,32 @@ fn register<W: Write>(out: &mut W, cache: &mut Cached, now: Instant) -> Result<(
     Ok(())
 }
 
+/// Puts a text whose value begins with a word in.
+fn put_word<W: Write>(
+    alloc: Global,
+    out: &mut W,
+    cache: &mut Cached,
+    word: &str,
+    number: u64,
+) -> Result<()> {
+    let (key, value) = (text(alloc, "key", number)?, text(alloc, word, number)?);
+    put(out, cache, key, value, Instant(number))
+}
+
 /// Asks for a text that is not there, puts it in twice, and asks again.
 fn put_and_get<W: Write>(
     alloc: Global,
     out: &mut W,
     cache: &mut Cached,
-    key: &String,
     number: u64,
 ) -> Result<bool> {
     let now = Instant(number);
-    let missed = get(out, cache, key, now)?;
-    let (first, value) = (text(alloc, "first", number)?, text(alloc, "value", number)?);
-    put(out, cache, text(alloc, "key", number)?, first, now)?;
-    put(out, cache, text(alloc, "key", number)?, value, now)?;
-    let found = get(out, cache, key, now)?;
-    Ok(missed.is_none() && found == Some(text(alloc, "value", number)?))
+    let key = text(alloc, "key", number)?;
+    let is_missed = get(out, cache, &key, now)?.is_none();
+    put_word(alloc, out, cache, "first", number)?;
+    put_word(alloc, out, cache, "value", number)?;
+    let expected = Some(text(alloc, "value", number)?);
+    Ok(is_missed && get(out, cache, &key, now)? == expected)
 }
 
 /// Asks each maker twice: the first time it makes the text, and the second time the text is there.
@@ -311,26 +322,41 @@ fn ask_makers<W: Write>(
     Ok(is_right)
 }
 
-/// Makes each call with texts of this number; then a run is made.
-pub fn round<W: Write>(alloc: Global, out: &mut W, cache: &mut Cached, number: u64) -> Result<()> {
-    let now = Instant(number);
+/// Takes two of three texts out, each in a way of its own.
+fn take_some_out<W: Write>(
+    alloc: Global,
+    out: &mut W,
+    cache: &mut Cached,
+    number: u64,
+) -> Result<()> {
+    let removal = match number % 3 {
+        1 => Removal::Remove,
+        2 => Removal::Invalidate,
+        _ => return Ok(()),
+    };
     let key = text(alloc, "key", number)?;
-    let is_found = put_and_get(alloc, out, cache, &key, number)?;
-    let is_made = ask_makers(alloc, out, cache, number)?;
-    let is_nothing = is_nothing_made(alloc, cache, number)?;
-    match number % 3 {
-        1 => take_out(out, cache, Removal::Remove, &key, now)?,
-        2 => take_out(out, cache, Removal::Invalidate, &key, now)?,
-        _ => {}
-    }
-    register(out, cache, now)?;
+    take_out(out, cache, removal, &key, Instant(number))
+}
+
+/// Makes a run, and says what the cache tells then.
+fn run<W: Write>(out: &mut W, cache: &mut Cached, number: u64, is_right: bool) -> Result<()> {
+    let now = Instant(number);
     let is_more = cache.run_pending_tasks(now, &mut FixedClock(now));
     let told = told_by(cache);
-    let is_right = is_found && is_made && is_nothing;
     writeln!(
         out,
         "{number}: right {is_right}, {} entries, more {is_more}, {:?}, {:?}",
         told.state.entries, told.state.report, told.stats
     )?;
     Ok(())
+}
+
+/// Makes each call with texts of this number; then a run is made.
+pub fn round<W: Write>(alloc: Global, out: &mut W, cache: &mut Cached, number: u64) -> Result<()> {
+    let is_found = put_and_get(alloc, out, cache, number)?;
+    let is_made = ask_makers(alloc, out, cache, number)?;
+    let is_nothing = is_nothing_made(alloc, cache, number)?;
+    take_some_out(alloc, out, cache, number)?;
+    register(out, cache, Instant(number))?;
+    run(out, cache, number, is_found && is_made && is_nothing)
 }
