@@ -9,6 +9,8 @@ ghost use Rattle.moka_bench.specs.declared.driver.Failure.TheVariants.{Malformed
 mod config;
 mod driver;
 mod engines;
+#[cfg(test)]
+mod equal;
 mod given;
 mod phases;
 mod subject;
@@ -136,6 +138,7 @@ fn count<T: Subject + Drop>(
 #[cfg(test)]
 mod tests {
     use super::*;
+    use crate::equal::assert_equal;
     use std::alloc::AllocError;
     use std::test::Fail;
 
@@ -182,8 +185,8 @@ mod tests {
         ];
         for (hasher, cache) in [(0, 0), (1, 0), (0, 1), (1, 1)] {
             let (answer, counts) = counted(rt.alloc(), &plain(2, hasher, cache), &stream)?;
-            assert_eq!(rt; answer, 0);
-            assert_eq!(rt; counts, [3, 4, 3, 63, 2]);
+            assert_equal(&rt, answer, 0);
+            assert_equal(&rt, counts, [3, 4, 3, 63, 2]);
         }
         Ok(())
     }
@@ -199,11 +202,11 @@ mod tests {
             let mut lives = plain(NONE, 0, cache);
             lives[1] = 9;
             let (_, counts) = counted(rt.alloc(), &lives, &stream)?;
-            assert_eq!(rt; counts, [1, 2, 2, 11, 0]);
+            assert_equal(&rt, counts, [1, 2, 2, 11, 0]);
             let mut idles = plain(NONE, 0, cache);
             idles[2] = 9;
             let (_, counts) = counted(rt.alloc(), &idles, &stream)?;
-            assert_eq!(rt; counts, [2, 1, 2, 22, 1]);
+            assert_equal(&rt, counts, [2, 1, 2, 22, 1]);
         }
         // There is room for one: TinyLFU keeps the key that was asked for four times, LRU the newer one.
         let stream = [
@@ -214,7 +217,7 @@ mod tests {
             let mut config = plain(1, 0, 0);
             config[3] = policy;
             let (_, counts) = counted(rt.alloc(), &config, &stream)?;
-            assert_eq!(rt; counts, [4, 2, 2, 33 + kept, 1]);
+            assert_equal(&rt, counts, [4, 2, 2, 33 + kept, 1]);
         }
         Ok(())
     }
@@ -235,19 +238,19 @@ mod tests {
             3, 3, 0, 0, 1, 2, 1, 5, 0, 384, 0, 1, 2, 0, 0, 11, 2, 5, 0, 384, 0,
         ];
         let (answer, counts) = counted(rt.alloc(), &with(8, 10, NONE), &stream)?;
-        assert_eq!(rt; (answer, counts), (0, [3, 2, 2, 49 + 49 + 50, 2]));
+        assert_equal(&rt, (answer, counts), (0, [3, 2, 2, 49 + 49 + 50, 2]));
         // An expiry by values: of two keys the one whose value is less has expired.
         let stream = [
             4, 4, 0, 0, 10, 5, 20, 70, 6, 0, 6, 0, 1, 2, 0, 0, 10, 20, 5, 0, 384, 0,
         ];
         let (answer, counts) = counted(rt.alloc(), &with(4, 1, NONE), &stream)?;
-        assert_eq!(rt; (answer, counts), (0, [1, 1, 2, 70, 1]));
+        assert_equal(&rt, (answer, counts), (0, [1, 1, 2, 70, 1]));
         // Entries that weigh 12 and 16: one has to leave.
         let stream = [
             2, 2, 0, 0, 10, 14, 5, 0, 384, 0, 1, 2, 0, 0, 10, 14, 5, 0, 384, 0,
         ];
         let (answer, counts) = counted(rt.alloc(), &with(12, 1, 20), &stream)?;
-        assert_eq!(rt; (answer, counts), (0, [1, 1, 2, 15, 1]));
+        assert_equal(&rt, (answer, counts), (0, [1, 1, 2, 15, 1]));
         Ok(())
     }
 
@@ -260,7 +263,7 @@ mod tests {
         let mut counts = [7; 64];
         let answer = moka_bench_run(rt.alloc(), &config, &stream, &mut counts);
         let (words, _) = counts.as_chunks::<8>();
-        assert_eq!(rt; (answer, u64::from_le_bytes(words[5])), (0, 2));
+        assert_equal(&rt, (answer, u64::from_le_bytes(words[5])), (0, 2));
         Ok(())
     }
 
@@ -270,11 +273,11 @@ mod tests {
         let malformed: [&[u64]; 3] = [&[9, 0, 0, 0], &[1, 2, 0, 0, 5], &[1, 0, 0]];
         for stream in malformed {
             let (answer, counts) = counted(rt.alloc(), &plain(NONE, 0, 0), stream)?;
-            assert_eq!(rt; (answer, counts), (3, [sevens; 5]));
+            assert_equal(&rt, (answer, counts), (3, [sevens; 5]));
         }
         for (hasher, cache) in [(2, 0), (0, 2)] {
             let (answer, counts) = counted(rt.alloc(), &plain(NONE, hasher, cache), &[])?;
-            assert_eq!(rt; (answer, counts), (1, [sevens; 5]));
+            assert_equal(&rt, (answer, counts), (1, [sevens; 5]));
         }
         Ok(())
     }
@@ -290,8 +293,8 @@ mod tests {
         }
         for cache in [0, 1] {
             let (answer, counts) = counted(rt.alloc(), &plain(NONE, 0, cache), &stream)?;
-            assert_eq!(rt; answer, 0);
-            assert_eq!(rt; counts, [0, 0, 1000, 0, 1000]);
+            assert_equal(&rt, answer, 0);
+            assert_equal(&rt, counts, [0, 0, 1000, 0, 1000]);
         }
         Ok(())
     }

@@ -1,4 +1,5 @@
 //! Worked calls of the synchronous cache.
+use crate::equal::assert_equal;
 use moka_drive::{Cache, CountingListener, Removals, Stats};
 use moka_engine::{
     CacheConfig, FixedClock, IdSource, Instant, Listener, NoListener, PredicateFn, PredicateId,
@@ -36,11 +37,11 @@ fn sends_at_once(rt: HostRuntime) -> Result<(), Fail> {
     for key in 0..400 {
         assert!(rt; cache.insert(key, key, NOW, &mut FixedClock(NOW)).is_ok());
     }
-    assert_eq!(rt; cache.engine().outstanding(), 0);
-    assert_eq!(rt; cache.engine().queued_writes(), 16);
-    assert_eq!(rt; cache.entry_count(), 384);
+    assert_equal(&rt, cache.engine().outstanding(), 0);
+    assert_equal(&rt, cache.engine().queued_writes(), 16);
+    assert_equal(&rt, cache.entry_count(), 384);
     cache.run_pending_tasks(NOW, &mut FixedClock(NOW));
-    assert_eq!(rt; cache.entry_count(), 400);
+    assert_equal(&rt, cache.entry_count(), 400);
     Ok(())
 }
 
@@ -50,9 +51,10 @@ fn runs_by_itself(rt: HostRuntime) -> Result<(), Fail> {
     for key in 0..65 {
         assert!(rt; cache.insert(key, key, NOW, &mut FixedClock(NOW)).is_ok());
     }
-    assert_eq!(rt;
+    assert_equal(
+        &rt,
         (cache.entry_count(), cache.engine().queued_writes()),
-        (64, 1)
+        (64, 1),
     );
     Ok(())
 }
@@ -67,9 +69,10 @@ fn makes_once(rt: HostRuntime) -> Result<(), Fail> {
         20
     };
     let second = cache.get_with(1, maker, NOW, &mut FixedClock(NOW));
-    assert_eq!(rt;
+    assert_equal(
+        &rt,
         (first.ok(), second.ok(), called.get()),
-        (Some(10), Some(10), 0)
+        (Some(10), Some(10), 0),
     );
     Ok(())
 }
@@ -78,8 +81,12 @@ fn makes_once(rt: HostRuntime) -> Result<(), Fail> {
 fn keeps_nothing(rt: HostRuntime) -> Result<(), Fail> {
     let mut cache = plain(rt.alloc(), Some(0), false)?;
     let made = cache.get_with(1, || 10, NOW, &mut FixedClock(NOW));
-    assert_eq!(rt; made.ok(), Some(10));
-    assert_eq!(rt; cache.get(&1, NOW, &mut FixedClock(NOW)).ok(), Some(None));
+    assert_equal(&rt, made.ok(), Some(10));
+    assert_equal(
+        &rt,
+        cache.get(&1, NOW, &mut FixedClock(NOW)).ok(),
+        Some(None),
+    );
     Ok(())
 }
 
@@ -108,13 +115,14 @@ fn tells_of_a_removal(rt: HostRuntime) -> Result<(), Fail> {
     let mut cache = Cache::new(engine);
     let at = Instant(1);
     assert!(rt; cache.insert(1, 10, NOW, &mut FixedClock(NOW)).is_ok());
-    assert_eq!(rt;
+    assert_equal(
+        &rt,
         cache.remove(&1, at, &mut FixedClock(at)).ok(),
-        Some(Some(10))
+        Some(Some(10)),
     );
     let told = cache.engine().listener().and_then(|last| last.told);
-    assert_eq!(rt; told, Some((1, 10, RemovalCause::Explicit)));
-    assert_eq!(rt; cache.engine().queued_writes(), 2);
+    assert_equal(&rt, told, Some((1, 10, RemovalCause::Explicit)));
+    assert_equal(&rt, cache.engine().queued_writes(), 2);
     Ok(())
 }
 
@@ -130,9 +138,10 @@ fn keeps_texts(rt: HostRuntime) -> Result<(), Fail> {
     let text = format!(in alloc; "text")?;
     assert!(rt; cache.insert(key, text, NOW, &mut FixedClock(NOW)).is_ok());
     let text = format!(in alloc; "text")?;
-    assert_eq!(rt;
+    assert_equal(
+        &rt,
         cache.get(&asked, NOW, &mut FixedClock(NOW)).ok(),
-        Some(Some(text))
+        Some(Some(text)),
     );
     assert!(rt; cache.remove(&asked, NOW, &mut FixedClock(NOW)).is_ok());
     assert!(rt; !cache.contains_key(&asked, NOW));
@@ -148,11 +157,11 @@ fn ages_by_its_own_clock(rt: HostRuntime) -> Result<(), Fail> {
     };
     assert!(rt; cache.insert(1, 10).is_ok());
     cache.clock.advance(Duration::from_secs(4));
-    assert_eq!(rt; cache.get(&1).ok(), Some(Some(10)));
+    assert_equal(&rt, cache.get(&1).ok(), Some(Some(10)));
     cache.clock.advance(Duration::from_secs(1));
-    assert_eq!(rt; cache.get(&1).ok(), Some(None));
+    assert_equal(&rt, cache.get(&1).ok(), Some(None));
     cache.run_pending_tasks();
-    assert_eq!(rt; cache.entry_count(), 0);
+    assert_equal(&rt, cache.entry_count(), 0);
     Ok(())
 }
 
@@ -162,9 +171,9 @@ fn reads_the_system_clock(rt: HostRuntime) -> Result<(), Fail> {
     let Ok(mut cache) = TimedCache::build(config, rt.alloc(), SystemClock::new(&rt)) else {
         return Err("memory".into());
     };
-    assert_eq!(rt; cache.get_with(1, || 10).ok(), Some(10));
+    assert_equal(&rt, cache.get_with(1, || 10).ok(), Some(10));
     assert!(rt; cache.contains_key(&1));
-    assert_eq!(rt; cache.remove(&1).ok(), Some(Some(10)));
+    assert_equal(&rt, cache.remove(&1).ok(), Some(Some(10)));
     assert!(rt; !cache.contains_key(&1));
     Ok(())
 }
@@ -188,15 +197,15 @@ fn expires_by_the_system_clock(rt: HostRuntime) -> Result<(), Fail> {
 fn counts_look_ups(rt: HostRuntime) -> Result<(), Fail> {
     let mut cache = plain(rt.alloc(), None, true)?;
     let clock = &mut FixedClock(NOW);
-    assert_eq!(rt; cache.get(&1, NOW, clock).ok(), Some(None));
-    assert_eq!(rt; cache.get_with(1, || 10, NOW, clock).ok(), Some(10));
-    assert_eq!(rt; cache.get(&1, NOW, clock).ok(), Some(Some(10)));
+    assert_equal(&rt, cache.get(&1, NOW, clock).ok(), Some(None));
+    assert_equal(&rt, cache.get_with(1, || 10, NOW, clock).ok(), Some(10));
+    assert_equal(&rt, cache.get(&1, NOW, clock).ok(), Some(Some(10)));
     let counted = Stats {
         hits: 1,
         misses: 2,
         loads: 1,
     };
-    assert_eq!(rt; cache.stats(), counted);
+    assert_equal(&rt, cache.stats(), counted);
     Ok(())
 }
 
@@ -204,19 +213,21 @@ fn counts_look_ups(rt: HostRuntime) -> Result<(), Fail> {
 fn asks_makers_that_give_nothing(rt: HostRuntime) -> Result<(), Fail> {
     let mut cache = plain(rt.alloc(), None, true)?;
     let clock = &mut FixedClock(NOW);
-    assert_eq!(rt;
+    assert_equal(
+        &rt,
         cache.optionally_get_with(1, || None, NOW, clock).ok(),
-        Some(None)
+        Some(None),
     );
-    assert_eq!(rt;
+    assert_equal(
+        &rt,
         cache.try_get_with(1, || Err(7), NOW, clock).ok(),
-        Some(Err(7))
+        Some(Err(7)),
     );
     assert!(rt; !cache.contains_key(&1, NOW));
     let made = cache.try_get_with(1, || Ok::<u64, u64>(10), NOW, clock);
-    assert_eq!(rt; made.ok(), Some(Ok(10)));
+    assert_equal(&rt, made.ok(), Some(Ok(10)));
     let found = cache.optionally_get_with(1, || Some(20), NOW, clock);
-    assert_eq!(rt; found.ok(), Some(Some(10)));
+    assert_equal(&rt, found.ok(), Some(Some(10)));
     Ok(())
 }
 
@@ -233,7 +244,7 @@ fn lists_what_is_visible(rt: HostRuntime) -> Result<(), Fail> {
     let Ok(mut listed) = cache.iter() else {
         return Err("memory".into());
     };
-    assert_eq!(rt; (listed.next(), listed.next()), (Some((2, 20)), None));
+    assert_equal(&rt, (listed.next(), listed.next()), (Some((2, 20)), None));
     Ok(())
 }
 
@@ -247,14 +258,14 @@ fn counts_removals(rt: HostRuntime) -> Result<(), Fail> {
     };
     assert!(rt; cache.insert(1, 10).is_ok());
     assert!(rt; cache.insert(1, 11).is_ok());
-    assert_eq!(rt; cache.remove(&1).ok(), Some(Some(11)));
+    assert_equal(&rt, cache.remove(&1).ok(), Some(Some(11)));
     let counted = Removals {
         expired: 0,
         explicit: 1,
         replaced: 1,
         size: 0,
     };
-    assert_eq!(rt; cache.removals(), counted);
+    assert_equal(&rt, cache.removals(), counted);
     Ok(())
 }
 
@@ -264,15 +275,15 @@ fn asks_makers_by_its_own_clock(rt: HostRuntime) -> Result<(), Fail> {
     let Ok(mut cache) = TimedCache::build(CacheConfig::default(), rt.alloc(), clock) else {
         return Err("memory".into());
     };
-    assert_eq!(rt; cache.optionally_get_with(1, || None).ok(), Some(None));
+    assert_equal(&rt, cache.optionally_get_with(1, || None).ok(), Some(None));
     let made = cache.try_get_with(1, || Ok::<u64, u64>(10));
-    assert_eq!(rt; made.ok(), Some(Ok(10)));
+    assert_equal(&rt, made.ok(), Some(Ok(10)));
     let counted = Stats {
         hits: 0,
         misses: 2,
         loads: 2,
     };
-    assert_eq!(rt; cache.stats(), counted);
+    assert_equal(&rt, cache.stats(), counted);
     Ok(())
 }
 
@@ -285,7 +296,7 @@ fn takes_another_capacity(rt: HostRuntime) -> Result<(), Fail> {
         return Err("memory".into());
     };
     assert!(rt; cache.set_max_capacity(Some(20)).is_ok());
-    assert_eq!(rt; cache.policy().max_capacity(), Some(20));
+    assert_equal(&rt, cache.policy().max_capacity(), Some(20));
     assert!(rt; cache.name().is_none());
     Ok(())
 }

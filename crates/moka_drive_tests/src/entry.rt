@@ -1,4 +1,5 @@
 //! Worked entry calls.
+use crate::equal::assert_equal;
 use moka_drive::{Cache, CompResult, Op};
 use moka_engine::{CacheConfig, FixedClock, Instant};
 use moka_timed::{ManualClock, TimedCache};
@@ -21,11 +22,15 @@ fn inserts_if_the_key_is_not_there(rt: HostRuntime) -> Result<(), Fail> {
     let Ok(first) = cache.get_or_insert(1, 10, NOW, clock) else {
         return Err("memory".into());
     };
-    assert_eq!(rt; (first.key, first.value, first.is_fresh), (1, 10, true));
+    assert_equal(&rt, (first.key, first.value, first.is_fresh), (1, 10, true));
     let Ok(second) = cache.get_or_insert_with(1, || 20, NOW, clock) else {
         return Err("memory".into());
     };
-    assert_eq!(rt; (second.key, second.value, second.is_fresh), (1, 10, false));
+    assert_equal(
+        &rt,
+        (second.key, second.value, second.is_fresh),
+        (1, 10, false),
+    );
     Ok(())
 }
 
@@ -39,7 +44,7 @@ fn asks_makers_that_give_no_value(rt: HostRuntime) -> Result<(), Fail> {
     assert!(rt; matches!(failed, Ok(Err(7))));
     let made = cache.get_or_optionally_insert_with(1, || Some(10), NOW, clock);
     assert!(rt; matches!(made, Ok(Some(entry)) if entry.is_fresh));
-    assert_eq!(rt; cache.stats().loads, 3);
+    assert_equal(&rt, cache.stats().loads, 3);
     Ok(())
 }
 
@@ -135,7 +140,7 @@ fn takes_many_at_once(rt: HostRuntime) -> Result<(), Fail> {
         return Err("memory".into());
     };
     assert!(rt; matches!(found.as_slice(), [Some(20), None, Some(10)]));
-    assert_eq!(rt; (cache.stats().hits, cache.stats().misses), (2, 1));
+    assert_equal(&rt, (cache.stats().hits, cache.stats().misses), (2, 1));
     assert!(rt; cache.invalidate_many(&[1, 2], NOW, clock).is_ok());
     assert!(rt; !cache.contains_key(&1, NOW));
     Ok(())

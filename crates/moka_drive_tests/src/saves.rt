@@ -1,4 +1,5 @@
 //! Worked saves of a cache, and caches made again from them.
+use crate::equal::assert_equal;
 use moka_drive::Cache;
 use moka_engine::{
     CacheConfig, ExpireAfter, FixedClock, Instant, NoExpiry, RestoreError, Restored,
@@ -47,7 +48,11 @@ fn lists_in_the_order_of_access(rt: HostRuntime) -> Result<(), Fail> {
         (3, 30, 30, Some(25)),
         (1, 10, 40, Some(35)),
     ];
-    assert_eq!(rt; (is_filled, listed.as_slice()), (true, wanted.as_slice()));
+    assert_equal(
+        &rt,
+        (is_filled, listed.as_slice()),
+        (true, wanted.as_slice()),
+    );
     Ok(())
 }
 
@@ -78,7 +83,7 @@ fn answers_as_before(rt: HostRuntime) -> Result<(), Fail> {
     }
     let now = Instant(55);
     let found = second.get(&1, now, &mut FixedClock(now));
-    assert_eq!(rt; (is_right, found.ok()), (true, Some(Some(10))));
+    assert_equal(&rt, (is_right, found.ok()), (true, Some(Some(10))));
     Ok(())
 }
 
@@ -93,7 +98,7 @@ fn keeps_the_order_of_access(rt: HostRuntime) -> Result<(), Fail> {
         keys.push(*entry.key)?;
     }
     let wanted: [u64; 3] = [2, 3, 1];
-    assert_eq!(rt; (is_right, keys.as_slice()), (true, wanted.as_slice()));
+    assert_equal(&rt, (is_right, keys.as_slice()), (true, wanted.as_slice()));
     Ok(())
 }
 
@@ -146,8 +151,8 @@ fn refuses_what_it_cannot_keep(rt: HostRuntime) -> Result<(), Fail> {
         Some((RestoreError::KeyPresent, 1)),
         Some((RestoreError::NoExpiry, 2)),
     );
-    assert_eq!(rt; (first, (again, other)), (None, wanted));
-    assert_eq!(rt; (among, is_there), (Some((1, Some(4))), true));
+    assert_equal(&rt, (first, (again, other)), (None, wanted));
+    assert_equal(&rt, (among, is_there), (Some((1, Some(4))), true));
     Ok(())
 }
 
@@ -165,12 +170,13 @@ fn asks_no_expiry(rt: HostRuntime) -> Result<(), Fail> {
     let mut clock = FixedClock(START);
     let entry = entry_of(1, Some(Instant(9)));
     assert!(rt; cache.restore_entry(entry, START, &mut clock).is_ok());
-    assert_eq!(rt;
+    assert_equal(
+        &rt,
         (
             cache.contains_key(&1, Instant(8)),
-            cache.contains_key(&1, Instant(9))
+            cache.contains_key(&1, Instant(9)),
         ),
-        (true, false)
+        (true, false),
     );
     Ok(())
 }

@@ -1,5 +1,6 @@
 //! Worked calls of a cache in segments.
 use crate::cache::{Below, OneId};
+use crate::equal::assert_equal;
 use moka_engine::{CacheConfig, FixedClock, Instant, NoExpiry, NoListener, PredicateError};
 use moka_segments::SegmentedCache;
 use std::alloc::Global;
@@ -48,9 +49,10 @@ fn finds_what_was_put(rt: HostRuntime) -> Result<(), Fail> {
     let mut cache = four_of(rt.alloc(), 1_001)?;
     let is_right = fill(&mut cache, 200) && finds(&mut cache, 200) && shrink(&mut cache);
     let (entries, weight, stats) = (cache.entry_count(), cache.weighted_size(), cache.stats());
-    assert_eq!(rt;
+    assert_equal(
+        &rt,
         (is_right, entries, weight, stats.hits, stats.misses),
-        (true, 199, 199, 200, 1)
+        (true, 199, 199, 200, 1),
     );
     Ok(())
 }
@@ -66,9 +68,10 @@ fn shares_the_capacity(rt: HostRuntime) -> Result<(), Fail> {
     for (segment, most) in segments.iter().zip([11, 11, 10, 10]) {
         are_shares = are_shares && segment.policy().max_capacity() == Some(most);
     }
-    assert_eq!(rt;
+    assert_equal(
+        &rt,
         (is_full, whole, is_within, are_shares),
-        (true, Some(42), true, true)
+        (true, Some(42), true, true),
     );
     Ok(())
 }
@@ -88,7 +91,7 @@ fn hides_all(rt: HostRuntime) -> Result<(), Fail> {
     let is_full = fill(&mut cache, 20) && cache.contains_key(&3, Instant(6));
     cache.invalidate_all(Instant(5));
     let is_shown = shows_any(&cache, 20, Instant(6));
-    assert_eq!(rt; (is_full, is_shown), (true, false));
+    assert_equal(&rt, (is_full, is_shown), (true, false));
     Ok(())
 }
 
@@ -113,9 +116,10 @@ fn lists_all(rt: HostRuntime) -> Result<(), Fail> {
     let later = Instant(6);
     let is_put = cache.insert(300, 1, later, &mut FixedClock(later)).is_ok();
     let visible = listed(&cache, later);
-    assert_eq!(rt;
+    assert_equal(
+        &rt,
         (is_full, all, is_put, visible),
-        (true, Some((200, 19_900)), true, Some((1, 300)))
+        (true, Some((200, 19_900)), true, Some((1, 300))),
     );
     Ok(())
 }
@@ -153,7 +157,7 @@ fn hides_what_a_predicate_covers(rt: HostRuntime) -> Result<(), Fail> {
     let Ok(ids) = cache.invalidate_entries_if(|| Below(10), NOW, &mut OneId) else {
         return Err("memory".into());
     };
-    assert_eq!(rt; (ids.len(), hides_below_ten(&cache, 4)), (4, true));
+    assert_equal(&rt, (ids.len(), hides_below_ten(&cache, 4)), (4, true));
     Ok(())
 }
 
@@ -179,14 +183,15 @@ fn says_which_segments_have_a_predicate(rt: HostRuntime) -> Result<(), Fail> {
         return Err("registered".into());
     };
     let (error, done) = (refused.refused.error, refused.done.len());
-    assert_eq!(rt;
+    assert_equal(
+        &rt,
         (
             error,
             refused.refused.predicate.0,
             done,
-            hides_below_ten(&cache, 2)
+            hides_below_ten(&cache, 2),
         ),
-        (PredicateError::NoFreeId, 10, 2, true)
+        (PredicateError::NoFreeId, 10, 2, true),
     );
     Ok(())
 }

@@ -1,4 +1,5 @@
 //! What leaves a cache without a listener is dropped, the key and the value.
+use crate::equal::assert_equal;
 use moka_engine::{
     CacheConfig, Engine, EvictionPolicy, FixedClock, Instant, NoExpiry, NoListener, PredicateFn,
 };
@@ -105,10 +106,10 @@ impl Shared {
     /// Fills the cache and makes a run at the moment, which leaves so many keys and values in it.
     fn check_run(&mut self, rt: &impl Abort, now: Instant, left: usize) -> Result<(), Fail> {
         self.fill()?;
-        assert_eq!(rt; self.elsewhere(), (3, 3));
+        assert_equal(rt, self.elsewhere(), (3, 3));
         let clock = &mut FixedClock(now);
         self.cache.run_pending_tasks(now, clock, None, 1, 384);
-        assert_eq!(rt; self.elsewhere(), (left, left));
+        assert_equal(rt, self.elsewhere(), (left, left));
         Ok(())
     }
 
@@ -180,6 +181,6 @@ fn drops_what_is_removed(rt: HostRuntime) -> Result<(), Fail> {
     let mut shared = Shared::new(rt.alloc(), config())?;
     shared.fill()?;
     shared.remove(&rt)?;
-    assert_eq!(rt; shared.elsewhere(), (0, 0));
+    assert_equal(&rt, shared.elsewhere(), (0, 0));
     Ok(())
 }

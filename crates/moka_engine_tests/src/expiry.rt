@@ -1,5 +1,6 @@
 //! Entries with an expiry of their own: seven that are read and updated, one after the other, with what the expiry is
 //! asked at each step. moka: `test_per_entry_expiration`.
+use crate::equal::assert_equal;
 use moka_engine::{CacheConfig, Engine, Expiry, FixedClock, Instant};
 use moka_script::rules::{Question, Rule, Rules};
 use moka_script::word::Word;
@@ -302,11 +303,11 @@ fn take_steps(
     for step in case.steps {
         let &Step(at, question, _, _) = step;
         let (key, now, is_there) = (case.key, moment(case.key, at), at > 0);
-        assert_eq!(rt; look(cache, key, now), (is_there, u64::from(is_there)));
+        assert_equal(rt, look(cache, key, now), (is_there, u64::from(is_there)));
         act(alloc, cache, key, step)?;
         assert_eq!(rt; asked.get(), wanted(key, step, modified), "key {key}");
         asked.set(NOTHING);
-        assert_eq!(rt; look(cache, key, now), (true, 1));
+        assert_equal(rt, look(cache, key, now), (true, 1));
         last = at;
         if !matches!(question, Question::Read) {
             modified = now;
@@ -318,15 +319,17 @@ fn take_steps(
 /// The entry is there a millisecond before it expires, hidden when it does, and gone a second later.
 fn check_end(rt: &impl Abort, cache: &mut TimedCache, key: u32, end: u64) {
     let end = moment(key, end).0;
-    assert_eq!(rt;
+    assert_equal(
+        rt,
         look(cache, key, Instant(end.wrapping_sub(MILLISECOND))),
-        (true, 1)
+        (true, 1),
     );
     let (is_there, _) = look(cache, key, Instant(end));
     assert!(rt; !is_there);
-    assert_eq!(rt;
+    assert_equal(
+        rt,
         look(cache, key, Instant(end.wrapping_add(SECOND))),
-        (false, 0)
+        (false, 0),
     );
 }
 

@@ -1,4 +1,5 @@
 //! A key is cloned only where a call needs the clone.
+use crate::equal::assert_equal;
 use moka_engine::{
     CacheConfig, Engine, FixedClock, Instant, Listener, NoExpiry, NoTest, RemovalCause,
 };
@@ -76,7 +77,7 @@ fn get(cache: &mut UniqueCache, key: u64, need_key: bool, now: Instant) -> Resul
 }
 
 fn check_looks(rt: &impl Abort, cache: &mut UniqueCache) {
-    assert_eq!(rt; get(cache, 1, false, Instant(1)), Ok(Some(10)));
+    assert_equal(rt, get(cache, 1, false, Instant(1)), Ok(Some(10)));
     let noted = cache.get_with_hash_without_recording(&Unique(1), 1, Some(&mut NoTest), Instant(1));
     assert!(rt; matches!(noted, Ok(Some(10))));
     assert!(rt; matches!(cache.scanning_get(&Unique(1), Instant(1)), Ok(Some(10))));
@@ -98,9 +99,9 @@ fn check_writes(rt: &impl Abort, cache: &mut UniqueCache) -> Result<(), Fail> {
     assert!(rt; cache.remove_entry(&Unique(2), 1).is_some());
     let now = Instant(10);
     cache.run_pending_tasks(now, &mut FixedClock(now), None, 1, 384);
-    assert_eq!(rt; get(cache, 1, true, now), Ok(None));
+    assert_equal(rt, get(cache, 1, true, now), Ok(None));
     // One was replaced, and one has expired.
-    assert_eq!(rt; told(cache), Some(2));
+    assert_equal(rt, told(cache), Some(2));
     Ok(())
 }
 
@@ -112,15 +113,15 @@ fn writes_without_a_clone(rt: HostRuntime) -> Result<(), Fail> {
 
 /// Calls that need a clone of the key are refused: the read is neither noted nor queued, and nobody is told.
 fn check_refusals(rt: &impl Abort, cache: &mut UniqueCache) -> Result<(), Fail> {
-    assert_eq!(rt; get(cache, 1, true, Instant(5)), Err(()));
-    assert_eq!(rt; get(cache, 2, true, Instant(5)), Ok(None));
-    assert_eq!(rt; cache.queued_reads(), 1);
+    assert_equal(rt, get(cache, 1, true, Instant(5)), Err(()));
+    assert_equal(rt, get(cache, 2, true, Instant(5)), Ok(None));
+    assert_equal(rt, cache.queued_reads(), 1);
     assert!(rt; cache.contains_key_with_hash(&Unique(1), 1, Instant(9)));
     assert!(rt; !cache.contains_key_with_hash(&Unique(1), 1, Instant(10)));
     assert!(rt; cache.keys(0).is_err());
     let (entry, _) = cache.remove_entry(&Unique(1), 1).ok_or("none")?;
     assert!(rt; cache.notify_invalidate(&entry, Instant(5)).is_err());
-    assert_eq!(rt; told(cache), Some(0));
+    assert_equal(rt, told(cache), Some(0));
     Ok(())
 }
 

@@ -4,6 +4,8 @@
 #[cfg(test)]
 mod drops;
 #[cfg(test)]
+mod equal;
+#[cfg(test)]
 mod expiry;
 #[cfg(test)]
 mod keys;

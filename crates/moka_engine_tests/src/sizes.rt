@@ -1,4 +1,5 @@
 //! Memory that is there is not refused, whatever the size.
+use crate::equal::assert_equal;
 use moka_engine::{CacheConfig, Engine, Instant, NoExpiry, NoListener, NoPredicate};
 use moka_parts::invalidator::{IdSource, PredicateId};
 use moka_sketch::frequency_sketch::FrequencySketch;
@@ -27,7 +28,7 @@ fn check_predicates(rt: &impl Abort, cache: &mut TestCache) {
     for number in 1..2_049u64 {
         let registered = cache.invalidate_entries_if(NoPredicate, Instant(0), &mut ids);
         assert!(rt; registered.is_ok(), "predicate {number}");
-        assert_eq!(rt; cache.invalidation_predicate_count(), number);
+        assert_equal(rt, cache.invalidation_predicate_count(), number);
     }
 }
 
@@ -53,7 +54,7 @@ fn has_a_long_name(rt: HostRuntime) -> Result<(), Fail> {
     for length in [0, 64, 65, 10_000] {
         let config = CacheConfig::default().name(name_of(rt.alloc(), length)?);
         let cache: TestCache = config.build(rt.alloc(), Instant(0))?;
-        assert_eq!(rt; cache.name().map(str::len), Some(length));
+        assert_equal(&rt, cache.name().map(str::len), Some(length));
     }
     Ok(())
 }
@@ -62,7 +63,7 @@ fn has_a_long_name(rt: HostRuntime) -> Result<(), Fail> {
 fn has_room_for_millions(rt: HostRuntime) -> Result<(), Fail> {
     let config = CacheConfig::default().initial_capacity(3_000_000);
     let cache: TestCache = config.build(rt.alloc(), Instant(0))?;
-    assert_eq!(rt; cache.entry_count(), 0);
+    assert_equal(&rt, cache.entry_count(), 0);
     Ok(())
 }
 
@@ -79,7 +80,7 @@ fn has_a_sketch_of_a_million_words(rt: HostRuntime) -> Result<(), Fail> {
     for length in [128, 65_536, 131_072, 1_048_576] {
         let mut sketch = FrequencySketch::new(rt.alloc())?;
         assert!(rt; sketch.ensure_capacity(length).is_ok(), "{length} words");
-        assert_eq!(rt; sketch.table_len() as u64, length);
+        assert_equal(&rt, sketch.table_len() as u64, length);
     }
     Ok(())
 }

@@ -3,6 +3,7 @@
 use crate::support::prelude::*;
 #[cfg(test)]
 use crate::support::test::prelude::*;
+use crate::proved_tests::moka_drive_tests::equal::assert_equal;
 use crate::engine::moka_drive::{Cache, CountingListener, Removals, Stats};
 use crate::engine::moka_engine::{
     CacheConfig, FixedClock, IdSource, Instant, Listener, NoListener, PredicateFn, PredicateId,
@@ -41,11 +42,11 @@ fn sends_at_once() -> Result<(), Fail> {
     for key in 0..400 {
         assert!( cache.insert(key, key, NOW, &mut FixedClock(NOW)).is_ok());
     }
-    assert_eq!( cache.engine().outstanding(), 0);
-    assert_eq!( cache.engine().queued_writes(), 16);
-    assert_eq!( cache.entry_count(), 384);
+    assert_equal(&rt, cache.engine().outstanding(), 0);
+    assert_equal(&rt, cache.engine().queued_writes(), 16);
+    assert_equal(&rt, cache.entry_count(), 384);
     cache.run_pending_tasks(NOW, &mut FixedClock(NOW));
-    assert_eq!( cache.entry_count(), 400);
+    assert_equal(&rt, cache.entry_count(), 400);
     Ok(())
 }
 
@@ -56,9 +57,10 @@ fn runs_by_itself() -> Result<(), Fail> {
     for key in 0..65 {
         assert!( cache.insert(key, key, NOW, &mut FixedClock(NOW)).is_ok());
     }
-    assert_eq!(
+    assert_equal(
+        &rt,
         (cache.entry_count(), cache.engine().queued_writes()),
-        (64, 1)
+        (64, 1),
     );
     Ok(())
 }
@@ -74,9 +76,10 @@ fn makes_once() -> Result<(), Fail> {
         20
     };
     let second = cache.get_with(1, maker, NOW, &mut FixedClock(NOW));
-    assert_eq!(
+    assert_equal(
+        &rt,
         (first.ok(), second.ok(), called.get()),
-        (Some(10), Some(10), 0)
+        (Some(10), Some(10), 0),
     );
     Ok(())
 }
@@ -86,8 +89,12 @@ fn keeps_nothing() -> Result<(), Fail> {
     let rt = HostRuntime;
     let mut cache = plain(rt.alloc(), Some(0), false)?;
     let made = cache.get_with(1, || 10, NOW, &mut FixedClock(NOW));
-    assert_eq!( made.ok(), Some(10));
-    assert_eq!( cache.get(&1, NOW, &mut FixedClock(NOW)).ok(), Some(None));
+    assert_equal(&rt, made.ok(), Some(10));
+    assert_equal(
+        &rt,
+        cache.get(&1, NOW, &mut FixedClock(NOW)).ok(),
+        Some(None),
+    );
     Ok(())
 }
 
@@ -113,13 +120,14 @@ fn tells_of_a_removal() -> Result<(), Fail> {
     let mut cache = Cache::new(engine);
     let at = Instant(1);
     assert!( cache.insert(1, 10, NOW, &mut FixedClock(NOW)).is_ok());
-    assert_eq!(
+    assert_equal(
+        &rt,
         cache.remove(&1, at, &mut FixedClock(at)).ok(),
-        Some(Some(10))
+        Some(Some(10)),
     );
     let told = cache.engine().listener().and_then(|last| last.told);
-    assert_eq!( told, Some((1, 10, RemovalCause::Explicit)));
-    assert_eq!( cache.engine().queued_writes(), 2);
+    assert_equal(&rt, told, Some((1, 10, RemovalCause::Explicit)));
+    assert_equal(&rt, cache.engine().queued_writes(), 2);
     Ok(())
 }
 
@@ -136,9 +144,10 @@ fn keeps_texts() -> Result<(), Fail> {
     let text = crate::support::test::text!("text")?;
     assert!( cache.insert(key, text, NOW, &mut FixedClock(NOW)).is_ok());
     let text = crate::support::test::text!("text")?;
-    assert_eq!(
+    assert_equal(
+        &rt,
         cache.get(&asked, NOW, &mut FixedClock(NOW)).ok(),
-        Some(Some(text))
+        Some(Some(text)),
     );
     assert!( cache.remove(&asked, NOW, &mut FixedClock(NOW)).is_ok());
     assert!( !cache.contains_key(&asked, NOW));
@@ -155,11 +164,11 @@ fn ages_by_its_own_clock() -> Result<(), Fail> {
     };
     assert!( cache.insert(1, 10).is_ok());
     cache.clock.advance(Duration::from_secs(4));
-    assert_eq!( cache.get(&1).ok(), Some(Some(10)));
+    assert_equal(&rt, cache.get(&1).ok(), Some(Some(10)));
     cache.clock.advance(Duration::from_secs(1));
-    assert_eq!( cache.get(&1).ok(), Some(None));
+    assert_equal(&rt, cache.get(&1).ok(), Some(None));
     cache.run_pending_tasks();
-    assert_eq!( cache.entry_count(), 0);
+    assert_equal(&rt, cache.entry_count(), 0);
     Ok(())
 }
 
@@ -170,9 +179,9 @@ fn reads_the_system_clock() -> Result<(), Fail> {
     let Ok(mut cache) = TimedCache::build(config, rt.alloc(), SystemClock::new(&rt)) else {
         return Err("memory".into());
     };
-    assert_eq!( cache.get_with(1, || 10).ok(), Some(10));
+    assert_equal(&rt, cache.get_with(1, || 10).ok(), Some(10));
     assert!( cache.contains_key(&1));
-    assert_eq!( cache.remove(&1).ok(), Some(Some(10)));
+    assert_equal(&rt, cache.remove(&1).ok(), Some(Some(10)));
     assert!( !cache.contains_key(&1));
     Ok(())
 }
@@ -198,15 +207,15 @@ fn counts_look_ups() -> Result<(), Fail> {
     let rt = HostRuntime;
     let mut cache = plain(rt.alloc(), None, true)?;
     let clock = &mut FixedClock(NOW);
-    assert_eq!( cache.get(&1, NOW, clock).ok(), Some(None));
-    assert_eq!( cache.get_with(1, || 10, NOW, clock).ok(), Some(10));
-    assert_eq!( cache.get(&1, NOW, clock).ok(), Some(Some(10)));
+    assert_equal(&rt, cache.get(&1, NOW, clock).ok(), Some(None));
+    assert_equal(&rt, cache.get_with(1, || 10, NOW, clock).ok(), Some(10));
+    assert_equal(&rt, cache.get(&1, NOW, clock).ok(), Some(Some(10)));
     let counted = Stats {
         hits: 1,
         misses: 2,
         loads: 1,
     };
-    assert_eq!( cache.stats(), counted);
+    assert_equal(&rt, cache.stats(), counted);
     Ok(())
 }
 
@@ -215,19 +224,21 @@ fn asks_makers_that_give_nothing() -> Result<(), Fail> {
     let rt = HostRuntime;
     let mut cache = plain(rt.alloc(), None, true)?;
     let clock = &mut FixedClock(NOW);
-    assert_eq!(
+    assert_equal(
+        &rt,
         cache.optionally_get_with(1, || None, NOW, clock).ok(),
-        Some(None)
+        Some(None),
     );
-    assert_eq!(
+    assert_equal(
+        &rt,
         cache.try_get_with(1, || Err(7), NOW, clock).ok(),
-        Some(Err(7))
+        Some(Err(7)),
     );
     assert!( !cache.contains_key(&1, NOW));
     let made = cache.try_get_with(1, || Ok::<u64, u64>(10), NOW, clock);
-    assert_eq!( made.ok(), Some(Ok(10)));
+    assert_equal(&rt, made.ok(), Some(Ok(10)));
     let found = cache.optionally_get_with(1, || Some(20), NOW, clock);
-    assert_eq!( found.ok(), Some(Some(10)));
+    assert_equal(&rt, found.ok(), Some(Some(10)));
     Ok(())
 }
 
@@ -245,7 +256,7 @@ fn lists_what_is_visible() -> Result<(), Fail> {
     let Ok(mut listed) = cache.iter() else {
         return Err("memory".into());
     };
-    assert_eq!( (listed.next(), listed.next()), (Some((2, 20)), None));
+    assert_equal(&rt, (listed.next(), listed.next()), (Some((2, 20)), None));
     Ok(())
 }
 
@@ -260,14 +271,14 @@ fn counts_removals() -> Result<(), Fail> {
     };
     assert!( cache.insert(1, 10).is_ok());
     assert!( cache.insert(1, 11).is_ok());
-    assert_eq!( cache.remove(&1).ok(), Some(Some(11)));
+    assert_equal(&rt, cache.remove(&1).ok(), Some(Some(11)));
     let counted = Removals {
         expired: 0,
         explicit: 1,
         replaced: 1,
         size: 0,
     };
-    assert_eq!( cache.removals(), counted);
+    assert_equal(&rt, cache.removals(), counted);
     Ok(())
 }
 
@@ -278,15 +289,15 @@ fn asks_makers_by_its_own_clock() -> Result<(), Fail> {
     let Ok(mut cache) = TimedCache::build(CacheConfig::default(), rt.alloc(), clock) else {
         return Err("memory".into());
     };
-    assert_eq!( cache.optionally_get_with(1, || None).ok(), Some(None));
+    assert_equal(&rt, cache.optionally_get_with(1, || None).ok(), Some(None));
     let made = cache.try_get_with(1, || Ok::<u64, u64>(10));
-    assert_eq!( made.ok(), Some(Ok(10)));
+    assert_equal(&rt, made.ok(), Some(Ok(10)));
     let counted = Stats {
         hits: 0,
         misses: 2,
         loads: 2,
     };
-    assert_eq!( cache.stats(), counted);
+    assert_equal(&rt, cache.stats(), counted);
     Ok(())
 }
 
@@ -300,7 +311,7 @@ fn takes_another_capacity() -> Result<(), Fail> {
         return Err("memory".into());
     };
     assert!( cache.set_max_capacity(Some(20)).is_ok());
-    assert_eq!( cache.policy().max_capacity(), Some(20));
+    assert_equal(&rt, cache.policy().max_capacity(), Some(20));
     assert!( cache.name().is_none());
     Ok(())
 }

@@ -3,6 +3,7 @@
 use crate::support::prelude::*;
 #[cfg(test)]
 use crate::support::test::prelude::*;
+use crate::proved_tests::moka_drive_tests::equal::assert_equal;
 use crate::engine::moka_drive::{Cache, CompResult, Op};
 use crate::engine::moka_engine::{CacheConfig, FixedClock, Instant};
 use crate::proved_tests::moka_timed::{ManualClock, TimedCache};
@@ -26,11 +27,15 @@ fn inserts_if_the_key_is_not_there() -> Result<(), Fail> {
     let Ok(first) = cache.get_or_insert(1, 10, NOW, clock) else {
         return Err("memory".into());
     };
-    assert_eq!( (first.key, first.value, first.is_fresh), (1, 10, true));
+    assert_equal(&rt, (first.key, first.value, first.is_fresh), (1, 10, true));
     let Ok(second) = cache.get_or_insert_with(1, || 20, NOW, clock) else {
         return Err("memory".into());
     };
-    assert_eq!( (second.key, second.value, second.is_fresh), (1, 10, false));
+    assert_equal(
+        &rt,
+        (second.key, second.value, second.is_fresh),
+        (1, 10, false),
+    );
     Ok(())
 }
 
@@ -45,7 +50,7 @@ fn asks_makers_that_give_no_value() -> Result<(), Fail> {
     assert!( matches!(failed, Ok(Err(7))));
     let made = cache.get_or_optionally_insert_with(1, || Some(10), NOW, clock);
     assert!( matches!(made, Ok(Some(entry)) if entry.is_fresh));
-    assert_eq!( cache.stats().loads, 3);
+    assert_equal(&rt, cache.stats().loads, 3);
     Ok(())
 }
 
@@ -147,7 +152,7 @@ fn takes_many_at_once() -> Result<(), Fail> {
         return Err("memory".into());
     };
     assert!( matches!(found.as_slice(), [Some(20), None, Some(10)]));
-    assert_eq!( (cache.stats().hits, cache.stats().misses), (2, 1));
+    assert_equal(&rt, (cache.stats().hits, cache.stats().misses), (2, 1));
     assert!( cache.invalidate_many(&[1, 2], NOW, clock).is_ok());
     assert!( !cache.contains_key(&1, NOW));
     Ok(())

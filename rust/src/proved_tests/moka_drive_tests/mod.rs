@@ -7,6 +7,8 @@ mod cache;
 #[cfg(test)]
 mod entry;
 #[cfg(test)]
+mod equal;
+#[cfg(test)]
 mod saves;
 #[cfg(test)]
 mod segments;

@@ -3,6 +3,7 @@
 use crate::support::prelude::*;
 #[cfg(test)]
 use crate::support::test::prelude::*;
+use crate::proved_tests::moka_drive_tests::equal::assert_equal;
 use crate::engine::moka_drive::Cache;
 use crate::engine::moka_engine::{
     CacheConfig, ExpireAfter, FixedClock, Instant, NoExpiry, RestoreError, Restored,
@@ -52,7 +53,11 @@ fn lists_in_the_order_of_access() -> Result<(), Fail> {
         (3, 30, 30, Some(25)),
         (1, 10, 40, Some(35)),
     ];
-    assert_eq!( (is_filled, listed.as_slice()), (true, wanted.as_slice()));
+    assert_equal(
+        &rt,
+        (is_filled, listed.as_slice()),
+        (true, wanted.as_slice()),
+    );
     Ok(())
 }
 
@@ -84,7 +89,7 @@ fn answers_as_before() -> Result<(), Fail> {
     }
     let now = Instant(55);
     let found = second.get(&1, now, &mut FixedClock(now));
-    assert_eq!( (is_right, found.ok()), (true, Some(Some(10))));
+    assert_equal(&rt, (is_right, found.ok()), (true, Some(Some(10))));
     Ok(())
 }
 
@@ -100,7 +105,7 @@ fn keeps_the_order_of_access() -> Result<(), Fail> {
         keys.push(*entry.key)?;
     }
     let wanted: [u64; 3] = [2, 3, 1];
-    assert_eq!( (is_right, keys.as_slice()), (true, wanted.as_slice()));
+    assert_equal(&rt, (is_right, keys.as_slice()), (true, wanted.as_slice()));
     Ok(())
 }
 
@@ -154,8 +159,8 @@ fn refuses_what_it_cannot_keep() -> Result<(), Fail> {
         Some((RestoreError::KeyPresent, 1)),
         Some((RestoreError::NoExpiry, 2)),
     );
-    assert_eq!( (first, (again, other)), (None, wanted));
-    assert_eq!( (among, is_there), (Some((1, Some(4))), true));
+    assert_equal(&rt, (first, (again, other)), (None, wanted));
+    assert_equal(&rt, (among, is_there), (Some((1, Some(4))), true));
     Ok(())
 }
 
@@ -174,12 +179,13 @@ fn asks_no_expiry() -> Result<(), Fail> {
     let mut clock = FixedClock(START);
     let entry = entry_of(1, Some(Instant(9)));
     assert!( cache.restore_entry(entry, START, &mut clock).is_ok());
-    assert_eq!(
+    assert_equal(
+        &rt,
         (
             cache.contains_key(&1, Instant(8)),
-            cache.contains_key(&1, Instant(9))
+            cache.contains_key(&1, Instant(9)),
         ),
-        (true, false)
+        (true, false),
     );
     Ok(())
 }

@@ -3,6 +3,7 @@
 use crate::support::prelude::*;
 #[cfg(test)]
 use crate::support::test::prelude::*;
+use crate::proved_tests::moka_engine_tests::equal::assert_equal;
 use crate::engine::moka_engine::{
     CacheConfig, Engine, EvictionPolicy, FixedClock, Instant, NoExpiry, NoListener, PredicateFn,
 };
@@ -98,10 +99,10 @@ impl Shared {
     /// Fills the cache and makes a run at the moment, which leaves so many keys and values in it.
     fn check_run(&mut self, rt: &impl Abort, now: Instant, left: usize) -> Result<(), Fail> {
         self.fill()?;
-        assert_eq!( self.elsewhere(), (3, 3));
+        assert_equal(rt, self.elsewhere(), (3, 3));
         let clock = &mut FixedClock(now);
         self.cache.run_pending_tasks(now, clock, None, 1, 384);
-        assert_eq!( self.elsewhere(), (left, left));
+        assert_equal(rt, self.elsewhere(), (left, left));
         Ok(())
     }
 
@@ -181,6 +182,6 @@ fn drops_what_is_removed() -> Result<(), Fail> {
     let mut shared = Shared::new(rt.alloc(), config())?;
     shared.fill()?;
     shared.remove(&rt)?;
-    assert_eq!( shared.elsewhere(), (0, 0));
+    assert_equal(&rt, shared.elsewhere(), (0, 0));
     Ok(())
 }

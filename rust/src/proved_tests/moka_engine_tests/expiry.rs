@@ -4,6 +4,7 @@
 use crate::support::prelude::*;
 #[cfg(test)]
 use crate::support::test::prelude::*;
+use crate::proved_tests::moka_engine_tests::equal::assert_equal;
 use crate::engine::moka_engine::{CacheConfig, Engine, Expiry, FixedClock, Instant};
 use crate::replay::moka_script::rules::{Question, Rule, Rules};
 use crate::replay::moka_script::word::Word;
@@ -298,11 +299,11 @@ fn take_steps(
     for step in case.steps {
         let &Step(at, question, _, _) = step;
         let (key, now, is_there) = (case.key, moment(case.key, at), at > 0);
-        assert_eq!( look(cache, key, now), (is_there, u64::from(is_there)));
+        assert_equal(rt, look(cache, key, now), (is_there, u64::from(is_there)));
         act(alloc, cache, key, step)?;
         assert_eq!( asked.get(), wanted(key, step, modified), "key {key}");
         asked.set(NOTHING);
-        assert_eq!( look(cache, key, now), (true, 1));
+        assert_equal(rt, look(cache, key, now), (true, 1));
         last = at;
         if !matches!(question, Question::Read) {
             modified = now;
@@ -314,15 +315,17 @@ fn take_steps(
 /// The entry is there a millisecond before it expires, hidden when it does, and gone a second later.
 fn check_end(rt: &impl Abort, cache: &mut TimedCache, key: u32, end: u64) {
     let end = moment(key, end).0;
-    assert_eq!(
+    assert_equal(
+        rt,
         look(cache, key, Instant(end.wrapping_sub(MILLISECOND))),
-        (true, 1)
+        (true, 1),
     );
     let (is_there, _) = look(cache, key, Instant(end));
     assert!( !is_there);
-    assert_eq!(
+    assert_equal(
+        rt,
         look(cache, key, Instant(end.wrapping_add(SECOND))),
-        (false, 0)
+        (false, 0),
     );
 }
 

@@ -3,6 +3,7 @@
 use crate::support::prelude::*;
 #[cfg(test)]
 use crate::support::test::prelude::*;
+use crate::proved_tests::moka_engine_tests::equal::assert_equal;
 use crate::engine::moka_engine::{
     CacheConfig, Engine, FixedClock, Instant, Listener, NoExpiry, NoTest, RemovalCause,
 };
@@ -80,7 +81,7 @@ fn get(cache: &mut UniqueCache, key: u64, need_key: bool, now: Instant) -> Resul
 }
 
 fn check_looks(rt: &impl Abort, cache: &mut UniqueCache) {
-    assert_eq!( get(cache, 1, false, Instant(1)), Ok(Some(10)));
+    assert_equal(rt, get(cache, 1, false, Instant(1)), Ok(Some(10)));
     let noted = cache.get_with_hash_without_recording(&Unique(1), 1, Some(&mut NoTest), Instant(1));
     assert!( matches!(noted, Ok(Some(10))));
     assert!( matches!(cache.scanning_get(&Unique(1), Instant(1)), Ok(Some(10))));
@@ -103,9 +104,9 @@ fn check_writes(rt: &impl Abort, cache: &mut UniqueCache) -> Result<(), Fail> {
     assert!( cache.remove_entry(&Unique(2), 1).is_some());
     let now = Instant(10);
     cache.run_pending_tasks(now, &mut FixedClock(now), None, 1, 384);
-    assert_eq!( get(cache, 1, true, now), Ok(None));
+    assert_equal(rt, get(cache, 1, true, now), Ok(None));
     // One was replaced, and one has expired.
-    assert_eq!( told(cache), Some(2));
+    assert_equal(rt, told(cache), Some(2));
     Ok(())
 }
 
@@ -118,15 +119,15 @@ fn writes_without_a_clone() -> Result<(), Fail> {
 
 /// Calls that need a clone of the key are refused: the read is neither noted nor queued, and nobody is told.
 fn check_refusals(rt: &impl Abort, cache: &mut UniqueCache) -> Result<(), Fail> {
-    assert_eq!( get(cache, 1, true, Instant(5)), Err(()));
-    assert_eq!( get(cache, 2, true, Instant(5)), Ok(None));
-    assert_eq!( cache.queued_reads(), 1);
+    assert_equal(rt, get(cache, 1, true, Instant(5)), Err(()));
+    assert_equal(rt, get(cache, 2, true, Instant(5)), Ok(None));
+    assert_equal(rt, cache.queued_reads(), 1);
     assert!( cache.contains_key_with_hash(&Unique(1), 1, Instant(9)));
     assert!( !cache.contains_key_with_hash(&Unique(1), 1, Instant(10)));
     assert!( cache.keys(0).is_err());
     let (entry, _) = cache.remove_entry(&Unique(1), 1).ok_or("none")?;
     assert!( cache.notify_invalidate(&entry, Instant(5)).is_err());
-    assert_eq!( told(cache), Some(0));
+    assert_equal(rt, told(cache), Some(0));
     Ok(())
 }
 

@@ -5,6 +5,8 @@ use crate::support::prelude::*;
 #[cfg(test)]
 mod drops;
 #[cfg(test)]
+mod equal;
+#[cfg(test)]
 mod expiry;
 #[cfg(test)]
 mod keys;

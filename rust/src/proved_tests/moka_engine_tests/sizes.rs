@@ -3,6 +3,7 @@
 use crate::support::prelude::*;
 #[cfg(test)]
 use crate::support::test::prelude::*;
+use crate::proved_tests::moka_engine_tests::equal::assert_equal;
 use crate::engine::moka_engine::{CacheConfig, Engine, Instant, NoExpiry, NoListener, NoPredicate};
 use crate::engine::moka_parts::invalidator::{IdSource, PredicateId};
 use crate::engine::moka_sketch::frequency_sketch::FrequencySketch;
@@ -29,7 +30,7 @@ fn check_predicates(rt: &impl Abort, cache: &mut TestCache) {
     for number in 1..2_049u64 {
         let registered = cache.invalidate_entries_if(NoPredicate, Instant(0), &mut ids);
         assert!( registered.is_ok(), "predicate {number}");
-        assert_eq!( cache.invalidation_predicate_count(), number);
+        assert_equal(rt, cache.invalidation_predicate_count(), number);
     }
 }
 
@@ -57,7 +58,7 @@ fn has_a_long_name() -> Result<(), Fail> {
     for length in [0, 64, 65, 10_000] {
         let config = CacheConfig::default().name(name_of(rt.alloc(), length)?);
         let cache: TestCache = config.build(rt.alloc(), Instant(0))?;
-        assert_eq!( cache.name().map(str::len), Some(length));
+        assert_equal(&rt, cache.name().map(str::len), Some(length));
     }
     Ok(())
 }
@@ -67,7 +68,7 @@ fn has_room_for_millions() -> Result<(), Fail> {
     let rt = HostRuntime;
     let config = CacheConfig::default().initial_capacity(3_000_000);
     let cache: TestCache = config.build(rt.alloc(), Instant(0))?;
-    assert_eq!( cache.entry_count(), 0);
+    assert_equal(&rt, cache.entry_count(), 0);
     Ok(())
 }
 
@@ -86,7 +87,7 @@ fn has_a_sketch_of_a_million_words() -> Result<(), Fail> {
     for length in [128, 65_536, 131_072, 1_048_576] {
         let mut sketch = FrequencySketch::new(rt.alloc())?;
         assert!( sketch.ensure_capacity(length).is_ok(), "{length} words");
-        assert_eq!( sketch.table_len() as u64, length);
+        assert_equal(&rt, sketch.table_len() as u64, length);
     }
     Ok(())
 }
