@@ -33,7 +33,6 @@ Options:
 const MADE_ACCESSES: u64 = 1_000_000;
 
 /// What the arguments ask for.
-#[derive(Drop)]
 pub struct Request {
     pub capacities: Vec<u64>,
     /// How many accesses fill the caches first.
@@ -50,8 +49,24 @@ pub struct Request {
     pub is_help: bool,
 }
 
+// Written out so that an owner's drop is one call.
+impl Drop for Request {
+    fn drop(self) {
+        let Request {
+            capacities: _,
+            warm: _,
+            accesses: _,
+            has_optimum: _,
+            svg: _,
+            title: _,
+            traces: _,
+            is_help: _,
+        } = self;
+    }
+}
+
 /// What a word of the arguments is.
-#[derive(Clone, Copy, PartialEq, Eq, Drop)]
+#[derive(Clone, Copy, PartialEq, Eq)]
 enum Place {
     /// An option, the capacities or a trace.
     Any,
@@ -66,7 +81,7 @@ enum Place {
 }
 
 /// Where the keys of a trace come from.
-#[derive(Clone, Copy, Drop)]
+#[derive(Clone, Copy)]
 pub enum Origin<'a> {
     /// It is made, over so many keys.
     Made(Shape, u32),

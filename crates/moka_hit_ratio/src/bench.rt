@@ -52,7 +52,6 @@ impl Caches {
 }
 
 /// The caches of all capacities.
-#[derive(Drop)]
 pub struct Bench {
     alloc: Global,
     caches: Vec<Caches>,
@@ -60,6 +59,19 @@ pub struct Bench {
     keys: Option<Vec<u64>>,
     warm: u64,
     reads: u64,
+}
+
+// Written out so that an owner's drop is one call.
+impl Drop for Bench {
+    fn drop(self) {
+        let Bench {
+            alloc: _,
+            caches: _,
+            keys: _,
+            warm: _,
+            reads: _,
+        } = self;
+    }
 }
 
 impl Bench {

@@ -49,7 +49,7 @@ const LEGEND_STEP: u64 = 1400;
 const RATIO_STEP: u64 = WHOLE / 10;
 
 /// What lies where on a chart.
-#[derive(Clone, Copy, Drop)]
+#[derive(Clone, Copy)]
 struct Scales {
     /// The capacity at the right end.
     capacity: u64,

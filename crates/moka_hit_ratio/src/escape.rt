@@ -2,7 +2,7 @@
 use std::fmt;
 
 /// A text as XML has it, between tags and within attributes.
-#[derive(Clone, Copy, Drop)]
+#[derive(Clone, Copy)]
 pub struct Escaped<'a>(pub &'a str);
 
 impl fmt::Display for Escaped<'_> {

@@ -6,7 +6,7 @@ use std::fmt;
 use std::ops::Range;
 
 /// How the lines of a trace name keys. Blank lines name none.
-#[derive(Clone, Copy, PartialEq, Eq, Drop)]
+#[derive(Clone, Copy)]
 pub enum Format {
     /// One key a line.
     Keys,
@@ -19,7 +19,7 @@ pub enum Format {
 }
 
 /// What is wrong with a line.
-#[derive(Clone, Copy, Debug, PartialEq, Eq, Drop)]
+#[derive(Clone, Copy)]
 pub enum BadLine {
     /// It is not UTF-8.
     NotText,

@@ -4,7 +4,7 @@ ghost use Rattle.std.specs.Prelude.{◌≤◌, IfSome};
 use crate::tally::{Ratio, Tally, WHOLE};
 
 /// What decides which keys a cache keeps.
-#[derive(Clone, Copy, PartialEq, Eq, Drop)]
+#[derive(Clone, Copy)]
 pub enum Policy {
     /// It knows the accesses to come.
     Optimum,
@@ -32,7 +32,7 @@ impl Policy {
 }
 
 /// What the caches of a capacity found.
-#[derive(Clone, Copy, Drop)]
+#[derive(Clone, Copy)]
 pub struct Row {
     /// How many entries a cache has room for.
     pub capacity: u64,

@@ -61,7 +61,7 @@ pub fn place(value: u64, end: u64, length: u64) -> u64
 }
 
 /// A number with commas between its thousands.
-#[derive(Clone, Copy, Drop)]
+#[derive(Clone, Copy)]
 pub struct Grouped(pub u64);
 
 impl fmt::Display for Grouped {

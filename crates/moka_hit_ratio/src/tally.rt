@@ -7,7 +7,7 @@ use std::fmt;
 pub const WHOLE: u64 = 10_000;
 
 /// Reads, and those of them that found their key.
-#[derive(Clone, Copy, Drop)]
+#[derive(Clone, Copy)]
 pub struct Tally {
     hits: u64,
     reads: u64,
@@ -44,7 +44,7 @@ impl Tally {
 }
 
 /// A ratio in ten-thousandths.
-#[derive(Clone, Copy, Drop)]
+#[derive(Clone, Copy)]
 pub struct Ratio(pub u64);
 
 impl fmt::Display for Ratio {

@@ -10,7 +10,7 @@ const READS_A_MOVE: u64 = 8;
 const STRETCHES: u64 = 4;
 
 /// What keys are read.
-#[derive(Clone, Copy, PartialEq, Eq, Drop)]
+#[derive(Clone, Copy)]
 pub enum Shape {
     /// Keys by a Zipf law, with an exponent in hundredths.
     Zipf(u32),

@@ -8,7 +8,7 @@ use std::alloc::{AllocError, Global};
 use std::io::Write;
 
 /// A call that puts a text and hands its entry out.
-#[derive(Clone, Copy, Debug, PartialEq, Eq)]
+#[derive(Clone, Copy, PartialEq, Eq)]
 enum Entry {
     OrInsert,
     OrInsertWith,
@@ -204,7 +204,7 @@ fn is_asked<W: Write>(
 }
 
 /// What is computed of a text.
-#[derive(Clone, Copy, Debug, PartialEq, Eq)]
+#[derive(Clone, Copy, PartialEq, Eq)]
 enum Choice {
     Leave,
     Put,

@@ -65,7 +65,7 @@ impl Told {
 }
 
 /// A get with a maker.
-#[derive(Clone, Copy, Debug, PartialEq, Eq)]
+#[derive(Clone, Copy)]
 enum Maker {
     Makes,
     MayDecline,
@@ -101,7 +101,7 @@ impl Maker {
 }
 
 /// How a text is taken out.
-#[derive(Clone, Copy, Debug, PartialEq, Eq)]
+#[derive(Clone, Copy)]
 pub enum Removal {
     Remove,
     Invalidate,
