@@ -31,6 +31,12 @@ mod shard;
 pub mod sync;
 pub mod unsync;
 
+/// ```
+/// use ravulemis::RemovalCause;
+///
+/// assert!(RemovalCause::Expired.was_evicted() && RemovalCause::Size.was_evicted());
+/// assert!(!RemovalCause::Explicit.was_evicted() && !RemovalCause::Replaced.was_evicted());
+/// ```
 pub use engine::moka_engine::RemovalCause;
 pub use engine::moka_parts::error::PredicateError;
 pub use entry::Entry;

@@ -1,5 +1,20 @@
 //! What a cache is asked and told of its policy. moka: `policy`.
 
+/// ```
+/// use ravulemis::{EvictionPolicy, sync::Cache};
+///
+/// // How many of five keys that are asked for again and again outlast a scan of a hundred others.
+/// let kept = |policy| {
+///     let cache = Cache::builder().max_capacity(10).eviction_policy(policy).build();
+///     for key in (0..20).map(|step| step % 5).chain(100..200) {
+///         cache.get_with(key, || 'a');
+///         cache.run_pending_tasks();
+///     }
+///     (0..5).filter(|key| cache.contains_key(key)).count()
+/// };
+/// assert_eq!(kept(EvictionPolicy::tiny_lfu()), 5);
+/// assert_eq!(kept(EvictionPolicy::lru()), 0);
+/// ```
 pub use crate::engine::moka_engine::EvictionPolicy;
 
 use crate::engine::moka_engine as engine;
@@ -66,14 +81,9 @@ pub trait Expiry<K, V> {
 /// The limits of a cache. moka: `Policy`.
 ///
 /// ```
-/// use ravulemis::sync::Cache;
-/// use std::time::Duration;
-///
-/// let builder = Cache::builder().max_capacity(100).shards(4);
-/// let cache: Cache<u32, u32> = builder.time_to_live(Duration::from_secs(60)).build();
-/// let policy = cache.policy();
-/// assert_eq!((policy.max_capacity(), policy.num_segments()), (Some(100), 4));
-/// assert_eq!((policy.time_to_live(), policy.time_to_idle()), (Some(Duration::from_secs(60)), None));
+/// # use ravulemis::sync::Cache;
+/// let policy = Cache::<u32, u32>::new(100).policy();
+/// assert_eq!((policy.max_capacity(), policy.time_to_live()), (Some(100), None));
 /// ```
 #[derive(Clone, Debug)]
 pub struct Policy {
@@ -85,21 +95,49 @@ pub struct Policy {
 
 impl Policy {
     /// The greatest total weight that is kept, if there is a bound.
+    ///
+    /// ```
+    /// # use ravulemis::sync::Cache;
+    /// let cache = Cache::<u32, u32>::new(100);
+    /// assert_eq!(cache.policy().max_capacity(), Some(100));
+    /// ```
     pub fn max_capacity(&self) -> Option<u64> {
         self.max_capacity
     }
 
     /// The number of shards.
+    ///
+    /// ```
+    /// # use ravulemis::sync::Cache;
+    /// let cache = Cache::<u32, u32>::builder().shards(4).build();
+    /// assert_eq!(cache.policy().num_segments(), 4);
+    /// ```
     pub fn num_segments(&self) -> usize {
         self.shards
     }
 
     /// How long an entry stays after it was written.
+    ///
+    /// ```
+    /// # use ravulemis::sync::Cache;
+    /// use std::time::Duration;
+    ///
+    /// let cache = Cache::<u32, u32>::builder().time_to_live(Duration::from_secs(60)).build();
+    /// assert_eq!(cache.policy().time_to_live(), Some(Duration::from_secs(60)));
+    /// ```
     pub fn time_to_live(&self) -> Option<Duration> {
         self.time_to_live
     }
 
     /// How long an entry stays after it was written or read.
+    ///
+    /// ```
+    /// # use ravulemis::sync::Cache;
+    /// use std::time::Duration;
+    ///
+    /// let cache = Cache::<u32, u32>::builder().time_to_idle(Duration::from_secs(60)).build();
+    /// assert_eq!(cache.policy().time_to_idle(), Some(Duration::from_secs(60)));
+    /// ```
     pub fn time_to_idle(&self) -> Option<Duration> {
         self.time_to_idle
     }

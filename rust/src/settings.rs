@@ -69,7 +69,7 @@ impl<K, V> engine::PredicateFn<crate::key::Key<'_, K>, V> for Testing<K, V> {
 /// The setters that both builders have.
 macro_rules! setters {
     () => {
-        /// A name, which the cache only tells. By default there is none.
+        /// A name for diagnostics; `name` of the cache returns it. By default there is none.
         ///
         /// ```
         /// # use ravulemis::sync::Cache;

@@ -102,7 +102,7 @@ struct Shared<K: 'static, V, S> {
 /// If the weigher, the expiry, a predicate, or a clone or a drop of a value panics in the middle of a call, the shard
 /// is **emptied** by the next call for it: its entries are gone, and the listener is not told of them. The panic goes
 /// on to the caller whose call it was. A panic of `Eq` or `Hash`, of a maker of `get_with`, of a closure of an entry or
-/// of the listener changes nothing; after its first the listener is told no more.
+/// of the listener changes nothing; after its first panic the listener is not notified again.
 pub struct Cache<K: 'static, V, S = RandomState>(Arc<Shared<K, V, S>>);
 
 impl<K, V, S> Clone for Cache<K, V, S> {
@@ -142,7 +142,7 @@ where
     K: Eq + Hash + Send + Sync + 'static,
     V: Clone + Send + Sync + 'static,
 {
-    /// A cache of at most so many entries, from which TinyLFU evicts.
+    /// A cache of at most `max_capacity` entries, from which TinyLFU evicts.
     ///
     /// ```
     /// let cache = ravulemis::sync::Cache::new(100);
@@ -179,7 +179,7 @@ impl<K: 'static, V, S> Cache<K, V, S> {
         self.0.settings.name.as_deref()
     }
 
-    /// What is told of the cache's limits.
+    /// The cache's limits.
     ///
     /// ```
     /// # use ravulemis::sync::Cache;
@@ -303,7 +303,7 @@ where
         self.with_key(key, |shard, hash, test| shard.remove(hash, test))
     }
 
-    /// Lets a key's value go.
+    /// Removes a key's entry. The listener is notified.
     ///
     /// ```
     /// let cache = ravulemis::sync::Cache::new(100);
@@ -450,6 +450,15 @@ where
     type Item = (Arc<K>, V);
     type IntoIter = Iter<'a, K, V, S>;
 
+    /// As [`iter`](Cache::iter).
+    ///
+    /// ```
+    /// let cache = ravulemis::sync::Cache::new(100);
+    /// cache.insert(1, 'a');
+    /// for (key, value) in &cache {
+    ///     assert_eq!((*key, value), (1, 'a'));
+    /// }
+    /// ```
     fn into_iter(self) -> Self::IntoIter {
         self.iter()
     }

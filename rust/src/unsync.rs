@@ -35,8 +35,8 @@ pub type PredicateId = String;
 /// # Panics of the caller's own code
 /// If the weigher, the expiry, a predicate, or a clone or a drop of a value panics in the middle of a call, the cache
 /// is **emptied** by the next call that changes it: its entries are gone, and the listener is not told of them. A panic
-/// of `Eq` or `Hash`, of a maker of `get_with` or of the listener changes nothing; after its first the listener is told
-/// no more.
+/// of `Eq` or `Hash`, of a maker of `get_with` or of the listener changes nothing; after its first panic the listener is
+/// not notified again.
 pub struct Cache<K: 'static, V, S = RandomState> {
     shard: Shard<K, V>,
     notices: Option<Arc<Notices<K, V>>>,
@@ -75,7 +75,7 @@ impl<K, V> Default for CacheBuilder<K, V> {
 }
 
 impl<K: Eq + Hash + Sync + 'static, V: Clone + 'static> CacheBuilder<K, V> {
-    /// A builder of a cache of at most so many entries.
+    /// A builder of a cache of at most `max_capacity` entries.
     ///
     /// ```
     /// use ravulemis::unsync::CacheBuilder;
@@ -88,7 +88,7 @@ impl<K: Eq + Hash + Sync + 'static, V: Clone + 'static> CacheBuilder<K, V> {
 
     setters!();
 
-    /// Is told key, value and cause of each value that leaves, at the end of the call. By default nobody is told.
+    /// Is notified of each value that leaves, with key and cause, at the end of the call. By default nobody is.
     ///
     /// ```
     /// # use ravulemis::unsync::Cache;
@@ -166,7 +166,7 @@ where
 }
 
 impl<K: Eq + Hash + Sync + 'static, V: Clone + 'static> Cache<K, V> {
-    /// A cache of at most so many entries, from which TinyLFU evicts.
+    /// A cache of at most `max_capacity` entries, from which TinyLFU evicts.
     ///
     /// ```
     /// let mut cache = ravulemis::unsync::Cache::new(100);
@@ -201,7 +201,7 @@ impl<K: Eq + Hash + Sync + 'static, V: Clone + 'static, S: BuildHasher> Cache<K,
         self.settings.name.as_deref()
     }
 
-    /// What is told of the cache's limits.
+    /// The cache's limits.
     ///
     /// ```
     /// let cache = ravulemis::unsync::Cache::<u32, u32>::new(100);
@@ -429,7 +429,7 @@ impl<K: Eq + Hash + Sync + 'static, V: Clone + 'static, S: BuildHasher> Cache<K,
         self.with_key(key, |shard, hash, test| shard.remove(hash, test))
     }
 
-    /// Lets a key's value go.
+    /// Removes a key's entry. The listener is notified.
     ///
     /// ```
     /// let mut cache = ravulemis::unsync::Cache::new(100);

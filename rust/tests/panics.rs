@@ -1,12 +1,12 @@
 //! What follows where the caller's own code panics.
 
-use ravulemis::{sync, unsync};
+use ravulemis::{Expiry, sync, unsync};
 use std::hash::{Hash, Hasher};
 use std::panic::{AssertUnwindSafe, catch_unwind};
 use std::sync::Arc;
 use std::sync::atomic::{AtomicBool, AtomicU32, Ordering};
 use std::thread;
-use std::time::Duration;
+use std::time::{Duration, Instant};
 
 fn panics<R>(call: impl FnOnce() -> R) -> bool {
     catch_unwind(AssertUnwindSafe(call)).is_err()
@@ -68,6 +68,59 @@ fn a_weigher_that_panics_empties_the_cache() {
         (cache.get(&1), cache.get(&3), cache.weighted_size()),
         (None, Some(3), 3)
     );
+}
+
+/// An expiry that panics about a new value of 13, and about a read of 14.
+struct Fearful;
+
+impl Expiry<u32, u32> for Fearful {
+    fn expire_after_create(&self, _: &u32, value: &u32, _: Instant) -> Option<Duration> {
+        assert!(*value != 13, "an expiry that panics");
+        None
+    }
+
+    fn expire_after_read(
+        &self,
+        _: &u32,
+        value: &u32,
+        _: Instant,
+        left: Option<Duration>,
+        _: Instant,
+    ) -> Option<Duration> {
+        assert!(*value != 14, "an expiry that panics");
+        left
+    }
+}
+
+#[test]
+fn an_expiry_that_panics_empties_the_cache() {
+    let mut cache = unsync::Cache::builder().expire_after(Fearful).build();
+    cache.insert(1, 1);
+    assert!(panics(|| cache.insert(2, 13)));
+    assert_eq!((cache.contains_key(&1), cache.entry_count()), (false, 0));
+    cache.insert(1, 1);
+    cache.insert(3, 14);
+    assert!(panics(|| cache.get(&3)));
+    assert_eq!((cache.get(&1), cache.get(&3)), (None, None));
+    cache.insert(4, 4);
+    assert_eq!(cache.get(&4), Some(4));
+}
+
+#[test]
+fn a_predicate_that_panics_empties_the_cache() {
+    let mut cache = unsync::Cache::builder().support_invalidation_closures().build();
+    cache.insert(1, 'a');
+    cache.insert(2, 'b');
+    let predicate = |key: &u32, _: &char| {
+        assert!(*key != 1, "a predicate that panics");
+        false
+    };
+    cache.invalidate_entries_if(predicate).unwrap();
+    assert_eq!(cache.get(&2), Some('b'));
+    assert!(panics(|| cache.get(&1)));
+    assert_eq!((cache.get(&2), cache.entry_count()), (None, 0));
+    cache.insert(1, 'c');
+    assert_eq!(cache.get(&1), Some('c'));
 }
 
 /// A value whose drop panics if it is 13.

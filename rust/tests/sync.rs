@@ -33,6 +33,49 @@ fn threads_share_it() {
 }
 
 #[test]
+fn threads_own_clones_of_it() {
+    let cache = Cache::new(10_000);
+    let counters = (0..16usize).map(|thread| {
+        let owned = cache.clone();
+        thread::spawn(move || {
+            let keys = thread * 64..(thread + 1) * 64;
+            keys.clone().for_each(|key| owned.insert(key, format!("value {key}")));
+            keys.clone().step_by(4).for_each(|key| owned.invalidate(&key));
+            keys.filter(|key| owned.get(key) == Some(format!("value {key}")))
+                .count()
+        })
+    });
+    let counters: Vec<_> = counters.collect();
+    let found = counters.into_iter().map(|it| it.join().unwrap());
+    assert_eq!(found.collect::<Vec<_>>(), [48; 16]);
+    assert_eq!((cache.get(&0), cache.get(&1)), (None, Some("value 1".to_string())));
+}
+
+#[test]
+fn settings_leave_types_to_the_calls() {
+    let texts = Cache::builder()
+        .weigher(|_key, text: &String| -> u32 { text.len().try_into().unwrap_or(u32::MAX) })
+        .max_capacity(32 << 20)
+        .build();
+    texts.insert(0, "zero".to_string());
+    texts.run_pending_tasks();
+    assert_eq!((texts.get(&0).as_deref(), texts.weighted_size()), (Some("zero"), 4));
+    let timed = Cache::builder()
+        .time_to_live(Duration::from_secs(1800))
+        .time_to_idle(Duration::from_secs(300))
+        .build();
+    timed.insert(0, "zero");
+    assert_eq!(timed.get(&0), Some("zero"));
+    let policy = timed.policy();
+    let times = (policy.time_to_live(), policy.time_to_idle());
+    assert_eq!(times, (Some(Duration::from_secs(1800)), Some(Duration::from_secs(300))));
+    let entries: Vec<_> = timed.iter().collect();
+    assert_eq!(entries, [(Arc::new(0), "zero")]);
+    let named: ravulemis::sync::Iter<'_, i32, &str> = timed.iter();
+    assert_eq!(named.count(), 1);
+}
+
+#[test]
 fn shards_share_the_capacity() {
     for (capacity, shards) in [(1, 1), (7, 4), (1000, 16), (100_000, 64)] {
         let builder = Cache::builder()

@@ -50,7 +50,9 @@ enum ravulemis_cause {
 typedef void (*ravulemis_listener)(void *context, const void *key, size_t key_length, const void *value,
                                    size_t value_length, int32_t cause);
 
-/* What a cache is created with. With all bytes 0 it has no bound, which `ravulemis_settings_default` gives too. */
+/* What a cache is created with. With all bytes 0 it has no bound, which `ravulemis_settings_default` gives too. Settings
+   of Rust's builder that C has not: a name, an expiry for single entries, a weigher of the caller's own, predicates, and
+   a hasher. Keys are hashed with a random seed. */
 typedef struct ravulemis_settings {
   /* Whether there is a bound, 0 or 1, and the greatest total weight; with 0 nothing is kept. */
   int32_t is_bounded;

@@ -58,7 +58,7 @@ where
     K: Eq + Hash + Send + Sync + 'static,
     V: Clone + Send + Sync + 'static,
 {
-    /// A builder of a cache of at most so many entries.
+    /// A builder of a cache of at most `max_capacity` entries.
     ///
     /// ```
     /// use ravulemis::sync::CacheBuilder;
@@ -71,8 +71,8 @@ where
 
     setters!();
 
-    /// Is told key, value and cause of each value that leaves, after the lock of its shard was released. By default
-    /// nobody is told.
+    /// Is notified of each value that leaves, with key and cause, after the lock of its shard was released. By default
+    /// nobody is.
     ///
     /// ```
     /// # use ravulemis::sync::Cache;

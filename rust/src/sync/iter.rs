@@ -2,11 +2,11 @@
 
 use super::Cache;
 use crate::notices::locked;
-use std::hash::{BuildHasher, Hash};
+use std::hash::{BuildHasher, Hash, RandomState};
 use std::sync::Arc;
 
 /// The entries of a cache: see [`Cache::iter`].
-pub struct Iter<'a, K: 'static, V, S> {
+pub struct Iter<'a, K: 'static, V, S = RandomState> {
     cache: &'a Cache<K, V, S>,
     keys: std::vec::IntoIter<(u64, Arc<K>)>,
     // The shard whose keys come next.

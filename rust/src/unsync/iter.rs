@@ -1,12 +1,12 @@
 //! The entries of a cache, one after the other.
 
 use super::Cache;
-use std::hash::{BuildHasher, Hash};
+use std::hash::{BuildHasher, Hash, RandomState};
 use std::sync::Arc;
 use std::vec;
 
 /// The entries of a cache: see [`Cache::iter`].
-pub struct Iter<'a, K: 'static, V, S> {
+pub struct Iter<'a, K: 'static, V, S = RandomState> {
     cache: &'a Cache<K, V, S>,
     keys: vec::IntoIter<(u64, Arc<K>)>,
 }
@@ -35,6 +35,15 @@ impl<'a, K: Eq + Hash + Sync + 'static, V: Clone + 'static, S: BuildHasher> Into
     type Item = (Arc<K>, V);
     type IntoIter = Iter<'a, K, V, S>;
 
+    /// As [`iter`](Cache::iter).
+    ///
+    /// ```
+    /// let mut cache = ravulemis::unsync::Cache::new(100);
+    /// cache.insert(1, 'a');
+    /// for (key, value) in &cache {
+    ///     assert_eq!((*key, value), (1, 'a'));
+    /// }
+    /// ```
     fn into_iter(self) -> Self::IntoIter {
         self.iter()
     }
