@@ -35,8 +35,8 @@ pub type PredicateId = String;
 /// # Panics of the caller's own code
 /// If the weigher, the expiry, a predicate, or a clone or a drop of a value panics in the middle of a call, the cache
 /// is **emptied** by the next call that changes it: its entries are gone, and the listener is not told of them. A panic
-/// of `Eq` or `Hash`, of a maker of `get_with` or of the listener changes nothing; after its first panic the listener is
-/// not notified again.
+/// of `Eq` or `Hash`, of a maker of `get_with` or of the listener changes nothing; after its first panic the listener
+/// is not notified again.
 pub struct Cache<K: 'static, V, S = RandomState> {
     shard: Shard<K, V>,
     notices: Option<Arc<Notices<K, V>>>,
