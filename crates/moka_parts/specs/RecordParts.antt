@@ -15,20 +15,20 @@ instant_code = code_by ℕ coded_ℕ (λ i. i.0) (λ n. record { 0 = n }) (λ _.
 abbrev pub hot_code : {K V : Type 0} → Coded K → Coded V → Coded (Hot K V)
 hot_code {K} {V} k v =
     code_by
-    (K × (ℕ × (V × Instant)))
-    (coded× k (coded× coded_ℕ (coded× v instant_code)))
-    (λ h. (h.key, (h.hash, (h.value, h.read))))
-    (λ p. record { key = p.0; hash = p.1.0; value = p.1.1.0; read = p.1.1.1 })
+    (K × (ℕ × (V × (Instant × Instant))))
+    (coded× k (coded× coded_ℕ (coded× v (coded× instant_code instant_code))))
+    (λ h. (h.key, (h.hash, (h.value, (h.read, h.written)))))
+    (λ p. record { key = p.0; hash = p.1.0; value = p.1.1.0; read = p.1.1.1.0; written = p.1.1.1.1 })
     (λ _. refl)
 
 -- the front of a record is stored as the tuple of its fields
 abbrev pub front_code : {K V : Type 0} → Coded K → Coded V → Coded (Front K V)
 front_code {K} {V} k v =
     code_by
-    (Hot K V × (ℕ × Bool))
-    (coded× (hot_code k v) (coded× coded_ℕ coded_bool))
-    (λ f. (f.hot, (f.weight, f.expiring)))
-    (λ p. record { hot = p.0; weight = p.1.0; expiring = p.1.1 })
+    (Hot K V × Bool)
+    (coded× (hot_code k v) coded_bool)
+    (λ f. (f.hot, f.expiring))
+    (λ p. record { hot = p.0; expiring = p.1 })
     (λ _. refl)
 
 -- a record is stored as the tuple of its fields
@@ -54,8 +54,8 @@ joined number front cold = record {
   read = front.hot.read;
   expires = expiry_of front.expiring cold.expires;
   number = number;
-  written = cold.written;
+  written = front.hot.written;
   generation = cold.generation;
   applied = cold.applied;
-  weight = front.weight;
+  weight = cold.weight;
 }

@@ -7,7 +7,7 @@ use crate::policy::Instant;
 use crate::records::Record;
 use std::marker::Model;
 
-/// What look-ups read of a record.
+/// What look-ups read of a record, also where it has a time to live.
 #[derive(Drop)]
 pub struct Hot<K, V> {
     /// The key of the first insert.
@@ -17,27 +17,30 @@ pub struct Hot<K, V> {
     pub value: V,
     /// When it was last inserted or read.
     pub read: Instant,
+    /// When it was last inserted. It stands last, since only look-ups with a time to live read it.
+    pub written: Instant,
 }
 
-/// What is read of a record only if something can hide it, or as its writes are applied.
+/// What is read of a record only if it expires by itself, or as it is written and its writes are applied.
 #[derive(Clone, Copy)]
 pub struct Cold {
-    /// When it was last inserted.
-    pub written: Instant,
     /// When it expires by itself, if it does; else any moment.
     pub expires: Instant,
     /// Counts the writes of the key, from 1.
     pub generation: u64,
     /// The highest generation of which an operation was applied, 0 before the first.
     pub applied: u64,
+    /// The weight of the value that stands there, whether it is counted yet or not.
+    pub weight: u32,
+    /// The weight that is counted for the row's membership, if it is a member; else anything. It is no part of the
+    /// record: the store keeps it here, since no look-up reads it.
+    pub counted: u32,
 }
 
 /// A record but for its cold part and its number.
 #[derive(Drop)]
 pub struct Front<K, V> {
     pub hot: Hot<K, V>,
-    /// The weight of the value that stands there, whether it is counted yet or not.
-    pub weight: u32,
     /// Whether it expires by itself.
     pub expiring: bool,
 }
@@ -48,7 +51,6 @@ pub struct RecordRef<'a, K, V> {
     hot: &'a Hot<K, V>,
     cold: &'a Cold,
     number: u64,
-    weight: u32,
     expiring: bool,
 }
 
@@ -60,20 +62,19 @@ impl<'a, K, V> Model for RecordRef<'a, K, V> {
 
     ghost coded = { record_code K.code V.code };
 
-    ghost view = { λ a. joined a.number (record { hot = a.hot.now; weight = a.weight; expiring = a.expiring }) a.cold.now };
+    ghost view = { λ a. joined a.number (record { hot = a.hot.now; expiring = a.expiring }) a.cold.now };
 }
 
 impl<'a, K, V> RecordRef<'a, K, V> {
     /// The record of these parts.
     #[inline(always)]
-    pub fn new(number: u64, hot: &'a Hot<K, V>, weight: u32, expiring: bool, cold: &'a Cold) -> Self
-        ensures { result ≡ joined number (record { hot = hot.now; weight = weight; expiring = expiring }) cold.now }
+    pub fn new(number: u64, hot: &'a Hot<K, V>, expiring: bool, cold: &'a Cold) -> Self
+        ensures { result ≡ joined number (record { hot = hot.now; expiring = expiring }) cold.now }
     {
         RecordRef {
             hot,
             cold,
             number,
-            weight,
             expiring,
         }
     }
@@ -115,7 +116,7 @@ impl<'a, K, V> RecordRef<'a, K, V> {
     pub fn written(&self) -> Instant
         ensures { result ≡ self.now.written }
     {
-        self.cold.written
+        self.hot.written
     }
 
     /// When it expires by itself, if it does.
@@ -139,7 +140,7 @@ impl<'a, K, V> RecordRef<'a, K, V> {
     pub fn weight(&self) -> u32
         ensures { result ≡ self.now.weight }
     {
-        self.weight
+        self.cold.weight
     }
 
     /// Counts the writes of the key, from 1.
@@ -201,15 +202,16 @@ pub fn split<K, V>(stored: Record<K, V>) -> (Front<K, V>, Cold)
             hash,
             value,
             read,
+            written,
         },
-        weight,
         expiring: expires.is_some(),
     };
     let cold = Cold {
-        written,
         expires: moment_of(expires),
         generation,
         applied,
+        weight,
+        counted: 0,
     };
     (front, cold)
 }
@@ -219,16 +221,13 @@ pub fn split<K, V>(stored: Record<K, V>) -> (Front<K, V>, Cold)
 pub fn join<K, V>(number: u64, front: Front<K, V>, cold: Cold) -> Record<K, V>
     ensures { result ≡ joined number front cold }
 {
-    let Front {
-        hot,
-        weight,
-        expiring,
-    } = front;
+    let Front { hot, expiring } = front;
     let Hot {
         key,
         hash,
         value,
         read,
+        written,
     } = hot;
     Record {
         key,
@@ -237,9 +236,9 @@ pub fn join<K, V>(number: u64, front: Front<K, V>, cold: Cold) -> Record<K, V>
         read,
         expires: expiry_of(expiring, cold.expires),
         number,
-        written: cold.written,
+        written,
         generation: cold.generation,
         applied: cold.applied,
-        weight,
+        weight: cold.weight,
     }
 }

@@ -10,13 +10,15 @@ use Rattle.moka_parts.specs.declared.record_ref.Front.{Front}
 use Rattle.moka_parts.specs.declared.records.Record.{Record}
 use Rattle.moka_parts.specs.RecordParts.{joined, expiry_of}
 use Rattle.moka_parts.specs.declared.policy.Instant.{Instant}
-use Rattle.moka_store.specs.RecordTable.{Row, Table, IsNumbered, row_at, number_at, stored_at, stored_if, find_at, with_stored, ChangesAt, ChangesRow, RecountsRow}
+use Rattle.moka_store.specs.declared.table.membership.Membership.{Membership}
+use Rattle.moka_store.specs.RecordTable.{Row, Table, IsNumbered, row_at, number_at, stored_at, membership_at, stored_if, find_at, with_stored, ChangesAt, ChangesRow, RecountsRow}
 use Rattle.moka_store.specs.ColdParts.{cold_at, nothing, whole, whole_rows, table_of, IsBeside}
+use Rattle.moka_store.specs.Slots.{counted_as}
 use Rattle.moka_store.specs.States.{touched, rewritten}
 use Rattle.moka_store.specs.Updates.{updated}
 use Rattle.moka_store.specs.declared.store.Update.{Update}
 use Rattle.moka_store.proofs.TableMaps.{option-cases, some_is, row_at-within}
-use Rattle.moka_store.proofs.TableCalls.{shows-empty, stored_row, count-with_stored, numbered-with_stored}
+use Rattle.moka_store.proofs.TableCalls.{shows-empty, stored_row, member_row, count-with_stored, numbered-with_stored}
 
 cond-same : {X : Type 0} (b : Bool) → ◌≡◌ {A = Option X} (cond b None None) None
 cond-same true = refl
@@ -28,6 +30,11 @@ count-alike a b xs ys e h =
     ∙ ap (λ t. cond t 1 0 + count_by is_some xs) e
     ∙ ap (λ n. cond (is_some b) 1 0 + n) h
     ∙ sym (sum_by-cons (λ o. cond (is_some o) 1 0) b ys)
+
+-- the last weight of a membership is the one that counts
+counted-again : (was now : ℕ) (o : Option Membership) → option_map (counted_as now) (option_map (counted_as was) o) ≡ option_map (counted_as now) o
+counted-again was now None = refl
+counted-again was now (Some m) = refl
 
 module _ {K V : Type 0} where
   -- a row is that of the front there, with the cold part there
@@ -94,6 +101,13 @@ module _ {K V : Type 0} where
         → ChangesAt (row_at (whole_rows rows colds)) (row_at (whole_rows new colds)) place (option_map (whole (cold_at colds place)) row)
     front-changes new row c = whole-changes new colds row c (λ q ne. refl)
 
+    -- a change of one row, by both parts
+    pub both-change : (new : List (Option (Row (Front K V)))) (row : Row (Front K V)) (cold : Cold) → place < length colds → ChangesAt (row_at rows) (row_at new) place (Some row)
+        → ChangesAt (row_at (whole_rows rows colds)) (row_at (whole_rows new (set colds place cold))) place (Some (whole cold row))
+    both-change new row cold within c =
+        subst (λ x. ChangesAt (row_at (whole_rows rows colds)) (row_at (whole_rows new (set colds place cold))) place (Some (whole x row))) (get_or-set_same colds place cold nothing within)
+        (whole-changes new (set colds place cold) (Some row) c (λ q ne. get_or-set_other colds place q cold nothing ne))
+
     -- what a row and its front have alike
     pub keeps : {X : Type 0} (f : Row (Record K V) → Option X) (g : Row (Front K V) → Option X) → ((cold : Cold) (row : Row (Front K V)) → f (whole cold row) ≡ g row)
         → option_and_then f (row_at (whole_rows rows colds) place) ≡ option_and_then g (row_at rows place)
@@ -115,6 +129,13 @@ module _ {K V : Type 0} where
       | Some row ↦ refl
     ]
 
+    -- the membership of a front, with the weight beside it
+    pub membership-whole : membership_at (whole_rows rows colds) place ≡ option_map (counted_as (cold_at colds place).counted) (membership_at rows place)
+    membership-whole = ap (option_and_then (λ row. row.membership)) (whole-at rows colds place) ∙ elim (row_at rows place) as (λ o. option_and_then (λ row. row.membership) (option_map (whole (cold_at colds place)) o) ≡ option_map (counted_as (cold_at colds place).counted) (option_and_then (λ row. row.membership) o)) [
+      | None ↦ refl
+      | Some row ↦ refl
+    ]
+
     -- a change of a row that its front makes
     pub whole-step : (new : List (Option (Row (Front K V)))) (change : Row (Front K V) → Row (Front K V)) (same : Row (Record K V) → Row (Record K V))
         → ((cold : Cold) (row : Row (Front K V)) → whole cold (change row) ≡ same (whole cold row)) → ChangesRow rows new place change
@@ -123,11 +144,26 @@ module _ {K V : Type 0} where
         let front = whole_row w at in
         subst (λ o. ChangesAt (row_at (whole_rows rows colds)) (row_at (whole_rows new colds)) place (Some o)) (commutes (cold_at colds place) front.0 ∙ ap same (sym front.2)) (front-changes new (Some (change front.0)) (c front.0 front.1))
 
-    pub whole-recounts : (new : List (Option (Row (Front K V)))) (weight : ℕ) → RecountsRow rows new place weight → RecountsRow (whole_rows rows colds) (whole_rows new colds) place weight
-    whole-recounts new weight c = λ w m at is.
-        let front = whole_row w at in
-        let own : front.0.membership ≡ Some m = sym (ap (λ (r : Row (Record K V)). r.membership) front.2) ∙ is in
-        subst (λ o. ChangesAt (row_at (whole_rows rows colds)) (row_at (whole_rows new colds)) place (Some o)) (ap (λ (r : Row (Record K V)). record r { membership = Some (record m { counted = weight }) }) (sym front.2)) (front-changes new (Some (record front.0 { membership = Some (record m { counted = weight }) })) (c front.0 m front.1 own))
+    module _ (cold : Cold) (own : cold ≡ cold_at colds place) (within : place < length colds) where
+      -- a membership, with its weight beside it
+      pub whole-member : (new : List (Option (Row (Front K V)))) (m : Membership) → ChangesRow rows new place (λ row. record row { membership = Some (counted_as 0 m) })
+          → ChangesRow (whole_rows rows colds) (whole_rows new (set colds place (record cold { counted = m.counted }))) place (λ row. record row { membership = Some m })
+      whole-member new m c = λ w at.
+          let front = whole_row w at in
+          subst (λ o. ChangesAt (row_at (whole_rows rows colds)) (row_at (whole_rows new (set colds place (record cold { counted = m.counted })))) place (Some o))
+          (ap (λ (x : Cold). record (whole x front.0) { membership = Some m }) own ∙ ap (λ (r : Row (Record K V)). record r { membership = Some m }) (sym front.2))
+          (both-change new (record front.0 { membership = Some (counted_as 0 m) }) (record cold { counted = m.counted }) within (c front.0 front.1))
+
+      -- another weight
+      pub whole-recounts : (weight : ℕ) → RecountsRow (whole_rows rows colds) (whole_rows rows (set colds place (record cold { counted = weight }))) place weight
+      whole-recounts weight = λ w m at is.
+          let front = whole_row w at in
+          let there : option_map (counted_as (cold_at colds place).counted) front.0.membership ≡ Some m = sym (ap (λ (r : Row (Record K V)). r.membership) front.2) ∙ is in
+          subst (λ o. ChangesAt (row_at (whole_rows rows colds)) (row_at (whole_rows rows (set colds place (record cold { counted = weight })))) place (Some o))
+          (ap (λ (x : Cold). record (whole x front.0) { membership = option_map (counted_as weight) front.0.membership }) own
+          ∙ ap (λ (r : Row (Record K V)). record r { membership = option_map (counted_as weight) front.0.membership }) (sym front.2)
+          ∙ ap (λ o. record w { membership = o }) (sym (counted-again (cold_at colds place).counted weight front.0.membership) ∙ ap (option_map (counted_as weight)) there))
+          (both-change rows front.0 (record cold { counted = weight }) within (record { changed = front.1; others = λ q ne. refl }))
 
 module _ {K V : Type 0} (table : Table (Front K V)) (colds : List Cold) (fit most : ℕ) (b : IsBeside table colds fit most) where
   -- the rows fit
@@ -137,6 +173,17 @@ module _ {K V : Type 0} (table : Table (Front K V)) (colds : List Cold) (fit mos
   -- a row's place has a cold part
   pub place_within : (place : ℕ) (row : Row (Front K V)) → row_at table.rows place ≡ Some row → place < length colds
   place_within place row at = omega (arith, row_at-within table.rows place row at, b.beside)
+
+  pub row_within : (place : ℕ) → IsSome (row_at (whole_rows table.rows colds) place) → place < length colds
+  row_within place h =
+      let w = some_is (row_at (whole_rows table.rows colds) place) h in
+      let front = whole_row table.rows colds place w.0 w.1 in
+      place_within place front.0 front.1
+
+  pub member_within : (place : ℕ) → IsSome (membership_at (whole_rows table.rows colds) place) → place < length colds
+  member_within place h =
+      let w = member_row (whole_rows table.rows colds) place h in
+      row_within place (ap is_some w.2)
 
 -- a row has a front
 pub keeps-row : {K V : Type 0} (rows : List (Option (Row (Front K V)))) (colds : List Cold) (place : ℕ) → IsSome (row_at (whole_rows rows colds) place) → IsSome (row_at rows place)
@@ -165,6 +212,9 @@ keeps-stored rows colds place h = elim (option-cases (stored_at rows place)) as 
 -- what is read there is the cold part there
 pub cold-read : (colds : List Cold) (place : ℕ) (cold : Cold) → place < length colds → cold ≡ get_or colds place cold → cold ≡ cold_at colds place
 cold-read colds place cold within read = sym (get_or_from_slice_get colds place cold nothing (slice_get_read colds (length colds) place cold refl within read))
+
+pub counted-read : (colds : List Cold) (place : ℕ) (cold : Cold) → place < length colds → cold ≡ get_or colds place cold → cold.counted ≡ (cold_at colds place).counted
+counted-read colds place cold within read = ap (λ (c : Cold). c.counted) (cold-read colds place cold within read)
 
 pub whole-empty : {K V : Type 0} (rows : List (Option (Row (Front K V)))) (colds : List Cold) → rows ≡ [] → whole_rows rows colds ≡ []
 unfolding whole_rows
@@ -202,32 +252,33 @@ module _ {K V : Type 0} (table : Table (Front K V)) (colds : List Cold) (fit mos
 
   module _ (new : Table (Front K V)) (row : Row (Front K V)) (at : row_at table.rows place ≡ Some row) (f : Front K V) (rows_is : new.rows ≡ with_stored table.rows place f) (room_is : new.room ≡ table.room) where
     -- another record in a row, by both parts
-    pub stored-rows : (cold : Cold) → whole_rows new.rows (set colds place cold) ≡ with_stored (whole_rows table.rows colds) place (joined row.number f cold)
-    stored-rows cold =
+    pub stored-rows : (cold : Cold) → cold.counted ≡ (cold_at colds place).counted → whole_rows new.rows (set colds place cold) ≡ with_stored (whole_rows table.rows colds) place (joined row.number f cold)
+    stored-rows cold kept =
         ap (λ l. whole_rows l (set colds place cold)) (rows_is ∙ ap (λ o. set table.rows place (option_map {T = Row (Front K V)} (λ r. record r { stored = Some f }) o)) at)
         ∙ set-whole table.rows colds place (Some (record row { stored = Some f })) cold (place_within table colds fit most b place row at)
+        ∙ ap (λ n. set (whole_rows table.rows colds) place (Some (record (whole cold (record row { stored = Some f })) { membership = option_map (counted_as n) row.membership }))) kept
         ∙ ap (λ o. set (whole_rows table.rows colds) place (option_map {T = Row (Record K V)} (λ r. record r { stored = Some (joined row.number f cold) }) o)) (sym (row_whole table.rows colds place row at))
 
     count-new : count_by is_some new.rows ≡ count_by is_some table.rows
     count-new = ap (count_by is_some) rows_is ∙ count-with_stored table.rows place f
 
-    pub stored-beside : (cold : Cold) → IsBeside new (set colds place cold) fit most
-    stored-beside cold =
+    pub stored-beside : (cold : Cold) → cold.counted ≡ (cold_at colds place).counted → IsBeside new (set colds place cold) fit most
+    stored-beside cold kept =
         beside_after table new colds (set colds place cold) fit most b (ap length rows_is ∙ length-set table.rows place _) (length-set colds place cold) (omega (arith, count-new, room_is))
-        (subst (λ l. IsNumbered (row_at l)) (sym (stored-rows cold)) (numbered-with_stored (whole_rows table.rows colds) place (joined row.number f cold) b.numbered))
+        (subst (λ l. IsNumbered (row_at l)) (sym (stored-rows cold kept)) (numbered-with_stored (whole_rows table.rows colds) place (joined row.number f cold) b.numbered))
 
-    pub stored-table : (cold : Cold) → table_of new (set colds place cold) fit ≡ record { rows = with_stored (whole_rows table.rows colds) place (joined row.number f cold); room = fit - count_by is_some table.rows }
-    stored-table cold = rw (stored-rows cold, count-new) refl
+    pub stored-table : (cold : Cold) → cold.counted ≡ (cold_at colds place).counted → table_of new (set colds place cold) fit ≡ record { rows = with_stored (whole_rows table.rows colds) place (joined row.number f cold); room = fit - count_by is_some table.rows }
+    stored-table cold kept = rw (stored-rows cold kept, count-new) refl
 
     -- the same where the cold part stays
     colds-kept : set colds place (cold_at colds place) ≡ colds
     colds-kept = set-get_or colds place nothing
 
     pub front-beside : IsBeside new colds fit most
-    front-beside = subst (λ l. IsBeside new l fit most) colds-kept (stored-beside (cold_at colds place))
+    front-beside = subst (λ l. IsBeside new l fit most) colds-kept (stored-beside (cold_at colds place) refl)
 
     pub front-table : table_of new colds fit ≡ record { rows = with_stored (whole_rows table.rows colds) place (joined row.number f (cold_at colds place)); room = fit - count_by is_some table.rows }
-    front-table = subst (λ l. table_of new l fit ≡ record { rows = with_stored (whole_rows table.rows colds) place (joined row.number f (cold_at colds place)); room = fit - count_by is_some table.rows }) colds-kept (stored-table (cold_at colds place))
+    front-table = subst (λ l. table_of new l fit ≡ record { rows = with_stored (whole_rows table.rows colds) place (joined row.number f (cold_at colds place)); room = fit - count_by is_some table.rows }) colds-kept (stored-table (cold_at colds place) refl)
 
 module _ {K V : Type 0} (rows new : List (Option (Row (Front K V)))) (colds : List Cold) (place : ℕ) (stored : Record K V) (front : Front K V) (cold : Cold) (joined_is : joined stored.number front cold ≡ stored)
     (changes : ChangesAt (row_at rows) (row_at new) place (Some (record { number = stored.number; stored = Some front; membership = None; timer = None }))) where
@@ -265,7 +316,7 @@ beside-empty table colds most table_is colds_is = rw table_is (record {
 
 module _ {K V : Type 0} (number : ℕ) (f : Front K V) where
   pub joined-updated : (update : Update V) (moment : Instant) (cold own : Cold) → expiry_of (is_some update.expires) moment ≡ update.expires → cold ≡ own
-      → joined number (rewritten update f) (record { written = update.now; expires = moment; generation = cold.generation + 1; applied = cold.applied }) ≡ updated update (joined number f own)
+      → joined number (rewritten update f) (record { expires = moment; generation = cold.generation + 1; applied = cold.applied; weight = update.weight; counted = cold.counted }) ≡ updated update (joined number f own)
   joined-updated update moment cold own expires_is same =
       ap (λ x. record (updated update (joined number f cold)) { expires = x }) expires_is ∙ ap (λ c. updated update (joined number f c)) same
 

@@ -1,14 +1,15 @@
--- What the maps of a table are after a change that the front of one row makes.
-use Rattle.std.proofs.Common.{ℕ, List, Option, Some, None, IsSome, refl}
+-- What the maps of a table are after a change of one row by its parts.
+use Rattle.std.proofs.Common.{◌≡◌, ◌<◌, ℕ, List, length, set, Option, Some, None, IsSome, refl}
 use Rattle.std.specs.FinMap.{insert, remove}
 use Rattle.moka_parts.specs.declared.record_ref.Cold.{Cold}
 use Rattle.moka_parts.specs.declared.record_ref.Front.{Front}
 use Rattle.moka_store.specs.declared.table.membership.Membership.{Membership}
-use Rattle.moka_store.specs.RecordTable.{Row, IsNumbered, row_at, number_at, stored_at, membership_at, records_of, counted_of, places_of, ChangesRow, RecountsRow}
-use Rattle.moka_store.specs.ColdParts.{whole_rows}
+use Rattle.moka_store.specs.RecordTable.{Row, IsNumbered, row_at, number_at, stored_at, membership_at, records_of, counted_of, places_of, ChangesRow}
+use Rattle.moka_store.specs.ColdParts.{cold_at, whole_rows}
+use Rattle.moka_store.specs.Slots.{counted_as}
 use Rattle.moka_store.proofs.TableMaps.{some_is}
 use Rattle.moka_store.proofs.TableCalls.{Shows, shows-taken, shows-counted, shows-uncounted, shows-timed, stored_row, member_row}
-use Rattle.moka_store.proofs.ColdRows.{whole-step, whole-recounts}
+use Rattle.moka_store.proofs.ColdRows.{whole-step, whole-member, whole-recounts}
 
 module _ {K V : Type 0} (rows new : List (Option (Row (Front K V)))) (colds : List Cold) (place : ℕ) (d : IsNumbered (row_at (whole_rows rows colds))) where
   -- the record leaves
@@ -18,22 +19,6 @@ module _ {K V : Type 0} (rows new : List (Option (Row (Front K V)))) (colds : Li
       let w = stored_row (whole_rows rows colds) place there in
       let step = whole-step rows colds place new (λ row. record row { stored = None }) (λ row. record row { stored = None }) (λ cold row. refl) c in
       rw w.2 (shows-taken (whole_rows rows colds) (whole_rows new colds) place d w.0 w.2 (step w.0 w.2))
-
-  -- a membership
-  pub whole-counted : (m : Membership) → IsSome (row_at (whole_rows rows colds) place) → ChangesRow rows new place (λ row. record row { membership = Some m })
-      → Shows (whole_rows new colds) (records_of (whole_rows rows colds)) (insert (counted_of (whole_rows rows colds)) (number_at (whole_rows rows colds) place) m.counted) (places_of (whole_rows rows colds))
-  whole-counted m there c =
-      let w = some_is (row_at (whole_rows rows colds) place) there in
-      let step = whole-step rows colds place new (λ row. record row { membership = Some m }) (λ row. record row { membership = Some m }) (λ cold row. refl) c in
-      rw w.1 (shows-counted (whole_rows rows colds) (whole_rows new colds) place d w.0 w.1 m (step w.0 w.1))
-
-  -- another weight of a member
-  pub whole-recounted : (weight : ℕ) → IsSome (membership_at (whole_rows rows colds) place) → RecountsRow rows new place weight
-      → Shows (whole_rows new colds) (records_of (whole_rows rows colds)) (insert (counted_of (whole_rows rows colds)) (number_at (whole_rows rows colds) place) weight) (places_of (whole_rows rows colds))
-  whole-recounted weight there c =
-      let w = member_row (whole_rows rows colds) place there in
-      let step = whole-recounts rows colds place new weight c in
-      rw w.2 (shows-counted (whole_rows rows colds) (whole_rows new colds) place d w.0 w.2 (record w.1 { counted = weight }) (step w.0 w.1 w.2 w.3))
 
   -- no membership
   pub whole-uncounted : IsSome (row_at (whole_rows rows colds) place) → ChangesRow rows new place (λ row. record row { membership = None })
@@ -50,3 +35,20 @@ module _ {K V : Type 0} (rows new : List (Option (Row (Front K V)))) (colds : Li
       let w = some_is (row_at (whole_rows rows colds) place) there in
       let step = whole-step rows colds place new (λ row. record row { timer = timer }) (λ row. record row { timer = timer }) (λ cold row. refl) c in
       shows-timed (whole_rows rows colds) (whole_rows new colds) place d w.0 w.1 timer (step w.0 w.1)
+
+module _ {K V : Type 0} (rows : List (Option (Row (Front K V)))) (colds : List Cold) (place : ℕ) (d : IsNumbered (row_at (whole_rows rows colds))) (cold : Cold) (own : cold ≡ cold_at colds place) (within : place < length colds) where
+  -- a membership, with its weight
+  pub whole-counted : (new : List (Option (Row (Front K V)))) (m : Membership) → IsSome (row_at (whole_rows rows colds) place) → ChangesRow rows new place (λ row. record row { membership = Some (counted_as 0 m) })
+      → Shows (whole_rows new (set colds place (record cold { counted = m.counted }))) (records_of (whole_rows rows colds)) (insert (counted_of (whole_rows rows colds)) (number_at (whole_rows rows colds) place) m.counted) (places_of (whole_rows rows colds))
+  whole-counted new m there c =
+      let w = some_is (row_at (whole_rows rows colds) place) there in
+      let step = whole-member rows colds place cold own within new m c in
+      rw w.1 (shows-counted (whole_rows rows colds) (whole_rows new (set colds place (record cold { counted = m.counted }))) place d w.0 w.1 m (step w.0 w.1))
+
+  -- another weight of a member
+  pub whole-recounted : (weight : ℕ) → IsSome (membership_at (whole_rows rows colds) place)
+      → Shows (whole_rows rows (set colds place (record cold { counted = weight }))) (records_of (whole_rows rows colds)) (insert (counted_of (whole_rows rows colds)) (number_at (whole_rows rows colds) place) weight) (places_of (whole_rows rows colds))
+  whole-recounted weight there =
+      let w = member_row (whole_rows rows colds) place there in
+      let step = whole-recounts rows colds place cold own within weight in
+      rw w.2 (shows-counted (whole_rows rows colds) (whole_rows rows (set colds place (record cold { counted = weight }))) place d w.0 w.2 (record w.1 { counted = weight }) (step w.0 w.1 w.2 w.3))

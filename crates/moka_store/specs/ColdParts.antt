@@ -1,4 +1,4 @@
--- The rows of a table whose records have their cold parts beside them. No public clause but those of a table cites this module.
+-- The rows of a table whose records have their cold parts beside them, with the weights of the memberships. No public clause but those of a table cites this module.
 use Rattle.std.specs.Prelude.{◌≡◌, ℕ, ◌+◌, ◌-◌, ◌≤◌, length, Option, List, [], ◌∷◌, is_some, count_by, slice_index_or}
 use Rattle.std.specs.Option.{option_map}
 use Rattle.moka_parts.specs.declared.record_ref.Cold.{Cold}
@@ -6,19 +6,20 @@ use Rattle.moka_parts.specs.declared.record_ref.Front.{Front}
 use Rattle.moka_parts.specs.declared.records.Record.{Record}
 use Rattle.moka_parts.specs.RecordParts.{joined}
 use Rattle.moka_store.specs.RecordTable.{Row, Table, IsNumbered, row_at}
+use Rattle.moka_store.specs.Slots.{counted_as}
 
 -- beside what has no record
 abbrev pub nothing : Cold
-nothing = record { written = record { 0 = 0 }; expires = record { 0 = 0 }; generation = 0; applied = 0 }
+nothing = record { expires = record { 0 = 0 }; generation = 0; applied = 0; weight = 0; counted = 0 }
 
 -- the cold part at a place
 abbrev pub cold_at : List Cold → ℕ → Cold
 cold_at colds place = slice_index_or colds place nothing
 
 module _ {K V : Type 0} where
-  -- a row with the cold part of its record
+  -- a row with the cold part of its record and the weight of its membership
   abbrev pub whole : Cold → Row (Front K V) → Row (Record K V)
-  whole cold row = record { number = row.number; stored = option_map (λ f. joined row.number f cold) row.stored; membership = row.membership; timer = row.timer }
+  whole cold row = record { number = row.number; stored = option_map (λ f. joined row.number f cold) row.stored; membership = option_map (counted_as cold.counted) row.membership; timer = row.timer }
 
   -- the rows, each with the cold part beside it
   unfoldable pub whole_rows : List (Option (Row (Front K V))) → List Cold → List (Option (Row (Record K V)))

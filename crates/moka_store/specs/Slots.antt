@@ -10,9 +10,13 @@ use Rattle.moka_store.specs.declared.table.membership.Membership.{Membership}
 abbrev pub slot_of : ℕ → Option ℕ
 slot_of word = cond (nat_eq word 0) None (Some word)
 
--- a membership by its words: one without a slot in the access list is none
-abbrev pub membership_of : (counted access written : ℕ) → Option Membership
-membership_of counted access written = cond (nat_eq access 0) None (Some (record { counted = counted; access = access; written = slot_of written }))
+-- a membership by its words, with no weight: one without a slot in the access list is none
+abbrev pub membership_of : (access written : ℕ) → Option Membership
+membership_of access written = cond (nat_eq access 0) None (Some (record { counted = 0; access = access; written = slot_of written }))
+
+-- a membership with this weight
+abbrev pub counted_as : ℕ → Membership → Membership
+counted_as counted m = record m { counted = counted }
 
 -- no slot is 0
 abbrev pub IsSlot : Option ℕ → Type 0

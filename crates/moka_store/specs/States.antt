@@ -14,15 +14,15 @@ use Rattle.moka_store.specs.Slots.{membership_of, slot_of}
 module _ {K V : Type 0} where
   -- the row of a place with its record or without, or the next vacant place
   abbrev pub entry_of : State K V → Entry (Row (Front K V))
-  entry_of (Live expiring access number hot counted written timer weight) =
-      Occupied (record { number = number; stored = Some (record { hot = hot; weight = weight; expiring = expiring }); membership = membership_of counted access written; timer = slot_of timer })
-  entry_of (Gone access number counted written timer) =
-      Occupied (record { number = number; stored = None; membership = membership_of counted access written; timer = slot_of timer })
+  entry_of (Live expiring access number hot written timer) =
+      Occupied (record { number = number; stored = Some (record { hot = hot; expiring = expiring }); membership = membership_of access written; timer = slot_of timer })
+  entry_of (Gone access number written timer) =
+      Occupied (record { number = number; stored = None; membership = membership_of access written; timer = slot_of timer })
   entry_of (VacantPlace next) = Vacant next
 
   -- what is lent
   abbrev pub front_of : FrontRef K V → Front K V
-  front_of f = record { hot = f.hot.now; weight = f.weight; expiring = f.expiring }
+  front_of f = record { hot = f.hot.now; expiring = f.expiring }
 
   -- a front that was read at this moment, and then expires by itself or does not
   abbrev pub touched : Instant → Bool → Front K V → Front K V
@@ -30,4 +30,4 @@ module _ {K V : Type 0} where
 
   -- a front with what an update brings
   abbrev pub rewritten : Update V → Front K V → Front K V
-  rewritten update f = record { hot = record f.hot { value = update.value; read = update.now }; weight = update.weight; expiring = is_some update.expires }
+  rewritten update f = record { hot = record f.hot { value = update.value; read = update.now; written = update.now }; expiring = is_some update.expires }

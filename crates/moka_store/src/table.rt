@@ -28,7 +28,7 @@ pub use membership::Membership;
 /// row that was forgotten is given to a later one.
 pub struct RecordTable<K, V> {
     rows: Rows<K, V>,
-    // The cold part of the record at each place, anything where there is none.
+    // The cold part of the record at each place, with the weight of the membership there; anything where there is none.
     cold: Vec<Cold>,
     // How many rows fit with no memory, with their cold parts.
     fit: usize,
@@ -157,7 +157,7 @@ impl<K, V> RecordTable<K, V> {
     {
         let (number, front) = self.rows.live(place)?;
         let (hot, cold) = (front.hot, &self.cold[place]);
-        let found = RecordRef::new(number, hot, front.weight, front.expiring, cold);
+        let found = RecordRef::new(number, hot, front.expiring, cold);
         Some((number, found))
     }
 
@@ -211,7 +211,7 @@ impl<K, V> RecordTable<K, V> {
         ensures table { (r : Record K V) → stored_at self.old.rows place ≡ Some r → self.new ≡ record self.old { rows = with_stored self.old.rows place (updated update r) } }
     {
         let cold = &mut self.cold[place];
-        cold.written = update.now;
+        cold.weight = update.weight;
         cold.expires = record_ref::moment_of(update.expires);
         cold.generation += 1;
         self.rows.replace_value(place, update)
@@ -248,7 +248,8 @@ impl<K, V> RecordTable<K, V> {
         ensures membership { result ≡ membership_at self.now.rows place }
         ensures slots { IfSome result HasSlots }
     {
-        self.rows.membership(place)
+        let found = self.rows.membership(place)?;
+        membership::counted_as(self.cold[place].counted, Some(found))
     }
 
     /// The slot among the timers of the row at this place.
@@ -279,7 +280,7 @@ impl<K, V> RecordTable<K, V> {
         ensures len { count_by is_some self.new.rows ≡ count_by is_some self.old.rows }
         ensures room { self.new.room ≡ self.old.room }
     {
-        self.rows.recount(place, weight);
+        self.cold[place].counted = weight;
     }
 
     /// The row at this place becomes a member, or gets another membership. The answer is the one that it had.
@@ -295,7 +296,11 @@ impl<K, V> RecordTable<K, V> {
         ensures len { count_by is_some self.new.rows ≡ count_by is_some self.old.rows }
         ensures room { self.new.room ≡ self.old.room }
     {
-        self.rows.replace_membership(place, Some(membership))
+        let cold = &mut self.cold[place];
+        let counted = cold.counted;
+        cold.counted = membership.counted;
+        let old = self.rows.replace_membership(place, Some(membership));
+        membership::counted_as(counted, old)
     }
 
     /// The row at this place is a member no longer. The answer is the membership that it had.
@@ -310,7 +315,9 @@ impl<K, V> RecordTable<K, V> {
         ensures len { count_by is_some self.new.rows ≡ count_by is_some self.old.rows }
         ensures room { self.new.room ≡ self.old.room }
     {
-        self.rows.replace_membership(place, None)
+        let counted = self.cold[place].counted;
+        let old = self.rows.replace_membership(place, None);
+        membership::counted_as(counted, old)
     }
 
     /// Another timer, or none, for the row at this place. The answer is the one that it had.

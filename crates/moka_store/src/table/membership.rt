@@ -1,6 +1,7 @@
 //! The words of a row.
 ghost use Rattle.std.specs.Prelude.{◌≡◌, IfSome};
-ghost use Rattle.moka_store.specs.Slots.{slot_of, membership_of, IsSlot, HasSlots};
+ghost use Rattle.std.specs.Option.{option_map};
+ghost use Rattle.moka_store.specs.Slots.{slot_of, membership_of, counted_as, IsSlot, HasSlots};
 
 /// A row's place in the cache's order. No slot is 0.
 #[derive(Clone, Copy)]
@@ -39,38 +40,51 @@ pub(crate) fn word_of(slot: Option<u32>) -> u32
     }
 }
 
-/// The membership for which the words stand.
+// The weight of a membership lies with the cold part of a row's record. So a row knows none, and says 0.
+
+/// The membership for which the words stand, with no weight.
 #[inline(always)]
-pub(crate) fn membership_of(counted: u32, access: u32, written: u32) -> Option<Membership>
-    ensures membership { result ≡ membership_of counted access written }
+pub(crate) fn membership_of(access: u32, written: u32) -> Option<Membership>
+    ensures membership { result ≡ membership_of access written }
     ensures slots { IfSome result HasSlots }
 {
     if access == 0 {
         return None;
     }
     Some(Membership {
-        counted,
+        counted: 0,
         access,
         written: slot_of(written),
     })
 }
 
-/// Writes the words that stand for a membership, or for none.
+/// Writes the words that stand for a membership but for its weight, or for none.
 #[inline(always)]
-pub(crate) fn write_membership(
-    counted: &mut u32,
-    access: &mut u32,
-    written: &mut u32,
-    membership: Option<Membership>,
-)
+pub(crate) fn write_membership(access: &mut u32, written: &mut u32, membership: Option<Membership>)
     requires { IfSome membership HasSlots }
-    ensures { membership_of counted.new access.new written.new ≡ membership }
+    ensures { membership_of access.new written.new ≡ option_map (counted_as 0) membership }
 {
     let Some(membership) = membership else {
         *access = 0;
         return;
     };
-    *counted = membership.counted;
     *access = membership.access;
     *written = word_of(membership.written);
+}
+
+/// The membership with this weight.
+#[inline(always)]
+pub(crate) fn counted_as(counted: u32, membership: Option<Membership>) -> Option<Membership>
+    ensures { result ≡ option_map (counted_as counted) membership }
+{
+    let Membership {
+        counted: _,
+        access,
+        written,
+    } = membership?;
+    Some(Membership {
+        counted,
+        access,
+        written,
+    })
 }

@@ -1,10 +1,9 @@
-//! The rows of the table, by place. Of their numbers nothing is known.
+//! The rows of the table, by place. Of their numbers nothing is known, and their memberships have no weight.
 ghost use Rattle.std.specs.Prelude.{◌≡◌, ◌≢◌, ◌+◌, ◌<◌, ◌≤◌, [], false, length, count_by, is_some, IfSome, IsOk, IsSome, OnOk, None, Some, option_copied};
 ghost use Rattle.std.specs.Option.{option_and_then, option_map};
 ghost use Rattle.moka_parts.specs.declared.record_ref.Front.{Front};
-ghost use Rattle.moka_store.specs.declared.table.membership.Membership.{Membership};
-ghost use Rattle.moka_store.specs.RecordTable.{row_at, number_at, stored_at, membership_at, ChangesAt, ChangesRow, RecountsRow, with_stored};
-ghost use Rattle.moka_store.specs.Slots.{IsSlot, HasSlots};
+ghost use Rattle.moka_store.specs.RecordTable.{row_at, number_at, stored_at, membership_at, ChangesAt, ChangesRow, with_stored};
+ghost use Rattle.moka_store.specs.Slots.{counted_as, IsSlot, HasSlots};
 ghost use Rattle.moka_store.specs.States.{front_of, touched, rewritten};
 
 use super::membership::Membership;
@@ -132,7 +131,7 @@ impl<K, V> Rows<K, V> {
         self.slots.get(place)?.key()
     }
 
-    /// The membership of the row at this place.
+    /// The membership of the row at this place, with no weight.
     #[inline(always)]
     pub(crate) fn membership(&self, place: usize) -> Option<Membership>
         ensures membership { result ≡ membership_at self.now.rows place }
@@ -193,19 +192,7 @@ impl<K, V> Rows<K, V> {
         self.slots[place].take()
     }
 
-    /// Another weight for the member at this place.
-    #[inline(always)]
-    pub(crate) fn recount(&mut self, place: usize, weight: u32)
-        requires { IsSome (membership_at self.old.rows place) }
-        ensures changes { RecountsRow self.old.rows self.new.rows place weight }
-        ensures length { length self.new.rows ≡ length self.old.rows }
-        ensures len { count_by is_some self.new.rows ≡ count_by is_some self.old.rows }
-        ensures room { self.new.room ≡ self.old.room }
-    {
-        self.slots[place].set_counted(weight);
-    }
-
-    /// Another membership, or none, for the row at this place. The answer is the old one.
+    /// Another membership but for its weight, or none, for the row at this place. The answer is the old one.
     #[inline(always)]
     pub(crate) fn replace_membership(
         &mut self,
@@ -215,7 +202,7 @@ impl<K, V> Rows<K, V> {
         requires row { IsSome (row_at self.old.rows place) }
         requires slots { IfSome membership HasSlots }
         ensures old { result ≡ membership_at self.old.rows place }
-        ensures changes { ChangesRow self.old.rows self.new.rows place (λ row. record row { membership = membership }) }
+        ensures changes { ChangesRow self.old.rows self.new.rows place (λ row. record row { membership = option_map (counted_as 0) membership }) }
         ensures length { length self.new.rows ≡ length self.old.rows }
         ensures len { count_by is_some self.new.rows ≡ count_by is_some self.old.rows }
         ensures room { self.new.room ≡ self.old.room }

@@ -3,9 +3,8 @@ ghost use Rattle.std.specs.Prelude.{◌≡◌, false, IfSome, IsSome, None, Some
 ghost use Rattle.std.specs.Option.{option_and_then, option_map};
 ghost use Rattle.slab.specs.declared.Entry.TheVariants.{Vacant, Occupied};
 ghost use Rattle.slab.specs.Entry.{value_of};
-ghost use Rattle.moka_store.specs.declared.table.membership.Membership.{Membership};
 ghost use Rattle.moka_store.specs.RecordTable.{Row, stored_if};
-ghost use Rattle.moka_store.specs.Slots.{membership_of, slot_of, IsSlot, HasSlots};
+ghost use Rattle.moka_store.specs.Slots.{membership_of, slot_of, counted_as, IsSlot, HasSlots};
 ghost use Rattle.moka_store.specs.States.{front_of, touched, rewritten};
 
 use super::membership::{Membership, membership_of, slot_of, word_of, write_membership};
@@ -16,13 +15,15 @@ use std::marker::Model;
 use std::mem;
 
 /// A row of the table but for the cold part of its record, or a vacant place with the next one. A row has a record, until
-/// it leaves the map; a membership, while it is a member; and a slot among the timers, while it has one.
+/// it leaves the map; a membership, while it is a member, whose weight lies with the cold part; and a slot among the
+/// timers, while it has one.
 #[derive(Drop)]
 pub(crate) struct Slot<K, V> {
     state: State<K, V>,
 }
 
-// With keys and values of a word each, a line of memory, of which the first 48 bytes are what look-ups read.
+// With keys and values of a word each, a line of memory, of which the first 48 bytes are what look-ups read, the
+// first 56 with a time to live.
 #[derive(Drop)]
 enum State<K, V> {
     Live {
@@ -30,16 +31,13 @@ enum State<K, V> {
         access: u32,
         number: u64,
         hot: Hot<K, V>,
-        counted: u32,
         written: u32,
         timer: u32,
-        weight: u32,
     },
     // The record left the map.
     Gone {
         access: u32,
         number: u64,
-        counted: u32,
         written: u32,
         timer: u32,
     },
@@ -52,7 +50,6 @@ enum State<K, V> {
 #[derive(Drop)]
 pub(crate) struct FrontRef<'a, K, V> {
     pub(crate) hot: &'a Hot<K, V>,
-    pub(crate) weight: u32,
     pub(crate) expiring: bool,
 }
 
@@ -77,21 +74,15 @@ impl<K, V> Slot<K, V> {
     pub(crate) fn full(number: u64, front: Front<K, V>) -> Self
         ensures { result ≡ Occupied (record { number = number; stored = Some front; membership = None; timer = None }) }
     {
-        let Front {
-            hot,
-            weight,
-            expiring,
-        } = front;
+        let Front { hot, expiring } = front;
         Slot {
             state: State::Live {
                 expiring,
                 access: 0,
                 number,
                 hot,
-                counted: 0,
                 written: 0,
                 timer: 0,
-                weight,
             },
         }
     }
@@ -143,12 +134,10 @@ impl<K, V> Slot<K, V> {
                 expiring,
                 number,
                 hot,
-                weight,
                 ..
             } => {
                 let front = FrontRef {
                     hot,
-                    weight: *weight,
                     expiring: *expiring,
                 };
                 Some((*number, front))
@@ -170,7 +159,7 @@ impl<K, V> Slot<K, V> {
         }
     }
 
-    /// The row's membership.
+    /// The row's membership, with no weight.
     #[inline(always)]
     pub(crate) fn membership(&self) -> Option<Membership>
         ensures membership { result ≡ option_and_then (λ row. row.membership) (value_of self.now) }
@@ -179,16 +168,14 @@ impl<K, V> Slot<K, V> {
         match &self.state {
             State::Live {
                 access,
-                counted,
                 written,
                 ..
-            } => membership_of(*counted, *access, *written),
+            } => membership_of(*access, *written),
             State::Gone {
                 access,
-                counted,
                 written,
                 ..
-            } => membership_of(*counted, *access, *written),
+            } => membership_of(*access, *written),
             State::Vacant { .. } => None,
         }
     }
@@ -230,18 +217,12 @@ impl<K, V> Slot<K, V> {
         ensures value { (row : Row (Front K V)) (f : Front K V) → self.old ≡ Occupied row → row.stored ≡ Some f → result ≡ f.hot.value }
         ensures new { (row : Row (Front K V)) (f : Front K V) → self.old ≡ Occupied row → row.stored ≡ Some f → self.new ≡ Occupied (record row { stored = Some (rewritten update f) }) }
     {
-        let State::Live {
-            expiring,
-            hot,
-            weight,
-            ..
-        } = &mut self.state
-        else {
+        let State::Live { expiring, hot, .. } = &mut self.state else {
             unreachable!()
         };
-        *weight = update.weight;
         *expiring = update.expires.is_some();
         hot.read = update.now;
+        hot.written = update.now;
         mem::replace(&mut hot.value, update.value)
     }
 
@@ -256,7 +237,6 @@ impl<K, V> Slot<K, V> {
         let State::Live {
             access,
             number,
-            counted,
             written,
             timer,
             ..
@@ -267,7 +247,6 @@ impl<K, V> Slot<K, V> {
         let gone = State::Gone {
             access: *access,
             number: *number,
-            counted: *counted,
             written: *written,
             timer: *timer,
         };
@@ -276,14 +255,9 @@ impl<K, V> Slot<K, V> {
                 expiring,
                 number,
                 hot,
-                weight,
                 ..
             } => {
-                let front = Front {
-                    hot,
-                    weight,
-                    expiring,
-                };
+                let front = Front { hot, expiring };
                 (number, front)
             }
             State::Gone { .. } => unreachable!(),
@@ -291,39 +265,24 @@ impl<K, V> Slot<K, V> {
         }
     }
 
-    /// The row gets another membership, or none.
+    /// The row gets another membership but for its weight, or none.
     #[inline(always)]
     pub(crate) fn set_membership(&mut self, membership: Option<Membership>)
         requires row { IsSome (value_of self.old) }
         requires slots { IfSome membership HasSlots }
-        ensures { (row : Row (Front K V)) → self.old ≡ Occupied row → self.new ≡ Occupied (record row { membership = membership }) }
+        ensures { (row : Row (Front K V)) → self.old ≡ Occupied row → self.new ≡ Occupied (record row { membership = option_map (counted_as 0) membership }) }
     {
         match &mut self.state {
             State::Live {
                 access,
-                counted,
                 written,
                 ..
-            } => write_membership(counted, access, written, membership),
+            } => write_membership(access, written, membership),
             State::Gone {
                 access,
-                counted,
                 written,
                 ..
-            } => write_membership(counted, access, written, membership),
-            State::Vacant { .. } => unreachable!(),
-        }
-    }
-
-    /// The row, which is a member, gets another weight.
-    #[inline(always)]
-    pub(crate) fn set_counted(&mut self, weight: u32)
-        requires { IsSome (option_and_then (λ row. row.membership) (value_of self.old)) }
-        ensures { (row : Row (Front K V)) (m : Membership) → self.old ≡ Occupied row → row.membership ≡ Some m → self.new ≡ Occupied (record row { membership = Some (record m { counted = weight }) }) }
-    {
-        match &mut self.state {
-            State::Live { counted, .. } => *counted = weight,
-            State::Gone { counted, .. } => *counted = weight,
+            } => write_membership(access, written, membership),
             State::Vacant { .. } => unreachable!(),
         }
     }

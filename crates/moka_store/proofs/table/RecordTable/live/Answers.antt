@@ -16,6 +16,6 @@ returns-clause-number g c = rw (← c.self.view_is) (c.in_ok-number.ensures.numb
 
 pub returns-clause-stored : goal.returns-clause-stored
 returns-clause-stored g c =
-    let front : Rattle.moka_parts.specs.declared.record_ref.Front.Front g.row.K.Denot g.row.V.Denot = record { hot = c.in_ok-number.front.hot.now; weight = c.in_ok-number.front.weight; expiring = c.in_ok-number.front.expiring } in
+    let front : Rattle.moka_parts.specs.declared.record_ref.Front.Front g.row.K.Denot g.row.V.Denot = record { hot = c.in_ok-number.front.hot.now; expiring = c.in_ok-number.front.expiring } in
     let lent = stored-lent c.self.inside.rows c.self.inside.cold.items _ _ c.args.place c.self.invariant front c.index.result.now (sym c.in_ok-number.ensures.stored) c.index.ensures in
     rw (← c.self.view_is) (ap Some (c.new-found.ensures ∙ ap (λ n. joined n front c.index.result.now) c.in_ok-number.ensures.number) ∙ sym lent)

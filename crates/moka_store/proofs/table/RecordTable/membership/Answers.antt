@@ -1,6 +1,25 @@
-use Rattle.std.proofs.Common.{refl, sym, ◌∙◌}
-use Rattle.moka_store.proofs.ColdRows.{keeps}
+use Rattle.std.proofs.Common.{Some, None, sym, ap, ◌∙◌, ◌≡◌, is_some}
+use Rattle.std.specs.Option.{option_map}
+use Rattle.moka_store.specs.RecordTable.{membership_at}
+use Rattle.moka_store.specs.ColdParts.{cold_at}
+use Rattle.moka_store.specs.Slots.{counted_as}
+use Rattle.moka_store.proofs.ColdRows.{membership-whole, counted-read, place_within}
+use Rattle.moka_store.proofs.TableCalls.{member_row}
 use Rattle.moka_store.proofs.table.RecordTable.membership.Goals as goal
 
+pub returns-in_err-found-clause-membership : goal.returns-in_err-found-clause-membership
+returns-in_err-found-clause-membership g c =
+    let none : membership_at c.self.inside.rows.rows c.args.place ≡ None = sym c.in_err-found.ensures.membership in
+    rw (c.from_residual.ensures, ← c.self.view_is) (sym (membership-whole c.self.inside.rows.rows c.self.inside.cold.items c.args.place ∙ ap (option_map (counted_as (cold_at c.self.inside.cold.items c.args.place).counted)) none))
+
 pub returns-clause-membership : goal.returns-clause-membership
-returns-clause-membership g c = rw (← c.self.view_is) (c.membership.ensures.membership ∙ sym (keeps _ _ _ (λ row. row.membership) (λ row. row.membership) (λ cold row. refl)))
+returns-clause-membership g c =
+    let is : membership_at c.self.inside.rows.rows c.args.place ≡ Some c.in_ok-found.found = sym c.in_ok-found.ensures.membership in
+    let w = member_row c.self.inside.rows.rows c.args.place (ap is_some is) in
+    let within = place_within c.self.inside.rows c.self.inside.cold.items _ _ c.self.invariant c.args.place w.0 w.2 in
+    let own = counted-read c.self.inside.cold.items c.args.place c.index.result.now within c.index.ensures in
+    let lent = membership-whole c.self.inside.rows.rows c.self.inside.cold.items c.args.place ∙ ap (option_map (counted_as (cold_at c.self.inside.cold.items c.args.place).counted)) is in
+    rw (← c.self.view_is) (c.counted_as.ensures ∙ ap (λ n. Some (counted_as n c.in_ok-found.found)) own ∙ sym lent)
+
+pub returns-clause-slots : goal.returns-clause-slots
+returns-clause-slots g c = rw c.counted_as.ensures (record { access = c.in_ok-found.ensures.slots.access; written = c.in_ok-found.ensures.slots.written })

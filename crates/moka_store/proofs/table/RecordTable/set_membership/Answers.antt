@@ -1,40 +1,59 @@
-use Rattle.std.proofs.Common.{Some, refl, sym, ◌∙◌, arith}
-use Rattle.moka_store.proofs.ColdRows.{count-whole, keeps, keeps-row, beside_after, whole-step}
-use Rattle.moka_store.proofs.TableMaps.{some_is}
-use Rattle.moka_store.proofs.TableCalls.{shows-counted}
+use Rattle.std.proofs.Common.{sym, ap, ◌∙◌, arith}
+use Rattle.std.proofs.lemmas.List.{length-set}
+use Rattle.std.specs.Option.{option_map}
+use Rattle.moka_store.specs.RecordTable.{membership_at}
+use Rattle.moka_store.specs.Slots.{counted_as}
+use Rattle.moka_store.proofs.ColdRows.{count-whole, cold-read, keeps-row, row_within, membership-whole, whole-member, beside_after}
 use Rattle.moka_store.proofs.WholeMaps.{whole-counted}
 use Rattle.moka_store.proofs.table.RecordTable.set_membership.Goals as goal
 
-pub replace_membership-requires-clause-row : goal.replace_membership-requires-clause-row
-replace_membership-requires-clause-row g c = keeps-row _ _ _ (rw (← c.self.view_is) at c.requires.row)
+pub index_mut-cold-requires : goal.index_mut-cold-requires
+index_mut-cold-requires g c = omega (arith, row_within c.self.inside.rows c.self.inside.cold.items _ _ c.self.invariant c.args.place (rw (← c.self.view_is) at c.requires.row))
+
+pub replace_membership-old-requires-clause-row : goal.replace_membership-old-requires-clause-row
+replace_membership-old-requires-clause-row g c = keeps-row _ _ _ (rw (← c.self.view_is) at c.requires.row)
 
 pub invariant_of-self : goal.invariant_of-self
 invariant_of-self g c =
-    let s = whole-counted _ _ _ _ c.self.invariant.numbered c.args.membership (rw (← c.self.view_is) at c.requires.row) c.replace_membership.ensures.changes in
-    beside_after _ _ _ _ _ _ c.self.invariant c.replace_membership.ensures.length refl (omega (arith, c.replace_membership.ensures.len, c.replace_membership.ensures.room)) s.numbered
+    let within = row_within c.self.inside.rows c.self.inside.cold.items _ _ c.self.invariant c.args.place (rw (← c.self.view_is) at c.requires.row) in
+    let own = cold-read c.self.inside.cold.items c.args.place c.index_mut-cold.result.now within c.index_mut-cold.ensures.value in
+    let s = whole-counted c.self.inside.rows.rows c.self.inside.cold.items c.args.place c.self.invariant.numbered c.index_mut-cold.result.now own within c.replace_membership-old.new.self.rows c.args.membership (rw (← c.self.view_is) at c.requires.row) c.replace_membership-old.ensures.changes in
+    beside_after _ _ _ _ _ _ c.self.invariant c.replace_membership-old.ensures.length (length-set _ _ _) (omega (arith, c.replace_membership-old.ensures.len, c.replace_membership-old.ensures.room)) s.numbered
 
 pub returns-clause-old : goal.returns-clause-old
-returns-clause-old g c = rw (← c.self.view_is) (c.replace_membership.ensures.old ∙ sym (keeps _ _ _ (λ row. row.membership) (λ row. row.membership) (λ cold row. refl)))
+returns-clause-old g c =
+    let within = row_within c.self.inside.rows c.self.inside.cold.items _ _ c.self.invariant c.args.place (rw (← c.self.view_is) at c.requires.row) in
+    let own = cold-read c.self.inside.cold.items c.args.place c.index_mut-cold.result.now within c.index_mut-cold.ensures.value in
+    let old = c.counted_as.ensures ∙ ap (option_map (counted_as c.index_mut-cold.result.now.counted)) c.replace_membership-old.ensures.old ∙ ap (λ n. option_map (counted_as n) (membership_at c.self.inside.rows.rows c.args.place)) (ap (λ x. x.counted) own) in
+    rw (← c.self.view_is) (old ∙ sym (membership-whole c.self.inside.rows.rows c.self.inside.cold.items c.args.place))
 
 pub returns-clause-changes : goal.returns-clause-changes
 returns-clause-changes g c = λ row at.
+    let within = row_within c.self.inside.rows c.self.inside.cold.items _ _ c.self.invariant c.args.place (rw (← c.self.view_is) at c.requires.row) in
+    let own = cold-read c.self.inside.cold.items c.args.place c.index_mut-cold.result.now within c.index_mut-cold.ensures.value in
     let there = rw (← c.self.view_is) at at in
-    rw (← c.self.view_is) (whole-step c.self.inside.rows.rows c.self.inside.cold.items c.args.place c.replace_membership.new.self.rows (λ row. record row { membership = Some c.args.membership }) (λ row. record row { membership = Some c.args.membership }) (λ cold row. refl) c.replace_membership.ensures.changes row there)
+    rw (← c.self.view_is) (whole-member c.self.inside.rows.rows c.self.inside.cold.items c.args.place c.index_mut-cold.result.now own within c.replace_membership-old.new.self.rows c.args.membership c.replace_membership-old.ensures.changes row there)
 
 pub returns-clause-records : goal.returns-clause-records
 returns-clause-records g c =
-    let s = whole-counted _ _ _ _ c.self.invariant.numbered c.args.membership (rw (← c.self.view_is) at c.requires.row) c.replace_membership.ensures.changes in
+    let within = row_within c.self.inside.rows c.self.inside.cold.items _ _ c.self.invariant c.args.place (rw (← c.self.view_is) at c.requires.row) in
+    let own = cold-read c.self.inside.cold.items c.args.place c.index_mut-cold.result.now within c.index_mut-cold.ensures.value in
+    let s = whole-counted c.self.inside.rows.rows c.self.inside.cold.items c.args.place c.self.invariant.numbered c.index_mut-cold.result.now own within c.replace_membership-old.new.self.rows c.args.membership (rw (← c.self.view_is) at c.requires.row) c.replace_membership-old.ensures.changes in
     rw (← c.self.view_is) s.records_is
 
 pub returns-clause-counted : goal.returns-clause-counted
 returns-clause-counted g c =
-    let s = whole-counted _ _ _ _ c.self.invariant.numbered c.args.membership (rw (← c.self.view_is) at c.requires.row) c.replace_membership.ensures.changes in
+    let within = row_within c.self.inside.rows c.self.inside.cold.items _ _ c.self.invariant c.args.place (rw (← c.self.view_is) at c.requires.row) in
+    let own = cold-read c.self.inside.cold.items c.args.place c.index_mut-cold.result.now within c.index_mut-cold.ensures.value in
+    let s = whole-counted c.self.inside.rows.rows c.self.inside.cold.items c.args.place c.self.invariant.numbered c.index_mut-cold.result.now own within c.replace_membership-old.new.self.rows c.args.membership (rw (← c.self.view_is) at c.requires.row) c.replace_membership-old.ensures.changes in
     rw (← c.self.view_is) s.counted_is
 
 pub returns-clause-places : goal.returns-clause-places
 returns-clause-places g c =
-    let s = whole-counted _ _ _ _ c.self.invariant.numbered c.args.membership (rw (← c.self.view_is) at c.requires.row) c.replace_membership.ensures.changes in
+    let within = row_within c.self.inside.rows c.self.inside.cold.items _ _ c.self.invariant c.args.place (rw (← c.self.view_is) at c.requires.row) in
+    let own = cold-read c.self.inside.cold.items c.args.place c.index_mut-cold.result.now within c.index_mut-cold.ensures.value in
+    let s = whole-counted c.self.inside.rows.rows c.self.inside.cold.items c.args.place c.self.invariant.numbered c.index_mut-cold.result.now own within c.replace_membership-old.new.self.rows c.args.membership (rw (← c.self.view_is) at c.requires.row) c.replace_membership-old.ensures.changes in
     rw (← c.self.view_is) s.places_is
 
 pub returns-clause-len : goal.returns-clause-len
-returns-clause-len g c = rw (← c.self.view_is) (count-whole _ _ ∙ c.replace_membership.ensures.len ∙ sym (count-whole c.self.inside.rows.rows c.self.inside.cold.items))
+returns-clause-len g c = rw (← c.self.view_is) (count-whole _ _ ∙ c.replace_membership-old.ensures.len ∙ sym (count-whole c.self.inside.rows.rows c.self.inside.cold.items))

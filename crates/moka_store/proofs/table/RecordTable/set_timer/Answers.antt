@@ -1,7 +1,5 @@
 use Rattle.std.proofs.Common.{refl, sym, ◌∙◌, arith}
 use Rattle.moka_store.proofs.ColdRows.{count-whole, keeps, keeps-row, beside_after, whole-step}
-use Rattle.moka_store.proofs.TableMaps.{some_is}
-use Rattle.moka_store.proofs.TableCalls.{shows-timed}
 use Rattle.moka_store.proofs.WholeMaps.{whole-timed}
 use Rattle.moka_store.proofs.table.RecordTable.set_timer.Goals as goal
 

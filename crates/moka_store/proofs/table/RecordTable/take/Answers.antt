@@ -1,7 +1,6 @@
 use Rattle.std.proofs.Common.{None, Some, refl, sym, ap, ◌∙◌, arith}
 use Rattle.moka_parts.specs.RecordParts.{joined}
 use Rattle.moka_store.proofs.ColdRows.{count-whole, keeps-stored, stored-lent, whole-step, beside_after}
-use Rattle.moka_store.proofs.TableCalls.{shows-taken, stored_row}
 use Rattle.moka_store.proofs.WholeMaps.{whole-taken}
 use Rattle.moka_store.proofs.table.RecordTable.take.Goals as goal
 
