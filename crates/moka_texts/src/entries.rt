@@ -264,20 +264,28 @@ fn told_of(
     }
 }
 
+/// What is computed of a text of this number, and whether that is there before.
+#[derive(Clone, Copy)]
+struct Chosen {
+    choice: Choice,
+    number: u64,
+    is_there: bool,
+}
+
 /// Whether what is computed is done once what was refused is done by hand, with what came back of it.
 fn is_done_by_hand(
     alloc: Global,
     cache: &mut Cached,
-    choice: Choice,
+    chosen: Chosen,
     refused: ComputeRefused<String, String>,
-    number: u64,
 ) -> Result<bool> {
-    let (now, clock) = (Instant(number), &mut FixedClock(Instant(number)));
+    let (choice, now) = (chosen.choice, Instant(chosen.number));
+    let clock = &mut FixedClock(now);
     match refused {
         ComputeRefused::Lookup(key) => {
-            let is_there = cache.contains_key(&key, now);
-            let done = compute(cache, choice, key, text(alloc, "value", number)?, now)?;
-            Ok(is_done(&done, choice, is_there))
+            let value = text(alloc, "value", chosen.number)?;
+            let done = compute(cache, choice, key, value, now)?;
+            Ok(is_done(&done, choice, chosen.is_there))
         }
         ComputeRefused::Insert(refused) => {
             cache.insert(refused.key, refused.value, now, clock)?;
@@ -311,7 +319,12 @@ fn is_computed<W: Write>(
         Err(refused) => {
             let (call, after) = told_of(&refused, before, is_there);
             tell_refused(out, call, &after, &told_by(cache))?;
-            is_done_by_hand(alloc, cache, choice, refused, number)
+            let chosen = Chosen {
+                choice,
+                number,
+                is_there,
+            };
+            is_done_by_hand(alloc, cache, chosen, refused)
         }
     }
 }

@@ -298,11 +298,11 @@ fn put_and_get<W: Write>(
 ) -> Result<bool> {
     let now = Instant(number);
     let key = text(alloc, "key", number)?;
-    let is_missed = get(out, cache, &key, now)?.is_none();
+    let missed = get(out, cache, &key, now)?;
     put_word(alloc, out, cache, "first", number)?;
     put_word(alloc, out, cache, "value", number)?;
-    let expected = Some(text(alloc, "value", number)?);
-    Ok(is_missed && get(out, cache, &key, now)? == expected)
+    let found = get(out, cache, &key, now)?;
+    Ok(missed.is_none() && found == Some(text(alloc, "value", number)?))
 }
 
 /// Asks each maker twice: the first time it makes the text, and the second time the text is there.
