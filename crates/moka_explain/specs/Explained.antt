@@ -1,29 +1,31 @@
 -- What explains the reply to a call.
-use Rattle.std.specs.Prelude.{◌≡◌, ℕ, List, length, map, IsPermutation}
+use Rattle.std.specs.Prelude.{◌≡◌, ℕ, Bool, List, length, map, IsPermutation, if◌then◌else◌}
 use Rattle.std.specs.List.{AllByRecursion}
 use Rattle.std.specs.FinMap.{values}
 use Rattle.moka_parts.specs.declared.calls.Call.TheVariants as call
+use Rattle.moka_parts.specs.declared.policy.Instant.{Instant}
 use Rattle.moka_script.specs.Calls.{CallText}
 use Rattle.moka_play.specs.Played.{ScriptState}
 use Rattle.moka_explain.specs.declared.look.Look.{Look}
 use Rattle.moka_explain.specs.declared.explain.Question.{Question}
 use Rattle.moka_explain.specs.declared.explain.Question.TheVariants as question
 use Rattle.moka_explain.specs.declared.explain.Queued.{Queued}
+use Rattle.moka_explain.specs.declared.explain.Fates.{Fates}
 use Rattle.moka_explain.specs.declared.explain.Answer.{Answer}
 use Rattle.moka_explain.specs.declared.explain.Answer.TheVariants as answer
 use Rattle.moka_explain.specs.Looks.{IsLook}
 
--- what is worth asking about a call
-abbrev pub question_of : CallText → Question
-question_of (call.Get key hash need_key now) = question.Key key now
-question_of (call.GetUnrecorded key hash now) = question.Key key now
-question_of (call.Contains key hash now) = question.Key key now
-question_of (call.Scan key now) = question.Key key now
-question_of (call.Run now limit repeats batch) = question.All now
-question_of (call.RunIfDue now) = question.All now
-question_of (call.InvalidateAll now) = question.All now
-question_of (call.InvalidateIf predicate now) = question.All now
-question_of c = question.Nothing
+-- what is worth asking about a call; where runs start by themselves, a get may make one
+abbrev pub question_of : Bool → CallText → Question
+question_of automatic (call.Get key hash need_key now) = if automatic then question.Both key now else question.Key key now
+question_of automatic (call.GetUnrecorded key hash now) = question.Key key now
+question_of automatic (call.Contains key hash now) = question.Key key now
+question_of automatic (call.Scan key now) = question.Key key now
+question_of automatic (call.Run now limit repeats batch) = question.All now
+question_of automatic (call.RunIfDue now) = question.All now
+question_of automatic (call.InvalidateAll now) = question.All now
+question_of automatic (call.InvalidateIf predicate now) = question.All now
+question_of automatic c = question.Nothing
 
 -- how many operations are queued
 abbrev pub queued_in : ScriptState → Queued
@@ -36,10 +38,18 @@ pub record Tells (s t : ScriptState) (now : ℕ) (before after : List Look) : Ty
   pub before_call : AllByRecursion (IsLook s now) before
   pub after_call : AllByRecursion (IsLook t now) after
 
+-- what became of all keys, seen at the moment, and of the queues
+abbrev pub AreFates : Instant → ScriptState → ScriptState → Fates → Type 0
+AreFates now s t fates = (fates.now ≡ now) × Tells s t now.0 fates.before.items fates.after.items × (fates.queued_before ≡ queued_in s) × (fates.queued_after ≡ queued_in t)
+
+-- what was known of the key before the call
+abbrev pub IsMet : ℕ → Instant → ScriptState → Look → Type 0
+IsMet key now s look = (look.key ≡ key) × IsLook s now.0 look
+
 -- the answer to a question about a call that leads from the first state to the second
 abbrev pub IsAnswer : Question → ScriptState → ScriptState → Answer → Type 0
-IsAnswer (question.Key key now) s t (answer.Met look) = (look.key ≡ key) × IsLook s now.0 look
-IsAnswer (question.All now) s t (answer.Became moment before after queued_before queued_after) =
-    (moment ≡ now) × Tells s t now.0 before.items after.items × (queued_before ≡ queued_in s) × (queued_after ≡ queued_in t)
+IsAnswer (question.Key key now) s t (answer.Met look) = IsMet key now s look
+IsAnswer (question.All now) s t (answer.Became fates) = AreFates now s t fates
+IsAnswer (question.Both key now) s t (answer.MetAndBecame look fates) = IsMet key now s look × AreFates now s t fates
 IsAnswer question.Nothing s t answer.Nothing = Unit {0}
 IsAnswer q s t a = ⊥

@@ -6,7 +6,7 @@ ghost use Rattle.moka_parts.specs.Drives.{Drives};
 ghost use Rattle.moka_script.specs.declared.key_range.KeyRange.{KeyRange};
 ghost use Rattle.moka_script.specs.Text.{IsInOrder};
 ghost use Rattle.moka_play.specs.Played.{script_meaning};
-ghost use Rattle.moka_explain.specs.Explained.{question_of, queued_in, IsAnswer};
+ghost use Rattle.moka_explain.specs.Explained.{question_of, queued_in, AreFates, IsAnswer};
 
 use crate::look::{Look, look_at, look_at_all};
 use crate::text::write_explained;
@@ -29,6 +29,8 @@ pub enum Question {
     Key { key: u32, now: Instant },
     /// What becomes of all keys, seen at a moment.
     All { now: Instant },
+    /// Both, of a look-up that may make a run.
+    Both { key: u32, now: Instant },
     /// Its reply says all.
     Nothing,
 }
@@ -40,20 +42,26 @@ pub struct Queued {
     pub reads: usize,
 }
 
+/// The keys of all records before a call, seen at this moment, and the same keys after it, with the queues before and
+/// after.
+#[derive(Drop)]
+pub struct Fates {
+    pub now: Instant,
+    pub before: Vec<Look>,
+    pub after: Vec<Look>,
+    pub queued_before: Queued,
+    pub queued_after: Queued,
+}
+
 /// What explains a reply.
 #[derive(Drop)]
 pub enum Answer {
     /// What the look-up met.
     Met(Look),
-    /// The keys of all records before the call, made at this moment, and the same keys after it, with the queues before
-    /// and after.
-    Became {
-        now: Instant,
-        before: Vec<Look>,
-        after: Vec<Look>,
-        queued_before: Queued,
-        queued_after: Queued,
-    },
+    /// What became of all keys.
+    Became(Fates),
+    /// Both.
+    MetAndBecame(Look, Fates),
     /// The reply says all.
     Nothing,
 }
@@ -73,18 +81,20 @@ pub fn explain_script<W: Write>(alloc: Global, script: Script, out: &mut W) -> R
         clock,
         calls,
     } = script;
+    let automatic = settings.automatic;
     let listener = listener_for(alloc, settings.listener, &calls)?;
     let mut ids = CountedIds::new(settings.repeats_ids);
     let mut clock = ListedClock::new(clock);
     let mut cache = new_cache(alloc, settings, rules, listener)?;
     for call in calls {
-        let explained = explain_call(alloc, &mut cache, call, &mut ids, &mut clock)?;
+        let explained = explain_call(alloc, &mut cache, call, automatic, &mut ids, &mut clock)?;
         write_explained(out, &explained)?;
     }
     Ok(())
 }
 
-/// Makes a call, and says what explains its reply.
+/// Makes a call, and says what explains its reply. Where runs start by themselves, as `automatic` says, a get may make
+/// one, so all keys are looked at too.
 ///
 /// # Errors
 /// `OutOfMemory` if memory for the reply or for what explains it is refused.
@@ -92,15 +102,16 @@ pub fn explain_call(
     alloc: Global,
     cache: &mut ScriptCache,
     call: ScriptCall,
+    automatic: bool,
     ids: &mut CountedIds,
     clock: &mut ListedClock,
 ) -> Result<Explained, OutOfMemory>
     ensures made { IfOk result (λ explained. (given : Reply ℕ (List ℕ) KeyRange) × IsInOrder given explained.reply
         × Drives script_meaning (call ∷ []) (given ∷ []) cache.old clock.old ids.old cache.new clock.new ids.new) }
     ensures answer { IfOk result (λ explained.
-        IsAnswer (question_of call) cache.old.state cache.new.state explained.answer) }
+        IsAnswer (question_of automatic call) cache.old.state cache.new.state explained.answer) }
 {
-    match question_of(&call) {
+    match question_of(&call, automatic) {
         Question::Key { key, now } => {
             let look = look_at(cache, key, now);
             let reply = make(alloc, cache, call, ids, clock)?;
@@ -108,19 +119,14 @@ pub fn explain_call(
             Ok(Explained { reply, answer })
         }
         Question::All { now } => {
-            let keys = keys_of(cache)?;
-            let before = look_at_all(alloc, cache, &keys, now)?;
-            let queued_before = queues_of(cache);
-            let reply = make(alloc, cache, call, ids, clock)?;
-            let after = look_at_all(alloc, cache, &keys, now)?;
-            let queued_after = queues_of(cache);
-            let answer = Answer::Became {
-                now,
-                before,
-                after,
-                queued_before,
-                queued_after,
-            };
+            let (reply, fates) = make_and_compare(alloc, cache, call, now, ids, clock)?;
+            let answer = Answer::Became(fates);
+            Ok(Explained { reply, answer })
+        }
+        Question::Both { key, now } => {
+            let look = look_at(cache, key, now);
+            let (reply, fates) = make_and_compare(alloc, cache, call, now, ids, clock)?;
+            let answer = Answer::MetAndBecame(look, fates);
             Ok(Explained { reply, answer })
         }
         Question::Nothing => {
@@ -132,10 +138,14 @@ pub fn explain_call(
 }
 
 /// What is worth asking about a call.
-fn question_of(call: &ScriptCall) -> Question
-    ensures { result ≡ question_of call.now }
+fn question_of(call: &ScriptCall, automatic: bool) -> Question
+    ensures { result ≡ question_of automatic call.now }
 {
     match call {
+        Call::Get { key, now, .. } if automatic => Question::Both {
+            key: *key,
+            now: *now,
+        },
         Call::Get { key, now, .. }
         | Call::GetUnrecorded { key, now, .. }
         | Call::Contains { key, now, .. }
@@ -149,6 +159,35 @@ fn question_of(call: &ScriptCall) -> Question
         | Call::InvalidateIf { now, .. } => Question::All { now: *now },
         _ => Question::Nothing,
     }
+}
+
+/// Makes one call, and says what became of all keys, seen at that moment.
+fn make_and_compare(
+    alloc: Global,
+    cache: &mut ScriptCache,
+    call: ScriptCall,
+    now: Instant,
+    ids: &mut CountedIds,
+    clock: &mut ListedClock,
+) -> Result<(ScriptReply, Fates), OutOfMemory>
+    ensures made { IfOk result (λ made. (given : Reply ℕ (List ℕ) KeyRange) × IsInOrder given made.0
+        × Drives script_meaning (call ∷ []) (given ∷ []) cache.old clock.old ids.old cache.new clock.new ids.new) }
+    ensures fates { IfOk result (λ made. AreFates now cache.old.state cache.new.state made.1) }
+{
+    let keys = keys_of(cache)?;
+    let before = look_at_all(alloc, cache, &keys, now)?;
+    let queued_before = queues_of(cache);
+    let reply = make(alloc, cache, call, ids, clock)?;
+    let after = look_at_all(alloc, cache, &keys, now)?;
+    let queued_after = queues_of(cache);
+    let fates = Fates {
+        now,
+        before,
+        after,
+        queued_before,
+        queued_after,
+    };
+    Ok((reply, fates))
 }
 
 /// The keys of all records, in rising order.

@@ -1,39 +1,82 @@
 //! The lines beneath a reply.
-use crate::explain::{Answer, Explained, Queued};
+use crate::explain::{Answer, Explained, Fates, Queued};
 use crate::look::Look;
 use anyhow::Result;
 use moka_engine::base_cache::Sight;
+use moka_parts::calls::Reply;
 use moka_parts::policy::Instant;
 use moka_script::print::ReplyText;
+use moka_script::script::ScriptReply;
 use std::fmt;
 use std::io::Write;
 
 /// Prints a reply, and beneath it, indented, what explains it.
 pub fn write_explained<W: Write>(out: &mut W, explained: &Explained) -> Result<()> {
-    writeln!(out, "{}", ReplyText(&explained.reply))?;
+    let reply = &explained.reply;
+    writeln!(out, "{}", ReplyText(reply))?;
     match &explained.answer {
-        Answer::Met(look) => writeln!(out, "  {}: {}", look.key, SightText(look.sight))?,
-        Answer::Became {
-            now,
-            before,
-            after,
-            queued_before,
-            queued_after,
-        } => {
-            write_applied(out, *now, *queued_before, *queued_after)?;
-            write_fates(out, before, after)?;
+        Answer::Met(look) => write_met(out, look)?,
+        Answer::Became(fates) => write_became(out, fates, applied_in(fates, 0))?,
+        Answer::MetAndBecame(look, fates) => {
+            write_met(out, look)?;
+            let applied = applied_in(fates, reads_queued_by(reply));
+            if applied.is_any() || has_any_left(&fates.after) {
+                write_became(out, fates, applied)?;
+            }
         }
         Answer::Nothing => {}
     }
     Ok(())
 }
 
+impl Queued {
+    /// Whether there are any.
+    fn is_any(self) -> bool {
+        self.writes > 0 || self.reads > 0
+    }
+}
+
+/// How many reads a get that was replied to so has queued, behind the run that it made, if any. A disabled cache, which
+/// keeps nothing, queues none.
+fn reads_queued_by(reply: &ScriptReply) -> usize {
+    match reply {
+        Reply::Get(Ok(_)) => 1,
+        _ => 0,
+    }
+}
+
+/// How many operations were applied in a call that then queued so many reads.
+fn applied_in(fates: &Fates, queued_reads: usize) -> Queued {
+    let (before, after) = (fates.queued_before, fates.queued_after);
+    let reads_after = after.reads.saturating_sub(queued_reads);
+    Queued {
+        writes: before.writes.saturating_sub(after.writes),
+        reads: before.reads.saturating_sub(reads_after),
+    }
+}
+
+/// Whether a key has no record any more.
+fn has_any_left(after: &[Look]) -> bool {
+    after.iter().any(|look| matches!(look.sight, Sight::Absent))
+}
+
+/// Says what the look-up met.
+fn write_met<W: Write>(out: &mut W, look: &Look) -> Result<()> {
+    writeln!(out, "  {}: {}", look.key, SightText(look.sight))?;
+    Ok(())
+}
+
+/// Says what a call applied, and what became of each key.
+fn write_became<W: Write>(out: &mut W, fates: &Fates, applied: Queued) -> Result<()> {
+    write_applied(out, fates.now, applied)?;
+    write_fates(out, &fates.before, &fates.after)
+}
+
 /// Says at which moment the call was made, and how many operations it applied, if any.
-fn write_applied<W: Write>(out: &mut W, now: Instant, before: Queued, after: Queued) -> Result<()> {
-    let writes = before.writes.saturating_sub(after.writes);
-    let reads = before.reads.saturating_sub(after.reads);
+fn write_applied<W: Write>(out: &mut W, now: Instant, applied: Queued) -> Result<()> {
     let now = now.0;
-    if writes > 0 || reads > 0 {
+    if applied.is_any() {
+        let Queued { writes, reads } = applied;
         writeln!(
             out,
             "  at {now}: writes applied {writes}, reads applied {reads}"
