@@ -128,14 +128,7 @@ pub fn play<R: Files + Input + Eprint + AllocGlobal>(
     };
     match origin {
         Origin::Made(shape, keys) => session.play_made(rt, Trace::new(shape, keys))?,
-        Origin::Read(format, path) => {
-            if !request.has_optimum {
-                eprintln!(rt;
-                    "{name}: the optimum is left out, since --optimum does not ask for it"
-                )?;
-            }
-            play_file(rt, &mut session, format, path)?;
-        }
+        Origin::Read(format, path) => play_file(rt, &mut session, format, path)?,
     }
     let reads = session.bench.reads();
     if reads <= request.warm {

@@ -6,7 +6,7 @@ use std::alloc::Global;
 // Nothing expires, so that all is done at one moment.
 const NOW: Instant = Instant(0);
 
-// No entry is listened to, so that one pass is enough, and a batch of one would do.
+// At each run one entry at most exceeds the capacity, so any batch from 1 on would do; repeats have no effect.
 const REPEATS: u32 = 1;
 
 const BATCH: u32 = 500;
