@@ -2,6 +2,37 @@
 ghost use Rattle.std.specs.Prelude.{◌≡◌, ◌<◌};
 ghost use Rattle.moka_bench.specs.Config.{additions, is_served, word_at};
 
+use moka_engine::CacheConfig;
+use moka_parts::policy::EvictionPolicy;
+use std::time::Duration;
+
+// The words by their index, which the header explains.
+const CAPACITY: usize = 0;
+
+const TIME_TO_LIVE: usize = 1;
+
+const TIME_TO_IDLE: usize = 2;
+
+const POLICY: usize = 3;
+
+const EXPIRY: usize = 4;
+
+const AUTOMATIC: usize = 5;
+
+const INITIAL_CAPACITY: usize = 6;
+
+const HASHER: usize = 7;
+
+const TEXTS: usize = 8;
+
+const STEP: usize = 9;
+
+const CACHE: usize = 10;
+
+const LISTENER: usize = 11;
+
+const WEIGHER: usize = 12;
+
 // The number that stands for no capacity, no time to live and no time to idle.
 const NONE: u64 = u64::MAX;
 
@@ -43,20 +74,42 @@ impl Config {
     /// The settings that these bytes say.
     pub fn read(bytes: &[u8]) -> Config {
         Config {
-            max_capacity: optional(bytes, 0),
-            time_to_live: optional(bytes, 1),
-            time_to_idle: optional(bytes, 2),
-            is_lru: word(bytes, 3) == 1,
-            initial_capacity: word(bytes, 6) as usize,
-            is_automatic: word(bytes, 5) == 1,
-            is_sip: word(bytes, 7) == 1,
-            is_synchronous: word(bytes, 10) == 1,
-            has_expiry: word(bytes, 4) == 1,
-            has_listener: word(bytes, 11) == 1,
-            has_weigher: word(bytes, 12) == 1,
-            texts: word(bytes, 8),
-            step: word(bytes, 9),
+            max_capacity: optional(bytes, CAPACITY),
+            time_to_live: optional(bytes, TIME_TO_LIVE),
+            time_to_idle: optional(bytes, TIME_TO_IDLE),
+            is_lru: word(bytes, POLICY) == 1,
+            initial_capacity: word(bytes, INITIAL_CAPACITY) as usize,
+            is_automatic: word(bytes, AUTOMATIC) == 1,
+            is_sip: word(bytes, HASHER) == 1,
+            is_synchronous: word(bytes, CACHE) == 1,
+            has_expiry: word(bytes, EXPIRY) == 1,
+            has_listener: word(bytes, LISTENER) == 1,
+            has_weigher: word(bytes, WEIGHER) == 1,
+            texts: word(bytes, TEXTS),
+            step: word(bytes, STEP),
         }
+    }
+
+    /// What an engine is made with, but for an expiry, a listener and a weigher.
+    pub fn plain(self) -> CacheConfig {
+        let policy = if self.is_lru {
+            EvictionPolicy::lru()
+        } else {
+            EvictionPolicy::tiny_lfu()
+        };
+        let mut made = CacheConfig::default()
+            .initial_capacity(self.initial_capacity)
+            .eviction_policy(policy);
+        if let Some(capacity) = self.max_capacity {
+            made = made.max_capacity(capacity);
+        }
+        if let Some(nanoseconds) = self.time_to_live {
+            made = made.time_to_live(Duration::from_nanos(nanoseconds));
+        }
+        if let Some(nanoseconds) = self.time_to_idle {
+            made = made.time_to_idle(Duration::from_nanos(nanoseconds));
+        }
+        made
     }
 }
 
@@ -66,8 +119,8 @@ pub fn is_served(bytes: &[u8], counts: usize) -> bool
 {
     bytes.len() == CONFIG_LENGTH
         && counts == COUNTS_LENGTH
-        && word(bytes, 3) <= 1
-        && word(bytes, 7) <= 1
+        && word(bytes, POLICY) <= 1
+        && word(bytes, HASHER) <= 1
         && additions(bytes) <= 1
 }
 
@@ -75,11 +128,11 @@ pub fn is_served(bytes: &[u8], counts: usize) -> bool
 fn additions(bytes: &[u8]) -> u64
     ensures { result ≡ additions bytes.now }
 {
-    let texts = word(bytes, 8).min(1);
-    word(bytes, 4)
-        .saturating_add(word(bytes, 10))
-        .saturating_add(word(bytes, 11))
-        .saturating_add(word(bytes, 12))
+    let texts = word(bytes, TEXTS).min(1);
+    word(bytes, EXPIRY)
+        .saturating_add(word(bytes, CACHE))
+        .saturating_add(word(bytes, LISTENER))
+        .saturating_add(word(bytes, WEIGHER))
         .saturating_add(texts)
 }
 

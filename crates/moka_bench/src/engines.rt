@@ -2,18 +2,15 @@
 ghost use Rattle.std.specs.Prelude.{◌≡◌, IfOk};
 ghost use Rattle.std.specs.FinMap as finite;
 
-use crate::config::Config;
-use crate::given::Given;
-use moka_engine::base_cache::BaseCache;
+use moka_engine::{BaseCache, CacheConfig};
 use moka_parts::calls::Ticket;
 use moka_parts::closures::{NoPredicate, Weigher};
 use moka_parts::error::{OutOfMemory, SendError};
-use moka_parts::housekeeper::{FixedClock, HousekeeperConfig};
+use moka_parts::housekeeper::FixedClock;
 use moka_parts::notification::Listener;
-use moka_parts::policy::{EvictionPolicy, ExpirationPolicy, Expiry, Instant};
+use moka_parts::policy::{Expiry, Instant};
 use std::alloc::Global;
 use std::hash::{BuildHasher, Hash};
-use std::time::Duration;
 
 /// How many members a step of a run turns over.
 pub const BATCH: u32 = 384;
@@ -27,7 +24,7 @@ pub const CLOCK: FixedClock = FixedClock(Instant(0));
 /// An engine without predicates.
 pub type Engine<K, V, S, X, L, W> = BaseCache<K, V, S, X, L, NoPredicate, W>;
 
-/// An empty engine at the moment 0, which starts runs by itself if that is configured.
+/// An empty engine at the moment 0, which starts runs by itself if `is_automatic`.
 pub fn engine_of<
     K: Eq + Hash + Drop,
     V: Drop,
@@ -38,50 +35,16 @@ pub fn engine_of<
 >(
     alloc: Global,
     hasher: S,
-    config: Config,
-    given: Given<X, L, W>,
+    given: CacheConfig<X, L, NoPredicate, W>,
+    is_automatic: bool,
 ) -> Result<Engine<K, V, S, X, L, W>, OutOfMemory>
     ensures { IfOk result (λ engine. engine.state.outstanding ≡ finite.empty) }
 {
-    let policy = if config.is_lru {
-        EvictionPolicy::lru()
-    } else {
-        EvictionPolicy::tiny_lfu()
-    };
-    let mut engine = BaseCache::new(
-        alloc,
-        None,
-        config.max_capacity,
-        Some(config.initial_capacity),
-        hasher,
-        given.weigher,
-        policy,
-        given.listener,
-        expiration_of(config, given.expiry),
-        HousekeeperConfig::default(),
-        false,
-        Instant(0),
-        1,
-    )?;
-    if !config.is_automatic {
+    let mut engine = given.build_with_hasher(alloc, hasher, Instant(0))?;
+    if !is_automatic {
         engine.disable_auto_run();
     }
     Ok(engine)
-}
-
-// When entries expire.
-fn expiration_of<X: Drop>(config: Config, expiry: Option<X>) -> ExpirationPolicy<X> {
-    let mut expiration = ExpirationPolicy::default();
-    if let Some(nanoseconds) = config.time_to_live {
-        expiration.set_time_to_live(Duration::from_nanos(nanoseconds));
-    }
-    if let Some(nanoseconds) = config.time_to_idle {
-        expiration.set_time_to_idle(Duration::from_nanos(nanoseconds));
-    }
-    if let Some(expiry) = expiry {
-        expiration.set_expiry(expiry);
-    }
-    expiration
 }
 
 /// An engine with how it is driven: operations are sent as they are handed out.
@@ -105,12 +68,12 @@ impl<
     L: Listener<K, V>,
     W: Weigher<K, V>,
 > Driven<K, V, S, X, L, W> {
-    /// An empty engine at the moment 0.
+    /// As `engine_of`.
     pub fn new(
         alloc: Global,
         hasher: S,
-        config: Config,
-        given: Given<X, L, W>,
+        given: CacheConfig<X, L, NoPredicate, W>,
+        is_automatic: bool,
     ) -> Result<Self, OutOfMemory>
     where
         S: Drop,
@@ -118,7 +81,7 @@ impl<
         L: Drop,
         W: Drop,
     {
-        let engine = engine_of(alloc, hasher, config, given)?;
+        let engine = engine_of(alloc, hasher, given, is_automatic)?;
         Ok(Driven { engine })
     }
 

@@ -1,57 +1,16 @@
-//! What an engine is given: an expiry, a listener, a weigher; and a hasher by another name.
-use moka_parts::closures::{NoWeigher, Weigher};
+//! What an engine may be given: an expiry, a listener, a weigher; and a hasher by another name.
+use moka_parts::closures::Weigher;
 use moka_parts::notification::{Listener, NoListener, RemovalCause};
 use moka_parts::policy::{ExpireAfter, ExpireAfterCreate, Instant, NoExpiry};
 use std::hash::BuildHasher;
 use std::time::Duration;
 
-/// What an engine is given.
-#[derive(Drop)]
-pub struct Given<X, L, W> {
-    pub expiry: Option<X>,
-    pub listener: Option<L>,
-    pub weigher: Option<W>,
-}
-
-/// Nothing.
-pub fn nothing() -> Given<NoExpiry, NoListener, NoWeigher> {
-    Given {
-        expiry: None,
-        listener: None,
-        weigher: None,
-    }
-}
-
-/// An expiry by values.
-pub fn expiring() -> Given<ExpireAfter<ByValue, NoExpiry, NoExpiry>, NoListener, NoWeigher> {
-    Given {
-        expiry: Some(ExpireAfter {
-            create: ByValue,
-            read: NoExpiry,
-            update: NoExpiry,
-        }),
-        listener: None,
-        weigher: None,
-    }
-}
-
-/// A listener that counts.
-pub fn listening() -> Given<NoExpiry, Heard, NoWeigher> {
-    Given {
-        expiry: None,
-        listener: Some(Heard(0)),
-        weigher: None,
-    }
-}
-
-/// A weigher by values.
-pub fn weighing() -> Given<NoExpiry, NoListener, ByRemainder> {
-    Given {
-        expiry: None,
-        listener: None,
-        weigher: Some(ByRemainder),
-    }
-}
+/// An expiry that goes by values.
+pub const BY_VALUE: ExpireAfter<ByValue, NoExpiry, NoExpiry> = ExpireAfter {
+    create: ByValue,
+    read: NoExpiry,
+    update: NoExpiry,
+};
 
 /// An entry expires so many nanoseconds after its creation as its value says.
 #[derive(Clone, Copy)]

@@ -18,7 +18,7 @@ mod subject;
 use crate::config::{Config, is_served};
 use crate::driver::{Counts, Driver, Failure};
 use crate::engines::Driven;
-use crate::given::{Apart, expiring, listening, nothing, weighing};
+use crate::given::{Apart, BY_VALUE, ByRemainder, Heard};
 use crate::phases::drive;
 use crate::subject::{Subject, Synchronous, Texts};
 use moka_parts::error::OutOfMemory;
@@ -83,33 +83,32 @@ fn run<S: BuildHasher + Drop>(
     ensures done { OnOk result (is_well_formed stream.now ≡ true) }
     ensures malformed { result ≡ Err Malformed → is_well_formed stream.now ≡ false }
 {
+    let (plain, is_automatic) = (config.plain(), config.is_automatic);
     if config.is_synchronous {
-        return count(Synchronous::new(alloc, hasher, config), config, stream);
+        let made = Synchronous::new(alloc, hasher, plain, is_automatic);
+        return count(made, config, stream);
     }
     if config.texts > 0 {
-        return count(Texts::new(alloc, hasher, config), config, stream);
+        let made = Texts::new(alloc, hasher, plain, is_automatic, config.texts);
+        return count(made, config, stream);
     }
     if config.has_expiry {
-        let made = Driven::new(alloc, Apart(hasher), config, expiring());
+        let (hasher, given) = (Apart(hasher), plain.expire_after(BY_VALUE));
+        let made = Driven::new(alloc, hasher, given, is_automatic);
         return count(made, config, stream);
     }
     if config.has_listener {
-        let made = Driven::new(alloc, Apart(Apart(hasher)), config, listening());
+        let (hasher, given) = (Apart(Apart(hasher)), plain.eviction_listener(Heard(0)));
+        let made = Driven::new(alloc, hasher, given, is_automatic);
         return count(made, config, stream);
     }
     if config.has_weigher {
-        let hasher = Apart(Apart(Apart(hasher)));
-        return count(
-            Driven::new(alloc, hasher, config, weighing()),
-            config,
-            stream,
-        );
+        let (hasher, given) = (Apart(Apart(Apart(hasher))), plain.weigher(ByRemainder));
+        let made = Driven::new(alloc, hasher, given, is_automatic);
+        return count(made, config, stream);
     }
-    count(
-        Driven::new(alloc, hasher, config, nothing()),
-        config,
-        stream,
-    )
+    let made = Driven::new(alloc, hasher, plain, is_automatic);
+    count(made, config, stream)
 }
 
 // Drives a cache, if there was memory for it, through the stream.

@@ -1,5 +1,5 @@
 //! Streams of operations, in phases.
-ghost use Rattle.std.specs.Prelude.{◌≡◌, ◌<◌, length};
+ghost use Rattle.std.specs.Prelude.{◌≡◌, ◌<◌, length, is_some};
 ghost use Rattle.moka_bench.specs.Phases.{is_known, is_stream, number_at};
 
 use crate::driver::Driver;
@@ -8,6 +8,38 @@ use crate::subject::Subject;
 
 // How many words a phase begins with.
 const HEADER: usize = 4;
+
+// What is done in a phase.
+#[derive(Clone, Copy)]
+enum Phase {
+    Get,
+    Put,
+    ReadThrough,
+    PutPairs,
+    Run,
+    Tick,
+    GetAndRun,
+    PutAndRun,
+}
+
+impl Phase {
+    // The phase that a word says.
+    fn of(operation: u64) -> Option<Phase>
+        ensures { is_some result ≡ is_known operation }
+    {
+        match operation {
+            1 => Some(Phase::Get),
+            2 => Some(Phase::Put),
+            3 => Some(Phase::ReadThrough),
+            4 => Some(Phase::PutPairs),
+            5 => Some(Phase::Run),
+            6 => Some(Phase::Tick),
+            7 => Some(Phase::GetAndRun),
+            8 => Some(Phase::PutAndRun),
+            _ => None,
+        }
+    }
+}
 
 /// Drives a cache through the phases of a stream. Whether the stream is well formed.
 pub fn drive<T: Subject>(driver: &mut Driver<T>, stream: &[[u8; 8]]) -> bool
@@ -51,16 +83,18 @@ fn make<T: Subject>(
 ) -> bool
     ensures { result ≡ is_known operation }
 {
-    match operation {
-        1 => get_all(driver, words),
-        2 => put_all(driver, words, true),
-        3 => read_through(driver, words),
-        4 => put_pairs(driver, words),
-        5 => driver.run(u32::try_from(argument).unwrap_or(u32::MAX)),
-        6 => driver.tick(argument),
-        7 => get_and_run(driver, words, argument),
-        8 => put_and_run(driver, words, argument),
-        _ => return false,
+    let Some(phase) = Phase::of(operation) else {
+        return false;
+    };
+    match phase {
+        Phase::Get => get_all(driver, words),
+        Phase::Put => put_all(driver, words, true),
+        Phase::ReadThrough => read_through(driver, words),
+        Phase::PutPairs => put_pairs(driver, words),
+        Phase::Run => driver.run(u32::try_from(argument).unwrap_or(u32::MAX)),
+        Phase::Tick => driver.tick(argument),
+        Phase::GetAndRun => get_and_run(driver, words, argument),
+        Phase::PutAndRun => put_and_run(driver, words, argument),
     }
     true
 }

@@ -19,11 +19,10 @@ impl<
         let hash = self.engine.hash(&key);
         let found = self
             .engine
-            .get_with_hash(&key, hash, false, now, &mut CLOCK);
+            .get_with_hash(&key, hash, false, now, &mut CLOCK)?;
         match found {
-            Ok(Some(entry)) => Ok(Some(*entry.value())),
-            Ok(None) => Ok(None),
-            Err(refused) => Err(refused),
+            Some(entry) => Ok(Some(*entry.value())),
+            None => Ok(None),
         }
     }
 

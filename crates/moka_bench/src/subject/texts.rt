@@ -1,8 +1,7 @@
 //! The engine with texts.
 use super::Subject;
-use crate::config::Config;
 use crate::engines::{CLOCK, Driven};
-use crate::given::nothing;
+use moka_engine::CacheConfig;
 use moka_parts::closures::NoWeigher;
 use moka_parts::error::OutOfMemory;
 use moka_parts::notification::NoListener;
@@ -20,17 +19,23 @@ pub struct Texts<S: BuildHasher> {
 }
 
 impl<S: BuildHasher> Texts<S> {
-    /// An empty engine at the moment 0.
-    pub fn new(alloc: Global, hasher: S, config: Config) -> Result<Self, OutOfMemory>
+    /// An empty engine at the moment 0, and so many texts.
+    pub fn new(
+        alloc: Global,
+        hasher: S,
+        given: CacheConfig,
+        is_automatic: bool,
+        count: u64,
+    ) -> Result<Self, OutOfMemory>
     where
         S: Drop,
     {
-        let keys = make_texts(alloc, "key-", config.texts);
-        let values = make_texts(alloc, "value-", config.texts);
+        let keys = make_texts(alloc, "key-", count);
+        let values = make_texts(alloc, "value-", count);
         let (Ok(keys), Ok(values)) = (keys, values) else {
             return Err(OutOfMemory);
         };
-        let driven = Driven::new(alloc, hasher, config, nothing())?;
+        let driven = Driven::new(alloc, hasher, given, is_automatic)?;
         Ok(Texts {
             driven,
             keys,
