@@ -5,6 +5,9 @@ use moka_engine::{
 };
 use uuid::Uuid;
 
+/// The hash that the engine is handed with each key: it finds keys by hashes of its own.
+pub const HASH: u64 = 7;
+
 /// A call.
 #[derive(Clone, Copy, Debug, PartialEq, Eq)]
 pub enum Ask {
@@ -92,7 +95,7 @@ fn get_unless(
     let mut test = |_: &String| is_ignored;
     let entry = cache.get_with_hash_and_ignore_if(
         key,
-        7,
+        HASH,
         Some(&mut test),
         true,
         now,
@@ -110,7 +113,7 @@ fn get(
     need_key: bool,
     now: Instant,
 ) -> Result<Answer, OutOfMemory> {
-    let entry = cache.get_with_hash(key, 7, need_key, now, &mut FixedClock(now))?;
+    let entry = cache.get_with_hash(key, HASH, need_key, now, &mut FixedClock(now))?;
     match entry {
         Some(entry) => Ok(found(entry.key, Some(entry.value))),
         None => Ok(found(None, None)),
@@ -152,7 +155,7 @@ pub fn answer_to(
         Ask::Ignore => get_unless(cache, key, true, now),
         Ask::Peek => Ok(found(
             None,
-            cache.get_with_hash_without_recording(key, 7, Some(&mut NoTest), now)?,
+            cache.get_with_hash_without_recording(key, HASH, Some(&mut NoTest), now)?,
         )),
         Ask::Scan => Ok(found(None, cache.scanning_get(key, now)?)),
         Ask::Keys => keys(cache),

@@ -1,6 +1,6 @@
 //! Entry calls, each made for a text that is not there and then for one that is.
-use crate::report::{tell_refused, text};
-use crate::synchronous::{Cached, Removal, Told, insert_made, take_out, told_by};
+use crate::report::{Told, tell_refused, text};
+use crate::synchronous::{Cached, Removal, insert_made, take_out, told_by};
 use anyhow::Result;
 use moka_drive::{CacheEntry, CompResult, ComputeRefused, GetWithRefused, Op};
 use moka_engine::{FixedClock, Instant, OutOfMemory};
@@ -28,21 +28,23 @@ const ENTRIES: [Entry; 5] = [
 impl Entry {
     fn at_look_up(self) -> &'static str {
         match self {
-            Entry::OrInsert => "Cache::or_insert at the look-up",
-            Entry::OrInsertWith => "Cache::or_insert_with at the look-up",
-            Entry::OrOptionallyInsertWith => "Cache::or_optionally_insert_with at the look-up",
-            Entry::OrTryInsertWith => "Cache::or_try_insert_with at the look-up",
-            Entry::AndUpsertWith => "Cache::and_upsert_with at the look-up",
+            Entry::OrInsert => "OwnedKeyEntrySelector::or_insert at the look-up",
+            Entry::OrInsertWith => "OwnedKeyEntrySelector::or_insert_with at the look-up",
+            Entry::OrOptionallyInsertWith =>
+                "OwnedKeyEntrySelector::or_optionally_insert_with at the look-up",
+            Entry::OrTryInsertWith => "OwnedKeyEntrySelector::or_try_insert_with at the look-up",
+            Entry::AndUpsertWith => "OwnedKeyEntrySelector::and_upsert_with at the look-up",
         }
     }
 
     fn at_insert(self) -> &'static str {
         match self {
-            Entry::OrInsert => "Cache::or_insert at the insert",
-            Entry::OrInsertWith => "Cache::or_insert_with at the insert",
-            Entry::OrOptionallyInsertWith => "Cache::or_optionally_insert_with at the insert",
-            Entry::OrTryInsertWith => "Cache::or_try_insert_with at the insert",
-            Entry::AndUpsertWith => "Cache::and_upsert_with at the insert",
+            Entry::OrInsert => "OwnedKeyEntrySelector::or_insert at the insert",
+            Entry::OrInsertWith => "OwnedKeyEntrySelector::or_insert_with at the insert",
+            Entry::OrOptionallyInsertWith =>
+                "OwnedKeyEntrySelector::or_optionally_insert_with at the insert",
+            Entry::OrTryInsertWith => "OwnedKeyEntrySelector::or_try_insert_with at the insert",
+            Entry::AndUpsertWith => "OwnedKeyEntrySelector::and_upsert_with at the insert",
         }
     }
 

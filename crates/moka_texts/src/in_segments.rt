@@ -1,8 +1,8 @@
 //! The calls of a cache in segments, made with one text after the other.
 use crate::asks::Ids;
-use crate::report::{Report, State, state_of, tell_refused, text};
+use crate::report::{Report, Told, state_of, tell_refused, text};
 use anyhow::Result;
-use moka_drive::{GetWithRefused, Stats};
+use moka_drive::GetWithRefused;
 use moka_engine::{FixedClock, InsertRefused, Instant, NoExpiry, NoPredicate};
 use moka_segments::SegmentedCache;
 use std::alloc::Global;
@@ -11,36 +11,12 @@ use std::io::Write;
 /// A cache of texts by texts, in segments.
 pub type Segmented = SegmentedCache<String, String, NoExpiry, Report, NoPredicate>;
 
-/// What a cache reports of the segment of a key, and what all segments counted.
-#[derive(Clone, Copy, Debug, PartialEq, Eq)]
-struct Told {
-    state: State,
-    stats: Stats,
-}
-
+/// What the segment of a key tells of itself, and what all segments counted.
 fn told_by(cache: &Segmented, key: &String) -> Told {
     let segment = cache.segment(cache.segment_of(key));
     Told {
         state: state_of(segment.engine()),
         stats: cache.stats(),
-    }
-}
-
-impl Told {
-    /// After a look-up that missed, and a value that was made and not inserted.
-    fn after_load(self) -> Told {
-        let mut after = self;
-        after.state.reads = self.state.reads.wrapping_add(1);
-        after.stats.misses = self.stats.misses.wrapping_add(1);
-        after.stats.loads = self.stats.loads.wrapping_add(1);
-        after
-    }
-
-    /// After a removal of which the listener was not notified.
-    fn after_removal(self) -> Told {
-        let mut after = self;
-        after.state.writes = self.state.writes.wrapping_add(1);
-        after
     }
 }
 
@@ -111,8 +87,8 @@ fn made<W: Write>(
         }
         Err(GetWithRefused::Insert(refused)) => {
             let call = "SegmentedCache::get_with at the insert";
-            let after = told_by(cache, &refused.key);
-            tell_refused(out, call, &before.after_load(), &after)?;
+            let expected = before.after_look_ups(0, 1).after_load();
+            tell_refused(out, call, &expected, &told_by(cache, &refused.key))?;
             insert_made(cache, refused, now)
         }
     }
@@ -131,7 +107,7 @@ fn take_out<W: Write>(
         tell_refused(
             out,
             "SegmentedCache::remove",
-            &before.after_removal(),
+            &before.after_writes(1),
             &after,
         )?;
         cache.insert(key.clone()?, refused.value, now, &mut FixedClock(now))?;

@@ -1,5 +1,6 @@
 //! What a cache tells of itself, and its listener of it.
 use anyhow::Result;
+use moka_drive::Stats;
 use moka_engine::{Engine, Listener, NoExpiry, NoPredicate, RemovalCause, Ticket};
 use std::alloc::{AllocError, Global};
 use std::fmt;
@@ -54,6 +55,52 @@ pub fn state_of(cache: &Texts) -> State {
         writes: cache.queued_writes(),
         reads: cache.queued_reads(),
         report: cache.listener().copied(),
+    }
+}
+
+/// What a cache tells of itself, and what it counted.
+#[derive(Clone, Copy, Debug, PartialEq, Eq)]
+pub struct Told {
+    pub state: State,
+    pub stats: Stats,
+}
+
+impl Told {
+    /// After so many look-ups that hit, and that missed.
+    pub fn after_look_ups(self, hits: u64, misses: u64) -> Told {
+        let mut after = self;
+        let reads = hits.wrapping_add(misses) as usize;
+        after.state.reads = self.state.reads.wrapping_add(reads);
+        after.stats.hits = self.stats.hits.wrapping_add(hits);
+        after.stats.misses = self.stats.misses.wrapping_add(misses);
+        after
+    }
+
+    /// After a value was made.
+    pub fn after_load(self) -> Told {
+        let mut after = self;
+        after.stats.loads = self.stats.loads.wrapping_add(1);
+        after
+    }
+
+    /// After so many inserts and removals of which the listener was not told.
+    pub fn after_writes(self, writes: usize) -> Told {
+        let mut after = self;
+        after.state.writes = self.state.writes.wrapping_add(writes);
+        after
+    }
+
+    /// After so many notices of texts with so many bytes.
+    pub fn after_notices(self, notices: u64, bytes: usize) -> Told {
+        let mut after = self;
+        after.state.report = match self.state.report {
+            Some(report) => Some(Report {
+                notices: report.notices.wrapping_add(notices),
+                bytes: report.bytes.wrapping_add(bytes),
+            }),
+            None => None,
+        };
+        after
     }
 }
 

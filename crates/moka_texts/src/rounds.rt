@@ -1,5 +1,5 @@
 //! What is done with one text after the other.
-use crate::asks::{ASKS, Answer, Ask, answer_to};
+use crate::asks::{ASKS, Answer, Ask, HASH, answer_to};
 use crate::report::{State, Texts, state_of, tell_refused, text};
 use anyhow::{Result, anyhow};
 use moka_engine::{FixedClock, Instant, KvEntry};
@@ -18,7 +18,7 @@ fn put<W: Write>(
         return Err(anyhow!("disabled"));
     }
     let before = state_of(cache);
-    match cache.do_insert_with_hash(key, 7, value, now) {
+    match cache.do_insert_with_hash(key, HASH, value, now) {
         Ok((ticket, _)) => cache.send(ticket)?,
         Err(refused) => {
             tell_refused(out, "insert", &before, &state_of(cache))?;
@@ -32,7 +32,7 @@ fn put_again(cache: &mut Texts, key: String, value: String, now: Instant) -> Res
     if cache.is_map_disabled() {
         return Err(anyhow!("disabled"));
     }
-    let (ticket, _) = cache.do_insert_with_hash(key, 7, value, now)?;
+    let (ticket, _) = cache.do_insert_with_hash(key, HASH, value, now)?;
     cache.send(ticket)?;
     Ok(())
 }
@@ -101,7 +101,7 @@ fn tell_removed<W: Write>(
 }
 
 fn take_out<W: Write>(out: &mut W, cache: &mut Texts, key: &String, now: Instant) -> Result<()> {
-    if let Some((entry, ticket)) = cache.remove_entry(key, 7) {
+    if let Some((entry, ticket)) = cache.remove_entry(key, HASH) {
         tell_removed(out, cache, &entry, now)?;
         cache.send(ticket)?;
     }

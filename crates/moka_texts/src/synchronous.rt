@@ -1,8 +1,8 @@
 //! The calls of the synchronous cache, made with one text after the other.
 use crate::asks::Ids;
-use crate::report::{Report, State, state_of, tell_refused, text};
+use crate::report::{Report, Told, state_of, tell_refused, text};
 use anyhow::Result;
-use moka_drive::{Cache, GetWithRefused, NotTold, Stats};
+use moka_drive::{Cache, GetWithRefused, NotTold};
 use moka_engine::{FixedClock, InsertRefused, Instant, NoExpiry, NoPredicate, OutOfMemory};
 use std::alloc::Global;
 use std::io::Write;
@@ -10,57 +10,11 @@ use std::io::Write;
 /// A synchronous cache of texts by texts.
 pub type Cached = Cache<String, String, NoExpiry, Report, NoPredicate>;
 
-/// What a synchronous cache tells of itself.
-#[derive(Clone, Copy, Debug, PartialEq, Eq)]
-pub struct Told {
-    state: State,
-    stats: Stats,
-}
-
 /// What a cache tells of itself now.
 pub fn told_by(cache: &Cached) -> Told {
     Told {
         state: state_of(cache.engine()),
         stats: cache.stats(),
-    }
-}
-
-impl Told {
-    /// After so many look-ups that hit, and that missed.
-    pub fn after_look_ups(self, hits: u64, misses: u64) -> Told {
-        let mut after = self;
-        let reads = hits.wrapping_add(misses) as usize;
-        after.state.reads = self.state.reads.wrapping_add(reads);
-        after.stats.hits = self.stats.hits.wrapping_add(hits);
-        after.stats.misses = self.stats.misses.wrapping_add(misses);
-        after
-    }
-
-    /// After a value was made.
-    pub fn after_load(self) -> Told {
-        let mut after = self;
-        after.stats.loads = self.stats.loads.wrapping_add(1);
-        after
-    }
-
-    /// After so many inserts and removals of which the listener was not told.
-    pub fn after_writes(self, writes: usize) -> Told {
-        let mut after = self;
-        after.state.writes = self.state.writes.wrapping_add(writes);
-        after
-    }
-
-    /// After so many notices of texts with so many bytes.
-    pub fn after_notices(self, notices: u64, bytes: usize) -> Told {
-        let mut after = self;
-        after.state.report = match self.state.report {
-            Some(report) => Some(Report {
-                notices: report.notices.wrapping_add(notices),
-                bytes: report.bytes.wrapping_add(bytes),
-            }),
-            None => None,
-        };
-        after
     }
 }
 
