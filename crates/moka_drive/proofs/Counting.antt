@@ -1,20 +1,31 @@
 -- What is counted is the look-ups among the replies.
-use Rattle.std.proofs.Common.{arith, ◌≡◌, refl, ℕ, ◌+◌, ◌≤◌, min, Bool, false, cond, List, [], ◌∷◌, count_by, Option, Some, None, Result, Ok, Err, ap, sym, subst, ◌∙◌, inl, inr}
+use Rattle.std.proofs.Common.{arith, ◌≡◌, refl, ℕ, ◌+◌, ◌≤◌, min, Bool, false, cond, List, [], ◌∷◌, ◌++◌, map, count_by, Option, Some, None, Result, Ok, Err, ap, sym, subst, ◌∙◌, inl, inr}
+use Rattle.std.specs.declared.alloc.Global.{Global}
+use Rattle.std.specs.declared.vec.Vec.{Vec}
 use Rattle.std.proofs.lemmas.List.Sums.{sum_by-append}
 use Rattle.moka_parts.specs.declared.policy.Instant.{Instant}
 use Rattle.moka_parts.specs.declared.calls.Entry.{Entry}
 use Rattle.moka_parts.specs.declared.calls.Ticket.{Ticket}
 use Rattle.moka_parts.specs.declared.calls.Call.{Call}
+use Rattle.moka_parts.specs.declared.calls.Call.TheVariants as call
 use Rattle.moka_parts.specs.declared.calls.Reply.{Reply}
 use Rattle.moka_parts.specs.declared.calls.Reply.TheVariants as reply
 use Rattle.moka_parts.specs.declared.error.InsertRefused.{InsertRefused}
 use Rattle.moka_parts.specs.declared.error.OutOfMemory.{OutOfMemory}
 use Rattle.moka_parts.specs.Time.{greatest, plus}
 use Rattle.moka_parts.specs.Copies.{IsCopiedAnswer}
+use Rattle.moka_drive.specs.declared.error.NotTold.{NotTold}
+use Rattle.moka_drive.specs.declared.many.GetManyRefused.{GetManyRefused}
+use Rattle.moka_drive.specs.declared.many.InsertManyRefused.{InsertManyRefused}
+use Rattle.moka_drive.specs.declared.many.InvalidateManyRefused.{InvalidateManyRefused}
 use Rattle.moka_drive.specs.declared.stats.Stats.{Stats}
-use Rattle.moka_drive.specs.Counters.{after_look_up, after_get_with}
+use Rattle.moka_drive.specs.Computing.{Computed, Computes, InTurn, Upserts}
+use Rattle.moka_drive.specs.Computing.Computed.{Left, LeftNone, Puts, Takes}
+use Rattle.moka_drive.specs.Counters.{after_look_up, after_look_ups, after_get_with}
+use Rattle.moka_drive.specs.Entries.{after_get_or_insert}
+use Rattle.moka_drive.specs.Many.{Each, GetsItem, GetsMany, InsertsItem, InsertsMany, Invalidates, InvalidatesMany, found_by}
 use Rattle.moka_drive.specs.Counted.{is_hit, is_miss, is_look_up, loads_of, AreCounters, IsCounted, CountsCalls, AddsUp, SumsToLookUps}
-use Rattle.moka_drive.specs.Synchronous.{Posts, GetsValue, InsertsMade, GetsOrInserts, GetsOrInsertsIfMade, GetsOrInsertsIfNoError, InsertsEntry, RemovesEntry, value_found}
+use Rattle.moka_drive.specs.Synchronous.{Just, Posts, GetsValue, InsertsMade, GetsOrInserts, GetsOrInsertsIfMade, GetsOrInsertsIfNoError, InsertsEntry, RemovesEntry, value_found}
 
 -- ---- numbers that saturate
 
@@ -143,18 +154,7 @@ module _ {K V P : Type 0} where
   if_no_error s key hash now (Some (Ok made)) (Ok (Err error)) calls replies fit h = absurd h
   if_no_error s key hash now (Some (Ok made)) (Err refused) calls replies fit h = gets_or_inserts s key hash now (Some made) (Err refused) calls replies fit h
 
--- ---- the laws
-
-pub counts_calls : (K V P E : Type 0) (is_clone : V → V → Type 0) → CountsCalls K V P E is_clone
-counts_calls K V P E is_clone = record {
-  get = λ s key hash now own answer calls replies fit copied h. subst (IsCounted replies 0 s) (clones_count is_clone own answer s copied) (gets s key hash now own calls replies fit h);
-  get_with = λ s key hash now made own calls replies fit h. gets_or_inserts s key hash now made own calls replies fit h;
-  optionally_get_with = λ s key hash now made own calls replies fit h. if_made s key hash now made own calls replies fit h;
-  try_get_with = λ s key hash now made own calls replies fit h. if_no_error s key hash now made own calls replies fit h;
-  insert = λ s key hash value now answer calls replies fit h. counted_quietly s replies fit (inserts_quietly key hash value now answer calls replies h);
-  remove = λ s key hash now taken calls replies fit h. counted_quietly s replies fit (removes_quietly key hash now taken calls replies h);
-  run_pending_tasks = λ s now more calls replies fit h. counted_quietly s replies fit (subst IsQuiet (sym h.1) (record { no_hits = refl; no_misses = refl }));
-}
+-- ---- calls after calls
 
 module _ (K V P : Type 0) where
   pub adds_up : AddsUp K V P
@@ -172,6 +172,107 @@ module _ (K V P : Type 0) where
     };
   }
 
+module _ {K V P : Type 0} where
+  -- calls that look up, and then calls that do not
+  counted_then : (s t : Stats) (replies later : List (Reply K V P)) → IsCounted replies 0 s t → AreCounters s → IsQuiet later → IsCounted (replies ++ later) 0 s t
+  counted_then s t replies later h fit quiet = (adds_up K V P).goes_on replies later 0 0 s t t h (counted_quietly t later ((adds_up K V P).fits replies 0 s t h) quiet)
+
+  quiet_then : (replies later : List (Reply K V P)) → IsQuiet replies → IsQuiet later → IsQuiet (replies ++ later)
+  quiet_then replies later h k = record {
+    no_hits = sum_by-append (λ x. cond (is_hit x) 1 0) replies later ∙ ap (λ n. n + count_by is_hit later) h.no_hits ∙ zero_plus (count_by is_hit later) ∙ k.no_hits;
+    no_misses = sum_by-append (λ x. cond (is_miss x) 1 0) replies later ∙ ap (λ n. n + count_by is_miss later) h.no_misses ∙ zero_plus (count_by is_miss later) ∙ k.no_misses;
+  }
+
+  each_quietly : {A : Type 0} (Step : A → List (Call K V P) → List (Reply K V P) → Type 0) → ((x : A) (cs : List (Call K V P)) (rs : List (Reply K V P)) → Step x cs rs → IsQuiet rs) →
+      (xs : List A) (calls : List (Call K V P)) (replies : List (Reply K V P)) → Each Step xs calls replies → IsQuiet replies
+  each_quietly Step quiet [] calls replies none = subst IsQuiet (sym none.1) (record { no_hits = refl; no_misses = refl })
+  each_quietly Step quiet (x ∷ xs) calls replies (asked, got, later, answers, first, rest, c, r) = subst IsQuiet (sym r) (quiet_then got answers (quiet x asked got first) (each_quietly Step quiet xs later answers rest))
+
+  -- one call alone that looks nothing up
+  just_quietly : (s : Stats) (c : Call K V P) (r : Reply K V P) (calls : List (Call K V P)) (replies : List (Reply K V P)) → AreCounters s → is_hit r ≡ false → is_miss r ≡ false → Just c r calls replies → IsCounted replies 0 s s
+  just_quietly s c r calls replies fit no_hit no_miss h = counted_quietly s replies fit (subst IsQuiet (sym h.1) (quiet_after r [] no_hit no_miss (record { no_hits = refl; no_misses = refl })))
+
+  -- a get, and only if it misses an insert, with no maker
+  puts_or_gets : (s : Stats) (key : K) (hash : ℕ) (now : Instant) (put : Option V) (own : Result V (Option (InsertRefused K V))) (calls : List (Call K V P)) (replies : List (Reply K V P)) → AreCounters s → GetsOrInserts key hash now put own calls replies → IsCounted replies 0 s (after_get_or_insert put own s)
+  puts_or_gets s key hash now None (Ok value) calls replies fit h = gets_or_inserts s key hash now None (Ok value) calls replies fit h
+  puts_or_gets s key hash now None (Err refused) calls replies fit h = gets_or_inserts s key hash now None (Err refused) calls replies fit h
+  puts_or_gets s key hash now (Some put) own calls replies fit h = let one = gets_or_inserts s key hash now (Some put) own calls replies fit h in record { hits = one.hits; misses = one.misses; loads = no_more greatest s.loads fit.loads_fit }
+
+  module _ (is_clone : V → V → Type 0) (s : Stats) (key : K) (hash : ℕ) (now : Instant) (own got : Result (Option V) OutOfMemory) (fit : AreCounters s) (copied : IsCopiedAnswer is_clone own got) where
+    gets_clone : (calls : List (Call K V P)) (replies : List (Reply K V P)) → GetsValue key hash now own calls replies → IsCounted replies 0 s (after_look_up got s)
+    gets_clone calls replies h = subst (IsCounted replies 0 s) (clones_count is_clone own got s copied) (gets s key hash now own calls replies fit h)
+
+    -- a get, and then calls that look nothing up
+    gets_then : (Then : List (Call K V P) → List (Reply K V P) → Type 0) → ((cs : List (Call K V P)) (rs : List (Reply K V P)) → Then cs rs → IsQuiet rs) → (calls : List (Call K V P)) (replies : List (Reply K V P)) → InTurn (GetsValue key hash now own) Then calls replies → IsCounted replies 0 s (after_look_up got s)
+    gets_then Then quiet calls replies (asked, found, later, answers, first, then, c, r) = subst (λ rs. IsCounted rs 0 s (after_look_up got s)) (sym r) (counted_then s (after_look_up got s) found answers (gets_clone asked found first) fit (quiet later answers then))
+
+    upserts : (put : Option (V × Result V (InsertRefused K V))) (calls : List (Call K V P)) (replies : List (Reply K V P)) → Upserts key hash now own put calls replies → IsCounted replies 0 s (after_look_up got s)
+    upserts None calls replies h = gets_clone calls replies h
+    upserts (Some (value, answer)) calls replies h = gets_then (InsertsMade key hash now value answer) (λ cs rs k. makes_quietly key hash now value answer cs rs k) calls replies h
+
+    computes : (done : Option (Computed K V)) (calls : List (Call K V P)) (replies : List (Reply K V P)) → Computes key hash now own done calls replies → IsCounted replies 0 s (after_look_up got s)
+    computes None calls replies h = gets_clone calls replies h
+    computes (Some Left) calls replies h = gets_clone calls replies h
+    computes (Some LeftNone) calls replies h = gets_clone calls replies h
+    computes (Some (Puts value answer)) calls replies h = gets_then (InsertsMade key hash now value answer) (λ cs rs k. makes_quietly key hash now value answer cs rs k) calls replies h
+    computes (Some (Takes taken)) calls replies h = gets_then (RemovesEntry key hash now taken) (λ cs rs k. removes_quietly key hash now taken cs rs k) calls replies h
+
+  module _ (hash_of : K → ℕ) (now : Instant) where
+    inserts_many : (items : List (K × V)) (answer : Result (Unit {0}) (InsertManyRefused K V)) (calls : List (Call K V P)) (replies : List (Reply K V P)) → InsertsMany hash_of now items answer calls replies → IsQuiet replies
+    inserts_many items (Ok all) calls replies h = each_quietly (InsertsItem hash_of now) (λ x cs rs k. inserts_quietly x.0 (hash_of x.0) x.1 now (Ok tt) cs rs k) items calls replies h
+    inserts_many items (Err e) calls replies (put, is, done, (asked, got, later, answers, first, then, c, r)) =
+        subst IsQuiet (sym r) (quiet_then got answers (each_quietly (InsertsItem hash_of now) (λ x cs rs k. inserts_quietly x.0 (hash_of x.0) x.1 now (Ok tt) cs rs k) put asked got first)
+        (inserts_quietly e.refused.key (hash_of e.refused.key) e.refused.value now (Err e.refused) later answers then))
+
+    invalidates : (answer : Result (Unit {0}) (NotTold V)) (key : K) (calls : List (Call K V P)) (replies : List (Reply K V P)) → Invalidates hash_of now answer key calls replies → IsQuiet replies
+    invalidates answer key calls replies h = removes_quietly key (hash_of key) now h.0 calls replies h.2
+
+    invalidates_many : (keys : List K) (answer : Result (Unit {0}) (InvalidateManyRefused V)) (calls : List (Call K V P)) (replies : List (Reply K V P)) → InvalidatesMany hash_of now keys answer calls replies → IsQuiet replies
+    invalidates_many keys (Ok all) calls replies h = each_quietly (Invalidates hash_of now (Ok tt)) (invalidates (Ok tt)) keys calls replies h
+    invalidates_many keys (Err e) calls replies (before, key, after, is, done, (asked, got, later, answers, first, then, c, r)) =
+        subst IsQuiet (sym r) (quiet_then got answers (each_quietly (Invalidates hash_of now (Ok tt)) (invalidates (Ok tt)) before asked got first) (invalidates (Err e.refused) key later answers then))
+
+    module _ (is_clone : V → V → Type 0) where
+      gets_each : (s : Stats) (found : List (K × Option V)) (calls : List (Call K V P)) (replies : List (Reply K V P)) → AreCounters s → Each (GetsItem is_clone hash_of now) found calls replies → IsCounted replies 0 s (after_look_ups (map (λ g. g.1) found) s)
+      gets_each s [] calls replies fit none = subst (λ rs. IsCounted rs 0 s s) (sym none.1) ((adds_up K V P).at_first s fit)
+      gets_each s (g ∷ gs) calls replies fit (asked, got, later, answers, (own, copied, first), rest, c, r) =
+          let t : Stats = after_look_up {V = V} {E = OutOfMemory} (Ok g.1) s in
+          let one : IsCounted got 0 s t = gets_clone is_clone s g.0 (hash_of g.0) now (Ok own) (Ok g.1) fit copied asked got first in
+          subst (λ rs. IsCounted rs 0 s (after_look_ups (map (λ g. g.1) gs) t)) (sym r)
+          ((adds_up K V P).goes_on got answers 0 0 s t (after_look_ups (map (λ g. g.1) gs) t) one (gets_each t gs later answers ((adds_up K V P).fits got 0 s t one) rest))
+
+      gets_many : (s : Stats) (keys : List K) (answer : Result (Vec (Option V) Global) (GetManyRefused V)) (calls : List (Call K V P)) (replies : List (Reply K V P)) → AreCounters s → GetsMany is_clone hash_of now keys answer calls replies → IsCounted replies 0 s (after_look_ups (found_by answer) s)
+      gets_many s keys (Ok found) calls replies fit (got, of, is, each) = subst (λ xs. IsCounted replies 0 s (after_look_ups xs s)) (sym is) (gets_each s got calls replies fit each)
+      gets_many s keys (Err e) calls replies fit (inl (none, c, r)) =
+          subst (λ xs. IsCounted replies 0 s (after_look_ups xs s)) (sym none) (subst (λ rs. IsCounted rs 0 s s) (sym r) ((adds_up K V P).at_first s fit))
+      gets_many s keys (Err e) calls replies fit (inr (got, key, after, of, is, refused, (asked, before, later, answers, each, last, c, r))) =
+          let t : Stats = after_look_ups (map (λ g. g.1) got) s in
+          let one : IsCounted before 0 s t = gets_each s got asked before fit each in
+          let then : IsCounted answers 0 t t = gets t key (hash_of key) now (Err refused) later answers ((adds_up K V P).fits before 0 s t one) last in
+          subst (λ xs. IsCounted replies 0 s (after_look_ups xs s)) (sym is) (subst (λ rs. IsCounted rs 0 s t) (sym r) ((adds_up K V P).goes_on before answers 0 0 s t t one then))
+
+-- ---- the laws
+
+pub counts_calls : (K V P E : Type 0) (is_clone : V → V → Type 0) → CountsCalls K V P E is_clone
+counts_calls K V P E is_clone = record {
+  get = λ s key hash now own answer calls replies fit copied h. subst (IsCounted replies 0 s) (clones_count is_clone own answer s copied) (gets s key hash now own calls replies fit h);
+  get_with = λ s key hash now made own calls replies fit h. gets_or_inserts s key hash now made own calls replies fit h;
+  optionally_get_with = λ s key hash now made own calls replies fit h. if_made s key hash now made own calls replies fit h;
+  try_get_with = λ s key hash now made own calls replies fit h. if_no_error s key hash now made own calls replies fit h;
+  insert = λ s key hash value now answer calls replies fit h. counted_quietly s replies fit (inserts_quietly key hash value now answer calls replies h);
+  remove = λ s key hash now taken calls replies fit h. counted_quietly s replies fit (removes_quietly key hash now taken calls replies h);
+  run_pending_tasks = λ s now more calls replies fit h. counted_quietly s replies fit (subst IsQuiet (sym h.1) (record { no_hits = refl; no_misses = refl }));
+  invalidate_all = λ s now calls replies fit h. just_quietly s (call.InvalidateAll now) reply.InvalidateAll calls replies fit refl refl h;
+  set_max_capacity = λ s capacity answer calls replies fit h. just_quietly s (call.SetCapacity capacity) (reply.SetCapacity answer) calls replies fit refl refl h;
+  get_or_insert = λ s key hash now put own calls replies fit h. puts_or_gets s key hash now put own calls replies fit h;
+  upsert_with = λ s key hash now own got put calls replies fit copied h. upserts is_clone s key hash now own got fit copied put calls replies h;
+  compute_with = λ s key hash now own got done calls replies fit copied h. computes is_clone s key hash now own got fit copied done calls replies h;
+  get_many = λ s hash_of now keys answer calls replies fit h. gets_many hash_of now is_clone s keys answer calls replies fit h;
+  insert_many = λ s hash_of now items answer calls replies fit h. counted_quietly s replies fit (inserts_many hash_of now items answer calls replies h);
+  invalidate_many = λ s hash_of now keys answer calls replies fit h. counted_quietly s replies fit (invalidates_many hash_of now keys answer calls replies h);
+}
+
+module _ (K V P : Type 0) where
   one_of_both : (r : Reply K V P) → cond (is_hit r) 1 0 + cond (is_miss r) 1 0 ≡ cond (is_look_up r) 1 0
   one_of_both (reply.Get (Ok (Some entry))) = refl
   one_of_both (reply.Get (Ok None)) = refl

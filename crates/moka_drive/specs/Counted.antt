@@ -1,15 +1,25 @@
 -- What the replies of a cache's calls say of its counters.
 use Rattle.std.specs.Prelude.{◌≡◌, ℕ, ◌+◌, ◌≤◌, Bool, true, false, List, [], ◌++◌, count_by, Option, Some, None, Result, Ok}
+use Rattle.std.specs.declared.alloc.Global.{Global}
+use Rattle.std.specs.declared.vec.Vec.{Vec}
 use Rattle.moka_parts.specs.declared.policy.Instant.{Instant}
 use Rattle.moka_parts.specs.declared.calls.Call.{Call}
+use Rattle.moka_parts.specs.declared.calls.Call.TheVariants as call
 use Rattle.moka_parts.specs.declared.calls.Reply.{Reply}
 use Rattle.moka_parts.specs.declared.calls.Reply.TheVariants as reply
+use Rattle.moka_parts.specs.declared.error.CapacityError.{CapacityError}
 use Rattle.moka_parts.specs.declared.error.InsertRefused.{InsertRefused}
 use Rattle.moka_parts.specs.declared.error.OutOfMemory.{OutOfMemory}
 use Rattle.moka_parts.specs.Time.{greatest, plus}
 use Rattle.moka_parts.specs.Copies.{IsCopiedAnswer}
+use Rattle.moka_drive.specs.declared.many.GetManyRefused.{GetManyRefused}
+use Rattle.moka_drive.specs.declared.many.InsertManyRefused.{InsertManyRefused}
+use Rattle.moka_drive.specs.declared.many.InvalidateManyRefused.{InvalidateManyRefused}
 use Rattle.moka_drive.specs.declared.stats.Stats.{Stats}
-use Rattle.moka_drive.specs.Counters.{no_stats, after_look_up, after_get_with}
+use Rattle.moka_drive.specs.Computing.{Computed, Computes, Upserts}
+use Rattle.moka_drive.specs.Counters.{no_stats, after_look_up, after_look_ups, after_get_with}
+use Rattle.moka_drive.specs.Entries.{after_get_or_insert}
+use Rattle.moka_drive.specs.Many.{GetsMany, InsertsMany, InvalidatesMany, found_by}
 use Rattle.moka_drive.specs.Synchronous.{Just, own_run, GetsValue, GetsOrInserts, GetsOrInsertsIfMade, GetsOrInsertsIfNoError, InsertsEntry, RemovesEntry}
 
 module _ {K V P : Type 0} where
@@ -60,6 +70,20 @@ pub record CountsCalls (K V P E : Type 0) (is_clone : V → V → Type 0) : Type
   pub insert : (s : Stats) (key : K) (hash : ℕ) (value : V) (now : Instant) (answer : Result (Unit {0}) (InsertRefused K V)) (calls : List (Call K V P)) (replies : List (Reply K V P)) → AreCounters s → InsertsEntry key hash value now answer calls replies → IsCounted replies 0 s s
   pub remove : (s : Stats) (key : K) (hash : ℕ) (now : Instant) (taken : Option (V × Result (Unit {0}) OutOfMemory)) (calls : List (Call K V P)) (replies : List (Reply K V P)) → AreCounters s → RemovesEntry key hash now taken calls replies → IsCounted replies 0 s s
   pub run_pending_tasks : (s : Stats) (now : Instant) (more : Bool) (calls : List (Call K V P)) (replies : List (Reply K V P)) → AreCounters s → Just (own_run now) (reply.Run more) calls replies → IsCounted replies 0 s s
+  pub invalidate_all : (s : Stats) (now : Instant) (calls : List (Call K V P)) (replies : List (Reply K V P)) → AreCounters s → Just (call.InvalidateAll now) reply.InvalidateAll calls replies → IsCounted replies 0 s s
+  pub set_max_capacity : (s : Stats) (capacity : Option ℕ) (answer : Result (Unit {0}) CapacityError) (calls : List (Call K V P)) (replies : List (Reply K V P)) → AreCounters s → Just (call.SetCapacity capacity) (reply.SetCapacity answer) calls replies → IsCounted replies 0 s s
+  -- a miss after which a value is put is no load
+  pub get_or_insert : (s : Stats) (key : K) (hash : ℕ) (now : Instant) (put : Option V) (own : Result V (Option (InsertRefused K V))) (calls : List (Call K V P)) (replies : List (Reply K V P)) → AreCounters s → GetsOrInserts key hash now put own calls replies →
+      IsCounted replies 0 s (after_get_or_insert put own s)
+  -- a function that computes a value is no maker
+  pub upsert_with : (s : Stats) (key : K) (hash : ℕ) (now : Instant) (own got : Result (Option V) OutOfMemory) (put : Option (V × Result V (InsertRefused K V))) (calls : List (Call K V P)) (replies : List (Reply K V P)) → AreCounters s → IsCopiedAnswer is_clone own got → Upserts key hash now own put calls replies →
+      IsCounted replies 0 s (after_look_up got s)
+  pub compute_with : (s : Stats) (key : K) (hash : ℕ) (now : Instant) (own got : Result (Option V) OutOfMemory) (done : Option (Computed K V)) (calls : List (Call K V P)) (replies : List (Reply K V P)) → AreCounters s → IsCopiedAnswer is_clone own got → Computes key hash now own done calls replies →
+      IsCounted replies 0 s (after_look_up got s)
+  pub get_many : (s : Stats) (hash_of : K → ℕ) (now : Instant) (keys : List K) (answer : Result (Vec (Option V) Global) (GetManyRefused V)) (calls : List (Call K V P)) (replies : List (Reply K V P)) → AreCounters s → GetsMany is_clone hash_of now keys answer calls replies →
+      IsCounted replies 0 s (after_look_ups (found_by answer) s)
+  pub insert_many : (s : Stats) (hash_of : K → ℕ) (now : Instant) (items : List (K × V)) (answer : Result (Unit {0}) (InsertManyRefused K V)) (calls : List (Call K V P)) (replies : List (Reply K V P)) → AreCounters s → InsertsMany hash_of now items answer calls replies → IsCounted replies 0 s s
+  pub invalidate_many : (s : Stats) (hash_of : K → ℕ) (now : Instant) (keys : List K) (answer : Result (Unit {0}) (InvalidateManyRefused V)) (calls : List (Call K V P)) (replies : List (Reply K V P)) → AreCounters s → InvalidatesMany hash_of now keys answer calls replies → IsCounted replies 0 s s
 
 -- so it is with any list of calls: what is counted adds up from call to call
 pub record AddsUp (K V P : Type 0) : Type 0 where
