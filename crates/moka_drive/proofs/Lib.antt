@@ -14,6 +14,7 @@ pub mod Lists
 pub mod Alike
 mod Listing
 mod Counting
+mod Registering
 mod Telling
 pub mod Entries
 pub mod Computing

@@ -1,16 +1,18 @@
 -- Lists of calls that a cache made.
-use Rattle.std.proofs.Common.{List, [], ◌∷◌, subst, inl, inr}
+use Rattle.std.proofs.Common.{refl, List, [], ◌∷◌, subst, inl, inr}
 use Rattle.std.specs.Cmp.{IsEquivalence}
 use Rattle.moka_parts.specs.declared.notification.RemovalCause.{RemovalCause}
 use Rattle.moka_parts.specs.declared.calls.Call.{Call}
 use Rattle.moka_parts.specs.declared.calls.Call.TheVariants as call
+use Rattle.moka_parts.specs.declared.calls.Reply.TheVariants as reply
+use Rattle.moka_parts.specs.Calls.{no_events}
 use Rattle.moka_parts.specs.State.{State, Meaning}
 use Rattle.moka_parts.specs.Order.{IsOrderly}
 use Rattle.moka_parts.specs.Runs.{Step, AreOrderly}
 use Rattle.moka_parts.proofs.OrderedDrive.{drives_in_order, empty_in_order, listed_steps_orderly}
 use Rattle.moka_drive.specs.Synchronous.{IsSentInOrder, AreSentInOrder, hears_clones}
-use Rattle.moka_drive.specs.Laws.{IsTimely, AreTimely, GoesOn, KeepsPromises, AgesOut, HearsClones, HearsThemselves}
-use Rattle.moka_drive.proofs.Made.{made_then, made_more}
+use Rattle.moka_drive.specs.Laws.{IsTimely, AreTimely, GoesOn, KeepsPromises, AgesOut, HearsClones, HearsThemselves, InvalidateAllIsMade, SetMaxCapacityIsMade}
+use Rattle.moka_drive.proofs.Made.{made_one, made_then, made_more}
 
 module _ {K V X P W : Type 0} where
   orderly : (s : State K V X P W) (c : Call K V P) → IsTimely s c → IsSentInOrder s c → IsOrderly s c
@@ -25,6 +27,12 @@ module _ {K V X P W : Type 0} where
 module _ {K V X L P W C : Type 0} (S : Type 0) (m : Meaning K V X L P W C (Unit {0})) where
   pub goes_on : GoesOn S m
   goes_on calls later replies answers old mid new c1 c2 c3 h k = made_then m calls later replies answers old mid new c1 c2 c3 h k
+
+  pub invalidates_all : InvalidateAllIsMade S m
+  invalidates_all now old new clock step befalls = made_one m old new clock clock (call.InvalidateAll now) reply.InvalidateAll no_events (step, refl) befalls refl refl tt
+
+  pub sets_max_capacity : SetMaxCapacityIsMade S m
+  sets_max_capacity capacity answer old new clock step befalls = made_one m old new clock clock (call.SetCapacity capacity) (reply.SetCapacity answer) no_events (step, refl) befalls refl refl tt
 
   pub keeps_promises : IsEquivalence m.eq → KeepsPromises S m
   keeps_promises laws calls replies old new clock clock_after valid listed made = drives_in_order m calls replies made.steps old new clock clock_after tt tt laws valid listed made.is_run made.listed

@@ -73,7 +73,7 @@ module _ {K V X P W : Type 0} where
   last_passes-append before [] ys = refl
   last_passes-append before (x ∷ xs) ys = last_passes-append (passes_after before x.events.passes) xs ys
 
-  sent-append : (s : State K V X P W) (xs ys : List (Step K V X P W)) → AreSentInOrder s xs → AreSentInOrder (last_state s xs) ys → AreSentInOrder s (xs ++ ys)
+  pub sent-append : (s : State K V X P W) (xs ys : List (Step K V X P W)) → AreSentInOrder s xs → AreSentInOrder (last_state s xs) ys → AreSentInOrder s (xs ++ ys)
   sent-append s [] ys h k = k
   sent-append s (x ∷ xs) ys h k = (h.0, sent-append x.after xs ys h.1 k)
 
@@ -82,7 +82,7 @@ module _ {K V X L P W C I : Type 0} (m : Meaning K V X L P W C I) where
   steps-append Runs s [] ys h k = k
   steps-append Runs s (x ∷ xs) ys h k = (h.0, steps-append Runs x.after xs ys h.1 k)
 
-  listed-append : (s : State K V X P W) (before mid last : List ℕ) (xs ys : List (Step K V X P W)) → AreListedSteps m s before xs mid → AreListedSteps m (last_state s xs) mid ys last → AreListedSteps m s before (xs ++ ys) last
+  pub listed-append : (s : State K V X P W) (before mid last : List ℕ) (xs ys : List (Step K V X P W)) → AreListedSteps m s before xs mid → AreListedSteps m (last_state s xs) mid ys last → AreListedSteps m s before (xs ++ ys) last
   listed-append s before mid last [] ys same k = subst (λ ns. AreListedSteps m s ns ys last) same k
   listed-append s before mid last (x ∷ xs) ys (after, first, rest) k = (after, first, listed-append x.after after mid last xs ys rest k)
 

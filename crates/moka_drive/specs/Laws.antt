@@ -1,12 +1,16 @@
 -- What is promised of lists of calls that a cache made.
-use Rattle.std.specs.Prelude.{◌≡◌, true, List, [], ◌∷◌, ◌++◌, ⊤}
+use Rattle.std.specs.Prelude.{◌≡◌, ℕ, true, List, [], ◌∷◌, ◌++◌, Option, Some, Result, ⊤}
 use Rattle.moka_parts.specs.declared.calls.Call.{Call}
 use Rattle.moka_parts.specs.declared.calls.Call.TheVariants as call
 use Rattle.moka_parts.specs.declared.calls.Reply.{Reply}
+use Rattle.moka_parts.specs.declared.calls.Reply.TheVariants as reply
+use Rattle.moka_parts.specs.declared.error.CapacityError.{CapacityError}
+use Rattle.moka_parts.specs.declared.policy.Instant.{Instant}
+use Rattle.moka_parts.specs.Calls.{CapacityStep, no_events}
 use Rattle.moka_parts.specs.State.{State, Meaning, keeps_write_list}
 use Rattle.moka_parts.specs.Settling.{IsValid}
 use Rattle.moka_parts.specs.Order.{IsOrderly, IsWriteList}
-use Rattle.moka_parts.specs.Runs.{Cache, Step, AreSteps, OrderlyRun, IsEmpty}
+use Rattle.moka_parts.specs.Runs.{Cache, Step, AreSteps, Befalls, OrderlyRun, IsEmpty}
 use Rattle.moka_parts.specs.Drives.{Drives}
 use Rattle.moka_parts.specs.Copies.{ClonesAreEqual}
 use Rattle.moka_drive.specs.Synchronous.{Made, hears_clones}
@@ -25,6 +29,16 @@ module _ {K V X L P W C : Type 0} (S : Type 0) (m : Meaning K V X L P W C (Unit 
   -- what was made after what was made is a run as well
   abbrev pub GoesOn : Type 0
   GoesOn = (calls later : List (Call K V P)) (replies answers : List (Reply K V P)) (old mid new : Cache K V S X L P W) (c1 c2 c3 : C) → Made m calls replies old c1 mid c2 → Made m later answers mid c2 new c3 → Made m (calls ++ later) (replies ++ answers) old c1 new c3
+
+  -- what `invalidate_all` ensures is a chain of one step, whatever the clock is, since it is not read
+  abbrev pub InvalidateAllIsMade : Type 0
+  InvalidateAllIsMade = (now : Instant) (old new : Cache K V S X L P W) (clock : C) → new.state ≡ record old.state { invalid_before = Some now } → Befalls m.tells no_events old new →
+      Made m (call.InvalidateAll now ∷ []) (reply.InvalidateAll ∷ []) old clock new clock
+
+  -- and so is what `set_max_capacity` ensures, refused or not
+  abbrev pub SetMaxCapacityIsMade : Type 0
+  SetMaxCapacityIsMade = (capacity : Option ℕ) (answer : Result (Unit {0}) CapacityError) (old new : Cache K V S X L P W) (clock : C) → CapacityStep old.state capacity answer new.state → Befalls m.tells no_events old new →
+      Made m (call.SetCapacity capacity ∷ []) (reply.SetCapacity answer ∷ []) old clock new clock
 
   -- what was made from a valid cache keeps all that is promised of a list of calls
   abbrev pub KeepsPromises : Type 0

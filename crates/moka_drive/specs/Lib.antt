@@ -14,3 +14,4 @@ pub mod Entries
 pub mod Computing
 pub mod Many
 pub mod Limits
+pub mod Registering

@@ -7,14 +7,19 @@ ghost use Rattle.moka_parts.specs.declared.policy.Instant.{Instant};
 ghost use Rattle.std.specs.Prelude.{ℕ};
 ghost use Rattle.moka_drive.specs.Synchronous.{meaning_of, hears_clones};
 ghost use Rattle.moka_drive.specs.Counted.{CountsCalls, AddsUp, SumsToLookUps};
-ghost use Rattle.moka_drive.specs.Laws.{GoesOn, KeepsPromises, AgesOut, HearsClones, HearsThemselves};
+ghost use Rattle.moka_drive.specs.Meanings.{meaning_of as asking_meaning_of};
+ghost use Rattle.moka_drive.specs.Registering.{JoinsRegistrations};
+ghost use Rattle.moka_drive.specs.Laws.{GoesOn, KeepsPromises, AgesOut, HearsClones, HearsThemselves, InvalidateAllIsMade, SetMaxCapacityIsMade};
 
 use moka_parts::closures::{PredicateFn, Weigher};
 use moka_parts::housekeeper::Clock;
+use moka_parts::invalidator::IdSource;
 use moka_parts::notification::Listener;
 use moka_parts::policy::Expiry;
 
-/// What a cache makes call after call is one run of the reference cache, however many calls there are.
+/// Calls that are chains of steps (`Made`), one after the other, are one run of the reference cache, however many there
+/// are. `restore` and `restore_entry` are none, since the reference cache has no such call; nor is
+/// `invalidate_entries_if`, which asks for identifiers (`joins_registrations`).
 pub fn goes_on<
     K: Eq,
     V,
@@ -26,6 +31,41 @@ pub fn goes_on<
     C: Clock,
 >()
     ensures { GoesOn S (meaning_of K.eq L.tells P.says W.weighs C.reads X.created X.read X.updated) }
+{}
+
+/// What `invalidate_all` and `set_max_capacity` ensure is such a chain too, of one step, whatever the clock is: neither
+/// reads it. So `goes_on` joins them with the calls before and after them.
+pub fn makes_one_step<
+    K: Eq,
+    V,
+    S,
+    X: Expiry<K, V>,
+    L: Listener<K, V>,
+    P: PredicateFn<K, V>,
+    W: Weigher<K, V>,
+    C: Clock,
+>()
+    ensures invalidate_all { InvalidateAllIsMade S (meaning_of K.eq L.tells P.says W.weighs C.reads X.created X.read X.updated) }
+    ensures set_max_capacity { SetMaxCapacityIsMade S (meaning_of K.eq L.tells P.says W.weighs C.reads X.created X.read X.updated) }
+{}
+
+/// Such chains and calls of `invalidate_entries_if` are one run too, in which identifiers are asked for (`MadeAsking`),
+/// and which keeps all that is promised of a list of calls; whether the listener hears of keys and values or of clones.
+pub fn joins_registrations<
+    K: Eq + Clone,
+    V: Clone,
+    S,
+    X: Expiry<K, V>,
+    L: Listener<K, V>,
+    P: PredicateFn<K, V>,
+    W: Weigher<K, V>,
+    C: Clock,
+    I: IdSource,
+>()
+    ensures themselves { JoinsRegistrations S L.tells (meaning_of K.eq L.tells P.says W.weighs C.reads X.created X.read X.updated)
+        (asking_meaning_of K.eq L.tells P.says W.weighs C.reads I.gives X.created X.read X.updated) }
+    ensures clones { JoinsRegistrations S L.tells (meaning_of K.eq (hears_clones K.is_clone V.is_clone L.tells) P.says W.weighs C.reads X.created X.read X.updated)
+        (asking_meaning_of K.eq (hears_clones K.is_clone V.is_clone L.tells) P.says W.weighs C.reads I.gives X.created X.read X.updated) }
 {}
 
 /// It keeps all that is promised of a list of calls.
@@ -42,7 +82,9 @@ pub fn keeps_promises<
     ensures { KeepsPromises S (meaning_of K.eq L.tells P.says W.weighs C.reads X.created X.read X.updated) }
 {}
 
-/// Where no insert is earlier than a write that is there, each run that is not cut also removes what is past its time.
+/// From an empty cache that keeps the order of writing, since it has a time to live or supports predicates: if no
+/// insert is earlier than a write that is there, each whole run leaves nothing past its time to live, and nothing
+/// written before the invalidation of all.
 pub fn ages_out<
     K: Eq,
     V,
@@ -84,8 +126,9 @@ pub fn hears_themselves<
     ensures { HearsThemselves S (meaning_of K.eq L.tells P.says W.weighs C.reads X.created X.read X.updated) K.is_clone V.is_clone }
 {}
 
-/// The counters after each call are those before, and the hits, misses and makers of what it stands for. That adds up
-/// from call to call, so hits and misses sum to the look-ups that were answered, until a counter is full.
+/// The counters after each call that is a chain of steps are those before, and the hits, misses and makers of what it
+/// stands for. That adds up from call to call, so hits and misses sum to the look-ups that were answered, until a
+/// counter is full.
 pub fn counts_look_ups<K, V: Clone, P, E>()
     ensures calls { CountsCalls K V P E V.is_clone }
     ensures adds_up { AddsUp K V P }
