@@ -10,3 +10,5 @@ pub mod Idle
 pub mod Named
 pub mod Among
 pub mod Bound
+pub mod LoggedOut
+pub mod Seen

@@ -6,3 +6,4 @@ pub mod ReadThrough
 pub mod Sessions
 pub mod Borrowed
 pub mod Restarted
+pub mod Logins

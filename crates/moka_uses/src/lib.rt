@@ -10,6 +10,7 @@ pub mod expiring;
 pub mod handled;
 pub mod invalidated;
 pub mod late;
+pub mod logins;
 pub mod notified;
 pub mod ordered;
 pub mod profiles;
