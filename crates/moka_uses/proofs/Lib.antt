@@ -12,3 +12,4 @@ pub mod Among
 pub mod Bound
 pub mod LoggedOut
 pub mod Seen
+pub mod Batched

@@ -2,6 +2,7 @@
 #![tactic(auto)]
 
 pub mod asked;
+pub mod batches;
 pub mod borrowed;
 pub mod bounded;
 pub mod cached;
