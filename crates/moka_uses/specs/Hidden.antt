@@ -14,3 +14,11 @@ module _ {X W : Type 0} (s : State ℕ ℕ X Below W) (key : ℕ) where
   -- whether the key is there is answered with no, at whatever moment
   abbrev pub IsNeverShown : Type 0
   IsNeverShown = (later : ℕ) (shown : Bool) → ContainsStep (λ below _ value answer. answer ≡ nat_lt value below.0) (λ a b. a == b) s key later shown → shown ≡ false
+
+  -- the key is hidden at the moment
+  abbrev pub IsHiddenAt : ℕ → Type 0
+  IsHiddenAt now = ContainsStep (λ below _ value answer. answer ≡ nat_lt value below.0) (λ a b. a == b) s key now false
+
+  -- whether the key is there is answered with no at the moment and later
+  abbrev pub IsHiddenFrom : ℕ → Type 0
+  IsHiddenFrom now = (later : ℕ) (shown : Bool) → now ≤ later → ContainsStep (λ below _ value answer. answer ≡ nat_lt value below.0) (λ a b. a == b) s key later shown → shown ≡ false

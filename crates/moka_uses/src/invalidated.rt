@@ -1,9 +1,11 @@
 //! A caller that hides values by a predicate of its own.
 ghost use Rattle.std.specs.Prelude.{◌≡◌, ℕ, IfOk, IfErr, OnErr};
-ghost use Rattle.moka_uses.specs.Hidden.{IsBelow, IsNeverShown};
+ghost use Rattle.moka_uses.specs.Hidden.{IsBelow, IsHiddenAt, IsHiddenFrom, IsNeverShown};
 
+use moka_engine::laws::{stays_hidden, steps_are_of_reference};
 use moka_engine::{
-    Engine, IdSource, Instant, NoExpiry, NoListener, PredicateFn, PredicateId, PredicateRefused,
+    Engine, FixedClock, IdSource, Instant, NoExpiry, NoListener, NoWeigher, PredicateFn,
+    PredicateId, PredicateRefused,
 };
 
 /// Says yes to the values below a bound.
@@ -54,8 +56,30 @@ pub fn hide_below<I: IdSource>(
     ids: &mut I,
 ) -> Result<PredicateId, PredicateRefused<Below>>
     ensures hidden { IfOk result (λ _. (key : ℕ) → IsBelow numbers.old.state key bound now.0 → IsNeverShown numbers.new.state key) }
+    ensures at_once { IfOk result (λ _. (key : ℕ) → IsBelow numbers.old.state key bound now.0 → IsHiddenAt numbers.new.state key now.0) }
     ensures back { IfErr result (λ refused. refused.predicate ≡ record { 0 = bound }) }
     ensures unchanged { OnErr result (numbers.new.state ≡ numbers.old.state) }
 {
     numbers.invalidate_entries_if(Below(bound), now, ids)
+}
+
+/// Makes a run of maintenance at the moment `now`. A key that was hidden then, as by `hide_below`, is not shown after it, at
+/// that moment or later. A call of the engine is a step of the reference cache (`steps_are_of_reference`), where a key that is
+/// hidden stays so (`stays_hidden`).
+pub fn run_after_hiding(numbers: &mut Numbers, now: Instant) -> bool
+    ensures { (key : ℕ) → IsHiddenAt numbers.old.state key now.0 → IsHiddenFrom numbers.new.state key now.0 }
+{
+    steps_are_of_reference::<
+        u64,
+        u64,
+        NoExpiry,
+        NoListener,
+        Below,
+        NoWeigher,
+        FixedClock,
+        CountedIds,
+    >();
+    stays_hidden::<u64, u64, NoExpiry, NoListener, Below, NoWeigher, FixedClock, CountedIds>();
+    numbers.invariant_holds();
+    numbers.run_pending_tasks(now, &mut FixedClock(now), None, 1, 384)
 }
