@@ -2,7 +2,7 @@
 use crate::equal::assert_equal;
 use anyhow::Result;
 use moka_engine::{CacheConfig, Instant, PredicateError};
-use moka_uses::invalidated::{Below, CountedIds, Numbers, hide_below};
+use moka_uses::invalidated::{Below, CountedIds, Numbers, hide_below, run_after_hiding};
 
 fn has(numbers: &Numbers, key: u64) -> bool {
     numbers.contains_key_with_hash(&key, numbers.hash(&key), Instant(1))
@@ -26,5 +26,7 @@ fn hides_what_lies_below(rt: HostRuntime) -> Result<()> {
     let back = refused.map(|refused| (refused.error, refused.predicate));
     assert_equal(&rt, back, Some((PredicateError::NoFreeId, Below(11))));
     assert!(rt; has(&numbers, 2));
+    run_after_hiding(&mut numbers, Instant(0));
+    assert_equal(&rt, (has(&numbers, 1), has(&numbers, 2)), (false, true));
     Ok(())
 }

@@ -22,6 +22,8 @@ mod invalidated;
 #[cfg(test)]
 mod late;
 #[cfg(test)]
+mod logins;
+#[cfg(test)]
 mod notified;
 #[cfg(test)]
 mod ordered;
