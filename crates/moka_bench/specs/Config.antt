@@ -12,7 +12,8 @@ word_at bytes index = option_map_or (from_le_bytes w64) (slice_get (first_chunks
 abbrev pub additions : List ℕ → ℕ
 additions bytes = min (word_at bytes 4 + word_at bytes 10 + word_at bytes 11 + word_at bytes 12 + min (word_at bytes 8) 1) (2 ^ 64 - 1)
 
--- 16 words for the configuration and 8 for the counts; one of both policies, one of both hashers, and at most one addition
+-- 16 words for the configuration and 8 for the counts; one of both policies, one of both hashers, and at most one
+-- addition
 abbrev pub is_served : List ℕ → ℕ → Bool
 is_served bytes counts = nat_eq (length bytes) 128 && (nat_eq counts 64
     && (nat_le (word_at bytes 3) 1 && (nat_le (word_at bytes 7) 1 && nat_le (additions bytes) 1)))

@@ -1,4 +1,5 @@
--- Calls that compute a key's value from the one that is there: which calls of the reference cache each stands for, and what it answers.
+-- Calls that compute a key's value from the one that is there: which calls of the reference cache each stands for, and
+-- what it answers.
 use Rattle.std.specs.Prelude.{◌≡◌, ℕ, Bool, true, false, List, ◌++◌, Option, Some, None, Result, Ok, Err, is_some, ⊤}
 use Rattle.moka_parts.specs.declared.calls.Call.{Call}
 use Rattle.moka_parts.specs.declared.calls.Reply.{Reply}
@@ -67,7 +68,8 @@ op_of LeftNone = Remove
 op_of (Puts value answer) = Put value
 op_of (Takes taken) = Remove
 
--- the function was called with what was got, and what it answered was done; if the look-up was refused, it was not called
+-- the function was called with what was got, and what it answered was done; if the look-up was refused, it was not
+-- called
 abbrev pub IsComputedBy : {K V : Type 0} → (Option V → Op V → Type 0) → Result (Option V) OutOfMemory → Option (Computed K V) → Type 0
 IsComputedBy Answers (Err refused) None = ⊤
 IsComputedBy Answers (Ok seen) (Some did) = Answers seen (op_of did)
@@ -89,7 +91,8 @@ module _ {K V : Type 0} (is_key_clone : K → K → Type 0) (is_clone : V → V 
   HandsOutComputedPut there (Err refused) (Err (compute_refused.Insert r)) = r ≡ refused
   HandsOutComputedPut there answer result = ⊥
 
-  -- what a removal answers: the value, or that the look-up's run of maintenance had taken it already, or that it was not told
+  -- what a removal answers: the value, or that the look-up's run of maintenance had taken it already, or that it was
+  -- not told
   abbrev pub HandsOutTaken : Option (V × Result (Unit {0}) OutOfMemory) → Result (CompResult K V) (ComputeRefused K V) → Type 0
   HandsOutTaken None (Ok (StillNone k)) = k ≡ key
   HandsOutTaken (Some (value, Ok told)) (Ok (Removed e)) = (e.value ≡ value) × IsFound key e

@@ -45,7 +45,8 @@ module _ {K V X L P W C : Type 0} (S : Type 0) (m : Meaning K V X L P W C (Unit 
   KeepsPromises = (calls : List (Call K V P)) (replies : List (Reply K V P)) (old new : Cache K V S X L P W) (clock clock_after : C) → IsValid m.eq old.state → (keeps_write_list old.state.settings ≡ true → IsWriteList old.state old.write_list) → Made m calls replies old clock new clock_after →
       Drives m calls replies old clock tt new clock_after tt
 
-  -- from an empty cache, where no insert is earlier than a write that is there, each run that is not cut also removes what is past its time
+  -- from an empty cache, where no insert is earlier than a write that is there, each run that is not cut also removes
+  -- what is past its time
   abbrev pub AgesOut : Type 0
   AgesOut = (calls : List (Call K V P)) (replies : List (Reply K V P)) (old new : Cache K V S X L P W) (clock clock_after : C) → IsValid m.eq old.state → IsEmpty old.state → (keeps_write_list old.state.settings ≡ true → IsWriteList old.state old.write_list) → (made : Made m calls replies old clock new clock_after) → AreTimely old.state made.steps →
       AreSteps m (OrderlyRun m.says m.read) old.state made.steps

@@ -53,7 +53,8 @@ module _ {K V P : Type 0} (is_clone : V → V → Type 0) (hash_of : K → ℕ) 
   abbrev pub GetsItem : K × Option V → List (Call K V P) → List (Reply K V P) → Type 0
   GetsItem item calls replies = (own : Option V) × IsCopy is_clone own item.1 × GetsValue item.0 (hash_of item.0) now (Ok own) calls replies
 
-  -- a look-up of each key; or of those before the one that is refused, or of none where there is no room for the answers
+  -- a look-up of each key; or of those before the one that is refused, or of none where there is no room for the
+  -- answers
   abbrev pub GetsMany : List K → Result (Vec (Option V) Global) (GetManyRefused V) → List (Call K V P) → List (Reply K V P) → Type 0
   GetsMany keys (Ok found) calls replies = (got : List (K × Option V)) × (keys ≡ map (λ g. g.0) got) × (found.items ≡ map (λ g. g.1) got) × Each GetsItem got calls replies
   GetsMany keys (Err e) calls replies =

@@ -25,7 +25,8 @@ pub record MadeAsking {K V S X L P W C I : Type 0} (m : Meaning K V X L P W C I)
   pub listed : AreListedSteps m old.state old.write_list steps new.write_list
   pub in_order : AreSentInOrder old.state steps
 
--- calls with registrations in between are one run: the second meaning is the first with a source of identifiers, and registrations are told as it is said before both
+-- calls with registrations in between are one run: the second meaning is the first with a source of identifiers, and
+-- registrations are told as it is said before both
 pub record JoinsRegistrations {K V X L P W C I : Type 0} (S : Type 0) (told : L → K → V → RemovalCause → L → Type 0) (m : Meaning K V X L P W C (Unit {0})) (n : Meaning K V X L P W C I) : Type 0 where
   -- what was made leaves any source as it is
   pub asked_none : (calls : List (Call K V P)) (replies : List (Reply K V P)) (old new : Cache K V S X L P W) (clock clock_after : C) (ids : I) → Made m calls replies old clock new clock_after → MadeAsking n calls replies old clock ids new clock_after ids

@@ -55,14 +55,16 @@ pub record IsRestored {K V X P W : Type 0} (eq : K → K → Bool) (s : State K 
   pub found : record_of_key eq s.records item.key ≡ Some kept
   pub of_item : IsOfItem item kept
 
--- each record of the second is one of the first, but for the applied generation, or has been put back of one of the entries
+-- each record of the second is one of the first, but for the applied generation, or has been put back of one of the
+-- entries
 abbrev pub AddsOnly : {K V X P W : Type 0} → List (Restored K V) → State K V X P W → State K V X P W → Type 0
 AddsOnly {K} {V} items s t = (n : ℕ) (q : Record K V) → get t.records n ≡ Some q →
     ((r : Record K V) × (get s.records n ≡ Some r) × ((g : ℕ) × (q ≡ record r { applied = g })))
     ⊎ ((item : Restored K V) × Contains items item × IsOfItem item q)
 
 module _ {K V S X L P W C : Type 0} (m : Meaning K V X L P W C (Unit {0})) (hash_of : S → K → ℕ) (now : Instant) where
-  -- an entry is put back, and its ticket posted; a disabled map lets it go, and one that is refused comes back for that reason
+  -- an entry is put back, and its ticket posted; a disabled map lets it go, and one that is refused comes back for that
+  -- reason
   abbrev pub PutsBack : Restored K V → Result (Unit {0}) (RestoreRefused K V) → Cache K V S X L P W → C → Cache K V S X L P W → C → Type 0
   PutsBack item (Ok done) old clock new clock_after =
       ((is_disabled old.state.capacity ≡ true) × (new ≡ old) × (clock_after ≡ clock))
@@ -86,7 +88,8 @@ module _ {K V S X L P W C : Type 0} (m : Meaning K V X L P W C (Unit {0})) (hash
       (done : List (Restored K V)) × (item : Restored K V) × (items ≡ done ++ item ∷ into_iter_items e.rest)
       × (mid : Cache K V S X L P W) × (between : C) × PutsAllBack done old clock mid between × PutsBack item (Err e.refused) mid between new clock_after
 
--- a record that was visible at one moment, and one with the same value, moments and expiry in a cache with the same times and no invalidation: whenever one is visible the other is
+-- a record that was visible at one moment, and one with the same value, moments and expiry in a cache with the same
+-- times and no invalidation: whenever one is visible the other is
 abbrev pub AnswersAlike : {K V P : Type 0} → (X W : Type 0) → (P → K → V → Bool → Type 0) → Type 0
 AnswersAlike {K} {V} {P} X W says = (first second : State K V X P W) (r q : Record K V) (seen now : ℕ) →
     second.settings.time_to_live ≡ first.settings.time_to_live → second.settings.time_to_idle ≡ first.settings.time_to_idle → second.invalid_before ≡ None → second.predicates ≡ [] →

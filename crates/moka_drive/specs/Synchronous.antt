@@ -1,4 +1,5 @@
--- The cache that sends its own operations: which calls of the reference cache each of its calls stands for, and what it answers.
+-- The cache that sends its own operations: which calls of the reference cache each of its calls stands for, and what it
+-- answers.
 use Rattle.std.specs.Prelude.{◌≡◌, ℕ, Bool, false, List, [], ◌∷◌, Option, Some, None, Result, Ok, Err, ◌⊎◌, ⊤}
 use Rattle.moka_parts.specs.declared.notification.RemovalCause.{RemovalCause}
 use Rattle.moka_parts.specs.declared.policy.Instant.{Instant}
@@ -49,7 +50,8 @@ module _ {K V X L P W C : Type 0} (eq : K → K → Bool) (tells : L → K → V
   abbrev pub meaning_of : Meaning K V X L P W C (Unit {0})
   meaning_of = record { eq = eq; tells = tells; says = says; weighs = weighs; observes = observes; gives = λ _ _ _. ⊥; created = created; read = read; updated = updated }
 
--- these calls, made one after the other, gave these replies: a run of the reference cache whose runs of maintenance keep their promises, in which operations were sent in order
+-- these calls, made one after the other, gave these replies: a run of the reference cache whose runs of maintenance
+-- keep their promises, in which operations were sent in order
 pub record Made {K V S X L P W C : Type 0} (m : Meaning K V X L P W C (Unit {0})) (calls : List (Call K V P)) (replies : List (Reply K V P)) (old : Cache K V S X L P W) (clock : C) (new : Cache K V S X L P W) (clock_after : C) : Type 0 where
   pub steps : List (Step K V X P W)
   pub is_run : MakesCalls m (PromisedRun m.says m.read) calls replies steps old clock tt new clock_after tt
@@ -109,14 +111,16 @@ module _ {K V P : Type 0} where
   abbrev pub GetsThen : K → ℕ → Instant → (List (Call K V P) → List (Reply K V P) → Type 0) → List (Call K V P) → List (Reply K V P) → Type 0
   GetsThen key hash now Then calls replies = (later : List (Call K V P)) × (answers : List (Reply K V P)) × Then later answers × (calls ≡ call.Get key hash false now ∷ later) × (replies ≡ reply.Get (Ok None) ∷ answers)
 
-  -- the value made for a key that a get missed, and what became of it: it is inserted, its clone is refused, or its insert is
+  -- the value made for a key that a get missed, and what became of it: it is inserted, its clone is refused, or its
+  -- insert is
   abbrev pub InsertsMade : K → ℕ → Instant → V → Result V (InsertRefused K V) → List (Call K V P) → List (Reply K V P) → Type 0
   InsertsMade key hash now made (Ok value) calls replies = (value ≡ made) × InsertsEntry key hash made now (Ok tt) calls replies
   InsertsMade key hash now made (Err refused) calls replies =
       ((refused ≡ record { error = insert_error.OutOfMemory; key = key; value = made }) × (calls ≡ []) × (replies ≡ []))
       ⊎ InsertsEntry key hash made now (Err refused) calls replies
 
-  -- a get, and only where it misses a value is made: the value that was made, the answer, with nothing where the look-up was refused, and the calls
+  -- a get, and only where it misses a value is made: the value that was made, the answer, with nothing where the
+  -- look-up was refused, and the calls
   abbrev pub GetsOrInserts : K → ℕ → Instant → Option V → Result V (Option (InsertRefused K V)) → List (Call K V P) → List (Reply K V P) → Type 0
   GetsOrInserts key hash now None (Ok value) calls replies = GetsValue key hash now (Ok (Some value)) calls replies
   GetsOrInserts key hash now None (Err None) calls replies = (refused : OutOfMemory) × GetsValue key hash now (Err refused) calls replies
@@ -193,7 +197,8 @@ HandsOutIfNoError is_clone key own result = ⊥
 -- ---- what a call with a maker promises
 
 module _ {K V S X L P W C : Type 0} (m : Meaning K V X L P W C (Unit {0})) (is_clone : V → V → Type 0) (key : K) (hash : ℕ) (now : Instant) (old : Synchronous K V S X L P W) (clock : C) (new : Synchronous K V S X L P W) (clock_after : C) where
-  -- a get, and only where it misses a value is made, as the maker makes it; what is handed out, the calls that were made, and what was counted
+  -- a get, and only where it misses a value is made, as the maker makes it; what is handed out, the calls that were
+  -- made, and what was counted
   abbrev pub GetsWith : (V → Type 0) → Result V (GetWithRefused K V) → Type 0
   GetsWith Answers result = (made : Option V) × (own : Result V (Option (InsertRefused K V)))
       × ((value : V) → made ≡ Some value → Answers value)

@@ -37,7 +37,8 @@ pub record HidesNoMore {K V X P W : Type 0} (s t : State K V X P W) : Type 0 whe
   pub bound : t.invalid_before ≡ s.invalid_before
   pub predicates : s.predicates ≡ [] → t.predicates ≡ []
 
--- nothing hides what is written at the moment: no expiry is set, no time is over at once, no invalidation of all is later, and no predicate is registered
+-- nothing hides what is written at the moment: no expiry is set, no time is over at once, no invalidation of all is
+-- later, and no predicate is registered
 pub record ShowsWrites {K V X P W : Type 0} (s : State K V X P W) (now : ℕ) : Type 0 where
   pub unexpiring : s.settings.expiry ≡ None
   pub live : has_passed (deadline s.settings.time_to_live now) now ≡ false

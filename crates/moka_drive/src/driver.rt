@@ -23,19 +23,19 @@ use moka_parts::policy::{Expiry, Instant};
 use std::alloc::Global;
 use std::hash::{BuildHasher, Hash};
 
-/// Makes the calls one after the other, and answers each with the reply of the same name. A removal that carries a moment
-/// and finds its key is followed by `notify_invalidate` at that moment.
+/// Makes the calls one after the other, and answers each with the reply of the same name. A removal that carries a
+/// moment and finds its key is followed by `notify_invalidate` at that moment.
 ///
 /// Replies, records and notices are a run of the reference cache, in which each run of maintenance keeps all that is
-/// promised of it: one with a batch of at least one that begins with every operation sent, and is not cut short, ends with
-/// count and weight exactly the records', and the weight within the capacity. If a listener is set, it is notified of each
-/// value that leaves the map in a call exactly once, in the order in which they leave; the value of a removal is handed
-/// back instead.
+/// promised of it: one with a batch of at least one that begins with every operation sent, and is not cut short, ends
+/// with count and weight exactly the records', and the weight within the capacity. If a listener is set, it is notified
+/// of each value that leaves the map in a call exactly once, in the order in which they leave; the value of a removal
+/// is handed back instead.
 ///
-/// The calls are in the order of time if no insert is earlier than the last write of a record that is there, and each send
-/// moves the oldest operation that waits. If the cache is empty at first and the calls are in the order of time, such a
-/// run also leaves no record past its time to live, and none written before the last invalidation of all. This applies
-/// to caches with a time to live or with predicates.
+/// The calls are in the order of time if no insert is earlier than the last write of a record that is there, and each
+/// send moves the oldest operation that waits. If the cache is empty at first and the calls are in the order of time,
+/// such a run also leaves no record past its time to live, and none written before the last invalidation of all. This
+/// applies to caches with a time to live or with predicates.
 ///
 /// # Errors
 /// `OutOfMemory` if there is no room for the replies. The calls come back, and none was made. If a single call is
@@ -262,11 +262,8 @@ fn key_of<
     requires keys { ClonesAreEqual K.is_clone }
     ensures { KeyStep K.eq cache.now.state key.now result }
 {
-    let Some(kept) = cache.get_key_with_hash(key, hash) else {
-        return Ok(None);
-    };
-    match kept.clone() {
-        Ok(key) => Ok(Some(key)),
-        Err(_) => Err(OutOfMemory),
+    match cache.get_key_with_hash(key, hash) {
+        Some(kept) => Ok(Some(kept.clone()?)),
+        None => Ok(None),
     }
 }

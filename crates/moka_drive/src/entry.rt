@@ -40,7 +40,7 @@ impl<
     S: BuildHasher,
 > Cache<K, V, X, L, P, W, S> {
     /// The entry of a key, with a clone of its value, if the key is there and visible at the moment `now`; and else
-    /// `value` is inserted. If the key is there, `value` is let go. No load is counted. moka: `or_insert`.
+    /// `value` is inserted. If the key is there, `value` is dropped. No load is counted. moka: `or_insert`.
     ///
     /// # Errors
     /// `OutOfMemory` if memory for a clone or for the insert is refused, and `NumbersUsedUp`; key and value come back,
@@ -73,8 +73,8 @@ impl<
     }
 
     /// The entry of a key, with a clone of its value, if the key is there and visible at the moment `now`; and else the
-    /// value that `init` makes is inserted, at the moment `now` as by `get_with`. `init` is called only if the key is not
-    /// there. moka: `or_insert_with`.
+    /// value that `init` makes is inserted, at the moment `now` as by `get_with`. `init` is called only if the key is
+    /// not there. moka: `or_insert_with`.
     ///
     /// # Errors
     /// `Lookup`, with the key, if memory for the clone of a value that is there is refused; and `Insert`, with key and

@@ -1,4 +1,5 @@
-//! Entry calls by moka's names: `cache.entry(key)` hands out a selector, and each of its methods is one call of the cache.
+//! Entry calls by moka's names: `cache.entry(key)` hands out a selector, and each of its methods is one call of the
+//! cache.
 //! moka: `sync::entry_selector`.
 ghost use Rattle.std.specs.Prelude.{◌≡◌, false, Option, None, Result, is_some, option_copied};
 ghost use Rattle.std.specs.List.{fold};
@@ -160,8 +161,8 @@ impl<
         cache.get_or_try_insert_with(key, init, now, clock)
     }
 
-    /// Puts the value that `f` makes of a clone of the key's value, or of `None` if the key is not there or not visible at
-    /// the moment `now`. moka: `and_upsert_with`.
+    /// Puts the value that `f` makes of a clone of the key's value, or of `None` if the key is not there or not visible
+    /// at the moment `now`. moka: `and_upsert_with`.
     ///
     /// # Errors
     /// As `Cache::upsert_with`.
@@ -184,8 +185,8 @@ impl<
         cache.upsert_with(key, f, now, clock)
     }
 
-    /// Puts a value, takes the key out, or does nothing, as `f` answers, which sees a clone of the key's value, or `None` if
-    /// the key is not there or not visible at the moment `now`. moka: `and_compute_with`.
+    /// Puts a value, takes the key out, or does nothing, as `f` answers, which sees a clone of the key's value, or
+    /// `None` if the key is not there or not visible at the moment `now`. moka: `and_compute_with`.
     ///
     /// # Errors
     /// As `Cache::compute_with`.

@@ -1,4 +1,5 @@
-//! Laws of the calls that a synchronous cache made. None of these functions does anything: the contract of each is a law.
+//! Laws of the calls that a synchronous cache made. None of these functions does anything: the contract of each is a
+//! law.
 ghost use Rattle.moka_drive.specs.Removed.{counting, CountsRemovals, PassesOn};
 ghost use Rattle.moka_drive.specs.Given.{GetWithHandsOut, OptionallyGetWithHandsOut, TryGetWithHandsOut};
 ghost use Rattle.moka_drive.specs.Limits.{CallsSetNoCapacity, KeepsLimits};
@@ -152,14 +153,14 @@ pub fn counts_removals<
     ensures passed_on { PassesOn L.tells }
 {}
 
-/// What was put back as it was listed answers as before: whenever one of the two records is visible the other is, where the
-/// times are the same, and the second cache has no predicates and no invalidation of all.
+/// What was put back as it was listed answers as before: whenever one of the two records is visible the other is, where
+/// the times are the same, and the second cache has no predicates and no invalidation of all.
 pub fn answers_as_before<K, V, X, P: PredicateFn<K, V>, W>()
     ensures { AnswersAlike {K = K} {V = V} X W P.says }
 {}
 
-/// What `get_with` hands out is a clone of a value that is visible at the moment of the call, or of one that the maker made
-/// since none was.
+/// What `get_with` hands out is a clone of a value that is visible at the moment of the call, or of one that the maker
+/// made since none was.
 pub fn get_with_hands_out<
     K: Eq,
     V: Clone,
@@ -205,8 +206,8 @@ pub fn try_get_with_hands_out<
     ensures { TryGetWithHandsOut (meaning_of K.eq L.tells P.says W.weighs C.reads X.created X.read X.updated) V.is_clone S F.post }
 {}
 
-/// Times, policy and the like stay as they were built, and so does the capacity unless a call sets it; and none of the calls
-/// that `insert`, `get`, `remove`, `get_with` and the entry calls stand for does.
+/// Times, policy and the like stay as they were built, and so does the capacity unless a call sets it; and none of the
+/// calls that `insert`, `get`, `remove`, `get_with` and the entry calls stand for does.
 pub fn keeps_limits<
     K: Eq,
     V,

@@ -1,5 +1,5 @@
-//! Calls for many keys at once. Each makes the call for one key after the other, in order, and stops at the first that is
-//! refused.
+//! Calls for many keys at once. Each makes the call for one key after the other, in order, and stops at the first that
+//! is refused.
 ghost use Rattle.std.specs.Prelude.{◌≡◌};
 ghost use Rattle.std.specs.List.{fold};
 ghost use Rattle.moka_drive.specs.Counters.{after_look_ups};
@@ -35,12 +35,12 @@ pub struct InsertManyRefused<K, V> {
     pub rest: IntoIter<(K, V)>,
 }
 
-/// An invalidation of many keys that stopped at one, whose listener was not told.
+/// An invalidation of many keys that stopped at one, whose listener was not notified.
 #[derive(Debug, Drop)]
 pub struct InvalidateManyRefused<V> {
     /// How many keys come before this one. They were taken out if they were there, and this one was as well.
     pub done: usize,
-    /// The value that was taken out, and why it was not told.
+    /// The value that was taken out, and why its listener was not notified.
     pub refused: NotTold<V>,
 }
 
@@ -56,8 +56,8 @@ impl<
     /// Looks up each key at the moment `now`, in order, as `get`: what each finds, in the same order.
     ///
     /// # Errors
-    /// As `get`, at the first key that is refused: what the keys before it found comes back. If there is no memory for the
-    /// list of answers, no key is looked up.
+    /// As `get`, at the first key that is refused: what the keys before it found comes back. If there is no memory for
+    /// the list of answers, no key is looked up.
     pub fn get_many<C: Clock>(
         &mut self,
         alloc: Global,
@@ -131,7 +131,7 @@ impl<
     /// Takes each key out at the moment `now`, in order, as `invalidate`.
     ///
     /// # Errors
-    /// As `invalidate`, at the first key whose listener is not told: the keys after it are left.
+    /// As `invalidate`, at the first key whose listener is not notified: the keys after it are left.
     pub fn invalidate_many<C: Clock>(
         &mut self,
         keys: &[K],

@@ -94,7 +94,8 @@ pub record IsServed {K V X P W : Type 0} (s : State K V X P W) : Type 0 where
 abbrev pub NeverRenews : {K V X : Type 0} → (X → K → V → ℕ → Option ℕ → ℕ → Option ℕ) → Option X → Type 0
 NeverRenews {K} {V} {X} read expiry = (x : X) (k : K) (v : V) (now : ℕ) (told : Option ℕ) (written : ℕ) → expiry ≡ Some x → read x k v now told written ≡ told
 
--- the store keeps the order of writing and timers where the settings ask for them; where no hit renews an expiry, the timer of each settled member stands at its record's
+-- the store keeps the order of writing and timers where the settings ask for them; where no hit renews an expiry, the
+-- timer of each settled member stands at its record's
 pub record IsStocked {K V X W S : Type 0} (read : X → K → V → ℕ → Option ℕ → ℕ → Option ℕ) (settings : Settings X W) (kept : Kept K V S) : Type 0 where
   pub ordered : kept.ordered ≡ keeps_write_list settings
   pub timed : kept.timed ≡ is_some settings.expiry

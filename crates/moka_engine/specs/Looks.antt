@@ -18,7 +18,8 @@ abbrev pub value_of : {K V : Type 0} → Option (Record K V) → Option V
 value_of found = option_map (λ r. r.value) found
 
 module _ {K V X P S : Type 0} (eq : K → K → Bool) (kept : Kept K V S) (expirations : Expirations X) (bound : Option Instant) (says : P → K → V → Bool → Type 0) (predicates : List (Registered P)) (key : K) where
-  -- this record, at this handle, is the key's; no test of the caller's ignored it, no moment hides it, and no predicate covers it
+  -- this record, at this handle, is the key's; no test of the caller's ignored it, no moment hides it, and no predicate
+  -- covers it
   pub record IsFound (ignored : Bool) (now : ℕ) (handle : Handle) (r : Record K V) : Type 0 where
     pub placed : IsHandle kept handle
     pub numbered : get kept.records handle.number ≡ Some r

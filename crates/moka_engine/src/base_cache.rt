@@ -118,7 +118,7 @@ pub struct BaseCache<
     passes: u64,
 }
 
-// A cache that is let go notifies nobody. This is written out so that a caller's drop is one call.
+// A cache that is dropped notifies nobody. This is written out so that a caller's drop is one call.
 impl<
     K: Eq + Hash + Drop,
     V: Drop,
@@ -193,31 +193,32 @@ impl<
     P: PredicateFn<K, V>,
     W: Weigher<K, V>,
 > BaseCache<K, V, S, X, L, P, W> {
-    /// An empty cache. Gets start runs of maintenance until `disable_auto_run` is called. `CacheConfig` has a default for
-    /// most of the arguments.
+    /// An empty cache. Gets start runs of maintenance until `disable_auto_run` is called. `CacheConfig` has a default
+    /// for most of the arguments.
     ///
     /// - `alloc`: gives the memory that the cache takes.
     /// - `name`: for the caller alone.
     /// - `max_capacity`: the greatest sum of weights that runs of maintenance leave; `None` is no bound, and with 0 the
     ///   cache keeps nothing and takes no inserts.
-    /// - `initial_capacity`: for how many records room is made at once, whatever they weigh; `None` is 0. It bounds nothing.
+    /// - `initial_capacity`: for how many records room is made at once, whatever they weigh; `None` is 0. It bounds
+    ///   nothing.
     /// - `build_hasher`: hashes keys, for `hash` and for the map.
     /// - `weigher`: weighs entries as they are inserted, from 0 to 2^32 - 1; without one each weighs 1.
     /// - `eviction_policy`: what leaves where the capacity is exceeded.
-    /// - `eviction_listener`: is told key, value and cause of each removal but those by `remove_entry`.
-    /// - `expiration_policy`: the time to live, as a duration since the last insert; the time to idle, as one since the last
-    ///   insert or read; and the expiry of single entries, which inserts and gets ask. Any duration is taken, to the
-    ///   nanosecond: the sum of a moment and a duration saturates at 2^64 - 1 nanoseconds.
+    /// - `eviction_listener`: is notified of key, value and cause of each removal but those by `remove_entry`.
+    /// - `expiration_policy`: the time to live, as a duration since the last insert; the time to idle, as one since the
+    ///   last insert or read; and the expiry of single entries, which inserts and gets ask. Any duration is taken, to
+    ///   the nanosecond: the sum of a moment and a duration saturates at 2^64 - 1 nanoseconds.
     /// - `housekeeper_config`: the time limit, repeats and batch of the runs that the housekeeper starts.
     /// - `invalidator_enabled`: whether predicates can be registered.
-    /// - `now`: the moment at which it is made. The housekeeper starts no run in the 300 milliseconds after it, unless 64
-    ///   operations are queued.
-    /// - `first_ticket`: the ticket of the first operation, at least 1. The greater it is, the sooner inserts are refused
-    ///   with `NumbersUsedUp`.
+    /// - `now`: the moment at which it is made. The housekeeper starts no run in the 300 milliseconds after it, unless
+    ///   64 operations are queued.
+    /// - `first_ticket`: the ticket of the first operation, at least 1. The greater it is, the sooner inserts are
+    ///   refused with `NumbersUsedUp`.
     ///
     /// # Errors
-    /// `OutOfMemory` where memory for the tables is refused, and where `initial_capacity` would need a place of more than 32
-    /// bits.
+    /// `OutOfMemory` if memory for the tables is refused, and where `initial_capacity` would need a place of more than
+    /// 32 bits.
     #[allow(clippy::too_many_arguments)]
     pub fn new(
         alloc: Global,
@@ -300,7 +301,7 @@ impl<
         }
     }
 
-    /// What is told of the cache's policy.
+    /// The cache's limits.
     pub fn policy(&self) -> Policy
         ensures { result ≡ limits_of self.now.state }
     {
@@ -377,11 +378,11 @@ impl<
     }
 
     /// Puts a value under a key at the moment `now`, and hands out a ticket for the operation, which is to be sent. The
-    /// record of a key that is there keeps its first key and first hash, and the listener is told the key handed in with
-    /// the old value, both of which it may keep.
+    /// record of a key that is there keeps its first key and first hash, and the listener is notified of the key handed
+    /// in with the old value, both of which it may keep.
     ///
     /// # Errors
-    /// `NumbersUsedUp` where too few tickets are left, and `OutOfMemory` where memory for the operation or for a new
+    /// `NumbersUsedUp` if too few tickets are left, and `OutOfMemory` if memory for the operation or for a new
     /// record is refused, and where a new record would need a place of more than 32 bits: fewer than 2^32 records are
     /// kept. Key and value come back, and nothing has changed.
     #[inline(always)]
@@ -403,7 +404,8 @@ impl<
         self.insert_hashed(key, Hashes { hash, own }, value, now)
     }
 
-    /// As `do_insert_with_hash` with the key's hash by the cache's own hasher, as `hash` tells it, which is not made again.
+    /// As `do_insert_with_hash` with the key's hash by the cache's own hasher, as `hash` tells it, which is not made
+    /// again.
     ///
     /// # Errors
     /// As those of `do_insert_with_hash`.
@@ -487,9 +489,9 @@ impl<
         self.inner.send(ticket)
     }
 
-    /// Takes a key's record out, expired or not, and hands out a ticket for the removal, which is to be sent. The answer
-    /// has the record's own key and value with its moments. It takes no memory, and the listener is not told:
-    /// `notify_invalidate` does that.
+    /// Takes a key's record out, expired or not, and hands out a ticket for the removal, which is to be sent. The
+    /// answer has the record's own key and value with its moments. It takes no memory, and the listener is not
+    /// notified: `notify_invalidate` does that.
     pub fn remove_entry(&mut self, key: &K, _hash: u64) -> Option<(KvEntry<K, V>, Ticket)>
     where
         K: Drop,
@@ -538,7 +540,7 @@ impl<
     /// moments, or was removed explicitly. Without a listener nothing is cloned.
     ///
     /// # Errors
-    /// `OutOfMemory` where memory for a clone is refused. The listener is not told.
+    /// `OutOfMemory` if memory for a clone is refused. The listener is not notified.
     pub fn notify_invalidate(
         &mut self,
         entry: &KvEntry<K, V>,
@@ -624,7 +626,7 @@ impl<
     /// Clones of the keys of all records in segment 0, in no particular order, and `None` for any other segment.
     ///
     /// # Errors
-    /// `OutOfMemory` where memory for the list or for a clone is refused.
+    /// `OutOfMemory` if memory for the list or for a clone is refused.
     pub fn keys(&self, segment: usize) -> Result<Option<Vec<K>>, OutOfMemory>
     where
         K: Clone + Drop,
@@ -640,12 +642,13 @@ impl<
         }
     }
 
-    /// Looks up a key at the moment `now`, and queues the read. The answer has a clone of the record's value, and one of
-    /// its key where `need_key` asks for it. Where the capacity is 0 nothing is found and no read is queued. Before the
-    /// read is queued a run of maintenance is made if the housekeeper says that one is due; the clock is for that run.
+    /// Looks up a key at the moment `now`, and queues the read. The answer has a clone of the record's value, and one
+    /// of its key where `need_key` asks for it. Where the capacity is 0 nothing is found and no read is queued. Before
+    /// the read is queued a run of maintenance is made if the housekeeper says that one is due; the clock is for that
+    /// run.
     ///
     /// # Errors
-    /// `OutOfMemory` where memory for a clone is refused. Nothing has changed.
+    /// `OutOfMemory` if memory for a clone is refused. Nothing has changed.
     #[inline(always)]
     pub fn get_with_hash<C: Clock>(
         &mut self,

@@ -31,8 +31,8 @@ pub type Engine<K, V, X = NoExpiry, L = NoListener, P = NoPredicate, W = NoWeigh
 
 /// What a cache is made with: a default, and a setter for each choice. moka: `sync::CacheBuilder`.
 ///
-/// `X`, `L`, `P` and `W` are the types of the expiry, the listener, the predicates and the weigher; each is the type for
-/// "none" until a setter chooses another.
+/// `X`, `L`, `P` and `W` are the types of the expiry, the listener, the predicates and the weigher; each is the type
+/// for "none" until a setter chooses another.
 #[derive(Drop)]
 pub struct CacheConfig<X = NoExpiry, L = NoListener, P = NoPredicate, W = NoWeigher> {
     choices: Choices,
@@ -113,7 +113,7 @@ impl Default for CacheConfig<NoExpiry, NoListener, NoPredicate, NoWeigher> {
 }
 
 impl<X, L, P, W> CacheConfig<X, L, P, W> {
-    /// A name, which the cache only tells. By default there is none.
+    /// A name for diagnostics, which `name` returns. By default there is none.
     pub fn name(mut self, name: String) -> Self
         ensures { result ≡ record self { name = Some (string_bytes name) } }
     {
@@ -130,8 +130,9 @@ impl<X, L, P, W> CacheConfig<X, L, P, W> {
         self
     }
 
-    /// The number of entries that room is made for at once, whatever their weights. It bounds nothing, and `build` refuses a
-    /// number for which there is no memory, or that needs a place of more than 32 bits. By default there is room for none.
+    /// The number of entries that room is made for at once, whatever their weights. It bounds nothing, and `build`
+    /// refuses a number for which there is no memory, or that needs a place of more than 32 bits. By default there is
+    /// room for none.
     pub fn initial_capacity(mut self, number_of_entries: usize) -> Self
         ensures { result ≡ record self { initial_capacity = Some number_of_entries } }
     {
@@ -147,8 +148,8 @@ impl<X, L, P, W> CacheConfig<X, L, P, W> {
         self
     }
 
-    /// How long an entry stays after it was inserted, exact to the nanosecond. Any duration is taken; with zero an entry
-    /// has expired at once. The sum of a moment and a duration saturates at 2^64 - 1 nanoseconds. By default an entry stays.
+    /// How long an entry stays after it was inserted, exact to the nanosecond. With zero, entries expire at once; there
+    /// is no upper limit: the sum of a moment and a duration saturates at 2^64 - 1 nanoseconds. By default entries stay.
     pub fn time_to_live(mut self, duration: Duration) -> Self
         ensures { result ≡ record self { time_to_live = Some (as_nanos duration) } }
     {
@@ -156,9 +157,9 @@ impl<X, L, P, W> CacheConfig<X, L, P, W> {
         self
     }
 
-    /// How long an entry stays after it was inserted or read, exact to the nanosecond. Any duration is taken; with zero an
-    /// entry has expired at once. The sum of a moment and a duration saturates at 2^64 - 1 nanoseconds. By default an entry
-    /// stays.
+    /// How long an entry stays after it was inserted or read, exact to the nanosecond. With zero, entries expire at once;
+    /// there is no upper limit: the sum of a moment and a duration saturates at 2^64 - 1 nanoseconds. By default entries
+    /// stay.
     pub fn time_to_idle(mut self, duration: Duration) -> Self
         ensures { result ≡ record self { time_to_idle = Some (as_nanos duration) } }
     {
@@ -166,9 +167,9 @@ impl<X, L, P, W> CacheConfig<X, L, P, W> {
         self
     }
 
-    /// Decides when each entry expires: inserts and gets ask it how long the entry lasts, and its answer replaces what was
-    /// left. The sum of a moment and an answer saturates at 2^64 - 1 nanoseconds. By default no entry has an expiry of its
-    /// own.
+    /// Decides when each entry expires: inserts and gets ask it how long the entry lasts, and its answer replaces what
+    /// was left. The sum of a moment and an answer saturates at 2^64 - 1 nanoseconds. By default no entry has an expiry
+    /// of its own.
     pub fn expire_after<Y>(self, expiry: Y) -> CacheConfig<Y, L, P, W>
     where
         X: Drop,
@@ -214,7 +215,8 @@ impl<X, L, P, W> CacheConfig<X, L, P, W> {
         }
     }
 
-    /// Predicates of the type `Q` can be registered. By default there are none, and `invalidate_entries_if` refuses each.
+    /// Predicates of the type `Q` can be registered. By default there are none, and `invalidate_entries_if` refuses
+    /// each.
     pub fn support_invalidation_closures<Q>(self) -> CacheConfig<X, L, Q, W>
         ensures { result ≡ record self { invalidator = true } }
     {

@@ -75,9 +75,9 @@ impl PlaceIndex {
         self.len() == 0
     }
 
-    /// Makes room for `additional` more places. If the index has to grow, it has afterwards room for twice as many places
-    /// as before, or for 2^34, so growth costs constant time a place. An error leaves the index as it was: there is no
-    /// memory, or the index would have more than 2^34 places.
+    /// Makes room for `additional` more places. If the index has to grow, it has afterwards room for twice as many
+    /// places as before, or for 2^34, so growth costs constant time a place. An error leaves the index as it was: there
+    /// is no memory, or the index would have more than 2^34 places.
     #[inline(always)]
     pub fn reserve(&mut self, additional: usize) -> Result<(), AllocError>
         ensures room { OnOk result (additional ≤ self.new.room) }

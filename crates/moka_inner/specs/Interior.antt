@@ -42,7 +42,8 @@ IsReadLocated places next_number place (Hit number hash renewed) = IsLocated pla
 IsReadLocated places next_number place (Miss hash) = Unit {0}
 
 module _ {K V : Type 0} where
-  -- nothing is kept, and nothing waits; the order of writing and timers are kept or not, and the rooms are those of the second
+  -- nothing is kept, and nothing waits; the order of writing and timers are kept or not, and the rooms are those of the
+  -- second
   abbrev pub nothing_inside : {S : Type 0} → Bool → Bool → ℕ → Interior K V S → Interior K V S
   nothing_inside ordered timed first_ticket i = record {
     kept = record { records = empty; access = []; written = []; timers = empty; cursor = None; places = empty; room = i.kept.room; ordered = ordered; timed = timed; hasher = i.kept.hasher };

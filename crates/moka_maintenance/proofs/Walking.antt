@@ -65,7 +65,8 @@ and_true true = refl
 and_true false = refl
 
 module _ {K V : Type 0} (c : Contents K V) (weight hash : ℕ) where
-  -- the walk goes over the members that stood there at the start: it met the settled ones of those behind it, and the others stand at the back
+  -- the walk goes over the members that stood there at the start: it met the settled ones of those behind it, and the
+  -- others stand at the back
   pub record Goes (met ahead : List Member) (next : Option Member) (row left : ℕ) : Type 0 where
     pub walked : List Member
     pub rest : List Member

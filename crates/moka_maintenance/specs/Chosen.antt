@@ -12,7 +12,8 @@ module _ {K V : Type 0} where
   abbrev pub AreSettled : Contents K V → List Member → Type 0
   AreSettled c members = list_all (λ a. is_settled c.records a.number) members ≡ true
 
-  -- a candidate of this weight and hash was compared: some unsettled members went to the back, and then so many victims stand in front
+  -- a candidate of this weight and hash was compared: some unsettled members went to the back, and then so many victims
+  -- stand in front
   pub record Chooses (c : Contents K V) (weight hash : ℕ) (access : List Member) (victims : ℕ) (preferred : Bool) : Type 0 where
     pub moved : List ℕ
     pub unsettled : are_unsettled c.records moved ≡ true

@@ -8,7 +8,8 @@ use Rattle.moka_store.specs.Store.{Kept, cursor_past}
 use Rattle.moka_maintenance.specs.Steps.{stock_in, after_step, left_by_step, Told}
 use Rattle.moka_maintenance.specs.Upkeep.{SetsNoTimer}
 
--- the store without this number, with so much room: it has left the map, both orders and the timers, and its row is given back
+-- the store without this number, with so much room: it has left the map, both orders and the timers, and its row is
+-- given back
 abbrev pub without_record : {K V S : Type 0} → ℕ → ℕ → Kept K V S → Kept K V S
 without_record n room k = record k {
   records = finite.remove k.records n;
@@ -20,7 +21,8 @@ without_record n room k = record k {
   room = room;
 }
 
--- the record of the number leaves with this cause: it is that step, the store is without the number, and the listener is told
+-- the record of the number leaves with this cause: it is that step, the store is without the number, and the listener
+-- is told
 pub record Expels {K V L S : Type 0} (tells : L → K → V → RemovalCause → L → Type 0) (n : ℕ) (cause : RemovalCause) (old new : Kept K V S) (l m : Option L) : Type 0 where
   pub step : stock_in new ≡ after_step (stock_in old) (Removes n cause)
   pub told : Told tells l (left_by_step (stock_in old) (Removes n cause)) m

@@ -45,11 +45,13 @@ is_taken q Read access = sweeps_reads q
 is_taken q Surplus access = is_over q.capacity access
 
 module _ {K V L P : Type 0} (tells : L → K → V → RemovalCause → L → Type 0) (says : P → K → V → Bool → Type 0) (q : Tests) where
-  -- one pass, from some predicates to others: what it removed beside the scan, and whether the sweeps and the scan left more
+  -- one pass, from some predicates to others: what it removed beside the scan, and whether the sweeps and the scan left
+  -- more
   pub record IsPass (batch : ℕ) (ordered : Bool) (ps qs : List (Registered P)) (before after : Stock K V) (l m : Option L) (removed : ℕ) (left scan : Bool) : Type 0 where
     pub by : IsStepped tells (MayRun says ps (tests_in q)) before after l m
     pub dropped : AreDropped says (contents_of after) ps qs
-    -- timers, the sweep by the last write, the one by the last read, the scan and the sweep of the surplus, each with its own causes
+    -- timers, the sweep by the last write, the one by the last read, the scan and the sweep of the surplus, each with
+    -- its own causes
     pub in_order : FollowsGrounds (SomeCovers says ps) (tests_in q) grounds_of_pass (contents_of before) by.steps
     pub count : removed ≤ length (removed_by by.steps)
     pub more : left ≡ true → 1 ≤ batch → 1 ≤ removed

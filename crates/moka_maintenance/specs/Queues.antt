@@ -29,7 +29,8 @@ pub record AppliesReads {K V S : Type 0} (reads : List QueuedRead) (old new : Ke
   pub served : Serves (IsRenewedBy reads) old new
 
 module _ {K V L : Type 0} (tells : L → K → V → RemovalCause → L → Type 0) (ordered : Bool) where
-  -- a candidate of this number was compared, as one for which there is no room, and has the fate that its frequency decides
+  -- a candidate of this number was compared, as one for which there is no room, and has the fate that its frequency
+  -- decides
   pub record IsCompared (before after : Contents K V) (ns ms : List ℕ) (number generation weight hash : ℕ) (r : Record K V) (l m : Option L) : Type 0 where
     pub moved : List ℕ
     pub unsettled : are_unsettled before.records moved ≡ true

@@ -1,4 +1,5 @@
--- A scan along the order of writing for what registered predicates cover, and the drop of predicates that cover nothing.
+-- A scan along the order of writing for what registered predicates cover, and the drop of predicates that cover
+-- nothing.
 use Rattle.std.specs.Prelude.{◌≡◌, ℕ, ◌≤◌, ◌<◌, Bool, true, false, ◌&&◌, ◌⊎◌, ◌==◌, if◌then◌else◌, List, [], ◌∷◌, ◌++◌, length, Option, Some, None, is_none, slice_get, Contains}
 use Rattle.std.specs.FinMap.{get}
 use Rattle.std.specs.List.{IsDistinct, filter}
@@ -89,7 +90,8 @@ module _ {K V P : Type 0} (says : P → K → V → Bool → Type 0) where
     pub stay : LeavesSome walked kept
     pub next : round_from new.cursor new.written ≡ ahead ++ kept
 
--- how far a walk went that passes `most` members at most and looks at `batch` of them: to the end, unless one of these was reached
+-- how far a walk went that passes `most` members at most and looks at `batch` of them: to the end, unless one of these
+-- was reached
 pub record IsStretch {K V S : Type 0} (most batch : ℕ) (old new : Kept K V S) (looked passed : ℕ) (end : Bool) : Type 0 where
   pub ended : end ≡ is_none new.cursor
   pub stopped : end ≡ false → (most ≤ passed) ⊎ (batch ≤ looked)
@@ -99,7 +101,8 @@ pub record IsStretch {K V S : Type 0} (most batch : ℕ) (old new : Kept K V S) 
   pub upkeep : SetsNoTimer old new
 
 module _ {K V L P : Type 0} (tells : L → K → V → RemovalCause → L → Type 0) (says : P → K → V → Bool → Type 0) (ps : List (Registered P)) where
-  -- a member is looked at: one that is not settled stays; a settled one stays where no predicate covers it, and else leaves
+  -- a member is looked at: one that is not settled stays; a settled one stays where no predicate covers it, and else
+  -- leaves
   abbrev pub LooksAt : {S : Type 0} → Kept K V S → Kept K V S → Option L → Option L → ℕ → Bool → Type 0
   LooksAt old new l m n false = (is_settled old.records n ≡ false) × (new ≡ old) × (m ≡ l)
   LooksAt old new l m n true = (is_settled old.records n ≡ true)

@@ -77,7 +77,8 @@ module _ {K V : Type 0} where
   MayLeave c (MovesToBack n) = (is_member n c.access ≡ true) × (is_settled c.records n ≡ false)
   MayLeave c (Drops i) = ⊥
 
-  -- a step may be taken by the tests or by the predicates: a settled member leaves on a ground of its own, an unsettled one goes to the back
+  -- a step may be taken by the tests or by the predicates: a settled member leaves on a ground of its own, an unsettled
+  -- one goes to the back
   abbrev pub MayRun : {P : Type 0} → (P → K → V → Bool → Type 0) → List (Registered P) → Tests → Stock K V → Choice → Type 0
   MayRun says ps q c (Removes n cause) = (r : Record K V) × (get c.records n ≡ Some r) × (is_member n c.access && is_settled c.records n ≡ true) × HasCause says q (contents_of c) ps n r cause
   MayRun says ps q c (MovesToBack n) = (is_member n c.access ≡ true) × (is_settled c.records n ≡ false)

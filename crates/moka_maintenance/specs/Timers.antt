@@ -25,21 +25,24 @@ module _ {K V : Type 0} where
   SetsTimers old new = (n : ℕ) (r : Record K V) → get new.records n ≡ Some r → is_member n new.access ≡ true → is_applied r ≡ true
       → ((get old.records n ≡ Some r) × (is_member n old.access ≡ true) × (get new.timers n ≡ get old.timers n)) ⊎ (get new.timers n ≡ moment_of r.expires)
 
-  -- what orders and timers a store keeps never changes, nor does its hasher; where timers are kept they stand as before, or anew at their records' expiries
+  -- what orders and timers a store keeps never changes, nor does its hasher; where timers are kept they stand as
+  -- before, or anew at their records' expiries
   pub record KeepsTimers {S : Type 0} (old new : Kept K V S) : Type 0 where
     pub ordered : new.ordered ≡ old.ordered
     pub timed : new.timed ≡ old.timed
     pub hasher : new.hasher ≡ old.hasher
     pub set : old.timed ≡ true → SetsTimers old new
 
-  -- members move in the access list alone; timers stand as before or anew at their records' expiries, there for each number that was renewed
+  -- members move in the access list alone; timers stand as before or anew at their records' expiries, there for each
+  -- number that was renewed
   pub record Serves {S : Type 0} (IsRenewed : ℕ → Type 0) (old new : Kept K V S) : Type 0 where
     pub rest : new ≡ record old { access = new.access; timers = new.timers }
     pub renewed : (n : ℕ) → IsRenewed n → StandsAtExpiry n new
     pub kept : (n : ℕ) → StandsAtExpiry n old → StandsAtExpiry n new
     pub timers : KeepsTimers old new
 
-  -- the timer of a number that had none is set again behind the moment, or there is still none; then no settled record of the number has a moment at which it expires; rows are kept up
+  -- the timer of a number that had none is set again behind the moment, or there is still none; then no settled record
+  -- of the number has a moment at which it expires; rows are kept up
   pub record IsReset {S : Type 0} (now n : ℕ) (old new : Kept K V S) : Type 0 where
     pub ordered : new.ordered ≡ old.ordered
     pub timed : new.timed ≡ old.timed

@@ -6,7 +6,8 @@ use Rattle.moka_maintenance.specs.Steps.{AddsNoPlace, LeavesNoRow}
 use Rattle.moka_maintenance.specs.Timers.{HasNoneDue, KeepsTimers}
 
 module _ {K V S : Type 0} where
-  -- timers stand as before or at their records' expiries, no number gains a row or keeps one that its record has left, and no room is lost
+  -- timers stand as before or at their records' expiries, no number gains a row or keeps one that its record has left,
+  -- and no room is lost
   pub record Upkeep (old new : Kept K V S) : Type 0 where
     pub timers : KeepsTimers old new
     pub places : AddsNoPlace old new

@@ -31,7 +31,8 @@ pub(crate) struct Chosen {
 }
 
 /// Compares a candidate of this weight and hash with the settled members that would make room for it, from the front
-/// on. A member that is not settled goes to the back of the access list alone, so that the victims stand in front afterwards.
+/// on. A member that is not settled goes to the back of the access list alone, so that the victims stand in front
+/// afterwards.
 pub(crate) fn choose<K: Eq + Hash, V, S: BuildHasher>(
     store: &mut Store<K, V, S>,
     sketch: &FrequencySketch,
@@ -96,14 +97,12 @@ fn frequency_of<K: Eq + Hash, V, S: BuildHasher>(
         f ≡ frequency sketch.now (hash_of (contents_with sketch.now store.now) (member handle.number counted)))) }
 {
     match store.find(handle) {
-        Some(found) if found.applied() == found.generation() => Some(sketch.frequency(
-            found.hash(),
-        )),
+        Some(found) if found.is_settled() => Some(sketch.frequency(found.hash())),
         _ => None,
     }
 }
 
-/// The first members leave the cache, so many of them, for want of room.
+/// Evicts the first members, so many of them, to make room.
 pub(crate) fn expel_front<K: Eq + Hash + Drop, V: Drop, S: BuildHasher, L: Listener<K, V>>(
     store: &mut Store<K, V, S>,
     notifier: &mut RemovalNotifier<L>,

@@ -36,8 +36,9 @@ pub(crate) fn expire_due<K: Eq + Hash + Drop, V: Drop, S: BuildHasher, L: Listen
     removed
 }
 
-// A member whose timer was due and is taken out. If it is settled and has expired it leaves, and the answer is true. If it
-// is settled and has not, its timer is set again. One that is not settled gets a timer again by the operation that waits.
+// A member whose timer was due and is taken out. If it is settled and has expired it leaves, and the answer is true. If
+// it is settled and has not, its timer is set again. One that is not settled gets a timer again by the operation that
+// waits.
 fn expire<K: Eq + Hash + Drop, V: Drop, S: BuildHasher, L: Listener<K, V>>(
     store: &mut Store<K, V, S>,
     notifier: &mut RemovalNotifier<L>,
@@ -49,12 +50,12 @@ fn expire<K: Eq + Hash + Drop, V: Drop, S: BuildHasher, L: Listener<K, V>>(
     ensures expired { ExpiresDue L.tells tests (stock_in store.old) (stock_in store.new) notifier.old notifier.new (if result then 1 else 0) }
     ensures reset { IsReset tests.now.0 handle.number store.old store.new }
 {
-    if !store.is_settled(handle) {
+    let Some(found) = store.find(handle) else {
+        return false;
+    };
+    if !found.is_settled() {
         return false;
     }
-    let Some(found) = store.find(handle) else {
-        unreachable!()
-    };
     if is_expired_by_per_entry_ttl(found.expires(), tests.now) {
         expel(store, notifier, handle, RemovalCause::Expired);
         return true;

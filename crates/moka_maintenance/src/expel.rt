@@ -9,7 +9,7 @@ use moka_parts::records::Record;
 use moka_store::{Handle, Store};
 use std::hash::{BuildHasher, Hash};
 
-/// The record leaves the map, both orders and the timers, its row is given back, and the listener is told.
+/// The record leaves the map, both orders and the timers, its row is given back, and the listener is notified.
 #[inline(always)]
 pub(crate) fn expel<K: Eq + Hash + Drop, V: Drop, S: BuildHasher, L: Listener<K, V>>(
     store: &mut Store<K, V, S>,

@@ -54,7 +54,7 @@ struct Pass {
 }
 
 impl Pass {
-    // What the steps came to, the first of which leaves nothing.
+    // Sums up the steps of a pass. The one by timers never leaves work over.
     fn joined(due: u32, by_write: Swept, by_read: Swept, is_scan_left: bool, surplus: Swept) -> Self
         ensures { result ≡ record {
           removed = due + by_write.removed + by_read.removed + surplus.removed;

@@ -1,5 +1,5 @@
-//! The scan: along the order of writing, from where it stopped last, it removes what registered predicates cover. Once it
-//! has come to the end, the predicates that cover no record leave.
+//! The scan: along the order of writing, from where it stopped last, it removes what registered predicates cover. Once
+//! it has come to the end, the predicates that cover no record leave.
 //!
 //! moka: `sync::invalidator::Invalidator::scan_and_invalidate`, `Invalidator::remove_predicates_registered_before`.
 ghost use Rattle.std.specs.Prelude.{◌≡◌, ◌<◌, ℕ, ◌++◌, ◌==◌, List, Some, IfSome, MatchBool, length, option_map, slice_get};
@@ -40,9 +40,9 @@ struct Stretch {
 }
 
 /// Goes round the order of writing from its cursor, once at most, until it has looked at `batch` settled members, and
-/// removes those that a registered predicate covers. The cursor comes to stand behind the last that was passed. Where the
-/// end of the order was reached, predicates that cover no record leave. Whether more is left: a member was looked at, and
-/// a predicate is left.
+/// removes those that a registered predicate covers. The cursor comes to stand behind the last that was passed. Where
+/// the end of the order was reached, predicates that cover no record leave. Whether more is left: a member was looked
+/// at, and a predicate is left.
 pub(crate) fn scan<K: Eq + Hash + Drop, V: Drop, S: BuildHasher, L: Listener<K, V>, P: Drop>(
     store: &mut Store<K, V, S>,
     notifier: &mut RemovalNotifier<L>,
@@ -112,8 +112,8 @@ fn start_of<K: Eq + Hash, V, S: BuildHasher>(store: &Store<K, V, S>) -> Option<H
     }
 }
 
-// Walks to the end, or until it has looked at as many settled members or passed as many members as it may. The cursor is
-// put at the next one.
+// Walks to the end, or until it has looked at as many settled members or passed as many members as it may. The cursor
+// is put at the next one.
 fn scan_along<K: Eq + Hash + Drop, V: Drop, S: BuildHasher, L: Listener<K, V>, P>(
     store: &mut Store<K, V, S>,
     notifier: &mut RemovalNotifier<L>,
@@ -165,7 +165,7 @@ where
     let Some(found) = store.find(handle) else {
         return false;
     };
-    if found.applied() != found.generation() {
+    if !found.is_settled() {
         return false;
     }
     if invalidator.apply_predicates(&found) {

@@ -1,5 +1,5 @@
-//! Sweeps along the orders of writing and of access: the front leaves where it has expired or is invalid, or the capacity
-//! is exceeded.
+//! Sweeps along the orders of writing and of access: the front leaves where it has expired or is invalid, or the
+//! capacity is exceeded.
 //!
 //! moka: `sync::base_cache::Inner::remove_expired_wo`, `Inner::remove_expired_ao`, `Inner::evict_lru_entries`.
 ghost use Rattle.std.specs.Prelude.{◌≡◌, ◌&&◌, ℕ, true, false, [], Some, IfNone, MatchOption, List};

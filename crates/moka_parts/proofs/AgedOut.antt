@@ -1,4 +1,5 @@
--- From a state in order, a run that leaves a front of the write list that is not past its time leaves no record that is.
+-- From a state in order, a run that leaves a front of the write list that is not past its time leaves no record that
+-- is.
 use Rattle.std.proofs.Common.{◌≡◌, refl, ℕ, ◌+◌, ◌<◌, ◌≤◌, Bool, true, false, ◌==◌, ◌||◌, min, nat_le, List, [], ◌∷◌, ◌++◌, map, Option, Some, None, is_some, ap, sym, ◌∙◌, subst, inl, inr, arith, true≢false, if◌then◌else◌}
 use Rattle.std.specs.FinMap.{get}
 use Rattle.moka_parts.specs.declared.records.Record.{Record}

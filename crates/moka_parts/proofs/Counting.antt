@@ -1,4 +1,5 @@
--- A list of members and a map that have the same numbers have as many, and the same weight if each weighs the same in both.
+-- A list of members and a map that have the same numbers have as many, and the same weight if each weighs the same in
+-- both.
 use Rattle.std.proofs.Common.{◌≡◌, refl, ℕ, ◌+◌, true, false, cond, ◌==◌, List, [], ◌∷◌, length, Option, Some, None, option_map, is_some, ap, sym, ◌∙◌, inl, inr, arith, true≢false}
 use Rattle.std.specs.List.{IsDistinct, AllByRecursion, sum_by}
 use Rattle.std.proofs.lemmas.List.Sums.{sum_by-cons}

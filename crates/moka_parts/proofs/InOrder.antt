@@ -1,4 +1,5 @@
--- Records, members, the write list and what waits, in the order of writing: kept by each operation applied and each step of a run.
+-- Records, members, the write list and what waits, in the order of writing: kept by each operation applied and each
+-- step of a run.
 use Rattle.std.proofs.Common.{◌≡◌, refl, ℕ, ◌<◌, Bool, true, false, not, ◌==◌, ◌||◌, List, [], ◌∷◌, ◌++◌, map, Option, Some, None, is_some, ap, sym, ◌∙◌, subst, ◌⊎◌, inl, inr, if◌then◌else◌}
 use Rattle.std.specs.Prelude.{Contains, ⊤, option_and_then}
 use Rattle.std.specs.Option.{option_map_or}

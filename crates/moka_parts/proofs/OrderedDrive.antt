@@ -1,4 +1,5 @@
--- One call in the order of time, and lists of them: each keeps a state in order, and each whole run with all sent leaves nothing that is past its time.
+-- One call in the order of time, and lists of them: each keeps a state in order, and each whole run with all sent
+-- leaves nothing that is past its time.
 use Rattle.std.proofs.Common.{◌≡◌, refl, ℕ, Bool, true, false, ◌<◌, List, [], ◌∷◌, ◌++◌, map, filter, ap, sym, ◌∙◌, subst, inl, inr, ◌||◌, MatchBool, true≢false, arith}
 use Rattle.std.specs.Prelude.{Contains, filter_map}
 use Rattle.std.specs.List.Sorted.{IsNonDecreasing, IsStrictlyIncreasing}

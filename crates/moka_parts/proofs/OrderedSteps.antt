@@ -1,4 +1,5 @@
--- A call in the order of time leaves the write list and a state in order with it, unless it makes a run of maintenance; then it ends as the run does.
+-- A call in the order of time leaves the write list and a state in order with it, unless it makes a run of maintenance;
+-- then it ends as the run does.
 use Rattle.std.proofs.Common.{◌≡◌, refl, ℕ, ◌+◌, ◌≤◌, Bool, true, false, List, [], ◌∷◌, ◌++◌, length, Option, Some, None, option_map, is_some, Result, Ok, Err, ap, sym, subst, ◌⊎◌, inl, inr, MatchBool}
 use Rattle.std.specs.Duration.{as_nanos}
 use Rattle.std.specs.FinMap.{get}

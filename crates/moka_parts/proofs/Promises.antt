@@ -1,4 +1,5 @@
--- A list of calls whose runs promise more is also one whose runs promise less; so what keeps all promises is a run of the reference cache.
+-- A list of calls whose runs promise more is also one whose runs promise less; so what keeps all promises is a run of
+-- the reference cache.
 use Rattle.std.proofs.Common.{◌≡◌, refl, ℕ, Bool, true, false, List, [], ◌∷◌, Option, Some, None, Result, Ok, Err, MatchBool}
 use Rattle.moka_parts.specs.declared.records.Record.{Record}
 use Rattle.moka_parts.specs.declared.records.ReadOperation.{ReadOperation}

@@ -1,4 +1,5 @@
--- Of a record's upserts that wait, the one under the later ticket has the later generation: kept by what hands out, sends and applies.
+-- Of a record's upserts that wait, the one under the later ticket has the later generation: kept by what hands out,
+-- sends and applies.
 use Rattle.std.proofs.Common.{◌≡◌, ℕ, ◌<◌, List, [], ◌∷◌, ◌++◌, Some, ap, sym, subst, ◌∙◌, ◌⊎◌, inl, inr, arith}
 use Rattle.std.proofs.lemmas.List.Elements.{Contains-push_cases}
 use Rattle.std.specs.FinMap.{get, insert, remove, empty}

@@ -1,4 +1,5 @@
--- Where weight is the only ground for a removal, the steps of a run remove the front, and just enough of it once the weight is within the capacity.
+-- Where weight is the only ground for a removal, the steps of a run remove the front, and just enough of it once the
+-- weight is within the capacity.
 use Rattle.std.proofs.Common.{◌≡◌, refl, ℕ, ◌+◌, ◌-◌, ◌≤◌, nat_le, Bool, true, false, true≢false, cond, not, ◌==◌, ◌&&◌, ◌||◌, List, [], ◌∷◌, length, Some, is_some, inl, inr, ap, sym, subst, ◌∙◌, arith, if◌then◌else◌, option_map}
 use Rattle.std.specs.Prelude.{slice_get, take}
 use Rattle.std.specs.Option.{option_map_or}

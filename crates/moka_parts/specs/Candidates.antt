@@ -40,6 +40,7 @@ module _ {K V : Type 0} (c : Contents K V) where
   abbrev pub victims_for : ℕ → Option (List Member)
   victims_for weight = prefix (settled_members c.records c.access) weight
 
-  -- the candidate was seen more often than the victims together, and no six unsettled members stand in a row before the last of them
+  -- the candidate was seen more often than the victims together, and no six unsettled members stand in a row before the
+  -- last of them
   abbrev pub is_preferred : ℕ → List Member → Bool
   is_preferred hash victims = nat_lt (frequency_of_all victims) (frequency c.sketch hash) && not (has_six_unsettled c.records 0 (before_last_of victims c.access))

@@ -1,4 +1,5 @@
--- What callers are handed: clones of what the reference cache answers, as the type of what is cloned says what a clone is.
+-- What callers are handed: clones of what the reference cache answers, as the type of what is cloned says what a clone
+-- is.
 use Rattle.std.specs.Prelude.{◌≡◌, ◌⊎◌, List, [], Option, Some, None, Result, Ok, Err}
 use Rattle.moka_parts.specs.declared.calls.Entry.{Entry}
 use Rattle.moka_parts.specs.declared.calls.KvEntry.{KvEntry}

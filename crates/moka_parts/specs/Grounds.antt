@@ -40,11 +40,13 @@ is_sweep ByPredicate = false
 is_sweep BySurplus = true
 
 module _ {K V : Type 0} (q : Tests) where
-  -- why a record leaves by its last write, if it does: that it is past its time to live is told before that it is invalidated
+  -- why a record leaves by its last write, if it does: that it is past its time to live is told before that it is
+  -- invalidated
   abbrev pub cause_by_write : Record K V → Option RemovalCause
   cause_by_write r = if is_past_write q r then Some Expired else (if is_written_before q.invalid_before r then Some Explicit else None)
 
-  -- why a record leaves by its last read, if it does: that it is past its time to idle is told before that it is invalidated
+  -- why a record leaves by its last read, if it does: that it is past its time to idle is told before that it is
+  -- invalidated
   abbrev pub cause_by_read : Record K V → Option RemovalCause
   cause_by_read r = if is_past_read q r then Some Expired else (if is_read_before q.invalid_before r then Some Explicit else None)
 

@@ -130,7 +130,8 @@ DropsOnlyIdle says s now ch = AreFree says s now ch → AllDropIdle says (before
 abbrev pub CoversNothingIn : {K V X P W : Type 0} → (P → K → V → Bool → Type 0) → Registered P → State K V X P W → Terms → Course → List (Notice K V) → State K V X P W → Type 0
 CoversNothingIn says p s terms course notices t = (ch : Freedom) × RunsBy says s terms ch course notices t × (first rest : List Choice) × (ch.steps ≡ first ++ rest) × CoversNothing says (after_choices (before_steps s ch) first) p
 
--- a predicate that is registered before the calls and not after them left in a call with a run at some moment of which it covered nothing
+-- a predicate that is registered before the calls and not after them left in a call with a run at some moment of which
+-- it covered nothing
 abbrev pub PredicatesLeaveIdle : {K V X L P W C I : Type 0} → Meaning K V X L P W C I → Type 0
 PredicatesLeaveIdle {K} {V} {X} {L} {P} {W} m = (s : State K V X P W) (steps : List (Step K V X P W)) (p : Registered P) → AreSteps m (MaintenanceRun m.says) s steps → Contains s.predicates p → (Contains (last_state s steps).predicates p → ⊥) →
     (done later : List (Step K V X P W)) × (x : Step K V X P W) × (steps ≡ done ++ x ∷ later) × (is_some x.events.passes ≡ true) × CallStep m (CoversNothingIn m.says p) (last_state s done) x.call x.reply x.events x.after

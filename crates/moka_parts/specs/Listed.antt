@@ -15,7 +15,8 @@ pub record LeavesList {K V X P W : Type 0} (before after : List ℕ) (s : State 
   pub rests : IsWhole s terms course → IsAllSent s → keeps_write_list s.settings ≡ true → ComesToRest s before ch terms.now
 
 module _ {K V X P W : Type 0} (says : P → K → V → Bool → Type 0) (read : X → K → V → ℕ → Option ℕ → ℕ → Option ℕ) (before after : List ℕ) where
-  -- a run of maintenance with all that is promised of it, from one write list to the other; a disabled map keeps its list
+  -- a run of maintenance with all that is promised of it, from one write list to the other; a disabled map keeps its
+  -- list
   abbrev pub ListedRun : State K V X P W → Terms → Course → List (Notice K V) → State K V X P W → Type 0
   ListedRun s terms course notices t =
       RunsWith says (λ s terms course t. EndsWell says read s terms course t × (is_disabled s.capacity ≡ true → after ≡ before)) (λ s terms ch course. IsBounded s terms ch course × LeavesList before after s terms ch course) s terms course notices t

@@ -78,7 +78,8 @@ module _ {P : Type 0} where
 abbrev pub is_over : Option ℕ → List Member → Bool
 is_over capacity members = not (has_room capacity (total_weight members) 0)
 
--- the sketch is to be enabled: the policy is TinyLFU, the sketch is off, and at least half of a capacity other than 0 is taken
+-- the sketch is to be enabled: the policy is TinyLFU, the sketch is off, and at least half of a capacity other than 0
+-- is taken
 abbrev pub is_sketch_due : Option ℕ → EvictionPolicy → Option Table → ℕ → Bool
 is_sketch_due None policy sketch total = false
 is_sketch_due (Some capacity) policy sketch total = is_tiny_lfu policy && is_none sketch && not (capacity == 0) && nat_le (capacity / 2) total
@@ -127,7 +128,8 @@ module _ {K V X P W : Type 0} (s : State K V X P W) where
   abbrev pub after_run : Freedom → State K V X P W
   after_run ch = with_contents s (at_end ch) (predicates_at_end ch)
 
--- what the steps of a run test records by: the moment, both times, the moment of the last invalidation of all, and the capacity
+-- what the steps of a run test records by: the moment, both times, the moment of the last invalidation of all, and the
+-- capacity
 pub record Tests : Type 0 where
   pub now : ℕ
   pub time_to_live : Option ℕ
@@ -168,7 +170,8 @@ module _ {K V P : Type 0} (says : P → K → V → Bool → Type 0) (q : Tests)
   HasCause c ps n r Size = HasGround q c n r Size
   HasCause c ps n r Replaced = ⊥
 
-  -- a step that a run may take: a settled member leaves for a cause that fits, an unsettled one goes to the back, or a predicate that covers nothing leaves
+  -- a step that a run may take: a settled member leaves for a cause that fits, an unsettled one goes to the back, or a
+  -- predicate that covers nothing leaves
   abbrev pub IsJustified : Contents K V → List (Registered P) → Choice → Type 0
   IsJustified c ps (Removes n cause) = (r : Record K V) × (finite.get c.records n ≡ Some r) × (is_member n c.access && is_settled c.records n ≡ true) × HasCause c ps n r cause
   IsJustified c ps (MovesToBack n) = (is_member n c.access ≡ true) × (is_settled c.records n ≡ false)

@@ -62,7 +62,8 @@ pub record IsInOrder {K V X P W : Type 0} (s : State K V X P W) (write_list : Li
   -- the settled members were written in the list's order, and then the waiting records in that of their tickets
   pub written : IsNonDecreasing (filter_map (written_at s.records) (filter (is_settled s.records) write_list) ++ filter_map (λ h. written_by s.records h.operation) (waiting_by_ticket s))
 
--- a call in the order of time: an insert no earlier than any write, or, where a send moves an operation, the oldest one sent
+-- a call in the order of time: an insert no earlier than any write, or, where a send moves an operation, the oldest one
+-- sent
 abbrev pub IsOrderly : {K V X P W : Type 0} → State K V X P W → Call K V P → Type 0
 IsOrderly s (call.Insert key hash value now) = (n : ℕ) (r : Record _ _) → get s.records n ≡ Some r → r.written.0 ≤ now.0
 IsOrderly s (call.Send ticket) = contains_key s.outstanding ticket.0 ≡ true → length s.writes < queue_length → (n : ℕ) → contains_key s.outstanding n ≡ true → ticket.0 ≤ n
@@ -86,7 +87,8 @@ module _ {K V X P W : Type 0} where
 
 -- ---- the course of the write list
 
--- the list after an upsert of the number's record with that fate: what enters or is written again stands at the back, victims leave
+-- the list after an upsert of the number's record with that fate: what enters or is written again stands at the back,
+-- victims leave
 abbrev pub written_after_fate : Bool → ℕ → List ℕ → Fate → List ℕ
 written_after_fate kept n ns Ignored = ns
 written_after_fate kept n ns Overtaken = number_to_back n ns

@@ -20,7 +20,8 @@ use Rattle.moka_parts.specs.Surroundings.{Heard}
 pub use Rattle.moka_parts.specs.Surroundings.{Leads}
 use Rattle.moka_parts.specs.Calls.{no_events, only_notices, only_ids, Unchanged, InsertStep, SendStep, GetStep, PeekStep, ContainsStep, KeyStep, ScanStep, RemoveStep, NotifiesAfter, InvalidateStep, CapacityStep, RunStep, RunsIfDue, KeysStep, oldest_ticket}
 
--- what contracts see of a cache: its name and hasher, the state, the listener, the write list, and the passes of its last run
+-- what contracts see of a cache: its name and hasher, the state, the listener, the write list, and the passes of its
+-- last run
 pub record Cache (K V S X L P W : Type 0) : Type 0 where
   -- as bytes
   pub name : Option (List ℕ)
@@ -36,7 +37,8 @@ abbrev pub passes_after : ℕ → Option ℕ → ℕ
 passes_after before None = before
 passes_after before (Some passes) = passes
 
--- a call with these events changes no more of a cache than its state, what the listener has heard, the write list and the passes
+-- a call with these events changes no more of a cache than its state, what the listener has heard, the write list and
+-- the passes
 pub record Befalls {K V S X L P W : Type 0} (tells : L → K → V → RemovalCause → L → Type 0) (e : Events K V) (old new : Cache K V S X L P W) : Type 0 where
   pub kept : new ≡ record old { state = new.state; listener = new.listener; write_list = new.write_list; passes = new.passes }
   pub heard : Heard tells old.listener e.notices new.listener
@@ -126,7 +128,8 @@ module _ {K V X L P W C I : Type 0} (m : Meaning K V X L P W C I) (Runs : State 
   AreSteps s [] = Unit {0}
   AreSteps s (x ∷ xs) = CallStep m Runs s x.call x.reply x.events x.after × AreSteps x.after xs
 
--- the calls, made one after the other, give the replies and lead from the first cache, clock and source of identifiers to the second
+-- the calls, made one after the other, give the replies and lead from the first cache, clock and source of identifiers
+-- to the second
 pub record MakesCalls {K V S X L P W C I : Type 0} (m : Meaning K V X L P W C I) (Runs : State K V X P W → Terms → Course → List (Notice K V) → State K V X P W → Type 0) (calls : List (Call K V P)) (replies : List (Reply K V P)) (steps : List (Step K V X P W)) (old : Cache K V S X L P W) (clock : C) (ids : I) (new : Cache K V S X L P W) (clock_after : C) (ids_after : I) : Type 0 where
   pub calls_made : calls_of steps ≡ calls
   pub replies_given : replies_of steps ≡ replies

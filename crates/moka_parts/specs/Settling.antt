@@ -29,7 +29,8 @@ abbrev pub number_of : Operation → ℕ
 number_of (Upsert number generation weight hash) = number
 number_of (Removal number generation) = number
 
--- what holds of a record in the map, given the weight that is counted for it, if it is a member, and the operations that wait
+-- what holds of a record in the map, given the weight that is counted for it, if it is a member, and the operations
+-- that wait
 pub record IsTracked {K V : Type 0} (Waits : Operation → Type 0) (n : ℕ) (r : Record K V) (counted : Option ℕ) : Type 0 where
   -- no operation was applied that is newer than the record
   pub applied : r.applied ≤ r.generation
@@ -60,7 +61,8 @@ pub record IsConsistent {K V : Type 0} (Waits : Operation → Type 0) (records :
 abbrev pub IsConsistentState : {K V X P W : Type 0} → State K V X P W → Type 0
 IsConsistentState s = IsConsistent (IsWaiting s) s.records s.access
 
--- each record stands at its own number, which was given out, as was that of each operation that waits; and a key has one record
+-- each record stands at its own number, which was given out, as was that of each operation that waits; and a key has
+-- one record
 pub record AreNumbered {K V : Type 0} (eq : K → K → Bool) (records : Records K V) (Waits : Operation → Type 0) (next_number : ℕ) : Type 0 where
   pub numbered : (n : ℕ) (r : Record K V) → get records n ≡ Some r → (r.number ≡ n) × (n < next_number)
   pub known : (o : Operation) → Waits o → number_of o < next_number

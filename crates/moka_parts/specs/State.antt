@@ -61,7 +61,8 @@ pub record Contents (K V : Type 0) : Type 0 where
   pub access : List Member
   pub sketch : Option Table
 
--- what keys, listener, predicates, weigher, clock, source of identifiers and expiry mean; an expiry's answers are in nanoseconds
+-- what keys, listener, predicates, weigher, clock, source of identifiers and expiry mean; an expiry's answers are in
+-- nanoseconds
 pub record Meaning (K V X L P W C I : Type 0) : Type 1 where
   pub eq : K → K → Bool
   pub tells : L → K → V → RemovalCause → L → Type 0

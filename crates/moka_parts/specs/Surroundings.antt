@@ -1,4 +1,5 @@
--- What the cache's surroundings go through: the listener, the clock, the source of identifiers, and a caller's own test.
+-- What the cache's surroundings go through: the listener, the clock, the source of identifiers, and a caller's own
+-- test.
 use Rattle.std.specs.Prelude.{◌≡◌, Bool, false, List, [], ◌∷◌, Option, Some, None}
 use Rattle.moka_parts.specs.declared.notification.RemovalCause.{RemovalCause}
 use Rattle.moka_parts.specs.Records.{Notice}

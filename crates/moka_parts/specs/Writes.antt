@@ -144,7 +144,8 @@ module _ {K V : Type 0} where
 -- ---- one write, and all
 
 module _ {K V : Type 0} (capacity : Option ℕ) (policy : EvictionPolicy) where
-  -- the contents after a write, where those members were moved to the back: a removal takes its number out of the access list
+  -- the contents after a write, where those members were moved to the back: a removal takes its number out of the
+  -- access list
   abbrev pub after_write : Contents K V → Operation → List ℕ → Contents K V
   after_write c (Removal number generation) moved = record c { access = without_member number c.access }
   after_write c (Upsert number generation weight hash) moved = option_map_or (λ r. after_fate c number generation weight moved r (fate capacity policy c (Upsert number generation weight hash))) (get c.records number) c

@@ -102,7 +102,7 @@ pub enum Call<K, V, P> {
         key: K,
         now: Instant,
     },
-    /// Takes a key out; at a moment, if one is given, the listener is told of it.
+    /// Takes a key out; at a moment, if one is given, the listener is notified of it.
     Remove {
         key: K,
         hash: u64,

@@ -1,4 +1,5 @@
 //! What calls refuse, by name. moka: `common::error`.
+use std::alloc::AllocError;
 use std::error::Error;
 use std::fmt;
 
@@ -18,6 +19,12 @@ impl fmt::Display for OutOfMemory {
 }
 
 impl Error for OutOfMemory {}
+
+impl From<AllocError> for OutOfMemory {
+    fn from(_error: AllocError) -> OutOfMemory {
+        OutOfMemory
+    }
+}
 
 /// Why an operation was not sent. It is kept under its ticket, if there is one.
 #[derive(Clone, Copy, Debug, PartialEq, Eq)]

@@ -14,8 +14,8 @@ use crate::invalidator::IdSource;
 use crate::notification::Listener;
 use crate::policy::Expiry;
 
-/// A get finds a value exactly where the key is contained, unless memory for a clone is refused: a get of `drive`, and one of
-/// `BaseCache` from one write list to another.
+/// A get finds a value exactly where the key is contained, unless memory for a clone is refused: a get of `drive`, and
+/// one of `BaseCache` from one write list to another.
 pub fn gets_what_is_contained<K: Eq, V, X: Expiry<K, V>, P: PredicateFn<K, V>, W>()
     ensures promised { GetsWhatIsContained {W = W} K.eq P.says X.read (PromisedRun P.says X.read) }
     ensures listed { (before after : List ℕ) → GetsWhatIsContained {W = W} K.eq P.says X.read (ListedRun P.says X.read before after) }
@@ -127,8 +127,8 @@ pub fn counts_nearly<K: Eq, V, X, P: PredicateFn<K, V>, W>()
     ensures { CountsNearly X W K.eq P.says }
 {}
 
-/// Where weight is the only ground for a removal, a run that ends within the capacity removes just enough from the least
-/// recently used end.
+/// Where weight is the only ground for a removal, a run that ends within the capacity removes just enough from the
+/// least recently used end.
 pub fn removes_enough<K, V, X, P: PredicateFn<K, V>, W>()
     ensures { (s : State K V X P W) (now : ℕ) (free : Freedom) → RemovesEnough P.says s now free }
 {}

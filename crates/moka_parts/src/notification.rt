@@ -1,4 +1,4 @@
-//! Why values leave the cache, and who is told. moka: `notification`.
+//! Why values leave the cache, and who is notified. moka: `notification`.
 ghost use Rattle.std.specs.Prelude.{◌≡◌};
 
 use std::marker::Model;
@@ -28,7 +28,7 @@ impl RemovalCause {
     }
 }
 
-/// Is told of each value that leaves, and may keep key and value.
+/// Is notified of each value that leaves, and may keep key and value.
 /// moka: `notification::EvictionListener`.
 pub trait Listener<K, V> {
     ghost use Rattle.std.specs.Prelude.{◌≡◌};
@@ -42,7 +42,7 @@ pub trait Listener<K, V> {
         ensures { tells self.old key value cause self.new };
 }
 
-/// Hears nothing, and lets key and value go.
+/// Ignores all notifications.
 #[derive(Clone, Copy)]
 pub struct NoListener;
 
@@ -96,7 +96,7 @@ impl<L> RemovalNotifier<L> {
         self.listener.as_ref()
     }
 
-    /// Tells the listener of one removal; where none is set, key and value are let go.
+    /// Notifies the listener of one removal; if none is set, key and value are dropped.
     pub fn notify<K: Drop, V: Drop>(&mut self, key: K, value: V, cause: RemovalCause)
     where
         L: Listener<K, V>,

@@ -2,6 +2,7 @@
 //! processor's caches, and a record is lent as its parts.
 ghost use Rattle.std.specs.Prelude.{◌≡◌, is_some};
 ghost use Rattle.moka_parts.specs.RecordParts.{joined, expiry_of};
+ghost use Rattle.moka_parts.specs.Records.{is_applied};
 
 use crate::policy::Instant;
 use crate::records::Record;
@@ -157,6 +158,14 @@ impl<'a, K, V> RecordRef<'a, K, V> {
         ensures { result ≡ self.now.applied }
     {
         self.cold.applied
+    }
+
+    /// Whether its newest operation was applied.
+    #[inline(always)]
+    pub fn is_settled(&self) -> bool
+        ensures { result ≡ is_applied self.now }
+    {
+        self.cold.applied == self.cold.generation
     }
 }
 

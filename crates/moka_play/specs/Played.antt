@@ -80,7 +80,8 @@ first_state chosen = record (new_state (record {
 abbrev pub total_of : ScriptState → Total
 total_of state = record { count = state.count; weight = state.weight }
 
--- the calls, made one after the other on a new reference cache by the script's clock and identifiers, give the replies, tell the notices and leave that total
+-- the calls, made one after the other on a new reference cache by the script's clock and identifiers, give the replies,
+-- tell the notices and leave that total
 abbrev pub AreReplies : ScriptText → List (Reply ℕ (List ℕ) KeyRange) → List ScriptNotice → Total → Type 0
 AreReplies script replies notices total =
     (steps : List ScriptStep) × (map told_call (calls_of steps) ≡ script.2) × (replies_of steps ≡ replies) × (notices_of steps ≡ notices)

@@ -45,7 +45,7 @@ pub struct Played {
 /// Makes the calls of a script, one after the other, on a new cache.
 ///
 /// # Errors
-/// `OutOfMemory` where memory for the cache, for its listener or for the replies is refused.
+/// `OutOfMemory` if memory for the cache, for its listener or for the replies is refused.
 pub fn play(alloc: Global, script: Script) -> Result<Played, OutOfMemory>
     ensures { IfOk result (λ played. AreReplies (text_of script) played.replies.items (told_of played.cache.listener) (total_of played.cache.state)) }
 {

@@ -27,7 +27,8 @@ abbrev pub Says : Reading → ScriptText → Type 0
 Says (Ok text) script = script_of text.items ≡ Ok script
 Says (Err error) script = ⊥
 
--- memory may be refused to the rules, the clock and the calls in front of the first faulty line, and to the play of a right script
+-- memory may be refused to the rules, the clock and the calls in front of the first faulty line, and to the play of a
+-- right script
 abbrev pub MayRunOutOfMemory : List ℕ → Type 0
 MayRunOutOfMemory text = (asks_for_memory text ≡ true) ⊎ IsOk (script_of text)
 
@@ -60,7 +61,8 @@ IsPlayed read (Err failure) = Stops read failure
 abbrev pub status_of_replies : List (Reply ℕ (List ℕ) KeyRange) → ℕ
 status_of_replies replies = if list_any is_refused_memory replies then 3 else 0
 
--- the input's script was played and all of it printed, nothing said; or the replay stopped with reason, said it and printed nothing
+-- the input's script was played and all of it printed, nothing said; or the replay stopped with reason, said it and
+-- printed nothing
 abbrev pub Ends : {W E : Type 0} → (W → List ℕ → Bool → W → Type 0) → (E → List ℕ → Bool → E → Type 0) → Reading → ℕ → W → E → W → E → Type 0
 Ends prints says read status out err out_after err_after =
     ((played : Played) × IsPlayed read (Ok played) × IsWritten prints (played_text played) (status_of_replies played.replies.items) status out out_after × (err_after ≡ err))
@@ -75,7 +77,8 @@ abbrev pub Answers : {R : Type 0} → (R → Reading → R → Type 0) → Resul
 Answers {R} gives (Ok input) read = (after : R) × gives input read after
 Answers {R} gives (Err error) read = read ≡ Err error
 
--- the replay ends over an empty buffer in front of the output, or memory for that buffer was refused and one line says so
+-- the replay ends over an empty buffer in front of the output, or memory for that buffer was refused and one line says
+-- so
 abbrev pub IsReplayedBuffered : {R W E : Type 0} → (R → Reading → R → Type 0) → (BufWriter W Global → List ℕ → Bool → BufWriter W Global → Type 0) → (E → List ℕ → Bool → E → Type 0) → ℕ → Result R Error → W → E → E → Type 0
 IsReplayedBuffered {R} {W} gives prints says status input out err err_after =
     ((read : Reading) × Answers gives input read × (buffer after : BufWriter W Global) × (writer_inner buffer ≡ out) × (writer_buffer buffer ≡ []) × Ends prints says read status buffer err after err_after)

@@ -24,7 +24,8 @@ fits question key moment rule = is_same_question rule.question question && (rule
 abbrev pub answer_by : List Rule → Question → ℕ → ℕ → Option (Option ℕ)
 answer_by rules question key moment = option_map (λ r. r.answer) (find (fits question key moment) rules)
 
--- what the rules answer to each question; without one that fits, a creation is answered with none and the others with what is left
+-- what the rules answer to each question; without one that fits, a creation is answered with none and the others with
+-- what is left
 abbrev pub created_by : List Rule → ℕ → List ℕ → ℕ → Option ℕ
 created_by rules key value now = unwrap_or (answer_by rules Create key now) None
 

@@ -111,7 +111,8 @@ IsAdded number old text (Err (failure.BadLine n)) new = (n ≡ number) × (with_
 IsAdded number old text (Err failure.OutOfMemory) new = is_kept (asked_in text) ≡ true
 IsAdded number old text (Err _) new = ⊥
 
--- reading succeeds exactly where each line is right, and else the first faulty line is named; memory may be refused to the rules, the clock and the calls in front of it
+-- reading succeeds exactly where each line is right, and else the first faulty line is named; memory may be refused to
+-- the rules, the clock and the calls in front of it
 abbrev pub IsParseOf : List ℕ → Result Script Failure → Type 0
 IsParseOf text (Ok script) = script_of text ≡ Ok (text_of script)
 IsParseOf text (Err (failure.BadLine number)) = script_of text ≡ Err number

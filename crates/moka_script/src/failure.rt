@@ -15,7 +15,7 @@ pub const REPLAYED: u8 = 0;
 /// The status where the script or the arguments are faulty.
 pub const FAULTY: u8 = 2;
 
-/// The status where memory, a read or a write was refused.
+/// The status if memory, a read or a write was refused.
 pub const REFUSED: u8 = 3;
 
 /// Why a replay stopped before it printed anything.

@@ -25,7 +25,8 @@ pub struct Rule {
     pub answer: Option<u64>,
 }
 
-/// An expiry that answers with the first rule that fits, and without one as an expiry's default does. Seen as its rules.
+/// An expiry that answers with the first rule that fits, and without one as an expiry's default does. Seen as its
+/// rules.
 #[derive(Drop)]
 pub struct Rules {
     rules: Vec<Rule>,

@@ -5,7 +5,8 @@ use moka_parts::policy::Instant;
 use std::marker::Model;
 use uuid::Uuid;
 
-/// A clock that tells listed readings, one after the other, and the last one again and again. Without any it stands at 0.
+/// A clock that tells listed readings, one after the other, and the last one again and again. Without any it stands at
+/// 0.
 #[derive(Drop)]
 pub struct ListedClock {
     readings: Vec<u64>,

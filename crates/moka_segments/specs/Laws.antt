@@ -54,7 +54,8 @@ module _ {K V S X L P W C : Type 0} (m : Meaning K V X L P W C (Unit {0})) where
 
 -- ---- laws
 
--- whatever moves were made, each segment is a run of the reference cache: of the calls that were made in it, with their replies
+-- whatever moves were made, each segment is a run of the reference cache: of the calls that were made in it, with their
+-- replies
 abbrev pub EachRuns : {K V X L P W C : Type 0} → (S : Type 0) → Meaning K V X L P W C (Unit {0}) → Type 0
 EachRuns {K} {V} {X} {L} {P} {W} {C} S m = (moves : List (Move K V P)) (old new : Segmented K V S X L P W) (clock clock_after : C) → MoveAfterMove m moves clock old clock_after new →
     (index : ℕ) (x y : Synchronous K V S X L P W) → IsAt old.segments index x → IsAt new.segments index y → Made (anytime m) (calls_in index moves) (replies_in index moves) x.engine tt y.engine tt
@@ -64,7 +65,8 @@ abbrev pub InsertWhereTheyBelong : {K V S P : Type 0} → (S → K → ℕ) → 
 InsertWhereTheyBelong hash_of routing [] = Unit {0}
 InsertWhereTheyBelong hash_of routing (v ∷ vs) = InsertsOnly (Belongs hash_of routing v.index) v.calls × InsertWhereTheyBelong hash_of routing vs
 
--- if each segment holds only keys that belong to it, and keys are inserted where they belong, it stays so whatever else is called
+-- if each segment holds only keys that belong to it, and keys are inserted where they belong, it stays so whatever else
+-- is called
 abbrev pub KeysStay : {K V X L P W C : Type 0} → (S : Type 0) → (S → K → ℕ) → Meaning K V X L P W C (Unit {0}) → Type 0
 KeysStay {K} {V} {X} {L} {P} {W} {C} S hash_of m = (moves : List (Move K V P)) (old new : Segmented K V S X L P W) (clock clock_after : C) → MoveAfterMove m moves clock old clock_after new →
     InsertWhereTheyBelong hash_of old.routing moves → KeysBelong hash_of old → KeysBelong hash_of new

@@ -1,4 +1,5 @@
--- What a call by key makes of the segment that the key belongs to: what the synchronous cache's call of that name promises.
+-- What a call by key makes of the segment that the key belongs to: what the synchronous cache's call of that name
+-- promises.
 use Rattle.std.specs.Prelude.{◌≡◌, ℕ, true, false, Option, Some, Result, IfOk, IfSome, OnErr, is_some}
 use Rattle.moka_parts.specs.declared.error.InsertRefused.{InsertRefused}
 use Rattle.moka_parts.specs.declared.error.OutOfMemory.{OutOfMemory}

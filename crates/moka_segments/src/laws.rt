@@ -12,8 +12,8 @@ use moka_parts::notification::Listener;
 use moka_parts::policy::Expiry;
 use std::hash::{BuildHasher, Hash};
 
-/// Whatever calls were made in whichever segments, each segment is one run of the reference cache: of the calls that were
-/// made in it, with their replies, as if it stood alone.
+/// Whatever calls were made in whichever segments, each segment is one run of the reference cache: of the calls that
+/// were made in it, with their replies, as if it stood alone.
 pub fn each_runs<
     K: Eq,
     V,
@@ -57,7 +57,8 @@ pub fn one_segment_each<
         (λ h k. S.Hasher.finish (fold S.Hasher.write (S.build_hasher h) (K.hash_input k))) K.eq }
 {}
 
-/// Each call by key leaves keys in the segments that they belong to; `get_with_keeps_keys` speaks of those with a maker.
+/// Each call by key leaves keys in the segments that they belong to; `get_with_keeps_keys` speaks of those with a
+/// maker.
 pub fn calls_by_key_keep_keys<
     K: Eq + Hash + Clone,
     V: Clone,

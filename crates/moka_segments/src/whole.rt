@@ -49,7 +49,8 @@ impl<
         capacity_of(&self.segments)
     }
 
-    /// Invalidates all entries that were written or read before the moment `now`, also where that is earlier than before.
+    /// Invalidates all entries that were written or read before the moment `now`, also where that is earlier than
+    /// before.
     pub fn invalidate_all(&mut self, now: Instant)
         ensures routing { self.new.routing ≡ self.old.routing }
         ensures each { AllZip (Hides L.tells now) self.old.segments self.new.segments }
@@ -59,7 +60,8 @@ impl<
 
     /// Runs maintenance of each segment in turn, without a time limit. The answer tells whether more is left of any.
     ///
-    /// It leaves count and weight of each segment exactly its entries', and the weight of all within the capacity of all.
+    /// It leaves count and weight of each segment exactly its entries', and the weight of all within the capacity of
+    /// all.
     pub fn run_pending_tasks<C: Clock>(&mut self, now: Instant, clock: &mut C) -> bool
     where
         K: Drop,

@@ -19,7 +19,8 @@ no_counts table_length = record { table_length = table_length; counters = replic
 
 -- ---- the four counters of a hash
 
--- the group in which a hash has its counter of a factor: the factor mixes the hash, whose upper half is folded onto the lower
+-- the group in which a hash has its counter of a factor: the factor mixes the hash, whose upper half is folded onto the
+-- lower
 abbrev pub group_of : ℕ → ℕ → ℕ → ℕ
 group_of table_length hash factor =
     let mixed = hash * factor % 2 ^ 64 in bit_xor mixed (mixed / 2 ^ 32) % table_length
@@ -102,7 +103,8 @@ abbrev pub doubled_to : ℕ → ℕ → ℕ → ℕ
 doubled_to zero p n = p
 doubled_to (suc doublings) p n = if nat_le n p then p else doubled_to doublings (2 * p) n
 
--- the length of the table for a size asked for: the least power of two that is no less, where the size counts as 128 if it is less and as 2 ^ 30 if it is more
+-- the length of the table for a size asked for: the least power of two that is no less, where the size counts as 128 if
+-- it is less and as 2 ^ 30 if it is more
 unfoldable pub table_length_for : ℕ → ℕ
 table_length_for size = doubled_to 30 1 (min (max size 128) (2 ^ 30))
 

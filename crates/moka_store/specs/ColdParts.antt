@@ -1,4 +1,5 @@
--- The rows of a table whose records have their cold parts beside them, with the weights of the memberships. No public clause but those of a table cites this module.
+-- The rows of a table whose records have their cold parts beside them, with the weights of the memberships. No public
+-- clause but those of a table cites this module.
 use Rattle.std.specs.Prelude.{◌≡◌, ℕ, ◌+◌, ◌-◌, ◌≤◌, length, Option, List, [], ◌∷◌, is_some, count_by, slice_index_or}
 use Rattle.std.specs.Option.{option_map}
 use Rattle.moka_parts.specs.declared.record_ref.Cold.{Cold}

@@ -2,7 +2,8 @@
 use Rattle.std.specs.Prelude.{◌≡◌, ℕ, ◌*◌, ◌/◌, ◌%◌, ◌^◌, List, fold}
 use Rattle.moka_store.specs.declared.store.hashing.KeyHash.{KeyHash}
 
--- the 32 bits of a hash that the index keeps: the upper half of a product, so that also hashes that differ in their lower bits alone are apart
+-- the 32 bits of a hash that the index keeps: the upper half of a product, so that also hashes that differ in their
+-- lower bits alone are apart
 unfoldable pub index_hash : ℕ → ℕ
 index_hash hash = hash * 11400714819323198485 % 2 ^ 64 / 2 ^ 32
 

@@ -3,8 +3,8 @@ use Rattle.std.specs.Prelude.{◌≡◌, ℕ, ◌+◌, ◌^◌, Bool, true, fals
 use Rattle.std.specs.Map.{lookup}
 use Rattle.moka_structures.specs.Order.{Order, next_after}
 
--- the nodes from the front to the back, each its slot and its place, the node of the cursor, how many places fit with no
--- memory, and whether the order is kept at all
+-- the nodes from the front to the back, each its slot and its place, the node of the cursor, how many places fit with
+-- no memory, and whether the order is kept at all
 pub record Listing : Type 0 where
   pub nodes : List (ℕ × ℕ)
   pub cursor : Option (ℕ × ℕ)

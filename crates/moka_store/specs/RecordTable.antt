@@ -6,8 +6,8 @@ use Rattle.std.specs.Option.{option_map, option_map_or, option_and_then}
 use Rattle.std.specs.Ordering.{nat_cmp}
 use Rattle.moka_store.specs.declared.table.membership.Membership.{Membership}
 
--- what stands under a number: what is stored, until it leaves the map; its membership, while it is a member; its slot among
--- the timers, while it has one
+-- what stands under a number: what is stored, until it leaves the map; its membership, while it is a member; its slot
+-- among the timers, while it has one
 pub record Row (R : Type 0) : Type 0 where
   pub number : ℕ
   pub stored : Option R

@@ -12,7 +12,8 @@ use Rattle.moka_parts.specs.declared.records.Member.{Member}
 use Rattle.moka_parts.specs.RecordParts.{record_code}
 use Rattle.moka_parts.specs.Records.{Records, counted_of, is_listed}
 
--- the records by number, both orders, the timers, the place of each number that has a row, and how many new records need no memory
+-- the records by number, both orders, the timers, the place of each number that has a row, and how many new records
+-- need no memory
 pub record Kept (K V S : Type 0) : Type 0 where
   pub records : Records K V
   pub access : List Member

@@ -58,7 +58,8 @@ pub record IsTimed {K V : Type 0} (rows : List (Option (Row (Record K V)))) (tim
 abbrev pub AreNarrow : FinMap nat_cmp ℕ → Type 0
 AreNarrow places = (n place : ℕ) → get places n ≡ Some place → place < 2 ^ 32
 
--- there is a key for each record, and a node and a timer for each row, the weight is that of all members, and places are narrow
+-- there is a key for each record, and a node and a timer for each row, the weight is that of all members, and places
+-- are narrow
 pub record IsStore {K V : Type 0} (eq : K → K → Bool) (rows : List (Option (Row (Record K V)))) (index : KeyIndex K) (keys : ℕ) (nodes : List (ℕ × ℕ)) (list : Listing) (timing : Timing) (most weight : ℕ) : Type 0 where
   pub tied : IsTied eq rows index nodes
   pub written : IsWritten rows list

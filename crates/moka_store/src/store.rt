@@ -31,7 +31,7 @@ mod hashing;
 mod rows;
 mod tested;
 
-// From so many members on, nodes are read ahead.
+// With more members than this, nodes are read ahead.
 const FAR: usize = 1 << 18;
 
 /// A number that has a row, with the row's place.
@@ -63,7 +63,7 @@ pub struct Store<K: Eq + Hash, V, S: BuildHasher> {
     timers: Timers,
     // The sum of the weights that are counted for the members.
     weight: u128,
-    // What was read ahead. Nobody asks for it, but what nobody keeps is not read.
+    // What was read ahead, kept so that the compiler does not drop the loads.
     ahead: u64,
 }
 
@@ -137,8 +137,8 @@ impl<K: Eq + Hash, V, S: BuildHasher> Store<K, V, S> {
         })
     }
 
-    /// Makes room for `additional` more records: in the index, for their rows, their places in the orders and their timers.
-    /// An error leaves all but the room as it was: there is no memory, or a place would need more than 32 bits.
+    /// Makes room for `additional` more records: in the index, for their rows, their places in the orders and their
+    /// timers. An error leaves all but the room as it was: there is no memory, or a place would need more than 32 bits.
     #[inline(always)]
     pub fn reserve(&mut self, additional: usize) -> Result<(), AllocError>
         ensures room { OnOk result (additional ≤ self.new.room) }
@@ -333,7 +333,7 @@ impl<K: Eq + Hash, V, S: BuildHasher> Store<K, V, S> {
         ensures { result ≡ is_settled self.now.records handle.number }
     {
         match self.find(handle) {
-            Some(found) => found.applied() == found.generation(),
+            Some(found) => found.is_settled(),
             None => false,
         }
     }
@@ -455,8 +455,8 @@ impl<K: Eq + Hash, V, S: BuildHasher> Store<K, V, S> {
         let _none = self.timers.set(timer, handle.place as u64, None);
     }
 
-    /// The timer of the number at this handle, where timers are kept, stands at its record's expiry, or is taken out where
-    /// there is none. It takes no memory.
+    /// The timer of the number at this handle, where timers are kept, stands at its record's expiry, or is taken out
+    /// where there is none. It takes no memory.
     #[inline(always)]
     pub fn set_timer(&mut self, handle: Handle)
         requires handle { IsHandle self.old handle }
@@ -470,7 +470,8 @@ impl<K: Eq + Hash, V, S: BuildHasher> Store<K, V, S> {
         let _before = self.table.set_timer(handle.place, timer);
     }
 
-    /// Takes a timer out whose moment is at or before `now`. The answer is whose it was, and None exactly where there is none.
+    /// Takes a timer out whose moment is at or before `now`. The answer is whose it was, and None exactly where there
+    /// is none.
     pub fn due(&mut self, now: Instant) -> Option<Handle>
         ensures due { IfSome result (λ h. (t : ℕ) × (finite.get self.old.timers h.number ≡ Some t) × (t ≤ now.0)) }
         ensures placed { IfSome result (λ h. IsPlaced self.new h) }

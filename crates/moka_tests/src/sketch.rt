@@ -126,8 +126,8 @@ fn sum_by_both(rt: &impl Abort, packed: &FrequencySketch, plain: &PlainSketch) -
     total
 }
 
-// 100,000 increments by numbers below 1,024, some of which come often, over packed and over plain counters. The sum of all
-// frequencies at the end was computed by another program.
+// 100,000 increments by numbers below 1,024, some of which come often, over packed and over plain counters. The sum of
+// all frequencies at the end was computed by another program.
 #[test]
 fn agrees_with_plain_counters(rt: HostRuntime) -> Result<(), Fail> {
     for (length, sum) in [(128, 1161), (256, 1744)] {

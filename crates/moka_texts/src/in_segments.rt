@@ -64,8 +64,8 @@ fn insert_made(
     Ok(copy)
 }
 
-/// The text of a key of its own, made if it is not there. A look-up that is refused is made again with the key that came
-/// back, and an insert with key and value.
+/// The text of a key of its own, made if it is not there. A look-up that is refused is made again with the key that
+/// came back, and an insert with key and value.
 fn made<W: Write>(
     alloc: Global,
     out: &mut W,
@@ -116,7 +116,8 @@ fn take_out<W: Write>(
     Ok(())
 }
 
-/// Registers a predicate that covers nothing in each segment. If one refuses, those before it have used an identifier each.
+/// Registers a predicate that covers nothing in each segment. If one refuses, those before it have used an identifier
+/// each.
 fn register<W: Write>(out: &mut W, cache: &mut Segmented, now: Instant) -> Result<()> {
     let first = u128::from(now.0).wrapping_mul(100);
     let mut ids = Ids(first);

@@ -1,6 +1,6 @@
 //! `moka-texts` makes the calls that ask for memory on a cache of texts by texts. A call that is refused memory says so
-//! in a line of its own, and is made again: all else that is printed is the same then. `tools/tests/refusals` refuses each
-//! allocation in turn.
+//! in a line of its own, and is made again: all else that is printed is the same then. `tools/tests/refusals` refuses
+//! each allocation in turn.
 #![tactic(auto)]
 
 mod asks;

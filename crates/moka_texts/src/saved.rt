@@ -62,7 +62,8 @@ fn get<W: Write>(
     }
 }
 
-/// Puts so many texts into a cache and saves it, puts what was saved into another, which is empty, and asks that for each.
+/// Puts so many texts into a cache and saves it, puts what was saved into another, which is empty, and asks that for
+/// each.
 pub fn save_and_ask<W: Write>(
     alloc: Global,
     out: &mut W,

@@ -136,7 +136,7 @@ impl<
         self.cache.contains_key(key, now)
     }
 
-    /// Puts a value under a key. A cache of capacity 0 lets both go.
+    /// Puts a value under a key. A cache of capacity 0 drops both.
     ///
     /// # Errors
     /// As `Cache::insert`.
@@ -181,7 +181,7 @@ impl<
         self.cache.get(key, now, &mut self.clock)
     }
 
-    /// Takes a key out, and hands its value out, expired or not. The listener, if one is set, is told.
+    /// Takes a key out, and hands its value out, expired or not. The listener, if one is set, is notified.
     ///
     /// # Errors
     /// As `Cache::remove`.
@@ -202,7 +202,7 @@ impl<
         self.cache.remove(key, now, &mut self.clock)
     }
 
-    /// Takes a key out, expired or not, and lets its value go. The listener, if one is set, is told.
+    /// Takes a key out, expired or not, and drops its value. The listener, if one is set, is notified.
     ///
     /// # Errors
     /// As `Cache::invalidate`.
@@ -224,8 +224,8 @@ impl<
     }
 
     /// A clone of a key's value, if the key is there and visible, and else of the value that `init` makes, which is
-    /// inserted. `init` is called only if the key is not there. The clock is read once, before `init` is called, so if that
-    /// takes longer than the time to live the entry has expired already.
+    /// inserted. `init` is called only if the key is not there. The clock is read once, before `init` is called, so if
+    /// that takes longer than the time to live the entry has expired already.
     ///
     /// # Errors
     /// As `Cache::get_with`.
@@ -291,8 +291,8 @@ impl<
         self.cache.try_get_with(key, init, now, &mut self.clock)
     }
 
-    /// Registers a predicate at the clock's moment: what it covers is hidden from now on, and runs of maintenance remove
-    /// it.
+    /// Registers a predicate at the clock's moment: what it covers is hidden from now on, and runs of maintenance
+    /// remove it.
     ///
     /// # Errors
     /// As `Cache::invalidate_entries_if`.
@@ -313,8 +313,8 @@ impl<
         self.cache.invalidate_entries_if(predicate, now, ids)
     }
 
-    /// Sets the greatest total weight that the cache keeps, `None` for no bound. What exceeds a lower capacity is evicted
-    /// by the runs that follow.
+    /// Sets the greatest total weight that the cache keeps, `None` for no bound. What exceeds a lower capacity is
+    /// evicted by the runs that follow.
     ///
     /// # Errors
     /// As `Cache::set_max_capacity`.

@@ -8,7 +8,7 @@ use moka_parts::policy::Instant;
 use std::time::Duration;
 
 /// The system's monotonic time, read through `std::time::Clock`, as which a `HostRuntime` serves. Its moments never go
-/// back: where the source does, or cannot be read, the last moment is told again.
+/// back: where the source does, or cannot be read, the last moment is given again.
 #[derive(Drop)]
 pub struct SystemClock<R> {
     source: R,

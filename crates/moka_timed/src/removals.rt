@@ -19,7 +19,7 @@ impl<
     W: Weigher<K, V>,
     S: BuildHasher,
 > TimedCache<K, V, C, X, CountingListener<L>, P, W, S> {
-    /// How many values left, by cause, as `Cache::removals` tells it.
+    /// How many values left, by cause, as `Cache::removals` counts them.
     pub fn removals(&self) -> Removals
         ensures { result ≡ removals_of self.now.cache.engine.listener }
     {

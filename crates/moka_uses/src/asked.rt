@@ -4,8 +4,8 @@ ghost use Rattle.std.specs.Prelude.{◌≡◌, IfOk};
 use moka_engine::laws::gets_what_is_contained;
 use moka_engine::{Engine, FixedClock, Instant, NoExpiry, NoPredicate, NoWeigher, OutOfMemory};
 
-/// Asks whether a key is contained, and then gets its value: whether the one said so and whether the other found a value
-/// is the same (`gets_what_is_contained`).
+/// Asks whether a key is contained, and then gets its value: whether the one said so and whether the other found a
+/// value is the same (`gets_what_is_contained`).
 ///
 /// # Errors
 /// `OutOfMemory` where memory for a clone of the value is refused; numbers take none.

@@ -44,8 +44,8 @@ impl IdSource for CountedIds {
 /// Numbers by number, made by a configuration with `support_invalidation_closures`.
 pub type Numbers = Engine<u64, u64, NoExpiry, NoListener, Below>;
 
-/// Hides the values below a bound that were written at the moment `now` or before. From then on their keys are not there,
-/// at whatever moment the cache is asked, until they are inserted again (`moka_engine::laws::stays_hidden`).
+/// Hides the values below a bound that were written at the moment `now` or before. From then on their keys are not
+/// there, at whatever moment the cache is asked, until they are inserted again (`moka_engine::laws::stays_hidden`).
 ///
 /// # Errors
 /// The predicate that was refused; the cache is as it was.
@@ -63,9 +63,9 @@ pub fn hide_below<I: IdSource>(
     numbers.invalidate_entries_if(Below(bound), now, ids)
 }
 
-/// Makes a run of maintenance at the moment `now`. A key that was hidden then, as by `hide_below`, is not shown after it, at
-/// that moment or later. A call of the engine is a step of the reference cache (`steps_are_of_reference`), where a key that is
-/// hidden stays so (`stays_hidden`).
+/// Makes a run of maintenance at the moment `now`. A key that was hidden then, as by `hide_below`, is not shown after
+/// it, at that moment or later. A call of the engine is a step of the reference cache (`steps_are_of_reference`), where
+/// a key that is hidden stays so (`stays_hidden`).
 pub fn run_after_hiding(numbers: &mut Numbers, now: Instant) -> bool
     ensures { (key : ℕ) → IsHiddenAt numbers.old.state key now.0 → IsHiddenFrom numbers.new.state key now.0 }
 {

@@ -62,8 +62,8 @@ pub fn start<C: Clock + Drop>(
     TimedCache::build(config, alloc, clock)
 }
 
-/// Begins a session under a number, used at the clock's moment. One that has the number ends. A session that is begun at
-/// the very moment of a log-out of its user is hidden as well.
+/// Begins a session under a number, used at the clock's moment. One that has the number ends. A session that is begun
+/// at the very moment of a log-out of its user is hidden as well.
 ///
 /// # Errors
 /// The insert that was refused, with number and session.
@@ -92,8 +92,9 @@ pub fn find<C: Clock>(logins: &mut Logins<C>, number: u64) -> Result<Option<Sess
     logins.get(&number)
 }
 
-/// Ends all sessions of a user that were begun at the clock's moment or before: from then on none of them is shown, also
-/// after further calls, until a session is begun under its number again (`stays_hidden`). The others are shown as before.
+/// Ends all sessions of a user that were begun at the clock's moment or before: from then on none of them is shown,
+/// also after further calls, until a session is begun under its number again (`stays_hidden`). The others are shown as
+/// before.
 ///
 /// # Errors
 /// The predicate that was refused; no session has ended.

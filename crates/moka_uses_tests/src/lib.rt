@@ -4,6 +4,8 @@
 #[cfg(test)]
 mod asked;
 #[cfg(test)]
+mod batches;
+#[cfg(test)]
 mod borrowed;
 #[cfg(test)]
 mod bounded;

@@ -38,7 +38,8 @@ pub record Puts (old new : List Node) (slot : ℕ) (timer : Timer) : Type 0 wher
   pub others : (i : ℕ) → i ≢ slot → timer_at new i ≡ timer_at old i
   pub free : (i : ℕ) → i ≢ slot → 2049 ≤ buckets old i → at new i ≡ at old i
 
--- the timer in the slot is taken out, and its node leads to the next free one; the other timers and free nodes stay as they are
+-- the timer in the slot is taken out, and its node leads to the next free one; the other timers and free nodes stay as
+-- they are
 pub record Takes (old new : List Node) (slot next : ℕ) : Type 0 where
   pub here : timer_at new slot ≡ None
   pub unused : 2049 ≤ buckets new slot

@@ -15,7 +15,8 @@ pub record IsNear (moment at bucket : ℕ) : Type 0 where
 abbrev pub IsAhead : ℕ → ℕ → Type 0
 IsAhead moment bucket = part moment (bucket / 256) % 256 < bucket % 256
 
--- where a timer stands in a wheel: in the due list, or at the level of the highest byte in which its moment differs from the wheel's
+-- where a timer stands in a wheel: in the due list, or at the level of the highest byte in which its moment differs
+-- from the wheel's
 pub record IsHome (moment at bucket : ℕ) : Type 0 where
   pub within : bucket < 2049
   pub due : bucket ≡ 2048 → at ≤ moment

@@ -82,7 +82,8 @@ impl TimerWheel {
         self.len
     }
 
-    /// Makes room for `additional` more timers. It refuses more than 32-bit slots can name, as it does for want of memory.
+    /// Makes room for `additional` more timers. It refuses more than 32-bit slots can name, as it does for want of
+    /// memory.
     pub fn reserve(&mut self, additional: usize) -> Result<(), AllocError>
         ensures room { OnOk result (additional ≤ self.new.room) }
         ensures succeeds { additional ≤ self.old.room → IsOk result }

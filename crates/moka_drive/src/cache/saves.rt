@@ -41,20 +41,20 @@ impl<
     W: Weigher<K, V>,
     S: BuildHasher,
 > Cache<K, V, X, L, P, W, S> {
-    /// The entries that are visible at the moment `now`, least recently used first, with their moments and how long they
-    /// last. It takes no memory and clones nothing. After `run_pending_tasks` no visible entry is left out; before, those are
-    /// whose first insert was not applied yet.
+    /// The entries that are visible at the moment `now`, least recently used first, with their moments and how long
+    /// they last. It takes no memory and clones nothing. After `run_pending_tasks` no visible entry is left out;
+    /// before, those are whose first insert was not applied yet.
     pub fn snapshot(&self, now: Instant) -> Snapshot<'_, K, V, S, X, P>
         ensures { result ≡ scene_of self.now.engine.state now.0 }
     {
         self.engine().snapshot(now)
     }
 
-    /// Runs maintenance at the moment `now`, and then clones what `snapshot` lists: all visible entries, least recently used
-    /// first.
+    /// Runs maintenance at the moment `now`, and then clones what `snapshot` lists: all visible entries, least recently
+    /// used first.
     ///
     /// # Errors
-    /// `OutOfMemory` where memory for the list or for a clone is refused. The run was made.
+    /// `OutOfMemory` if memory for the list or for a clone is refused. The run was made.
     pub fn save<C: Clock>(
         &mut self,
         alloc: Global,
@@ -76,8 +76,8 @@ impl<
         clones_of(alloc, self.snapshot(now))
     }
 
-    /// Puts an entry back whose key has none, with the moments and the expiry that it had, and posts its operation as an
-    /// insert does at the moment `now`. A cache of capacity 0 lets it go.
+    /// Puts an entry back whose key has none, with the moments and the expiry that it had, and posts its operation as
+    /// an insert does at the moment `now`. A cache of capacity 0 drops it.
     ///
     /// # Errors
     /// As `BaseCache::restore`: the entry comes back, and nothing has changed.
@@ -116,9 +116,10 @@ impl<
 
     /// Puts each entry back, in order, as `restore_entry`.
     ///
-    /// An entry that is there is visible exactly when the one was that it was listed of, until either is read or written, if
-    /// time to live and time to idle are the same (`laws::answers_as_before`). Runs that a later entry starts may evict it.
-    /// How often keys were asked for is not known any more, and entries do not stand in the order of writing.
+    /// An entry that is there is visible exactly when the one was that it was listed of, until either is read or
+    /// written, if time to live and time to idle are the same (`laws::answers_as_before`). Runs that a later entry
+    /// starts may evict it. How often keys were asked for is not known any more, and entries do not stand in the order
+    /// of writing.
     ///
     /// # Errors
     /// As `restore_entry`, at the first entry that is refused: it comes back with the entries after it.
@@ -181,12 +182,7 @@ fn clone_of<K: Clone + Drop, V: Clone>(
       left = option_map as_nanos entry.entry.remaining;
     })) }
 {
-    let Ok(key) = entry.key.clone() else {
-        return Err(OutOfMemory);
-    };
-    let Ok(value) = entry.value.clone() else {
-        return Err(OutOfMemory);
-    };
+    let (key, value) = (entry.key.clone()?, entry.value.clone()?);
     Ok(Restored {
         key,
         value,

@@ -1,4 +1,4 @@
-//! The causes that the listener is told by callers' writes.
+//! The causes of which the listener is notified by callers' writes.
 //!
 //! moka: `sync::base_cache::Inner::notify_upsert`, `Inner::notify_invalidate`.
 ghost use Rattle.std.specs.Prelude.{◌≡◌, ◌||◌, if◌then◌else◌};

@@ -45,8 +45,8 @@ impl<'a, X> Moments<'a, X> {
     }
 }
 
-// The record whose key is equal to the one sought, which comes with its hash in the map, unless the caller's test, which is asked of its value first, ignores
-// it, a moment hides it or a predicate covers it.
+// The record of the key sought, which comes with its hash in the map; none if the caller's test, which is asked of its
+// value first, ignores it, a moment hides it or a predicate covers it.
 #[inline(always)]
 pub(super) fn find_unless<'a, K: Eq + Hash, V, S: BuildHasher, X, P, I: ValueTest<V>>(
     inner: &'a Inner<K, V, S>,
@@ -157,15 +157,11 @@ pub(super) fn entry_of<K: Clone, V: Clone>(
 ) -> Result<Entry<K, V>, OutOfMemory>
     ensures { IfOk result (IsEntryCopy K.is_clone V.is_clone (entry_at need_key found.now)) }
 {
-    let Ok(value) = found.value().clone() else {
-        return Err(OutOfMemory);
+    let value = found.value().clone()?;
+    let key = if need_key {
+        Some(found.key().clone()?)
+    } else {
+        None
     };
-    if !need_key {
-        return Ok(Entry { key: None, value });
-    }
-    let Ok(key) = found.key().clone() else {
-        return Err(OutOfMemory);
-    };
-    let key = Some(key);
     Ok(Entry { key, value })
 }

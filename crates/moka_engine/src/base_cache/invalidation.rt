@@ -28,7 +28,7 @@ impl<
     /// moka: `sync::base_cache::BaseCache::invalidate_entries_if`.
     ///
     /// # Errors
-    /// `InvalidationClosuresDisabled` where the cache does not support predicates, `OutOfMemory` where memory for one more
+    /// `InvalidationClosuresDisabled` if the cache does not support predicates, `OutOfMemory` if memory for one more
     /// is refused, and `NoFreeId` where all identifiers asked for are taken. The predicate comes back, and nothing has
     /// changed.
     pub fn invalidate_entries_if<I: IdSource>(

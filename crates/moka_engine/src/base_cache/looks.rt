@@ -36,7 +36,7 @@ impl<
     /// or not, and never where there is none.
     ///
     /// # Errors
-    /// `OutOfMemory` where memory for a clone is refused. Nothing has changed but what the test keeps itself.
+    /// `OutOfMemory` if memory for a clone is refused. Nothing has changed but what the test keeps itself.
     pub fn get_with_hash_and_ignore_if<I: ValueTest<V>, C: Clock>(
         &mut self,
         key: &K,
@@ -140,7 +140,7 @@ impl<
     /// That the record was read is noted in it, and its expiry asked.
     ///
     /// # Errors
-    /// `OutOfMemory` where memory for a clone of the value is refused. Nothing has changed but what the test keeps
+    /// `OutOfMemory` if memory for a clone of the value is refused. Nothing has changed but what the test keeps
     /// itself.
     pub fn get_with_hash_without_recording<I: ValueTest<V>>(
         &mut self,
@@ -203,7 +203,7 @@ impl<
     /// that the record was read.
     ///
     /// # Errors
-    /// `OutOfMemory` where memory for the clone is refused.
+    /// `OutOfMemory` if memory for the clone is refused.
     pub fn scanning_get(&self, key: &K, now: Instant) -> Result<Option<V>, OutOfMemory>
     where
         V: Clone,

@@ -95,13 +95,13 @@ impl<
     P: PredicateFn<K, V>,
     W: Weigher<K, V>,
 > BaseCache<K, V, S, X, L, P, W> {
-    /// Puts an entry back whose key has none, with the moments and the expiry that it had, and hands out a ticket for the
-    /// operation, which is to be sent. The expiry is not asked, so the entry lasts no longer than it would have, and the
-    /// weigher is. Moments may lie in any order, and before those of other entries.
+    /// Puts an entry back whose key has none, with the moments and the expiry that it had, and hands out a ticket for
+    /// the operation, which is to be sent. The expiry is not asked, so the entry lasts no longer than it would have,
+    /// and the weigher is. Moments may lie in any order, and before those of other entries.
     ///
     /// # Errors
-    /// `KeyPresent` where the key has an entry, `NoExpiry` where the entry has an expiry of its own and the cache has none
-    /// set, and `NumbersUsedUp` and `OutOfMemory` as an insert. The entry comes back, and nothing has changed.
+    /// `KeyPresent` where the key has an entry, `NoExpiry` where the entry has an expiry of its own and the cache has
+    /// none set, and `NumbersUsedUp` and `OutOfMemory` as an insert. The entry comes back, and nothing has changed.
     pub fn restore(&mut self, item: Restored<K, V>) -> Result<Ticket, RestoreRefused<K, V>>
         requires enabled { is_disabled self.old.state.capacity ≡ false }
         ensures step { RestoreStep W.weighs K.eq self.old.state item

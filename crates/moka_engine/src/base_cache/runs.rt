@@ -46,15 +46,15 @@ impl<
     /// - `limit`: after this time no further pass is made, and more is left.
     /// - `repeats`: how often a run may go back to its queues. With one owner nothing is queued meanwhile, so it has no
     ///   effect.
-    /// - `batch`: how many records a sweep of a pass looks at. With 0 only what has expired by itself is removed, and more is
-    ///   left where there is anything to test records by.
+    /// - `batch`: how many records a sweep of a pass looks at. With 0 only what has expired by itself is removed, and
+    ///   more is left where there is anything to test records by.
     ///
-    /// Once every operation was sent, a run leaves count and weight exactly the records', and one that was not cut short,
-    /// with a `batch` of at least 1, also the weight within the capacity.
+    /// Once every operation was sent, a run leaves count and weight exactly the records', and one that was not cut
+    /// short, with a `batch` of at least 1, also the weight within the capacity.
     ///
-    /// Where the cache is in the order of writing, such a run also leaves no record past its time to live, and none written
-    /// before the last invalidation of all (`laws::runs_age_out`). This applies to caches with a time to live or with
-    /// support of predicates: an empty one is in that order, and calls in the order of time keep it so
+    /// Where the cache is in the order of writing, such a run also leaves no record past its time to live, and none
+    /// written before the last invalidation of all (`laws::runs_age_out`). This applies to caches with a time to live
+    /// or with support of predicates: an empty one is in that order, and calls in the order of time keep it so
     /// (`laws::calls_keep_order`), which `drive` promises of a list of calls.
     pub fn run_pending_tasks<C: Clock>(
         &mut self,
@@ -106,10 +106,10 @@ impl<
         ran.is_left
     }
 
-    /// Makes a run of maintenance at the moment `now` if the housekeeper says that one is due: the last run left more, or
-    /// runs start by themselves, and 64 operations are queued or 300 milliseconds have passed since the last run. The
-    /// housekeeper gives its limit, repeats and batch to the run, and remembers the moment and, where a listener is set,
-    /// whether more is left. moka: `sync::base_cache::BaseCache::apply_reads_writes_if_needed`.
+    /// Makes a run of maintenance at the moment `now` if the housekeeper says that one is due: the last run left more,
+    /// or runs start by themselves, and 64 operations are queued or 300 milliseconds have passed since the last run.
+    /// The housekeeper gives its limit, repeats and batch to the run, and remembers the moment and, where a listener is
+    /// set, whether more is left. moka: `sync::base_cache::BaseCache::apply_reads_writes_if_needed`.
     pub fn apply_reads_writes_if_needed<C: Clock>(&mut self, now: Instant, clock: &mut C)
     where
         K: Drop,

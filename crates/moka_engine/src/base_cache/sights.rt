@@ -66,7 +66,7 @@ impl<
     {
         let own = self.inner.key_hash(key);
         let (_, found) = self.inner.find(key, own)?;
-        Some(found.applied() == found.generation())
+        Some(found.is_settled())
     }
 }
 

@@ -69,7 +69,8 @@ impl<
         self.inner.hash_of(form)
     }
 
-    /// As `contains_key_with_own_hash` of the key that passes. `hash` is that of the keys that do, by the cache's own hasher.
+    /// As `contains_key_with_own_hash` of the key that passes. `hash` is that of the keys that do, by the cache's own
+    /// hasher.
     pub fn contains_by<T: KeyTest<K>>(&self, test: &T, hash: u64, now: Instant) -> bool
         requires own { (k : K) → T.passes test.now k ≡ true → hash ≡ S.Hasher.finish (fold S.Hasher.write (S.build_hasher self.now.hasher) (K.hash_input k)) }
         ensures { ContainsByStep P.says (T.passes test.now) self.now.state now.0 result }
@@ -83,7 +84,8 @@ impl<
         find_by(&self.inner, &moments, &self.invalidator, sought).is_some()
     }
 
-    /// As `remove_entry_with_own_hash` of the key that passes. `hash` is that of the keys that do, by the cache's own hasher.
+    /// As `remove_entry_with_own_hash` of the key that passes. `hash` is that of the keys that do, by the cache's own
+    /// hasher.
     pub fn remove_by<T: KeyTest<K>>(
         &mut self,
         test: &T,
@@ -166,8 +168,8 @@ impl<
         Ok(Some(entry))
     }
 
-    // Makes the run that is due, and queues a hit of the record whose key passes. The run may remove that record, so its
-    // place is looked up again.
+    // Makes the run that is due, and queues a hit of the record whose key passes. The run may remove that record, so
+    // its place is looked up again.
     #[inline(always)]
     fn record_hit_by<T: KeyTest<K>, C: Clock>(
         &mut self,

@@ -53,8 +53,9 @@ impl<K: Eq + Hash, V, S: BuildHasher> Inner<K, V, S> {
         self.store.invariant_holds();
     }
 
-    /// Puts a new record into the map as `insert` does, which was last read at the moment `read` and may have been so at
-    /// another moment than it was written. It takes no memory.
+    /// Puts a new record into the map as `insert` does, which was last read at the moment `read` and may have been so
+    /// at another moment than it was written. It takes no memory.
+    #[inline(always)]
     pub fn restore(&mut self, key: K, hashes: Hashes, update: Update<V>, read: Instant) -> Ticket
         requires rows { 0 < self.old.kept.room }
         requires operations { 1 < self.old.operation_room }

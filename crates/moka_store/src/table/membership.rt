@@ -1,9 +1,9 @@
-//! The words of a row.
+//! A row's membership, and the words that stand for it.
 ghost use Rattle.std.specs.Prelude.{◌≡◌, IfSome};
 ghost use Rattle.std.specs.Option.{option_map};
 ghost use Rattle.moka_store.specs.Slots.{slot_of, membership_of, counted_as, IsSlot, HasSlots};
 
-/// A row's place in the cache's order. No slot is 0.
+/// What is kept of a member: its counted weight and its slots in both orders. No slot is 0.
 #[derive(Clone, Copy)]
 pub struct Membership {
     /// The weight that is counted for it.

@@ -149,8 +149,8 @@ impl<K, V> Rows<K, V> {
         self.slots.get(place)?.timer()
     }
 
-    /// The record at this place was read at this moment, and now expires by itself or does not: as before, unless that is
-    /// renewed.
+    /// The record at this place was read at this moment, and now expires by itself or does not: as before, unless that
+    /// is renewed.
     #[inline(always)]
     pub(crate) fn touch(
         &mut self,

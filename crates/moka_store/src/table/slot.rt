@@ -14,9 +14,9 @@ use moka_parts::record_ref::{Front, Hot};
 use std::marker::Model;
 use std::mem;
 
-/// A row of the table but for the cold part of its record, or a vacant place with the next one. A row has a record, until
-/// it leaves the map; a membership, while it is a member, whose weight lies with the cold part; and a slot among the
-/// timers, while it has one.
+/// A row of the table but for the cold part of its record, or a vacant place with the next one. A row has a record,
+/// until it leaves the map; a membership, while it is a member, whose weight lies with the cold part; and a slot among
+/// the timers, while it has one.
 #[derive(Drop)]
 pub(crate) struct Slot<K, V> {
     state: State<K, V>,
@@ -193,8 +193,8 @@ impl<K, V> Slot<K, V> {
         }
     }
 
-    /// The record, which is in the map, was read at this moment, and now expires by itself or does not: as before, unless
-    /// that is renewed.
+    /// The record, which is in the map, was read at this moment, and now expires by itself or does not: as before,
+    /// unless that is renewed.
     #[inline(always)]
     pub(crate) fn touch(&mut self, moment: Instant, is_expiring: bool, is_renewed: bool)
         requires stored { IsSome (option_and_then (λ row. row.stored) (value_of self.old)) }

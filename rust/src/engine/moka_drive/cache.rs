@@ -49,7 +49,7 @@ pub struct Cache<
     stats: Stats,
 }
 
-// A cache that is let go notifies nobody.
+// A cache that is dropped notifies nobody.
 
 impl<
     K: Eq + Hash,
@@ -131,7 +131,7 @@ impl<
         self.engine.contains_key_with_own_hash(key, hash, now)
     }
 
-    /// Puts a value under a key at the moment `now`. A cache of capacity 0 lets both go.
+    /// Puts a value under a key at the moment `now`. A cache of capacity 0 drops both.
     ///
     /// # Errors
     /// `NumbersUsedUp` and `OutOfMemory`, with key and value; nothing has changed.
@@ -172,7 +172,7 @@ impl<
     /// A clone of a key's value, if the key is there and visible at the moment `now`. The read is queued.
     ///
     /// # Errors
-    /// `OutOfMemory` where memory for the clone is refused. Nothing has changed.
+    /// `OutOfMemory` if memory for the clone is refused. Nothing has changed.
     #[inline(always)]
     pub fn get<C: Clock>(
         &mut self,
@@ -208,7 +208,7 @@ impl<
         found
     }
 
-    /// Takes a key out, and hands its value out, expired or not. The listener, if one is set, is told.
+    /// Takes a key out, and hands its value out, expired or not. The listener, if one is set, is notified.
     ///
     /// # Errors
     /// `NotTold`, with the value, where a listener is set and memory for a clone is refused. The entry is gone all the
@@ -233,7 +233,7 @@ impl<
         }
     }
 
-    /// Takes a key out, expired or not, and lets its value go. The listener, if one is set, is told.
+    /// Takes a key out, expired or not, and drops its value. The listener, if one is set, is notified.
     ///
     /// # Errors
     /// As `remove`.
@@ -279,12 +279,12 @@ impl<
     }
 
     /// A clone of a key's value, if the key is there and visible at the moment `now`, and else the value that `init`
-    /// makes, which is inserted; a clone of it is handed out. `init` is called only if the key is not there. The value is
-    /// inserted at the moment `now`, so if `init` takes longer than the time to live the entry has expired already.
+    /// makes, which is inserted; a clone of it is handed out. `init` is called only if the key is not there. The value
+    /// is inserted at the moment `now`, so if `init` takes longer than the time to live the entry has expired already.
     ///
     /// # Errors
-    /// `Lookup`, with the key, where memory for the clone of a value that is there is refused; and `Insert`, with key and
-    /// the value that was made, where memory for its clone or for the insert is refused, or tickets are used up.
+    /// `Lookup`, with the key, if memory for the clone of a value that is there is refused; and `Insert`, with key and
+    /// the value that was made, if memory for its clone or for the insert is refused, or tickets are used up.
     pub fn get_with<F: FnOnce() -> V, C: Clock>(
         &mut self,
         key: K,
@@ -416,8 +416,8 @@ impl<
         self.engine.invalidate_entries_if(predicate, now, ids)
     }
 
-    /// Sets the greatest total weight that the cache keeps, `None` for no bound. What exceeds a lower capacity is evicted
-    /// by the runs that follow.
+    /// Sets the greatest total weight that the cache keeps, `None` for no bound. What exceeds a lower capacity is
+    /// evicted by the runs that follow.
     ///
     /// # Errors
     /// `ZeroCapacity` where the present capacity or the new one is 0. Nothing has changed.
@@ -426,7 +426,8 @@ impl<
         self.engine.set_max_capacity(capacity)
     }
 
-    /// Invalidates all entries that were written or read before the moment `now`, also where that is earlier than before.
+    /// Invalidates all entries that were written or read before the moment `now`, also where that is earlier than
+    /// before.
     pub fn invalidate_all(&mut self, now: Instant)
     {
         self.engine.invalidate_all(now);
@@ -434,8 +435,8 @@ impl<
 
     /// Runs maintenance without a time limit. The answer tells whether more is left.
     ///
-    /// It leaves count and weight exactly the entries', and the weight within the capacity, and each entry is in the order of
-    /// access.
+    /// It leaves count and weight exactly the entries', and the weight within the capacity, and each entry is in the
+    /// order of access.
     pub fn run_pending_tasks<C: Clock>(&mut self, now: Instant, clock: &mut C) -> bool
     {
         let (repeats, batch) = (MAX_LOG_SYNC_REPEATS, EVICTION_BATCH_SIZE);
@@ -476,10 +477,9 @@ fn value_of<K, V>(
     entry: Result<Option<Entry<K, V>>, OutOfMemory>,
 ) -> Result<Option<V>, OutOfMemory>
 {
-    match entry {
-        Ok(Some(entry)) => Ok(Some(entry.into_value())),
-        Ok(None) => Ok(None),
-        Err(refused) => Err(refused),
+    match entry? {
+        Some(entry) => Ok(Some(entry.into_value())),
+        None => Ok(None),
     }
 }
 

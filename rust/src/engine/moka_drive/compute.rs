@@ -48,8 +48,8 @@ pub enum ComputeRefused<K, V> {
     /// The value was not put, since memory for a clone of it or of the key, or for the insert, was refused, or tickets
     /// are used up. The look-up stands, and key and value come back.
     Insert(InsertRefused<K, V>),
-    /// The key was taken out, and the listener was not told, since memory for a clone was refused. Key and value come
-    /// back.
+    /// The key was taken out, and the listener was not notified, since memory for a clone was refused. Key and value
+    /// come back.
     NotTold(K, NotTold<V>),
 }
 
@@ -105,9 +105,9 @@ impl<
         }
     }
 
-    /// Puts a value, takes the key out, or does nothing, as `f` answers, which sees a clone of the key's value, or `None`
-    /// if the key is not there or not visible at the moment `now`. A removal hands its value out, and the listener, if
-    /// one is set, is told. No load is counted. moka: `and_compute_with`.
+    /// Puts a value, takes the key out, or does nothing, as `f` answers, which sees a clone of the key's value, or
+    /// `None` if the key is not there or not visible at the moment `now`. A removal hands its value out, and the
+    /// listener, if one is set, is notified. No load is counted. moka: `and_compute_with`.
     ///
     /// # Errors
     /// `Lookup`, with the key, if memory for the clone of the value that is there is refused; `f` was not called. And

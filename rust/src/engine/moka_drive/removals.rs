@@ -8,7 +8,7 @@ use crate::engine::moka_parts::notification::{Listener, RemovalCause};
 use crate::engine::moka_parts::policy::Expiry;
 use crate::support::hash::{BuildHasher, Hash};
 
-/// How many values a listener was told of, by cause. Each counter saturates.
+/// Of how many values a listener was notified, by cause. Each counter saturates.
 #[derive(Clone, Copy, Debug, PartialEq, Eq)]
 pub struct Removals {
     /// Values whose entry's time was over.
@@ -80,8 +80,8 @@ impl<
     W: Weigher<K, V>,
     S: BuildHasher,
 > Cache<K, V, X, CountingListener<L>, P, W, S> {
-    /// How many values left, by cause, as the cache's listener was told; none where the cache has none. A removal of
-    /// which it could not be told, for want of memory, is not counted.
+    /// How many values left, by cause, as the cache's listener was notified; none where the cache has none. A removal
+    /// of which it could not be notified, since memory was refused, is not counted.
     pub fn removals(&self) -> Removals
     {
         match self.engine().listener() {

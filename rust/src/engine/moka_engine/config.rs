@@ -29,8 +29,8 @@ pub type Engine<K, V, X = NoExpiry, L = NoListener, P = NoPredicate, W = NoWeigh
 
 /// What a cache is made with: a default, and a setter for each choice. moka: `sync::CacheBuilder`.
 ///
-/// `X`, `L`, `P` and `W` are the types of the expiry, the listener, the predicates and the weigher; each is the type for
-/// "none" until a setter chooses another.
+/// `X`, `L`, `P` and `W` are the types of the expiry, the listener, the predicates and the weigher; each is the type
+/// for "none" until a setter chooses another.
 pub struct CacheConfig<X = NoExpiry, L = NoListener, P = NoPredicate, W = NoWeigher> {
     choices: Choices,
     expiry: Option<X>,
@@ -77,7 +77,7 @@ impl Default for CacheConfig<NoExpiry, NoListener, NoPredicate, NoWeigher> {
 }
 
 impl<X, L, P, W> CacheConfig<X, L, P, W> {
-    /// A name, which the cache only tells. By default there is none.
+    /// A name for diagnostics, which `name` returns. By default there is none.
     pub fn name(mut self, name: String) -> Self
     {
         self.choices.name = Some(name);
@@ -92,8 +92,9 @@ impl<X, L, P, W> CacheConfig<X, L, P, W> {
         self
     }
 
-    /// The number of entries that room is made for at once, whatever their weights. It bounds nothing, and `build` refuses a
-    /// number for which there is no memory, or that needs a place of more than 32 bits. By default there is room for none.
+    /// The number of entries that room is made for at once, whatever their weights. It bounds nothing, and `build`
+    /// refuses a number for which there is no memory, or that needs a place of more than 32 bits. By default there is
+    /// room for none.
     pub fn initial_capacity(mut self, number_of_entries: usize) -> Self
     {
         self.choices.initial_capacity = Some(number_of_entries);
@@ -107,26 +108,26 @@ impl<X, L, P, W> CacheConfig<X, L, P, W> {
         self
     }
 
-    /// How long an entry stays after it was inserted, exact to the nanosecond. Any duration is taken; with zero an entry
-    /// has expired at once. The sum of a moment and a duration saturates at 2^64 - 1 nanoseconds. By default an entry stays.
+    /// How long an entry stays after it was inserted, exact to the nanosecond. With zero, entries expire at once; there
+    /// is no upper limit: the sum of a moment and a duration saturates at 2^64 - 1 nanoseconds. By default entries stay.
     pub fn time_to_live(mut self, duration: Duration) -> Self
     {
         self.choices.time_to_live = Some(duration);
         self
     }
 
-    /// How long an entry stays after it was inserted or read, exact to the nanosecond. Any duration is taken; with zero an
-    /// entry has expired at once. The sum of a moment and a duration saturates at 2^64 - 1 nanoseconds. By default an entry
-    /// stays.
+    /// How long an entry stays after it was inserted or read, exact to the nanosecond. With zero, entries expire at once;
+    /// there is no upper limit: the sum of a moment and a duration saturates at 2^64 - 1 nanoseconds. By default entries
+    /// stay.
     pub fn time_to_idle(mut self, duration: Duration) -> Self
     {
         self.choices.time_to_idle = Some(duration);
         self
     }
 
-    /// Decides when each entry expires: inserts and gets ask it how long the entry lasts, and its answer replaces what was
-    /// left. The sum of a moment and an answer saturates at 2^64 - 1 nanoseconds. By default no entry has an expiry of its
-    /// own.
+    /// Decides when each entry expires: inserts and gets ask it how long the entry lasts, and its answer replaces what
+    /// was left. The sum of a moment and an answer saturates at 2^64 - 1 nanoseconds. By default no entry has an expiry
+    /// of its own.
     pub fn expire_after<Y>(self, expiry: Y) -> CacheConfig<Y, L, P, W>
     {
         CacheConfig {
@@ -163,7 +164,8 @@ impl<X, L, P, W> CacheConfig<X, L, P, W> {
         }
     }
 
-    /// Predicates of the type `Q` can be registered. By default there are none, and `invalidate_entries_if` refuses each.
+    /// Predicates of the type `Q` can be registered. By default there are none, and `invalidate_entries_if` refuses
+    /// each.
     pub fn support_invalidation_closures<Q>(self) -> CacheConfig<X, L, Q, W>
     {
         CacheConfig {

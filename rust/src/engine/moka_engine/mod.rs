@@ -3,10 +3,10 @@
 //! the laws and the structures. So a crate which uses a cache names this crate alone, also in its proofs: the folder
 //! `specs/` hands on the definitions of the reference cache.
 //!
-//! A caller makes do with `hash`, `do_insert_with_hash`, `send`, `get_with_hash`, `contains_key_with_hash`, `remove_entry`
-//! with `notify_invalidate`, `invalidate_all`, `invalidate_entries_if` and `run_pending_tasks`. The other methods report,
-//! or stand for what moka's layers above the engine call: `apply_reads_writes_if_needed` before each send, `keys`,
-//! `num_cht_segments` and `scanning_get` in an iteration.
+//! A caller makes do with `hash`, `do_insert_with_hash`, `send`, `get_with_hash`, `contains_key_with_hash`,
+//! `remove_entry` with `notify_invalidate`, `invalidate_all`, `invalidate_entries_if` and `run_pending_tasks`. The
+//! other methods report, or stand for what moka's layers above the engine call: `apply_reads_writes_if_needed` before
+//! each send, `keys`, `num_cht_segments` and `scanning_get` in an iteration.
 use crate::support::prelude::*;
 
 pub mod base_cache;

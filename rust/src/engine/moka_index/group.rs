@@ -9,8 +9,9 @@ pub(crate) const LANES: usize = 7;
 
 /// Lanes for places, the first `count` of which are in use: 64 bytes in all.
 ///
-/// What a search reads of each group it meets comes first, and the places last. So the first 48 bytes serve a search that
-/// finds nothing, and nearly every other: a table in memory of its own begins 16 bytes past the start of a cache line.
+/// What a search reads of each group it meets comes first, and the places last. So the first 48 bytes serve a search
+/// that finds nothing, and nearly every other: a table in memory of its own begins 16 bytes past the start of a cache
+/// line.
 #[derive(Clone, Copy)]
 pub(crate) struct Group {
     pub(crate) hashes: [u32; 7],

@@ -157,29 +157,12 @@ impl<K: Eq + Hash, V, S: BuildHasher> Inner<K, V, S> {
     #[inline(always)]
     pub fn insert(&mut self, key: K, hashes: Hashes, update: Update<V>) -> Ticket
     {
-        let Hashes { hash, own } = hashes;
-        let number = self.next_number;
-        let ticket = self.last_ticket + 1;
-        let weight = update.weight;
-        let handle = self
-            .store
-            .insert_new(first_record(number, key, hash, update), own);
-        let place = handle.place;
-        let operation = Operation::Upsert {
-            number,
-            generation: 1,
-            weight,
-            hash,
-        };
-        self.outstanding
-            .hand_out(ticket, PlacedWrite { place, operation });
-        self.next_number = number + 1;
-        self.last_ticket = ticket;
-        Ticket(ticket)
+        let read = update.now;
+        self.restore(key, hashes, update, read)
     }
 
-    /// Gives the record at this handle a new value, and hands its upsert out under the next ticket. The answer is the old
-    /// value with the ticket. It takes no memory.
+    /// Gives the record at this handle a new value, and hands its upsert out under the next ticket. The answer is the
+    /// old value with the ticket. It takes no memory.
     #[inline(always)]
     pub fn update(&mut self, handle: Handle, hash: u64, update: Update<V>) -> (V, Ticket)
     {
@@ -261,8 +244,8 @@ impl<K: Eq + Hash, V, S: BuildHasher> Inner<K, V, S> {
         let _full = self.reads.try_push_back(QueuedRead::new(read, place));
     }
 
-    /// Queues a hit of the record of this number, which was the key's and may have left the map since. Its place is looked
-    /// up by the key.
+    /// Queues a hit of the record of this number, which was the key's and may have left the map since. Its place is
+    /// looked up by the key.
     #[cold]
     pub fn queue_hit(&mut self, key: &K, number: u64, hash: u64, renewed: bool)
     {
@@ -291,8 +274,8 @@ impl<K: Eq + Hash, V, S: BuildHasher> Inner<K, V, S> {
         enable_frequency_sketch(store, sketch, bounds);
     }
 
-    /// Removes what the tests find and what registered predicates cover, in passes of at most a batch of turns a step, until
-    /// the limit is up.
+    /// Removes what the tests find and what registered predicates cover, in passes of at most a batch of turns a step,
+    /// until the limit is up.
     #[inline(always)]
     pub fn make_passes<L: Listener<K, V>, P: PredicateFn<K, V>, C: Clock>(
         &mut self,

@@ -77,7 +77,8 @@ fn apply_all_reads<K: Eq + Hash, V, S: BuildHasher>(
     }
 }
 
-// Reads the nodes that these reads move, where they lie far away, so that their lines of memory are fetched side by side.
+// Reads the nodes that these reads move, where they lie far away, so that their lines of memory are fetched side by
+// side.
 fn read_nodes<K: Eq + Hash, V, S: BuildHasher>(store: &mut Store<K, V, S>, reads: &[QueuedRead])
 {
     if !store.is_far() {
@@ -285,8 +286,8 @@ fn pass<K: Eq + Hash, V, S: BuildHasher>(store: &mut Store<K, V, S>, handle: Han
     }
 }
 
-// The member of this number, if there is one, comes to the back of the access list alone. Its timer is set again where the
-// read renewed its expiry.
+// The member of this number, if there is one, comes to the back of the access list alone. Its timer is set again where
+// the read renewed its expiry.
 fn pass_read<K: Eq + Hash, V, S: BuildHasher>(
     store: &mut Store<K, V, S>,
     handle: Handle,

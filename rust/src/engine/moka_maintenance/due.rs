@@ -29,8 +29,9 @@ pub(crate) fn expire_due<K: Eq + Hash, V, S: BuildHasher, L: Listener<K, V>>(
     removed
 }
 
-// A member whose timer was due and is taken out. If it is settled and has expired it leaves, and the answer is true. If it
-// is settled and has not, its timer is set again. One that is not settled gets a timer again by the operation that waits.
+// A member whose timer was due and is taken out. If it is settled and has expired it leaves, and the answer is true. If
+// it is settled and has not, its timer is set again. One that is not settled gets a timer again by the operation that
+// waits.
 fn expire<K: Eq + Hash, V, S: BuildHasher, L: Listener<K, V>>(
     store: &mut Store<K, V, S>,
     notifier: &mut RemovalNotifier<L>,
@@ -38,12 +39,12 @@ fn expire<K: Eq + Hash, V, S: BuildHasher, L: Listener<K, V>>(
     handle: Handle,
 ) -> bool
 {
-    if !store.is_settled(handle) {
+    let Some(found) = store.find(handle) else {
+        return false;
+    };
+    if !found.is_settled() {
         return false;
     }
-    let Some(found) = store.find(handle) else {
-        unreachable!()
-    };
     if is_expired_by_per_entry_ttl(found.expires(), tests.now) {
         expel(store, notifier, handle, RemovalCause::Expired);
         return true;

@@ -9,8 +9,8 @@ use crate::engine::moka_parts::invalidator::IdSource;
 use crate::engine::moka_parts::notification::Listener;
 use crate::engine::moka_parts::policy::Expiry;
 
-/// A get finds a value exactly where the key is contained, unless memory for a clone is refused: a get of `drive`, and one of
-/// `BaseCache` from one write list to another.
+/// A get finds a value exactly where the key is contained, unless memory for a clone is refused: a get of `drive`, and
+/// one of `BaseCache` from one write list to another.
 pub fn gets_what_is_contained<K: Eq, V, X: Expiry<K, V>, P: PredicateFn<K, V>, W>()
 {}
 
@@ -108,8 +108,8 @@ pub fn ends_exact<K: Eq, V, X, P: PredicateFn<K, V>, W>()
 pub fn counts_nearly<K: Eq, V, X, P: PredicateFn<K, V>, W>()
 {}
 
-/// Where weight is the only ground for a removal, a run that ends within the capacity removes just enough from the least
-/// recently used end.
+/// Where weight is the only ground for a removal, a run that ends within the capacity removes just enough from the
+/// least recently used end.
 pub fn removes_enough<K, V, X, P: PredicateFn<K, V>, W>()
 {}
 

@@ -34,7 +34,7 @@ impl Instant {
     }
 }
 
-/// What a cache tells of its policy. moka: `policy::Policy`.
+/// A cache's limits, as they are set. moka: `policy::Policy`.
 #[derive(Clone, Debug)]
 pub struct Policy {
     max_capacity: Option<u64>,
@@ -84,7 +84,7 @@ impl Policy {
 /// How a cache that is full chooses what stays. moka: `policy::EvictionPolicy`.
 #[derive(Clone, Copy)]
 pub enum EvictionPolicy {
-    /// An entry is admitted where it is asked for more often than those that it would drive out.
+    /// An entry is admitted if it was requested more often than the entries that it would evict, together.
     TinyLfu,
     /// The least recently used entries go.
     Lru,

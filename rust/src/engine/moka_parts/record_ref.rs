@@ -6,7 +6,7 @@ use crate::support::prelude::*;
 use crate::engine::moka_parts::policy::Instant;
 use crate::engine::moka_parts::records::Record;
 
-/// What look-ups read of a record.
+/// What look-ups read of a record, also where it has a time to live.
 pub struct Hot<K, V> {
     /// The key of the first insert.
     pub key: K,
@@ -15,26 +15,29 @@ pub struct Hot<K, V> {
     pub value: V,
     /// When it was last inserted or read.
     pub read: Instant,
+    /// When it was last inserted. It stands last, since only look-ups with a time to live read it.
+    pub written: Instant,
 }
 
-/// What is read of a record only if something can hide it, or as its writes are applied.
+/// What is read of a record only if it expires by itself, or as it is written and its writes are applied.
 #[derive(Clone, Copy)]
 pub struct Cold {
-    /// When it was last inserted.
-    pub written: Instant,
     /// When it expires by itself, if it does; else any moment.
     pub expires: Instant,
     /// Counts the writes of the key, from 1.
     pub generation: u64,
     /// The highest generation of which an operation was applied, 0 before the first.
     pub applied: u64,
+    /// The weight of the value that stands there, whether it is counted yet or not.
+    pub weight: u32,
+    /// The weight that is counted for the row's membership, if it is a member; else anything. It is no part of the
+    /// record: the store keeps it here, since no look-up reads it.
+    pub counted: u32,
 }
 
 /// A record but for its cold part and its number.
 pub struct Front<K, V> {
     pub hot: Hot<K, V>,
-    /// The weight of the value that stands there, whether it is counted yet or not.
-    pub weight: u32,
     /// Whether it expires by itself.
     pub expiring: bool,
 }
@@ -44,20 +47,18 @@ pub struct RecordRef<'a, K, V> {
     hot: &'a Hot<K, V>,
     cold: &'a Cold,
     number: u64,
-    weight: u32,
     expiring: bool,
 }
 
 impl<'a, K, V> RecordRef<'a, K, V> {
     /// The record of these parts.
     #[inline(always)]
-    pub fn new(number: u64, hot: &'a Hot<K, V>, weight: u32, expiring: bool, cold: &'a Cold) -> Self
+    pub fn new(number: u64, hot: &'a Hot<K, V>, expiring: bool, cold: &'a Cold) -> Self
     {
         RecordRef {
             hot,
             cold,
             number,
-            weight,
             expiring,
         }
     }
@@ -94,7 +95,7 @@ impl<'a, K, V> RecordRef<'a, K, V> {
     #[inline(always)]
     pub fn written(&self) -> Instant
     {
-        self.cold.written
+        self.hot.written
     }
 
     /// When it expires by itself, if it does.
@@ -115,7 +116,7 @@ impl<'a, K, V> RecordRef<'a, K, V> {
     #[inline(always)]
     pub fn weight(&self) -> u32
     {
-        self.weight
+        self.cold.weight
     }
 
     /// Counts the writes of the key, from 1.
@@ -130,6 +131,13 @@ impl<'a, K, V> RecordRef<'a, K, V> {
     pub fn applied(&self) -> u64
     {
         self.cold.applied
+    }
+
+    /// Whether its newest operation was applied.
+    #[inline(always)]
+    pub fn is_settled(&self) -> bool
+    {
+        self.cold.applied == self.cold.generation
     }
 }
 
@@ -172,15 +180,16 @@ pub fn split<K, V>(stored: Record<K, V>) -> (Front<K, V>, Cold)
             hash,
             value,
             read,
+            written,
         },
-        weight,
         expiring: expires.is_some(),
     };
     let cold = Cold {
-        written,
         expires: moment_of(expires),
         generation,
         applied,
+        weight,
+        counted: 0,
     };
     (front, cold)
 }
@@ -189,16 +198,13 @@ pub fn split<K, V>(stored: Record<K, V>) -> (Front<K, V>, Cold)
 #[inline(always)]
 pub fn join<K, V>(number: u64, front: Front<K, V>, cold: Cold) -> Record<K, V>
 {
-    let Front {
-        hot,
-        weight,
-        expiring,
-    } = front;
+    let Front { hot, expiring } = front;
     let Hot {
         key,
         hash,
         value,
         read,
+        written,
     } = hot;
     Record {
         key,
@@ -207,9 +213,9 @@ pub fn join<K, V>(number: u64, front: Front<K, V>, cold: Cold) -> Record<K, V>
         read,
         expires: expiry_of(expiring, cold.expires),
         number,
-        written: cold.written,
+        written,
         generation: cold.generation,
         applied: cold.applied,
-        weight,
+        weight: cold.weight,
     }
 }

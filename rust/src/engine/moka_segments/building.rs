@@ -22,8 +22,8 @@ impl<
     W: Weigher<K, V>,
     S: BuildHasher + Clone,
 > SegmentedCache<K, V, X, L, P, W, S> {
-    /// An empty cache of as many segments as the router knows, made at the moment `now`. `make` gives the configuration of
-    /// the segment at each index. If `max_capacity` is set it is shared out among the segments, in place of the
+    /// An empty cache of as many segments as the router knows, made at the moment `now`. `make` gives the configuration
+    /// of the segment at each index. If `max_capacity` is set it is shared out among the segments, in place of the
     /// configurations' own, so it should be no less than their number: a segment whose share is 0 keeps nothing.
     ///
     /// # Errors

@@ -43,7 +43,7 @@ pub fn sketch_capacity(capacity: u64) -> u32
     capacity.max(SHORTEST as u64).min(u32::MAX as u64) as u32
 }
 
-/// Makes the words zeros of a new length, or of the shortest one where memory for them is refused.
+/// Makes the words zeros of a new length, or of the shortest one if memory for them is refused.
 fn zeroed(words: &mut Vec<u64>, length: usize) -> Result<(), AllocError>
 {
     words.clear();

@@ -21,7 +21,7 @@ mod hashing;
 mod rows;
 mod tested;
 
-// From so many members on, nodes are read ahead.
+// With more members than this, nodes are read ahead.
 const FAR: usize = 1 << 18;
 
 /// A number that has a row, with the row's place.
@@ -52,7 +52,7 @@ pub struct Store<K: Eq + Hash, V, S: BuildHasher> {
     timers: Timers,
     // The sum of the weights that are counted for the members.
     weight: u128,
-    // What was read ahead. Nobody asks for it, but what nobody keeps is not read.
+    // What was read ahead, kept so that the compiler does not drop the loads.
     ahead: u64,
 }
 
@@ -77,8 +77,8 @@ impl<K: Eq + Hash, V, S: BuildHasher> Store<K, V, S> {
         })
     }
 
-    /// Makes room for `additional` more records: in the index, for their rows, their places in the orders and their timers.
-    /// An error leaves all but the room as it was: there is no memory, or a place would need more than 32 bits.
+    /// Makes room for `additional` more records: in the index, for their rows, their places in the orders and their
+    /// timers. An error leaves all but the room as it was: there is no memory, or a place would need more than 32 bits.
     #[inline(always)]
     pub fn reserve(&mut self, additional: usize) -> Result<(), AllocError>
     {
@@ -208,7 +208,7 @@ impl<K: Eq + Hash, V, S: BuildHasher> Store<K, V, S> {
     pub fn is_settled(&self, handle: Handle) -> bool
     {
         match self.find(handle) {
-            Some(found) => found.applied() == found.generation(),
+            Some(found) => found.is_settled(),
             None => false,
         }
     }
@@ -285,8 +285,8 @@ impl<K: Eq + Hash, V, S: BuildHasher> Store<K, V, S> {
         let _none = self.timers.set(timer, handle.place as u64, None);
     }
 
-    /// The timer of the number at this handle, where timers are kept, stands at its record's expiry, or is taken out where
-    /// there is none. It takes no memory.
+    /// The timer of the number at this handle, where timers are kept, stands at its record's expiry, or is taken out
+    /// where there is none. It takes no memory.
     #[inline(always)]
     pub fn set_timer(&mut self, handle: Handle)
     {
@@ -295,7 +295,8 @@ impl<K: Eq + Hash, V, S: BuildHasher> Store<K, V, S> {
         let _before = self.table.set_timer(handle.place, timer);
     }
 
-    /// Takes a timer out whose moment is at or before `now`. The answer is whose it was, and None exactly where there is none.
+    /// Takes a timer out whose moment is at or before `now`. The answer is whose it was, and None exactly where there
+    /// is none.
     pub fn due(&mut self, now: Instant) -> Option<Handle>
     {
         let due = self.timers.due(now)?;

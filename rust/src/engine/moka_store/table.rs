@@ -21,7 +21,7 @@ pub use membership::Membership;
 /// row that was forgotten is given to a later one.
 pub struct RecordTable<K, V> {
     rows: Rows<K, V>,
-    // The cold part of the record at each place, anything where there is none.
+    // The cold part of the record at each place, with the weight of the membership there; anything where there is none.
     cold: Vec<Cold>,
     // How many rows fit with no memory, with their cold parts.
     fit: usize,
@@ -99,7 +99,7 @@ impl<K, V> RecordTable<K, V> {
     {
         let (number, front) = self.rows.live(place)?;
         let (hot, cold) = (front.hot, &self.cold[place]);
-        let found = RecordRef::new(number, hot, front.weight, front.expiring, cold);
+        let found = RecordRef::new(number, hot, front.expiring, cold);
         Some((number, found))
     }
 
@@ -140,7 +140,7 @@ impl<K, V> RecordTable<K, V> {
     pub fn update(&mut self, place: usize, update: Update<V>) -> V
     {
         let cold = &mut self.cold[place];
-        cold.written = update.now;
+        cold.weight = update.weight;
         cold.expires = record_ref::moment_of(update.expires);
         cold.generation += 1;
         self.rows.replace_value(place, update)
@@ -165,7 +165,8 @@ impl<K, V> RecordTable<K, V> {
     #[inline(always)]
     pub fn membership(&self, place: usize) -> Option<Membership>
     {
-        self.rows.membership(place)
+        let found = self.rows.membership(place)?;
+        membership::counted_as(self.cold[place].counted, Some(found))
     }
 
     /// The slot among the timers of the row at this place.
@@ -186,21 +187,27 @@ impl<K, V> RecordTable<K, V> {
     #[inline(always)]
     pub fn set_counted(&mut self, place: usize, weight: u32)
     {
-        self.rows.recount(place, weight);
+        self.cold[place].counted = weight;
     }
 
     /// The row at this place becomes a member, or gets another membership. The answer is the one that it had.
     #[inline(always)]
     pub fn set_membership(&mut self, place: usize, membership: Membership) -> Option<Membership>
     {
-        self.rows.replace_membership(place, Some(membership))
+        let cold = &mut self.cold[place];
+        let counted = cold.counted;
+        cold.counted = membership.counted;
+        let old = self.rows.replace_membership(place, Some(membership));
+        membership::counted_as(counted, old)
     }
 
     /// The row at this place is a member no longer. The answer is the membership that it had.
     #[inline(always)]
     pub fn clear_membership(&mut self, place: usize) -> Option<Membership>
     {
-        self.rows.replace_membership(place, None)
+        let counted = self.cold[place].counted;
+        let old = self.rows.replace_membership(place, None);
+        membership::counted_as(counted, old)
     }
 
     /// Another timer, or none, for the row at this place. The answer is the one that it had.

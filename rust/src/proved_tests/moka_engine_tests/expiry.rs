@@ -209,9 +209,9 @@ fn rules(alloc: Global) -> Result<Rules, Fail> {
     Ok(Rules::new(rules))
 }
 
-type TimedCache = Engine<u32, Word, Recorder>;
+type RecordedCache = Engine<u32, Word, Recorder>;
 
-fn built(alloc: Global, asked: Rc<Cell<Asked>>) -> Result<TimedCache, Fail> {
+fn built(alloc: Global, asked: Rc<Cell<Asked>>) -> Result<RecordedCache, Fail> {
     let rules = rules(alloc)?;
     let config = CacheConfig::default()
         .time_to_live(Duration::from_secs(16))
@@ -223,7 +223,7 @@ fn built(alloc: Global, asked: Rc<Cell<Asked>>) -> Result<TimedCache, Fail> {
     }
 }
 
-fn insert(cache: &mut TimedCache, key: u32, value: Word, now: Instant) -> Result<(), Fail> {
+fn insert(cache: &mut RecordedCache, key: u32, value: Word, now: Instant) -> Result<(), Fail> {
     if cache.is_map_disabled() {
         return Err("disabled".into());
     }
@@ -237,7 +237,7 @@ fn insert(cache: &mut TimedCache, key: u32, value: Word, now: Instant) -> Result
 }
 
 /// Whether the key is there, and how many entries the run counts that is made then.
-fn look(cache: &mut TimedCache, key: u32, now: Instant) -> (bool, u64) {
+fn look(cache: &mut RecordedCache, key: u32, now: Instant) -> (bool, u64) {
     cache.run_pending_tasks(now, &mut FixedClock(now), None, 1, 10);
     (
         cache.contains_key_with_hash(&key, 1, now),
@@ -252,7 +252,7 @@ fn letter_of(key: u32) -> Option<&'static str> {
 }
 
 /// Reads the entry, or inserts it.
-fn act(alloc: Global, cache: &mut TimedCache, key: u32, step: &Step) -> Result<(), Fail> {
+fn act(alloc: Global, cache: &mut RecordedCache, key: u32, step: &Step) -> Result<(), Fail> {
     let Step(at, question, _, _) = *step;
     let now = moment(key, at);
     let value = Word::new(alloc, letter_of(key).ok_or("letter")?)?;
@@ -291,7 +291,7 @@ fn wanted(key: u32, step: &Step, modified: Instant) -> Asked {
 fn take_steps(
     rt: &impl Abort,
     alloc: Global,
-    cache: &mut TimedCache,
+    cache: &mut RecordedCache,
     asked: &Cell<Asked>,
     case: &Case,
 ) -> Result<u64, Fail> {
@@ -313,7 +313,7 @@ fn take_steps(
 }
 
 /// The entry is there a millisecond before it expires, hidden when it does, and gone a second later.
-fn check_end(rt: &impl Abort, cache: &mut TimedCache, key: u32, end: u64) {
+fn check_end(rt: &impl Abort, cache: &mut RecordedCache, key: u32, end: u64) {
     let end = moment(key, end).0;
     assert_equal(
         rt,

@@ -63,13 +63,30 @@ fn has_a_long_name() -> Result<(), Fail> {
     Ok(())
 }
 
+/// So many entries of two numbers fit into any memory.
+const MILLIONS: usize = 3_000_000;
+
 #[test]
 fn has_room_for_millions() -> Result<(), Fail> {
     let rt = HostRuntime;
-    let config = CacheConfig::default().initial_capacity(3_000_000);
+    let config = CacheConfig::default().initial_capacity(MILLIONS);
     let cache: TestCache = config.build(rt.alloc(), Instant(0))?;
     assert_equal(&rt, cache.entry_count(), 0);
     Ok(())
+}
+
+/// A value of 128 mebibytes.
+struct Large([u64; 1 << 24]);
+
+/// Room is made for whole entries: millions of large ones exceed the address space of a process.
+#[test]
+fn has_no_room_for_millions_of_large_values() {
+    let rt = HostRuntime;
+    for (number, is_built) in [(0, true), (MILLIONS, false)] {
+        let config = CacheConfig::default().initial_capacity(number);
+        let built: Result<Engine<u64, Large>, _> = config.build(rt.alloc(), Instant(0));
+        assert_eq!( built.is_ok(), is_built, "room for {number}");
+    }
 }
 
 /// Room is made for as many as are named: what no table can hold is refused.

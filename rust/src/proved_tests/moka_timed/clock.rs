@@ -9,7 +9,7 @@ use crate::engine::moka_parts::policy::Instant;
 use crate::support::time::Duration;
 
 /// The system's monotonic time, read through `std::time::Clock`, as which a `HostRuntime` serves. Its moments never go
-/// back: where the source does, or cannot be read, the last moment is told again.
+/// back: where the source does, or cannot be read, the last moment is given again.
 pub struct SystemClock<R> {
     source: R,
     last: Instant,

@@ -2,8 +2,10 @@
 //! A caller that hides values by a predicate of its own.
 use crate::support::prelude::*;
 
+use crate::engine::moka_engine::laws::{stays_hidden, steps_are_of_reference};
 use crate::engine::moka_engine::{
-    Engine, IdSource, Instant, NoExpiry, NoListener, PredicateFn, PredicateId, PredicateRefused,
+    Engine, FixedClock, IdSource, Instant, NoExpiry, NoListener, NoWeigher, PredicateFn,
+    PredicateId, PredicateRefused,
 };
 
 /// Says yes to the values below a bound.
@@ -33,8 +35,8 @@ impl IdSource for CountedIds {
 /// Numbers by number, made by a configuration with `support_invalidation_closures`.
 pub type Numbers = Engine<u64, u64, NoExpiry, NoListener, Below>;
 
-/// Hides the values below a bound that were written at the moment `now` or before. From then on their keys are not there,
-/// at whatever moment the cache is asked, until they are inserted again (`moka_engine::laws::stays_hidden`).
+/// Hides the values below a bound that were written at the moment `now` or before. From then on their keys are not
+/// there, at whatever moment the cache is asked, until they are inserted again (`moka_engine::laws::stays_hidden`).
 ///
 /// # Errors
 /// The predicate that was refused; the cache is as it was.
@@ -46,4 +48,24 @@ pub fn hide_below<I: IdSource>(
 ) -> Result<PredicateId, PredicateRefused<Below>>
 {
     numbers.invalidate_entries_if(Below(bound), now, ids)
+}
+
+/// Makes a run of maintenance at the moment `now`. A key that was hidden then, as by `hide_below`, is not shown after
+/// it, at that moment or later. A call of the engine is a step of the reference cache (`steps_are_of_reference`), where
+/// a key that is hidden stays so (`stays_hidden`).
+pub fn run_after_hiding(numbers: &mut Numbers, now: Instant) -> bool
+{
+    steps_are_of_reference::<
+        u64,
+        u64,
+        NoExpiry,
+        NoListener,
+        Below,
+        NoWeigher,
+        FixedClock,
+        CountedIds,
+    >();
+    stays_hidden::<u64, u64, NoExpiry, NoListener, Below, NoWeigher, FixedClock, CountedIds>();
+    numbers.invariant_holds();
+    numbers.run_pending_tasks(now, &mut FixedClock(now), None, 1, 384)
 }

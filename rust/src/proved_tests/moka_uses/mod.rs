@@ -3,6 +3,7 @@
 use crate::support::prelude::*;
 
 pub mod asked;
+pub mod batches;
 pub mod borrowed;
 pub mod bounded;
 pub mod cached;
@@ -11,6 +12,7 @@ pub mod expiring;
 pub mod handled;
 pub mod invalidated;
 pub mod late;
+pub mod logins;
 pub mod notified;
 pub mod ordered;
 pub mod profiles;

@@ -30,7 +30,8 @@ pub fn start<V, C: Clock>(
     TimedCache::build(config, alloc, clock)
 }
 
-/// The profile of a user: a clone of the one that is kept and visible, or else of the one that `read` makes, which is kept.
+/// The profile of a user: a clone of the one that is kept and visible, or else of the one that `read` makes, which is
+/// kept.
 ///
 /// # Errors
 /// As `TimedCache::get_with`.

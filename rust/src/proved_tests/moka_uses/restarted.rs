@@ -20,8 +20,8 @@ pub fn save<C: Clock>(
     sessions.save(alloc)
 }
 
-/// The sessions that were saved. Each ends when it would have ended: where it is not used for the time `idle`, counted
-/// from its last use before the restart.
+/// Sessions among those that were saved; nothing is promised of how many. Each ends when it would have ended: where it
+/// is not used for the time `idle`, counted from its last use before the restart.
 ///
 /// # Errors
 /// `OutOfMemory`, and then the sessions are let go.

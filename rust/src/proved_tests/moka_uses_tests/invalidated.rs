@@ -6,7 +6,7 @@ use crate::support::test::prelude::*;
 use crate::proved_tests::moka_uses_tests::equal::assert_equal;
 use crate::support::anyhow::Result;
 use crate::engine::moka_engine::{CacheConfig, Instant, PredicateError};
-use crate::proved_tests::moka_uses::invalidated::{Below, CountedIds, Numbers, hide_below};
+use crate::proved_tests::moka_uses::invalidated::{Below, CountedIds, Numbers, hide_below, run_after_hiding};
 
 fn has(numbers: &Numbers, key: u64) -> bool {
     numbers.contains_key_with_hash(&key, numbers.hash(&key), Instant(1))
@@ -31,5 +31,7 @@ fn hides_what_lies_below() -> Result<()> {
     let back = refused.map(|refused| (refused.error, refused.predicate));
     assert_equal(&rt, back, Some((PredicateError::NoFreeId, Below(11))));
     assert!( has(&numbers, 2));
+    run_after_hiding(&mut numbers, Instant(0));
+    assert_equal(&rt, (has(&numbers, 1), has(&numbers, 2)), (false, true));
     Ok(())
 }

@@ -5,6 +5,8 @@ use crate::support::prelude::*;
 #[cfg(test)]
 mod asked;
 #[cfg(test)]
+mod batches;
+#[cfg(test)]
 mod borrowed;
 #[cfg(test)]
 mod bounded;
@@ -22,6 +24,8 @@ mod handled;
 mod invalidated;
 #[cfg(test)]
 mod late;
+#[cfg(test)]
+mod logins;
 #[cfg(test)]
 mod notified;
 #[cfg(test)]

@@ -14,7 +14,7 @@ use std::io;
 /// Replays the script that a reader gives: prints a line for each reply, and then the count and
 /// the weight. Where it stops, one line says why, and nothing is printed.
 ///
-/// The answer is the status to end with: 0, 2 where the script is faulty, and 3 where memory, a
+/// The answer is the status to end with: 0, 2 where the script is faulty, and 3 if memory, a
 /// read or a write was refused, also to a single reply.
 pub fn replay<R: Source, W: Sink, E: Sink>(
     alloc: Global,

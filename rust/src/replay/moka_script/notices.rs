@@ -46,7 +46,8 @@ impl Listener<u32, Word> for Notices {
     }
 }
 
-/// How many notices the calls may cause at most: each insert brings one value that may leave, and a removal may be told.
+/// How many notices the calls may cause at most: each insert brings one value that may leave, and a removal may be
+/// told.
 pub fn room_for(calls: &[ScriptCall]) -> usize
 {
     calls

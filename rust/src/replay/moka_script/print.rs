@@ -155,7 +155,8 @@ impl fmt::Display for Total {
     }
 }
 
-/// All that a replay prints, without the last line feed: a line for each reply, one for each notice, and then the total.
+/// All that a replay prints, without the last line feed: a line for each reply, one for each notice, and then the
+/// total.
 #[derive(Clone, Copy)]
 pub struct ReplayText<'a> {
     pub replies: &'a [ScriptReply],

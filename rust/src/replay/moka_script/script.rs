@@ -127,8 +127,8 @@ fn parse_line(line: &[u8]) -> Option<ReadLine<'_>>
 /// Reads a script, shorter than 2^63 bytes as all that a `Vec` holds. The first faulty line is named.
 ///
 /// # Errors
-/// `BadLine` where a line is faulty, and `OutOfMemory` where memory is refused to a rule, a clock or a call in front of the first
-/// such line.
+/// `BadLine` where a line is faulty, and `OutOfMemory` if memory is refused to a rule, a clock or a call in front of
+/// the first such line.
 pub fn parse(alloc: Global, text: &[u8]) -> Result<Script, Failure>
 {
     let mut script = Script::new(alloc);

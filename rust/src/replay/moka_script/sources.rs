@@ -6,7 +6,8 @@ use crate::engine::moka_parts::invalidator::{IdSource, PredicateId};
 use crate::engine::moka_parts::policy::Instant;
 use crate::support::uuid::Uuid;
 
-/// A clock that tells listed readings, one after the other, and the last one again and again. Without any it stands at 0.
+/// A clock that tells listed readings, one after the other, and the last one again and again. Without any it stands at
+/// 0.
 pub struct ListedClock {
     readings: Vec<u64>,
     next: usize,

@@ -1,4 +1,4 @@
-use Rattle.std.proofs.Common.{rules, ◌≡◌, true, false, inr, refl, sym, ap, ◌∙◌}
+use Rattle.std.proofs.Common.{◌≡◌, true, false, inr, refl, sym, ap, ◌∙◌}
 use Rattle.std.specs.Option.{option_map_or}
 use Rattle.moka_parts.specs.Records.{is_applied, is_settled}
 use Rattle.moka_maintenance.proofs.Fronts.{settled_member}
@@ -10,7 +10,7 @@ returns-then-apply_predicates g c =
     let old = c.args.store.now in
     let r = c.in-Some.found in
     let found = sym (c.in-Some.ensures.found c.requires.placed) in
-    let applied : is_applied r ≡ true = (let t = c.if-applied-generation.false in let a = c.applied.ensures in let e = c.generation.ensures in search (rules, t, a, e)) in
+    let applied : is_applied r ≡ true = sym c.is_settled.ensures ∙ c.if-not-is_settled.false in
     let settled : is_settled old.records n ≡ true = ap (λ o. option_map_or is_applied o false) found ∙ applied in (
       settled,
       inr (

@@ -33,8 +33,8 @@ impl<'a, X> Moments<'a, X> {
     }
 }
 
-// The record whose key is equal to the one sought, which comes with its hash in the map, unless the caller's test, which is asked of its value first, ignores
-// it, a moment hides it or a predicate covers it.
+// The record of the key sought, which comes with its hash in the map; none if the caller's test, which is asked of its
+// value first, ignores it, a moment hides it or a predicate covers it.
 #[inline(always)]
 pub(super) fn find_unless<'a, K: Eq + Hash, V, S: BuildHasher, X, P, I: ValueTest<V>>(
     inner: &'a Inner<K, V, S>,
@@ -131,15 +131,11 @@ pub(super) fn entry_of<K: Clone, V: Clone>(
     need_key: bool,
 ) -> Result<Entry<K, V>, OutOfMemory>
 {
-    let Ok(value) = found.value().try_clone() else {
-        return Err(OutOfMemory);
+    let value = found.value().try_clone()?;
+    let key = if need_key {
+        Some(found.key().try_clone()?)
+    } else {
+        None
     };
-    if !need_key {
-        return Ok(Entry { key: None, value });
-    }
-    let Ok(key) = found.key().try_clone() else {
-        return Err(OutOfMemory);
-    };
-    let key = Some(key);
     Ok(Entry { key, value })
 }

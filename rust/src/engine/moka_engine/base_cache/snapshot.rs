@@ -48,8 +48,8 @@ impl<
     P: PredicateFn<K, V>,
     W: Weigher<K, V>,
 > BaseCache<K, V, S, X, L, P, W> {
-    /// The entries that are visible at the moment `now`, least recently used first. An entry whose write was not applied
-    /// yet by a run of maintenance stands at the place that it had before, and is left out if it had none.
+    /// The entries that are visible at the moment `now`, least recently used first. An entry whose write was not
+    /// applied yet by a run of maintenance stands at the place that it had before, and is left out if it had none.
     pub fn snapshot(&self, now: Instant) -> Snapshot<'_, K, V, S, X, P>
     {
         Snapshot {

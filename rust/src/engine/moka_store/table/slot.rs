@@ -8,29 +8,28 @@ use crate::engine::moka_parts::policy::Instant;
 use crate::engine::moka_parts::record_ref::{Front, Hot};
 use std::mem;
 
-/// A row of the table but for the cold part of its record, or a vacant place with the next one. A row has a record, until
-/// it leaves the map; a membership, while it is a member; and a slot among the timers, while it has one.
+/// A row of the table but for the cold part of its record, or a vacant place with the next one. A row has a record,
+/// until it leaves the map; a membership, while it is a member, whose weight lies with the cold part; and a slot among
+/// the timers, while it has one.
 pub(crate) struct Slot<K, V> {
     state: State<K, V>,
 }
 
-// With keys and values of a word each, a line of memory, of which the first 48 bytes are what look-ups read.
+// With keys and values of a word each, a line of memory, of which the first 48 bytes are what look-ups read, the
+// first 56 with a time to live.
 enum State<K, V> {
     Live {
         expiring: bool,
         access: u32,
         number: u64,
         hot: Hot<K, V>,
-        counted: u32,
         written: u32,
         timer: u32,
-        weight: u32,
     },
     // The record left the map.
     Gone {
         access: u32,
         number: u64,
-        counted: u32,
         written: u32,
         timer: u32,
     },
@@ -42,7 +41,6 @@ enum State<K, V> {
 /// A record that is lent, but for its number and its cold part.
 pub(crate) struct FrontRef<'a, K, V> {
     pub(crate) hot: &'a Hot<K, V>,
-    pub(crate) weight: u32,
     pub(crate) expiring: bool,
 }
 
@@ -51,21 +49,15 @@ impl<K, V> Slot<K, V> {
     #[inline(always)]
     pub(crate) fn full(number: u64, front: Front<K, V>) -> Self
     {
-        let Front {
-            hot,
-            weight,
-            expiring,
-        } = front;
+        let Front { hot, expiring } = front;
         Slot {
             state: State::Live {
                 expiring,
                 access: 0,
                 number,
                 hot,
-                counted: 0,
                 written: 0,
                 timer: 0,
-                weight,
             },
         }
     }
@@ -111,12 +103,10 @@ impl<K, V> Slot<K, V> {
                 expiring,
                 number,
                 hot,
-                weight,
                 ..
             } => {
                 let front = FrontRef {
                     hot,
-                    weight: *weight,
                     expiring: *expiring,
                 };
                 Some((*number, front))
@@ -137,23 +127,21 @@ impl<K, V> Slot<K, V> {
         }
     }
 
-    /// The row's membership.
+    /// The row's membership, with no weight.
     #[inline(always)]
     pub(crate) fn membership(&self) -> Option<Membership>
     {
         match &self.state {
             State::Live {
                 access,
-                counted,
                 written,
                 ..
-            } => membership_of(*counted, *access, *written),
+            } => membership_of(*access, *written),
             State::Gone {
                 access,
-                counted,
                 written,
                 ..
-            } => membership_of(*counted, *access, *written),
+            } => membership_of(*access, *written),
             State::Vacant { .. } => None,
         }
     }
@@ -169,8 +157,8 @@ impl<K, V> Slot<K, V> {
         }
     }
 
-    /// The record, which is in the map, was read at this moment, and now expires by itself or does not: as before, unless
-    /// that is renewed.
+    /// The record, which is in the map, was read at this moment, and now expires by itself or does not: as before,
+    /// unless that is renewed.
     #[inline(always)]
     pub(crate) fn touch(&mut self, moment: Instant, is_expiring: bool, is_renewed: bool)
     {
@@ -187,18 +175,12 @@ impl<K, V> Slot<K, V> {
     #[inline(always)]
     pub(crate) fn replace_value(&mut self, update: Update<V>) -> V
     {
-        let State::Live {
-            expiring,
-            hot,
-            weight,
-            ..
-        } = &mut self.state
-        else {
+        let State::Live { expiring, hot, .. } = &mut self.state else {
             unreachable!()
         };
-        *weight = update.weight;
         *expiring = update.expires.is_some();
         hot.read = update.now;
+        hot.written = update.now;
         mem::replace(&mut hot.value, update.value)
     }
 
@@ -209,7 +191,6 @@ impl<K, V> Slot<K, V> {
         let State::Live {
             access,
             number,
-            counted,
             written,
             timer,
             ..
@@ -220,7 +201,6 @@ impl<K, V> Slot<K, V> {
         let gone = State::Gone {
             access: *access,
             number: *number,
-            counted: *counted,
             written: *written,
             timer: *timer,
         };
@@ -229,14 +209,9 @@ impl<K, V> Slot<K, V> {
                 expiring,
                 number,
                 hot,
-                weight,
                 ..
             } => {
-                let front = Front {
-                    hot,
-                    weight,
-                    expiring,
-                };
+                let front = Front { hot, expiring };
                 (number, front)
             }
             State::Gone { .. } => unreachable!(),
@@ -244,34 +219,21 @@ impl<K, V> Slot<K, V> {
         }
     }
 
-    /// The row gets another membership, or none.
+    /// The row gets another membership but for its weight, or none.
     #[inline(always)]
     pub(crate) fn set_membership(&mut self, membership: Option<Membership>)
     {
         match &mut self.state {
             State::Live {
                 access,
-                counted,
                 written,
                 ..
-            } => write_membership(counted, access, written, membership),
+            } => write_membership(access, written, membership),
             State::Gone {
                 access,
-                counted,
                 written,
                 ..
-            } => write_membership(counted, access, written, membership),
-            State::Vacant { .. } => unreachable!(),
-        }
-    }
-
-    /// The row, which is a member, gets another weight.
-    #[inline(always)]
-    pub(crate) fn set_counted(&mut self, weight: u32)
-    {
-        match &mut self.state {
-            State::Live { counted, .. } => *counted = weight,
-            State::Gone { counted, .. } => *counted = weight,
+            } => write_membership(access, written, membership),
             State::Vacant { .. } => unreachable!(),
         }
     }

@@ -61,7 +61,7 @@ fn hides_what_has_lapsed() {
         generation: 1,
         applied: 1,
     });
-    let record = RecordRef::new(1, &front.hot, front.weight, front.expiring, &cold);
+    let record = RecordRef::new(1, &front.hot, front.expiring, &cold);
     for (valid_after, now, is_hidden) in [
         (None, 8_999, false),
         (None, 9_000, true),

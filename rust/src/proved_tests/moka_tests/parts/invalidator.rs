@@ -71,7 +71,7 @@ type Registry = Invalidator<IsValue>;
 // Whether a predicate covers a record of this value, written then.
 fn covers(registry: &Registry, value: u64, moment: Instant) -> bool {
     let (front, cold) = record_ref::split(written(value, moment));
-    let record = RecordRef::new(1, &front.hot, front.weight, front.expiring, &cold);
+    let record = RecordRef::new(1, &front.hot, front.expiring, &cold);
     registry.apply_predicates(&record)
 }
 
@@ -116,7 +116,7 @@ fn check_covered(rt: &impl Abort, registry: &Registry) {
         );
     }
     let (front, cold) = record_ref::split(written(7, Instant(6)));
-    let record = RecordRef::new(1, &front.hot, front.weight, front.expiring, &cold);
+    let record = RecordRef::new(1, &front.hot, front.expiring, &cold);
     assert!( registry.covers_at(2, &record));
 }
 

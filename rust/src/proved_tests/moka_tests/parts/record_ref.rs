@@ -24,7 +24,7 @@ fn a_record_is_read_from_its_parts() {
             generation: 7,
             applied: 2,
         });
-        let lent = RecordRef::new(1, &front.hot, front.weight, front.expiring, &cold);
+        let lent = RecordRef::new(1, &front.hot, front.expiring, &cold);
         assert_equal(
             &rt,
             (*lent.key(), lent.hash(), *lent.value()),
