@@ -1,11 +1,14 @@
 -- Whatever moves were made, each segment is a run of the reference cache.
-use Rattle.std.proofs.Common.{◌≡◌, ℕ, ◌==◌, ◌<◌, Bool, true, false, cond, List, [], ◌∷◌, ◌++◌, refl, sym, subst, ◌∙◌}
+use Rattle.std.proofs.Common.{◌≡◌, ℕ, ◌==◌, ◌<◌, Bool, true, false, cond, List, [], ◌∷◌, ◌++◌, refl, sym, subst, ◌∙◌, MatchBool}
 use Rattle.std.proofs.lemmas.Bool.{eqb-true, eqb-false}
 use Rattle.std.proofs.lemmas.List.{get_or-set_same, get_or-set_other, length-set}
+use Rattle.moka_parts.specs.declared.policy.Instant.{Instant}
+use Rattle.moka_parts.specs.Runs.{readings_of}
 use Rattle.moka_parts.specs.State.{Meaning}
+use Rattle.moka_parts.specs.Surroundings.{Leads}
 use Rattle.moka_drive.specs.Synchronous.{Synchronous, Made}
 use Rattle.moka_drive.proofs.Made.{made_nothing, made_then}
-use Rattle.moka_segments.specs.Laws.{EachRuns, calls_in, replies_in, anytime}
+use Rattle.moka_segments.specs.Laws.{EachMovesAlone, EachRuns, Move, MovesAlone, calls_in, replies_in, anytime}
 use Rattle.moka_segments.specs.Segmented.{IsAt, StepsAt}
 use Rattle.moka_segments.proofs.Anytime.{made_anytime}
 
@@ -29,18 +32,35 @@ module _ {A : Type 0} where
   })
 
 module _ {K V S X L P W C : Type 0} (m : Meaning K V X L P W C (Unit {0})) where
-  pub each_runs : EachRuns S m
-  each_runs [] old new clock clock_after moved index x y at_x at_y =
-      let same : x ≡ y = one_at old.segments index x y at_x (subst (λ s. IsAt s.segments index y) moved.1 at_y) in
-      subst (λ z. Made (anytime m) [] [] x.engine tt z.engine tt) same (made_nothing (anytime m) x.engine tt)
-  each_runs (v ∷ vs) old new clock clock_after (between, meanwhile, move, rest) index x y at_x at_y = go (v.index == index) refl (λ z at_z. each_runs vs between new meanwhile clock_after rest index z y at_z at_y)
+  -- each segment makes its own moves, and no other
+  pub each_moves_alone : EachMovesAlone S m
+  each_moves_alone [] old new clock clock_after moved index x y at_x at_y = (one_at old.segments index y x (subst (λ s. IsAt s.segments index y) moved.1 at_y) at_x, moved.0)
+  each_moves_alone (v ∷ vs) old new clock clock_after (between, meanwhile, move, rest) index x y at_x at_y =
+      let (z, step, at_z) = go (v.index == index) refl in
+      (z, meanwhile, step, each_moves_alone vs between new meanwhile clock_after rest index z y at_z at_y)
     where
-      go : (b : Bool) → (v.index == index) ≡ b → ((z : Synchronous K V S X L P W) → IsAt between.segments index z → Made (anytime m) (calls_in index vs) (replies_in index vs) z.engine tt y.engine tt)
-          → Made (anytime m) (cond b (v.calls ++ calls_in index vs) (calls_in index vs)) (cond b (v.replies ++ replies_in index vs) (replies_in index vs)) x.engine tt y.engine tt
-      go true same later =
+      go : (b : Bool) → (v.index == index) ≡ b → (z : Synchronous K V S X L P W) × MatchBool b (Made m v.calls v.replies x.engine clock z.engine meanwhile) ((z ≡ x) × ((moments : List Instant) × Leads m.observes clock moments meanwhile)) × IsAt between.segments index z
+      go true same =
           let is : v.index ≡ index = eqb-true v.index index same in
-          let first : Made (anytime m) v.calls v.replies move.one.before.engine tt move.one.after.engine tt = made_anytime m v.calls v.replies move.one.before.engine move.one.after.engine clock meanwhile move.one.step in
-          let x_is : move.one.before ≡ x = one_at old.segments index move.one.before x (subst (λ i. IsAt old.segments i move.one.before) is move.one.there) at_x in
-          let at_after : IsAt between.segments index move.one.after = subst (λ i. IsAt between.segments i move.one.after) is (there_after v.index _ old.segments between.segments move.one) in
-          made_then (anytime m) v.calls (calls_in index vs) v.replies (replies_in index vs) x.engine move.one.after.engine y.engine tt tt tt (subst (λ (z : Synchronous K V S X L P W). Made (anytime m) v.calls v.replies z.engine tt move.one.after.engine tt) x_is first) (later move.one.after at_after)
-      go false apart later = later x (elsewhere_after v.index _ old.segments between.segments move.one index x (λ same. eqb-false v.index index apart (sym same)) at_x)
+          let x_is : move.one.before ≡ x = one_at old.segments index move.one.before x (subst (λ i. IsAt old.segments i move.one.before) is move.one.there) at_x in (
+            move.one.after,
+            subst (λ (z : Synchronous K V S X L P W). Made m v.calls v.replies z.engine clock move.one.after.engine meanwhile) x_is move.one.step,
+            subst (λ i. IsAt between.segments i move.one.after) is (there_after v.index _ old.segments between.segments move.one),
+          )
+      go false apart = (
+        x,
+        (refl, (readings_of move.one.step.steps, move.one.step.is_run.read)),
+        elsewhere_after v.index _ old.segments between.segments move.one index x (λ same. eqb-false v.index index apart (sym same)) at_x,
+      )
+
+  run_of : (index : ℕ) (moves : List (Move K V P)) (x y : Synchronous K V S X L P W) (clock clock_after : C) → MovesAlone m index moves x clock y clock_after → Made (anytime m) (calls_in index moves) (replies_in index moves) x.engine tt y.engine tt
+  run_of index [] x y clock clock_after (same, still) = subst (λ (z : Synchronous K V S X L P W). Made (anytime m) [] [] x.engine tt z.engine tt) (sym same) (made_nothing (anytime m) x.engine tt)
+  run_of index (v ∷ vs) x y clock clock_after (z, meanwhile, step, rest) = go (v.index == index) step (run_of index vs z y meanwhile clock_after rest)
+    where
+      go : (b : Bool) → MatchBool b (Made m v.calls v.replies x.engine clock z.engine meanwhile) ((z ≡ x) × ((moments : List Instant) × Leads m.observes clock moments meanwhile)) → Made (anytime m) (calls_in index vs) (replies_in index vs) z.engine tt y.engine tt
+          → Made (anytime m) (cond b (v.calls ++ calls_in index vs) (calls_in index vs)) (cond b (v.replies ++ replies_in index vs) (replies_in index vs)) x.engine tt y.engine tt
+      go true made later = made_then (anytime m) v.calls (calls_in index vs) v.replies (replies_in index vs) x.engine z.engine y.engine tt tt tt (made_anytime m v.calls v.replies x.engine z.engine clock meanwhile made) later
+      go false (same, told) later = subst (λ (w : Synchronous K V S X L P W). Made (anytime m) (calls_in index vs) (replies_in index vs) w.engine tt y.engine tt) same later
+
+  pub each_runs : EachRuns S m
+  each_runs moves old new clock clock_after moved index x y at_x at_y = run_of index moves x y clock clock_after (each_moves_alone moves old new clock clock_after moved index x y at_x at_y)

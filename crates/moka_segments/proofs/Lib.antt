@@ -1,5 +1,6 @@
 pub mod Anytime
 pub mod Apart
+pub mod Moving
 pub mod Each
 pub mod Sums
 pub mod OneSegment

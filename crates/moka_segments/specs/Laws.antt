@@ -1,5 +1,5 @@
 -- Lists of moves: what a cache in segments makes of each of them.
-use Rattle.std.specs.Prelude.{◌≡◌, ℕ, Bool, ◌==◌, cond, List, [], ◌∷◌, ◌++◌, Option, Result}
+use Rattle.std.specs.Prelude.{◌≡◌, ℕ, Bool, ◌==◌, cond, List, [], ◌∷◌, ◌++◌, Option, Result, MatchBool}
 use Rattle.std.specs.List.{AllZip}
 use Rattle.uuid.specs.declared.Uuid.{Uuid}
 use Rattle.moka_parts.specs.declared.calls.Call.{Call}
@@ -10,6 +10,7 @@ use Rattle.moka_parts.specs.declared.error.PredicateRefused.{PredicateRefused}
 use Rattle.moka_parts.specs.declared.notification.RemovalCause.{RemovalCause}
 use Rattle.moka_parts.specs.declared.policy.Instant.{Instant}
 use Rattle.moka_parts.specs.State.{Meaning}
+use Rattle.moka_parts.specs.Surroundings.{Leads}
 use Rattle.moka_drive.specs.declared.error.GetWithRefused.{GetWithRefused}
 use Rattle.moka_drive.specs.declared.error.NotTold.{NotTold}
 use Rattle.moka_drive.specs.Synchronous.{Synchronous, Made, removed, invalidated}
@@ -52,6 +53,13 @@ module _ {K V S X L P W C : Type 0} (m : Meaning K V X L P W C (Unit {0})) where
   MoveAfterMove (v ∷ vs) clock old clock_after new =
       (between : Segmented K V S X L P W) × (meanwhile : C) × Moves v clock old meanwhile between × MoveAfterMove vs meanwhile between clock_after new
 
+  -- the moves that one segment made, one after the other; while others make theirs, the clock tells them moments
+  abbrev pub MovesAlone : ℕ → List (Move K V P) → Synchronous K V S X L P W → C → Synchronous K V S X L P W → C → Type 0
+  MovesAlone index [] x clock y clock_after = (y ≡ x) × (clock_after ≡ clock)
+  MovesAlone index (v ∷ vs) x clock y clock_after = (z : Synchronous K V S X L P W) × (meanwhile : C)
+      × MatchBool (v.index == index) (Made m v.calls v.replies x.engine clock z.engine meanwhile) ((z ≡ x) × ((moments : List Instant) × Leads m.observes clock moments meanwhile))
+      × MovesAlone index vs z meanwhile y clock_after
+
 -- ---- laws
 
 -- whatever moves were made, each segment is a run of the reference cache: of the calls that were made in it, with their
@@ -59,6 +67,11 @@ module _ {K V S X L P W C : Type 0} (m : Meaning K V X L P W C (Unit {0})) where
 abbrev pub EachRuns : {K V X L P W C : Type 0} → (S : Type 0) → Meaning K V X L P W C (Unit {0}) → Type 0
 EachRuns {K} {V} {X} {L} {P} {W} {C} S m = (moves : List (Move K V P)) (old new : Segmented K V S X L P W) (clock clock_after : C) → MoveAfterMove m moves clock old clock_after new →
     (index : ℕ) (x y : Synchronous K V S X L P W) → IsAt old.segments index x → IsAt new.segments index y → Made (anytime m) (calls_in index moves) (replies_in index moves) x.engine tt y.engine tt
+
+-- and it goes by the clock that all share: within a move it alone reads it
+abbrev pub EachMovesAlone : {K V X L P W C : Type 0} → (S : Type 0) → Meaning K V X L P W C (Unit {0}) → Type 0
+EachMovesAlone {K} {V} {X} {L} {P} {W} {C} S m = (moves : List (Move K V P)) (old new : Segmented K V S X L P W) (clock clock_after : C) → MoveAfterMove m moves clock old clock_after new →
+    (index : ℕ) (x y : Synchronous K V S X L P W) → IsAt old.segments index x → IsAt new.segments index y → MovesAlone m index moves x clock y clock_after
 
 -- each key that is inserted belongs to the segment in which it is
 abbrev pub InsertWhereTheyBelong : {K V S P : Type 0} → (S → K → ℕ) → Routing S → List (Move K V P) → Type 0

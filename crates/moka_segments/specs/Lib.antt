@@ -6,4 +6,5 @@ pub mod Listing
 pub mod Registering
 pub mod Keys
 pub mod Laws
+pub mod Moves
 pub mod Built

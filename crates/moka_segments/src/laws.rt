@@ -1,8 +1,9 @@
-//! Laws of a cache in segments. None of these functions does anything: the contract of each is a law.
+//! Laws of a cache in segments. The contract of each function is a law, and its body does nothing.
 ghost use Rattle.std.specs.List.{fold};
 ghost use Rattle.moka_drive.specs.Synchronous.{meaning_of};
 ghost use Rattle.moka_segments.specs.Keys.{HoldNone, KeysBelong};
-ghost use Rattle.moka_segments.specs.Laws.{CallsByKeyKeepKeys, CallsOfAllKeepKeys, EachRuns, GetWithKeepsKeys, KeysStay, OneSegmentEach, RegisteringKeepsKeys};
+ghost use Rattle.moka_segments.specs.Laws.{CallsByKeyKeepKeys, CallsOfAllKeepKeys, EachMovesAlone, EachRuns, GetWithKeepsKeys, KeysStay, OneSegmentEach, RegisteringKeepsKeys};
+ghost use Rattle.moka_segments.specs.Moves.{CallsByKeyAreMoves, CallsOfAllAreMoves, GetWithIsMove, MovesGoOn, RegisteringIsMoves, for_all_calls};
 ghost use Rattle.moka_segments.specs.Segmented.{Segmented};
 
 use moka_parts::closures::{PredicateFn, Weigher};
@@ -13,7 +14,8 @@ use moka_parts::policy::Expiry;
 use std::hash::{BuildHasher, Hash};
 
 /// Whatever calls were made in whichever segments, each segment is one run of the reference cache: of the calls that
-/// were made in it, with their replies, as if it stood alone.
+/// were made in it, with their replies, as if it stood alone, at moments of any kind. Move by move it goes by the clock
+/// that all segments share, which others read between two moves and never within one.
 pub fn each_runs<
     K: Eq,
     V,
@@ -24,7 +26,8 @@ pub fn each_runs<
     W: Weigher<K, V>,
     C: Clock,
 >()
-    ensures { EachRuns S (meaning_of K.eq L.tells P.says W.weighs C.reads X.created X.read X.updated) }
+    ensures runs { EachRuns S (meaning_of K.eq L.tells P.says W.weighs C.reads X.created X.read X.updated) }
+    ensures alone { EachMovesAlone S (meaning_of K.eq L.tells P.says W.weighs C.reads X.created X.read X.updated) }
 {}
 
 /// If each segment holds only keys that belong to it, and keys are inserted only where they belong, then it stays so
@@ -134,4 +137,84 @@ pub fn none_belong<
 >()
     ensures { (c : Segmented K V S X L P W) → HoldNone c →
         KeysBelong (λ h k. S.Hasher.finish (fold S.Hasher.write (S.build_hasher h) (K.hash_input k))) c }
+{}
+
+/// What is so of moves (`each_runs`) is so of those that the cache's own calls are: where listeners may hear of clones,
+/// and identifiers are given. Moves after moves are moves, so that this holds of a list of calls, however long.
+pub fn own_calls_run<
+    K: Eq + Clone,
+    V: Clone,
+    S,
+    X: Expiry<K, V>,
+    L: Listener<K, V>,
+    P: PredicateFn<K, V>,
+    W: Weigher<K, V>,
+    C: Clock,
+>()
+    ensures runs { EachRuns S (for_all_calls K.is_clone V.is_clone (meaning_of K.eq L.tells P.says W.weighs C.reads X.created X.read X.updated)) }
+    ensures alone { EachMovesAlone S (for_all_calls K.is_clone V.is_clone (meaning_of K.eq L.tells P.says W.weighs C.reads X.created X.read X.updated)) }
+    ensures go_on { MovesGoOn S (for_all_calls K.is_clone V.is_clone (meaning_of K.eq L.tells P.says W.weighs C.reads X.created X.read X.updated)) }
+{}
+
+/// What each call by key ensures is a move of the key's own segment, of the calls that it stands for;
+/// `get_with_is_move` speaks of those with a maker.
+pub fn calls_by_key_are_moves<
+    K: Eq + Hash + Clone,
+    V: Clone,
+    S: BuildHasher,
+    X: Expiry<K, V>,
+    L: Listener<K, V>,
+    P: PredicateFn<K, V>,
+    W: Weigher<K, V>,
+    C: Clock,
+>()
+    ensures { CallsByKeyAreMoves (λ h k. S.Hasher.finish (fold S.Hasher.write (S.build_hasher h) (K.hash_input k)))
+        (meaning_of K.eq L.tells P.says W.weighs C.reads X.created X.read X.updated) K.is_clone V.is_clone }
+{}
+
+/// So is what `get_with` ensures, by a maker of this type.
+pub fn get_with_is_move<
+    K: Eq + Hash + Clone,
+    V: Clone,
+    S: BuildHasher,
+    X: Expiry<K, V>,
+    L: Listener<K, V>,
+    P: PredicateFn<K, V>,
+    W: Weigher<K, V>,
+    C: Clock,
+    F: FnOnce() -> V,
+>()
+    ensures { GetWithIsMove (λ h k. S.Hasher.finish (fold S.Hasher.write (S.build_hasher h) (K.hash_input k)))
+        (meaning_of K.eq L.tells P.says W.weighs C.reads X.created X.read X.updated) K.is_clone V.is_clone F.post }
+{}
+
+/// What each call that concerns all segments ensures is a move of each in turn; `registering_is_moves` speaks of
+/// predicates.
+pub fn calls_of_all_are_moves<
+    K: Eq + Clone,
+    V: Clone,
+    S,
+    X: Expiry<K, V>,
+    L: Listener<K, V>,
+    P: PredicateFn<K, V>,
+    W: Weigher<K, V>,
+    C: Clock,
+>()
+    ensures { CallsOfAllAreMoves S (meaning_of K.eq L.tells P.says W.weighs C.reads X.created X.read X.updated) K.is_clone V.is_clone }
+{}
+
+/// So is what `invalidate_entries_if` ensures, by a maker of this type. A segment that is not asked makes no call.
+pub fn registering_is_moves<
+    K: Eq + Clone,
+    V: Clone,
+    S,
+    X: Expiry<K, V>,
+    L: Listener<K, V>,
+    P: PredicateFn<K, V>,
+    W: Weigher<K, V>,
+    C: Clock,
+    I: IdSource,
+    F: Fn() -> P,
+>()
+    ensures { RegisteringIsMoves S (meaning_of K.eq L.tells P.says W.weighs C.reads X.created X.read X.updated) K.is_clone V.is_clone I.gives F.post }
 {}

@@ -1,13 +1,17 @@
-//! A cache in segments that keeps its bound, and each key in one segment.
+//! A cache in segments that keeps its bound, and each key in one segment, each of which is a cache of its own.
 ghost use Rattle.std.specs.List.{fold};
 ghost use Rattle.std.specs.Prelude.{◌≤◌, IfSome};
+ghost use Rattle.moka_drive.specs.Synchronous.{meaning_of};
 ghost use Rattle.moka_segments.specs.Keys.{AreInOneSegment, KeysBelong};
+ghost use Rattle.moka_segments.specs.Moves.{InsertsThenGets};
 
 use moka_engine::{
-    Clock, Expiry, FixedClock, InsertRefused, Instant, Listener, PredicateFn, Weigher,
+    Clock, Expiry, FixedClock, InsertRefused, Instant, Listener, OutOfMemory, PredicateFn, Weigher,
 };
 use moka_segments::SegmentedCache;
-use moka_segments::laws::{calls_by_key_keep_keys, one_segment_each};
+use moka_segments::laws::{
+    calls_by_key_are_moves, calls_by_key_keep_keys, one_segment_each, own_calls_run,
+};
 use std::hash::{BuildHasher, Hash};
 
 /// What the segments of a cache keep together.
@@ -56,4 +60,40 @@ pub fn put_where_it_belongs<
     calls_by_key_keep_keys::<K, V, S, X, L, P, W, C>();
     one_segment_each::<K, V, S, X, L, P, W>();
     cache.insert(key, value, now, clock)
+}
+
+/// Puts an entry in, and looks a key up. These are two moves of a segment each (`calls_by_key_are_moves`), so each
+/// segment is one run of the reference cache, of those of the two that are its own (`own_calls_run`).
+///
+/// # Errors
+/// As `SegmentedCache::insert` the first, and as `SegmentedCache::get` the second, which is made in any case.
+pub fn put_and_find<
+    K: Eq + Hash + Clone + Drop,
+    V: Clone + Drop,
+    S: BuildHasher,
+    X: Expiry<K, V>,
+    L: Listener<K, V>,
+    P: PredicateFn<K, V> + Drop,
+    W: Weigher<K, V>,
+    C: Clock,
+>(
+    cache: &mut SegmentedCache<K, V, X, L, P, W, S>,
+    entry: (K, V),
+    sought: &K,
+    now: Instant,
+    clock: &mut C,
+) -> (
+    Result<(), InsertRefused<K, V>>,
+    Result<Option<V>, OutOfMemory>,
+)
+    ensures { InsertsThenGets (λ h k. S.Hasher.finish (fold S.Hasher.write (S.build_hasher h) (K.hash_input k)))
+        (meaning_of K.eq L.tells P.says W.weighs C.reads X.created X.read X.updated) K.is_clone V.is_clone
+        entry.0 entry.1 sought.now now result.0 result.1 cache.old cache.new }
+{
+    own_calls_run::<K, V, S, X, L, P, W, C>();
+    calls_by_key_are_moves::<K, V, S, X, L, P, W, C>();
+    let (key, value) = entry;
+    let put = cache.insert(key, value, now, clock);
+    let found = cache.get(sought, now, clock);
+    (put, found)
 }

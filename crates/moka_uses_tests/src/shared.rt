@@ -6,7 +6,7 @@ use moka_engine::{
 };
 use moka_segments::SegmentedCache;
 use moka_segments::laws::none_belong;
-use moka_uses::shared::{keep_bound, put_where_it_belongs};
+use moka_uses::shared::{keep_bound, put_and_find, put_where_it_belongs};
 
 #[test]
 fn keeps_what_fits(rt: HostRuntime) -> Result<()> {
@@ -36,5 +36,22 @@ fn puts_where_it_belongs(rt: HostRuntime) -> Result<()> {
     none_belong::<u64, u64, DefaultHasher, NoExpiry, NoListener, NoPredicate, NoWeigher>();
     put_where_it_belongs(&mut cache, 1, 10, now, &mut FixedClock(now))?;
     assert!(rt; cache.contains_key(&1, now));
+    Ok(())
+}
+
+#[test]
+fn finds_what_was_put(rt: HostRuntime) -> Result<()> {
+    let now = Instant(0);
+    let make = |_| CacheConfig::default();
+    let mut cache: SegmentedCache<u64, u64> = SegmentedCache::build(
+        4,
+        None,
+        make,
+        rt.alloc(),
+        now,
+    )?;
+    let (put, found) = put_and_find(&mut cache, (1, 10), &1, now, &mut FixedClock(now));
+    put?;
+    assert_equal(&rt, found?, Some(10));
     Ok(())
 }

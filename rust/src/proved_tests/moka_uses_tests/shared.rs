@@ -10,7 +10,7 @@ use crate::engine::moka_engine::{
 };
 use crate::engine::moka_segments::SegmentedCache;
 use crate::engine::moka_segments::laws::none_belong;
-use crate::proved_tests::moka_uses::shared::{keep_bound, put_where_it_belongs};
+use crate::proved_tests::moka_uses::shared::{keep_bound, put_and_find, put_where_it_belongs};
 
 #[test]
 fn keeps_what_fits() -> Result<()> {
@@ -42,5 +42,23 @@ fn puts_where_it_belongs() -> Result<()> {
     none_belong::<u64, u64, DefaultHasher, NoExpiry, NoListener, NoPredicate, NoWeigher>();
     put_where_it_belongs(&mut cache, 1, 10, now, &mut FixedClock(now))?;
     assert!( cache.contains_key(&1, now));
+    Ok(())
+}
+
+#[test]
+fn finds_what_was_put() -> Result<()> {
+    let rt = HostRuntime;
+    let now = Instant(0);
+    let make = |_| CacheConfig::default();
+    let mut cache: SegmentedCache<u64, u64> = SegmentedCache::build(
+        4,
+        None,
+        make,
+        rt.alloc(),
+        now,
+    )?;
+    let (put, found) = put_and_find(&mut cache, (1, 10), &1, now, &mut FixedClock(now));
+    put?;
+    assert_equal(&rt, found?, Some(10));
     Ok(())
 }
