@@ -1,5 +1,5 @@
 -- What the registry's loops and searches find.
-use Rattle.std.proofs.Common.{◌≡◌, refl, ℕ, ◌<◌, Bool, true, false, List, [], ◌∷◌, ◌++◌, length, Result, Ok, Err, ap, sym, inl, inr, suc, zero, MatchBool, arith, true≢false, get_or}
+use Rattle.std.proofs.Common.{◌≡◌, refl, ℕ, ◌<◌, Bool, true, false, List, [], ◌∷◌, ◌++◌, length, Result, Ok, Err, ap, sym, inl, inr, suc, zero, MatchBool, arith, true≢false, get_or, subst, Option, Some, None, MatchOption}
 use Rattle.std.specs.Prelude.{IsTrue, ◌↔◌}
 use Rattle.std.specs.List.{AllByRecursion, AllWithin, HoldsAt, All}
 use Rattle.std.proofs.lemmas.List.Elements.{All-from_all_within, All-head, All-tail, All-contains, Contains-get_or}
@@ -10,7 +10,7 @@ use Rattle.moka_parts.specs.declared.records.Registered.{Registered}
 use Rattle.moka_parts.specs.declared.error.PredicateError.{PredicateError}
 use Rattle.moka_parts.specs.declared.error.PredicateError.TheVariants as predicate_error
 use Rattle.moka_parts.specs.declared.error.PredicateRefused.{PredicateRefused}
-use Rattle.moka_parts.specs.Visibility.{Covers, SomeCovers, NoneCovers}
+use Rattle.moka_parts.specs.Visibility.{Covers, SomeCovers, NoneCovers, FirstCovers}
 use Rattle.moka_parts.specs.State.{State}
 use Rattle.moka_parts.specs.Calls as calls
 use Rattle.moka_parts.specs.Registry.{IsTaken, FirstFree, RegistrationRefusal, RegistrationStep}
@@ -31,6 +31,24 @@ module _ {K V P : Type 0} (says : P → K → V → Bool → Type 0) (r : Record
   pub covers_by_search : (ps : List (Registered P)) (found : Bool) → MatchBool found ((k : ℕ) × (k < length ps) × HoldsAt (λ p. Covers says p r) ps k) (AllWithin (λ p. Covers says p r → ⊥) ps 0 (length ps)) → MatchBool found (SomeCovers says ps r) (NoneCovers says ps r)
   covers_by_search ps true h = some_covers ps h.0 h.1 h.2
   covers_by_search ps false h = none_covers ps (All-from_all_within (λ p. Covers says p r → ⊥) ps h)
+
+  first_covers : (ps : List (Registered P)) (p : Registered P) (k : ℕ) → Covers says p r → k < length ps → HoldsAt (λ y. y ≡ p) ps k → AllWithin (λ y. Covers says y r → ⊥) ps 0 k → FirstCovers says ps r p.id
+  first_covers [] p k covers below same none = absurd (omega arith)
+  first_covers (q ∷ ps) p zero covers below same none = inl (subst (λ y. Covers says y r) (sym (same q)) covers, ap (λ y. y.id) (sym (same q)))
+  first_covers (q ∷ ps) p (suc k) covers below same none = inr (none 0 q (omega arith) (omega arith), first_covers ps p k covers (omega arith) same (λ i d from to. none (suc i) d (omega arith) (omega arith)))
+
+  -- a search of the registry for the first predicate that covers the record
+  module _ {A : Type 0} (v : A → Registered P) (ps : List (Registered P)) where
+    abbrev pub IsSearched : Option A → Type 0
+    IsSearched found = MatchOption found (AllWithin (λ p. Covers says p r → ⊥) ps 0 (length ps)) (λ x. Covers says (v x) r × (k : ℕ) × (k < length ps) × HoldsAt (λ y. y ≡ v x) ps k × AllWithin (λ p. Covers says p r → ⊥) ps 0 k)
+
+    pub none_by_search : (found : Option A) → IsSearched found → found ≡ None → NoneCovers says ps r
+    none_by_search found searched none = none_covers ps (All-from_all_within (λ p. Covers says p r → ⊥) ps (subst IsSearched none searched))
+
+    pub first_by_search : (found : Option A) → IsSearched found → (x : A) → found ≡ Some x → FirstCovers says ps r (v x).id
+    first_by_search found searched x some =
+        let (covers, k, below, same, earlier) = subst IsSearched some searched in
+        first_covers ps (v x) k covers below same earlier
 
 -- ---- identifiers
 

@@ -1,5 +1,6 @@
 -- Which records are visible at a moment.
 use Rattle.std.specs.Prelude.{◌≡◌, ℕ, Bool, true, false, ◌||◌, ◌≤◌, List, [], ◌∷◌, Option, Some, None, ◌⊎◌, MatchBool}
+use Rattle.uuid.specs.declared.Uuid.{Uuid}
 use Rattle.moka_parts.specs.declared.policy.Instant.{Instant}
 use Rattle.moka_parts.specs.declared.records.Record.{Record}
 use Rattle.moka_parts.specs.declared.records.Registered.{Registered}
@@ -45,6 +46,11 @@ module _ {K V P : Type 0} (says : P → K → V → Bool → Type 0) where
   abbrev pub NoneCovers : List (Registered P) → Record K V → Type 0
   NoneCovers [] r = Unit {0}
   NoneCovers (p ∷ ps) r = (Covers p r → ⊥) × NoneCovers ps r
+
+  -- the first of the predicates that covers the record has the identifier
+  abbrev pub FirstCovers : List (Registered P) → Record K V → Uuid → Type 0
+  FirstCovers [] r id = ⊥
+  FirstCovers (p ∷ ps) r id = (Covers p r × (id ≡ p.id)) ⊎ ((Covers p r → ⊥) × FirstCovers ps r id)
 
 module _ {K V X P W : Type 0} (says : P → K → V → Bool → Type 0) where
   -- the record is visible: no test by moments hides it, and no predicate covers it

@@ -1,9 +1,9 @@
 //! Predicates that hide what was written before them, each under an identifier.
 //! moka: `sync::invalidator`.
-ghost use Rattle.std.specs.Prelude.{◌≡◌, ◌<◌, ◌==◌, ◌↔◌, List, [], length, remove, slice_get, IsTrue, Some, MatchBool};
+ghost use Rattle.std.specs.Prelude.{◌≡◌, ◌<◌, ◌==◌, ◌↔◌, List, [], length, remove, slice_get, IsTrue, Some, MatchBool, MatchOption};
 ghost use Rattle.uuid.specs.declared.Uuid.{Uuid};
 ghost use Rattle.moka_parts.specs.declared.records.Registered.{Registered};
-ghost use Rattle.moka_parts.specs.Visibility.{Covers, SomeCovers, NoneCovers};
+ghost use Rattle.moka_parts.specs.Visibility.{Covers, SomeCovers, NoneCovers, FirstCovers};
 ghost use Rattle.moka_parts.specs.Registry.{IsTaken, AsksForFree, Registers};
 
 use crate::closures::PredicateFn;
@@ -151,6 +151,21 @@ impl<P> Invalidator<P> {
         self.predicates
             .iter()
             .any(|registered| registered.covers(entry))
+    }
+
+    /// The identifier of the first predicate that covers the record, if one does.
+    pub fn first_covering<K, V>(&self, entry: &RecordRef<'_, K, V>) -> Option<PredicateId>
+    where
+        P: PredicateFn<K, V>,
+        ensures { MatchOption result
+            (NoneCovers P.says self.now entry.now)
+            (FirstCovers P.says self.now entry.now) }
+    {
+        let found = self
+            .predicates
+            .iter()
+            .find(|registered| registered.covers(entry))?;
+        Some(found.id)
     }
 
     /// Whether the predicate at this place covers the record.
