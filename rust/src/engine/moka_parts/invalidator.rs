@@ -122,6 +122,18 @@ impl<P> Invalidator<P> {
             .any(|registered| registered.covers(entry))
     }
 
+    /// The identifier of the first predicate that covers the record, if one does.
+    pub fn first_covering<K, V>(&self, entry: &RecordRef<'_, K, V>) -> Option<PredicateId>
+    where
+        P: PredicateFn<K, V>,
+    {
+        let found = self
+            .predicates
+            .iter()
+            .find(|registered| registered.covers(entry))?;
+        Some(found.id)
+    }
+
     /// Whether the predicate at this place covers the record.
     pub fn covers_at<K, V>(&self, index: usize, entry: &RecordRef<'_, K, V>) -> bool
     where

@@ -75,6 +75,13 @@ fn covers(registry: &Registry, value: u64, moment: Instant) -> bool {
     registry.apply_predicates(&record)
 }
 
+// The first predicate that covers a record of this value, written then.
+fn first_covering(registry: &Registry, value: u64, moment: Instant) -> Option<PredicateId> {
+    let (front, cold) = record_ref::split(written(value, moment));
+    let record = RecordRef::new(1, &front.hot, front.expiring, &cold);
+    registry.first_covering(&record)
+}
+
 /// Registers the test for a value at a moment.
 fn register(
     registry: &mut Registry,
@@ -142,6 +149,27 @@ fn asks_only_what_was_registered_no_earlier() -> Result<(), Fail> {
     register_three(&mut registry)?;
     check_covered(&rt, &registry);
     check_removed(&rt, &mut registry);
+    Ok(())
+}
+
+#[test]
+fn names_the_first_that_covers() -> Result<(), Fail> {
+    let rt = HostRuntime;
+    let mut registry = Invalidator::new(rt.alloc());
+    register_three(&mut registry)?;
+    for (value, moment, id) in [
+        (7, Instant(4), Some(2)),
+        (8, Instant(5), Some(3)),
+        (7, Instant(5), Some(4)),
+        (7, Instant(7), None),
+        (9, Instant(6), None),
+    ] {
+        assert_eq!(
+            first_covering(&registry, value, moment),
+            id.map(Uuid::from_u128),
+            "{value} written at {moment:?}"
+        );
+    }
     Ok(())
 }
 
