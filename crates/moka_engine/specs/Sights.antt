@@ -1,9 +1,9 @@
 -- What a look-up of a key meets at a moment, and why.
-use Rattle.std.specs.Prelude.{◌≡◌, ℕ, Bool, ◌||◌, Option, Some, None, ◌⊎◌, if◌then◌else◌}
+use Rattle.std.specs.Prelude.{◌≡◌, ℕ, Bool, ◌||◌, Option, Some, None, if◌then◌else◌}
 use Rattle.moka_parts.specs.declared.policy.Instant.{Instant}
 use Rattle.moka_parts.specs.declared.records.Record.{Record}
 use Rattle.moka_parts.specs.State.{State, Settings}
-use Rattle.moka_parts.specs.Visibility.{is_expired, is_past_live, is_past_idle, is_written_before, is_read_before, SomeCovers, NoneCovers}
+use Rattle.moka_parts.specs.Visibility.{is_expired, is_past_live, is_past_idle, is_written_before, is_read_before, NoneCovers, FirstCovers}
 use Rattle.moka_engine.specs.declared.base_cache.sights.Sight.{Sight}
 use Rattle.moka_engine.specs.declared.base_cache.sights.Sight.TheVariants.{Absent, Expired, PastTimeToLive, PastTimeToIdle, Invalidated, Covered, Visible}
 
@@ -20,7 +20,9 @@ module _ {K V X P W : Type 0} (says : P → K → V → Bool → Type 0) (s : St
   -- a record with this lapse is met so
   abbrev pub IsSightOf : Record K V → Option Sight → Sight → Type 0
   IsSightOf r (Some lapse) sight = sight ≡ lapse
-  IsSightOf r None sight = ((sight ≡ Covered) × SomeCovers says s.predicates r) ⊎ ((sight ≡ Visible) × NoneCovers says s.predicates r)
+  IsSightOf r None (Covered id) = FirstCovers says s.predicates r id
+  IsSightOf r None Visible = NoneCovers says s.predicates r
+  IsSightOf r None sight = ⊥
 
   -- a look-up of a key with this record meets it so
   abbrev pub IsSight : Option (Record K V) → Sight → Type 0

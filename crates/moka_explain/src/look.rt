@@ -46,11 +46,9 @@ pub fn look_at_all(
     ensures { IfOk result (λ looks.
         (map (λ l. l.key) looks.items ≡ keys.now) × AllByRecursion (IsLook cache.now.state now.0) looks.items) }
 {
-    let Ok(mut looks) = Vec::with_capacity(alloc, keys.len()) else {
-        return Err(OutOfMemory);
-    };
-    for key in keys {
-        looks.push_reserved(look_at(cache, *key, now));
-    }
+    let looks = keys
+        .iter()
+        .map(|key| look_at(cache, *key, now))
+        .collect(alloc)?;
     Ok(looks)
 }

@@ -105,15 +105,15 @@ struct SightText(Sight);
 
 impl fmt::Display for SightText {
     fn fmt<W: fmt::Write>(&self, f: &mut fmt::Formatter<W>) -> fmt::Result {
-        f.write_str(match self.0 {
-            Sight::Absent => "no entry",
-            Sight::Expired => "expired by its own expiry",
-            Sight::PastTimeToLive => "past its time to live",
-            Sight::PastTimeToIdle => "past its time to idle",
-            Sight::Invalidated => "from before the invalidation of all",
-            Sight::Covered => "covered by a predicate",
-            Sight::Visible => "visible",
-        })
+        match self.0 {
+            Sight::Absent => f.write_str("no entry"),
+            Sight::Expired => f.write_str("expired by its own expiry"),
+            Sight::PastTimeToLive => f.write_str("past its time to live"),
+            Sight::PastTimeToIdle => f.write_str("past its time to idle"),
+            Sight::Invalidated => f.write_str("from before the invalidation of all"),
+            Sight::Covered(id) => write!(f, "covered by the predicate {id}"),
+            Sight::Visible => f.write_str("visible"),
+        }
     }
 }
 

@@ -9,6 +9,7 @@ use moka_parts::closures::{PredicateFn, Weigher};
 use moka_parts::expiry::{
     is_expired_by_per_entry_ttl, is_expired_by_tti, is_expired_by_ttl, is_invalid_entry,
 };
+use moka_parts::invalidator::PredicateId;
 use moka_parts::notification::Listener;
 use moka_parts::policy::{ExpirationPolicy, Expiry, Instant};
 use moka_parts::record_ref::RecordRef;
@@ -27,8 +28,8 @@ pub enum Sight {
     PastTimeToIdle,
     /// It was written or read before the moment of the last invalidation of all.
     Invalidated,
-    /// A registered predicate covers it.
-    Covered,
+    /// The first registered predicate that covers it, by its identifier.
+    Covered(PredicateId),
     /// The record is visible.
     Visible,
 }
@@ -53,10 +54,9 @@ impl<
         if let Some(lapse) = lapse_of(&found, &self.expiration_policy, self.valid_after, now) {
             return lapse;
         }
-        if self.invalidator.apply_predicates(&found) {
-            Sight::Covered
-        } else {
-            Sight::Visible
+        match self.invalidator.first_covering(&found) {
+            Some(id) => Sight::Covered(id),
+            None => Sight::Visible,
         }
     }
 

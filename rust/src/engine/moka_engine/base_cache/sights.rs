@@ -7,6 +7,7 @@ use crate::engine::moka_parts::closures::{PredicateFn, Weigher};
 use crate::engine::moka_parts::expiry::{
     is_expired_by_per_entry_ttl, is_expired_by_tti, is_expired_by_ttl, is_invalid_entry,
 };
+use crate::engine::moka_parts::invalidator::PredicateId;
 use crate::engine::moka_parts::notification::Listener;
 use crate::engine::moka_parts::policy::{ExpirationPolicy, Expiry, Instant};
 use crate::engine::moka_parts::record_ref::RecordRef;
@@ -25,8 +26,8 @@ pub enum Sight {
     PastTimeToIdle,
     /// It was written or read before the moment of the last invalidation of all.
     Invalidated,
-    /// A registered predicate covers it.
-    Covered,
+    /// The first registered predicate that covers it, by its identifier.
+    Covered(PredicateId),
     /// The record is visible.
     Visible,
 }
@@ -50,10 +51,9 @@ impl<
         if let Some(lapse) = lapse_of(&found, &self.expiration_policy, self.valid_after, now) {
             return lapse;
         }
-        if self.invalidator.apply_predicates(&found) {
-            Sight::Covered
-        } else {
-            Sight::Visible
+        match self.invalidator.first_covering(&found) {
+            Some(id) => Sight::Covered(id),
+            None => Sight::Visible,
         }
     }
 
