@@ -22,6 +22,17 @@ use moka_script::sources::{CountedIds, ListedClock};
 use std::alloc::Global;
 use std::io::Write;
 
+/// What the calls of a script take from outside the cache.
+#[derive(Drop)]
+pub struct Surroundings {
+    /// Where memory comes from.
+    pub alloc: Global,
+    /// Gives the predicates their identifiers.
+    pub ids: CountedIds,
+    /// Tells the moments that a run asks for.
+    pub clock: ListedClock,
+}
+
 /// What is worth asking about a call.
 #[derive(Clone, Copy)]
 pub enum Question {
@@ -83,11 +94,14 @@ pub fn explain_script<W: Write>(alloc: Global, script: Script, out: &mut W) -> R
     } = script;
     let automatic = settings.automatic;
     let listener = listener_for(alloc, settings.listener, &calls)?;
-    let mut ids = CountedIds::new(settings.repeats_ids);
-    let mut clock = ListedClock::new(clock);
+    let mut outside = Surroundings {
+        alloc,
+        ids: CountedIds::new(settings.repeats_ids),
+        clock: ListedClock::new(clock),
+    };
     let mut cache = new_cache(alloc, settings, rules, listener)?;
     for call in calls {
-        let explained = explain_call(alloc, &mut cache, call, automatic, &mut ids, &mut clock)?;
+        let explained = explain_call(&mut outside, &mut cache, call, automatic)?;
         write_explained(out, &explained)?;
     }
     Ok(())
@@ -99,38 +113,37 @@ pub fn explain_script<W: Write>(alloc: Global, script: Script, out: &mut W) -> R
 /// # Errors
 /// `OutOfMemory` if memory for the reply or for what explains it is refused.
 pub fn explain_call(
-    alloc: Global,
+    outside: &mut Surroundings,
     cache: &mut ScriptCache,
     call: ScriptCall,
     automatic: bool,
-    ids: &mut CountedIds,
-    clock: &mut ListedClock,
 ) -> Result<Explained, OutOfMemory>
     ensures made { IfOk result (λ explained. (given : Reply ℕ (List ℕ) KeyRange) × IsInOrder given explained.reply
-        × Drives script_meaning (call ∷ []) (given ∷ []) cache.old clock.old ids.old cache.new clock.new ids.new) }
+        × Drives script_meaning (call ∷ []) (given ∷ []) cache.old outside.old.clock outside.old.ids
+        cache.new outside.new.clock outside.new.ids) }
     ensures answer { IfOk result (λ explained.
         IsAnswer (question_of automatic call) cache.old.state cache.new.state explained.answer) }
 {
     match question_of(&call, automatic) {
         Question::Key { key, now } => {
             let look = look_at(cache, key, now);
-            let reply = make(alloc, cache, call, ids, clock)?;
+            let reply = make(outside, cache, call)?;
             let answer = Answer::Met(look);
             Ok(Explained { reply, answer })
         }
         Question::All { now } => {
-            let (reply, fates) = make_and_compare(alloc, cache, call, now, ids, clock)?;
+            let (reply, fates) = make_and_compare(outside, cache, call, now)?;
             let answer = Answer::Became(fates);
             Ok(Explained { reply, answer })
         }
         Question::Both { key, now } => {
             let look = look_at(cache, key, now);
-            let (reply, fates) = make_and_compare(alloc, cache, call, now, ids, clock)?;
+            let (reply, fates) = make_and_compare(outside, cache, call, now)?;
             let answer = Answer::MetAndBecame(look, fates);
             Ok(Explained { reply, answer })
         }
         Question::Nothing => {
-            let reply = make(alloc, cache, call, ids, clock)?;
+            let reply = make(outside, cache, call)?;
             let answer = Answer::Nothing;
             Ok(Explained { reply, answer })
         }
@@ -163,22 +176,21 @@ fn question_of(call: &ScriptCall, automatic: bool) -> Question
 
 /// Makes one call, and says what became of all keys, seen at that moment.
 fn make_and_compare(
-    alloc: Global,
+    outside: &mut Surroundings,
     cache: &mut ScriptCache,
     call: ScriptCall,
     now: Instant,
-    ids: &mut CountedIds,
-    clock: &mut ListedClock,
 ) -> Result<(ScriptReply, Fates), OutOfMemory>
     ensures made { IfOk result (λ made. (given : Reply ℕ (List ℕ) KeyRange) × IsInOrder given made.0
-        × Drives script_meaning (call ∷ []) (given ∷ []) cache.old clock.old ids.old cache.new clock.new ids.new) }
+        × Drives script_meaning (call ∷ []) (given ∷ []) cache.old outside.old.clock outside.old.ids
+        cache.new outside.new.clock outside.new.ids) }
     ensures fates { IfOk result (λ made. AreFates now cache.old.state cache.new.state made.1) }
 {
     let keys = keys_of(cache)?;
-    let before = look_at_all(alloc, cache, &keys, now)?;
+    let before = look_at_all(outside.alloc, cache, &keys, now)?;
     let queued_before = queues_of(cache);
-    let reply = make(alloc, cache, call, ids, clock)?;
-    let after = look_at_all(alloc, cache, &keys, now)?;
+    let reply = make(outside, cache, call)?;
+    let after = look_at_all(outside.alloc, cache, &keys, now)?;
     let queued_after = queues_of(cache);
     let fates = Fates {
         now,
@@ -213,20 +225,20 @@ fn queues_of(cache: &ScriptCache) -> Queued
 
 /// Makes one call. The keys of its reply, if it has any, are in rising order.
 fn make(
-    alloc: Global,
+    outside: &mut Surroundings,
     cache: &mut ScriptCache,
     call: ScriptCall,
-    ids: &mut CountedIds,
-    clock: &mut ListedClock,
 ) -> Result<ScriptReply, OutOfMemory>
     ensures { IfOk result (λ reply. (given : Reply ℕ (List ℕ) KeyRange) × IsInOrder given reply
-        × Drives script_meaning (call ∷ []) (given ∷ []) cache.old clock.old ids.old cache.new clock.new ids.new) }
+        × Drives script_meaning (call ∷ []) (given ∷ []) cache.old outside.old.clock outside.old.ids
+        cache.new outside.new.clock outside.new.ids) }
 {
-    let Ok(mut calls) = Vec::with_capacity(alloc, 1) else {
+    let Ok(mut calls) = Vec::with_capacity(outside.alloc, 1) else {
         return Err(OutOfMemory);
     };
     calls.push_reserved(call);
-    match drive(alloc, cache, calls, ids, clock) {
+    let Surroundings { alloc, ids, clock } = outside;
+    match drive(*alloc, cache, calls, ids, clock) {
         Ok(mut replies) => {
             let mut reply = replies.swap_remove(0);
             sort_keys_of(&mut reply);
