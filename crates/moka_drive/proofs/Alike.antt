@@ -15,7 +15,7 @@ use Rattle.moka_parts.specs.Calls.{KeeperRun, RunsIfDue, Unchanged, SendsAt, Sen
 use Rattle.moka_drive.specs.Unsent.{HidesNoMore, ShowsWrites}
 
 -- none is left of no predicates
-none_kept : {P : Type 0} (xs : List Choice) → kept_by_choices {P = P} [] xs ≡ []
+pub none_kept : {P : Type 0} (xs : List Choice) → kept_by_choices {P = P} [] xs ≡ []
 none_kept [] = refl
 none_kept (Removes n cause ∷ xs) = none_kept xs
 none_kept (MovesToBack n ∷ xs) = none_kept xs

@@ -21,7 +21,11 @@ pub mod Computing
 pub mod InOrder
 pub mod Gotten
 pub mod Keeping
+mod Roomy
+pub mod Lasting
 pub mod Restoring
+pub mod There
 pub mod Membership
 mod Answering
+mod MadeAgain
 pub mod Saving

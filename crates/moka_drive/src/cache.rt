@@ -1,5 +1,5 @@
 //! The synchronous cache: put, get and remove in one call each. moka: `sync::cache`.
-ghost use Rattle.std.specs.Prelude.{◌≡◌, true, false, Option, Some, None, Result, Ok, Err, IfOk, IfSome, OnErr, IfErr, is_some, option_copied};
+ghost use Rattle.std.specs.Prelude.{◌≡◌, [], true, false, Option, Some, None, Result, Ok, Err, IfOk, IfSome, OnErr, IfErr, is_some, option_copied};
 ghost use Rattle.std.specs.FinMap as finite;
 ghost use Rattle.std.specs.List.{fold};
 ghost use Rattle.moka_parts.specs.Calls.{CapacityStep, ContainsStep, InvalidateStep, no_events, only_ids};
@@ -18,7 +18,7 @@ ghost use Rattle.moka_parts.specs.declared.records.Operation.{Operation};
 ghost use Rattle.moka_parts.specs.declared.records.Record.{Record};
 ghost use Rattle.moka_drive.specs.Unsent.{HoldsUnsent, HidesNoMore, IsThere, ShowsWrites};
 ghost use Rattle.moka_drive.specs.Counters.{after_look_up, after_load};
-ghost use Rattle.moka_drive.specs.Saved.{AreAllMembers, KeepsRecords};
+ghost use Rattle.moka_drive.specs.Saved.{AreAllMembers, KeepsRecords, TakesOnlyExpired};
 ghost use Rattle.moka_drive.specs.Synchronous.{fresh, value_found, InsertsMade, HandsOutOwn, Makes, meaning_of, hears_clones, Just, own_run, Posts, InsertsEntry, GetsValue, RemovesEntry, removed, invalidated, GetsWith, GetsWithIfMade, GetsWithIfNoError};
 
 use crate::error::{GetWithRefused, NotTold};
@@ -704,6 +704,7 @@ fn post<
     ensures holds { HoldsUnsent engine.old.state engine.new.state }
     ensures hides { HidesNoMore engine.old.state engine.new.state }
     ensures keeps { KeepsRecords engine.old.state engine.new.state }
+    ensures lasts { TakesOnlyExpired W.weighs [] now.0 engine.old.state engine.new.state }
 {
     engine.apply_reads_writes_if_needed(now, clock);
     match engine.send(ticket) {

@@ -3,7 +3,7 @@
 ghost use Rattle.moka_drive.specs.Removed.{counting, CountsRemovals, PassesOn};
 ghost use Rattle.moka_drive.specs.Given.{GetWithHandsOut, OptionallyGetWithHandsOut, TryGetWithHandsOut};
 ghost use Rattle.moka_drive.specs.Limits.{CallsSetNoCapacity, KeepsLimits};
-ghost use Rattle.moka_drive.specs.Saved.{AnswersAlike};
+ghost use Rattle.moka_drive.specs.Saved.{AnswersAlike, EmptyHasRoom, MadeAgainAnswersAlike};
 ghost use Rattle.moka_parts.specs.declared.policy.Instant.{Instant};
 ghost use Rattle.std.specs.Prelude.{ℕ};
 ghost use Rattle.moka_drive.specs.Synchronous.{meaning_of, hears_clones};
@@ -157,6 +157,20 @@ pub fn counts_removals<
 /// the times are the same, and the second cache has no predicates and no invalidation of all.
 pub fn answers_as_before<K, V, X, P: PredicateFn<K, V>, W>()
     ensures { AnswersAlike {K = K} {V = V} X W P.says }
+{}
+
+/// A cache made again of what `save` lists of another, put back by `restore` into an empty one with the same times and
+/// room for all, answers each look-up as the first does at the same moment, if neither saving nor putting back was
+/// later: what one finds the other finds, with a clone of the value. Clones of keys have to be equal.
+pub fn made_again_answers_alike<
+    K: Eq + Clone,
+    V: Clone,
+    X,
+    P: PredicateFn<K, V>,
+    W: Weigher<K, V>,
+>()
+    ensures alike { MadeAgainAnswersAlike X W.weighs K.eq P.says K.is_clone V.is_clone }
+    ensures room { EmptyHasRoom X P W.weighs }
 {}
 
 /// What `get_with` hands out is a clone of a value that is visible at the moment of the call, or of one that the maker

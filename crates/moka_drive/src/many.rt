@@ -9,11 +9,13 @@ ghost use Rattle.moka_drive.specs.Synchronous.{Makes, hears_clones, meaning_of};
 use crate::cache::Cache;
 use crate::error::NotTold;
 use moka_parts::closures::{PredicateFn, Weigher};
-use moka_parts::error::InsertRefused;
+use moka_parts::error::{InsertRefused, OutOfMemory};
 use moka_parts::housekeeper::Clock;
 use moka_parts::notification::Listener;
 use moka_parts::policy::{Expiry, Instant};
 use std::alloc::Global;
+use std::error::Error;
+use std::fmt;
 use std::hash::{BuildHasher, Hash};
 use std::vec::IntoIter;
 
@@ -24,8 +26,21 @@ pub struct GetManyRefused<V> {
     pub found: Vec<Option<V>>,
 }
 
+impl<V> fmt::Display for GetManyRefused<V> {
+    ghost use Rattle.std.specs.Prelude.{Some};
+    ghost use Rattle.moka_parts.specs.Texts.{out_of_memory_text};
+
+    ghost output = { λ _. Some out_of_memory_text };
+
+    fn fmt<W: fmt::Write>(&self, f: &mut fmt::Formatter<W>) -> fmt::Result {
+        write!(f, "{OutOfMemory}")
+    }
+}
+
+impl<V: fmt::Debug + Drop> Error for GetManyRefused<V> {}
+
 /// An insert of many items that stopped at one.
-#[derive(Drop)]
+#[derive(Debug, Drop)]
 pub struct InsertManyRefused<K, V> {
     /// How many items were inserted.
     pub done: usize,
@@ -35,6 +50,19 @@ pub struct InsertManyRefused<K, V> {
     pub rest: IntoIter<(K, V)>,
 }
 
+impl<K, V> fmt::Display for InsertManyRefused<K, V> {
+    ghost use Rattle.std.specs.Prelude.{Some};
+    ghost use Rattle.moka_parts.specs.Texts.{insert_text};
+
+    ghost output = { λ e. Some (insert_text e.refused.error) };
+
+    fn fmt<W: fmt::Write>(&self, f: &mut fmt::Formatter<W>) -> fmt::Result {
+        write!(f, "{}", self.refused)
+    }
+}
+
+impl<K: fmt::Debug + Drop, V: fmt::Debug + Drop> Error for InsertManyRefused<K, V> {}
+
 /// An invalidation of many keys that stopped at one, whose listener was not notified.
 #[derive(Debug, Drop)]
 pub struct InvalidateManyRefused<V> {
@@ -43,6 +71,19 @@ pub struct InvalidateManyRefused<V> {
     /// The value that was taken out, and why its listener was not notified.
     pub refused: NotTold<V>,
 }
+
+impl<V> fmt::Display for InvalidateManyRefused<V> {
+    ghost use Rattle.std.specs.Prelude.{Some};
+    ghost use Rattle.moka_parts.specs.Texts.{out_of_memory_text};
+
+    ghost output = { λ _. Some out_of_memory_text };
+
+    fn fmt<W: fmt::Write>(&self, f: &mut fmt::Formatter<W>) -> fmt::Result {
+        write!(f, "{}", self.refused)
+    }
+}
+
+impl<V: fmt::Debug + Drop> Error for InvalidateManyRefused<V> {}
 
 impl<
     K: Eq + Hash,

@@ -6,7 +6,7 @@ ghost use Rattle.moka_parts.specs.declared.calls.Reply.TheVariants as reply;
 ghost use Rattle.moka_parts.specs.declared.policy.Instant.{Instant};
 ghost use Rattle.moka_engine.specs.Snapshots.{scene_of};
 ghost use Rattle.moka_engine.specs.declared.base_cache.restores.Restored.{Restored};
-ghost use Rattle.moka_drive.specs.Saved.{AddsOnly, AreAllMembers, AreSaved, PutsManyBack};
+ghost use Rattle.moka_drive.specs.Saved.{AddsOnly, AreAllMembers, AreSaved, AreThere, PutsManyBack, TakesOnlyExpired};
 ghost use Rattle.moka_drive.specs.Synchronous.{Just, Makes, meaning_of, own_run};
 ghost use Rattle.moka_drive.specs.Unsent.{HidesNoMore};
 
@@ -64,7 +64,9 @@ impl<
         ensures made { (now : Instant) × (read : C) × C.reads self.old.clock now read
             × PutsManyBack (meaning_of K.eq L.tells P.says W.weighs C.reads X.created X.read X.updated)
             (λ h k. S.Hasher.finish (fold S.Hasher.write (S.build_hasher h) (K.hash_input k))) now items.items result
-            self.old.cache.engine read self.new.cache.engine self.new.clock }
+            self.old.cache.engine read self.new.cache.engine self.new.clock
+            × IfOk result (λ _. AreThere W.weighs K.eq now.0 items.items self.old.cache.engine.state self.new.cache.engine.state)
+            × TakesOnlyExpired W.weighs items.items now.0 self.old.cache.engine.state self.new.cache.engine.state }
         ensures adds { AddsOnly items.items self.old.cache.engine.state self.new.cache.engine.state }
         ensures hides { HidesNoMore self.old.cache.engine.state self.new.cache.engine.state }
         ensures back { IfErr result (λ e. (done : List (Restored K V)) × (items.items ≡ done ++ e.refused.item ∷ into_iter_items e.rest)) }

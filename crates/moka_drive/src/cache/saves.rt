@@ -8,7 +8,7 @@ ghost use Rattle.moka_parts.specs.declared.calls.Reply.TheVariants as reply;
 ghost use Rattle.moka_parts.specs.declared.policy.Instant.{Instant};
 ghost use Rattle.moka_engine.specs.Snapshots.{scene_of};
 ghost use Rattle.moka_engine.specs.declared.base_cache.restores.Restored.{Restored};
-ghost use Rattle.moka_drive.specs.Saved.{AddsOnly, AreAllMembers, AreSaved, IsRestored, IsSaved, PutsBack, PutsManyBack};
+ghost use Rattle.moka_drive.specs.Saved.{AddsOnly, AreAllMembers, AreSaved, AreThere, IsRestored, IsSaved, PutsBack, PutsManyBack, TakesOnlyExpired};
 ghost use Rattle.moka_drive.specs.Synchronous.{Just, Makes, meaning_of, own_run};
 ghost use Rattle.moka_drive.specs.Unsent.{HidesNoMore};
 
@@ -20,17 +20,32 @@ use moka_parts::housekeeper::Clock;
 use moka_parts::notification::Listener;
 use moka_parts::policy::{Expiry, Instant};
 use std::alloc::Global;
+use std::error::Error;
+use std::fmt;
 use std::hash::{BuildHasher, Hash};
 use std::vec::IntoIter;
 
 /// Entries of which one was not put back.
-#[derive(Drop)]
+#[derive(Debug, Drop)]
 pub struct RestoreManyRefused<K, V> {
     /// The entry that was refused, and why.
     pub refused: RestoreRefused<K, V>,
     /// The entries after it, in order.
     pub rest: IntoIter<Restored<K, V>>,
 }
+
+impl<K, V> fmt::Display for RestoreManyRefused<K, V> {
+    ghost use Rattle.std.specs.Prelude.{Some};
+    ghost use Rattle.moka_engine.specs.Restores.{restore_text};
+
+    ghost output = { λ e. Some (restore_text e.refused.error) };
+
+    fn fmt<W: fmt::Write>(&self, f: &mut fmt::Formatter<W>) -> fmt::Result {
+        write!(f, "{}", self.refused)
+    }
+}
+
+impl<K: fmt::Debug + Drop, V: fmt::Debug + Drop> Error for RestoreManyRefused<K, V> {}
 
 impl<
     K: Eq + Hash,
@@ -96,6 +111,7 @@ impl<
             self.old.engine clock.old self.new.engine clock.new }
         ensures kept { IfOk result (λ _. is_disabled self.old.engine.state.capacity ≡ false → IsRestored K.eq self.new.engine.state item) }
         ensures adds { AddsOnly (item ∷ []) self.old.engine.state self.new.engine.state }
+        ensures lasts { TakesOnlyExpired W.weighs (item ∷ []) now.0 self.old.engine.state self.new.engine.state }
         ensures hides { HidesNoMore self.old.engine.state self.new.engine.state }
         ensures back { IfErr result (λ refused. refused.item ≡ item) }
         ensures unchanged { OnErr result ((self.new.engine.state ≡ self.old.engine.state) × (clock.new ≡ clock.old)) }
@@ -117,9 +133,10 @@ impl<
     /// Puts each entry back, in order, as `restore_entry`.
     ///
     /// An entry that is there is visible exactly when the one was that it was listed of, until either is read or
-    /// written, if time to live and time to idle are the same (`laws::answers_as_before`). Runs that a later entry
-    /// starts may evict it. How often keys were asked for is not known any more, and entries do not stand in the order
-    /// of writing.
+    /// written, if time to live and time to idle are the same (`laws::answers_as_before`). Without predicates and an
+    /// invalidation of all, and if there is no capacity or it has room for all entries, each is there that has not
+    /// expired at the moment `now` (`IsRoomyFor`); else runs that a later entry starts may evict it. How often keys were
+    /// asked for is not known any more, and entries do not stand in the order of writing.
     ///
     /// # Errors
     /// As `restore_entry`, at the first entry that is refused: it comes back with the entries after it.
@@ -136,7 +153,9 @@ impl<
         ensures made { PutsManyBack (meaning_of K.eq L.tells P.says W.weighs C.reads X.created X.read X.updated)
             (λ h k. S.Hasher.finish (fold S.Hasher.write (S.build_hasher h) (K.hash_input k))) now items.items result
             self.old.engine clock.old self.new.engine clock.new }
+        ensures there { IfOk result (λ _. AreThere W.weighs K.eq now.0 items.items self.old.engine.state self.new.engine.state) }
         ensures adds { AddsOnly items.items self.old.engine.state self.new.engine.state }
+        ensures lasts { TakesOnlyExpired W.weighs items.items now.0 self.old.engine.state self.new.engine.state }
         ensures hides { HidesNoMore self.old.engine.state self.new.engine.state }
         ensures back { IfErr result (λ e. (done : List (Restored K V)) × (items.items ≡ done ++ e.refused.item ∷ into_iter_items e.rest)) }
         ensures counted { self.new.stats ≡ self.old.stats }
@@ -148,6 +167,7 @@ impl<
                 Err(refused) => return Err(RestoreManyRefused { refused, rest }),
             }
         }
+        self.engine.invariant_holds();
         Ok(())
     }
 }

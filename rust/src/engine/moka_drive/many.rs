@@ -6,11 +6,13 @@ use crate::support::prelude::*;
 use crate::engine::moka_drive::cache::Cache;
 use crate::engine::moka_drive::error::NotTold;
 use crate::engine::moka_parts::closures::{PredicateFn, Weigher};
-use crate::engine::moka_parts::error::InsertRefused;
+use crate::engine::moka_parts::error::{InsertRefused, OutOfMemory};
 use crate::engine::moka_parts::housekeeper::Clock;
 use crate::engine::moka_parts::notification::Listener;
 use crate::engine::moka_parts::policy::{Expiry, Instant};
 use crate::support::alloc::Global;
+use std::error::Error;
+use std::fmt;
 use crate::support::hash::{BuildHasher, Hash};
 use std::vec::IntoIter;
 
@@ -21,7 +23,17 @@ pub struct GetManyRefused<V> {
     pub found: Vec<Option<V>>,
 }
 
+impl<V> fmt::Display for GetManyRefused<V> {
+
+    fn fmt(&self, f: &mut fmt::Formatter<'_>) -> fmt::Result {
+        write!(f, "{OutOfMemory}")
+    }
+}
+
+impl<V: fmt::Debug> Error for GetManyRefused<V> {}
+
 /// An insert of many items that stopped at one.
+#[derive(Debug)]
 pub struct InsertManyRefused<K, V> {
     /// How many items were inserted.
     pub done: usize,
@@ -31,6 +43,15 @@ pub struct InsertManyRefused<K, V> {
     pub rest: IntoIter<(K, V)>,
 }
 
+impl<K, V> fmt::Display for InsertManyRefused<K, V> {
+
+    fn fmt(&self, f: &mut fmt::Formatter<'_>) -> fmt::Result {
+        write!(f, "{}", self.refused)
+    }
+}
+
+impl<K: fmt::Debug, V: fmt::Debug> Error for InsertManyRefused<K, V> {}
+
 /// An invalidation of many keys that stopped at one, whose listener was not notified.
 #[derive(Debug)]
 pub struct InvalidateManyRefused<V> {
@@ -39,6 +60,15 @@ pub struct InvalidateManyRefused<V> {
     /// The value that was taken out, and why its listener was not notified.
     pub refused: NotTold<V>,
 }
+
+impl<V> fmt::Display for InvalidateManyRefused<V> {
+
+    fn fmt(&self, f: &mut fmt::Formatter<'_>) -> fmt::Result {
+        write!(f, "{}", self.refused)
+    }
+}
+
+impl<V: fmt::Debug> Error for InvalidateManyRefused<V> {}
 
 impl<
     K: Eq + Hash,

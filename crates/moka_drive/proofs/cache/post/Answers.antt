@@ -2,6 +2,7 @@ use Rattle.std.proofs.Common.{Ok}
 use Rattle.moka_parts.specs.State.{Meaning}
 use Rattle.moka_drive.specs.Synchronous.{meaning_of}
 use Rattle.moka_drive.proofs.Keeping.{kept_at_once, kept_after_run}
+use Rattle.moka_drive.proofs.Lasting.{lasts_at_once, lasts_after_run}
 use Rattle.moka_drive.proofs.Posting.{posted_at_once, posted_after_run, held_at_once, held_after_run, hidden_at_once, hidden_after_run}
 use Rattle.moka_drive.proofs.cache.post.Goals as goal
 
@@ -17,7 +18,8 @@ returns-in-Ok g c =
     let holds = held_at_once m c.args.engine.now c.apply_reads_writes_if_needed.new.self c.args.clock.now c.apply_reads_writes_if_needed.new.clock c.args.ticket c.args.now waiting.0 waiting.1 c.requires.enabled due.0 due.1 due.2 due.3
     (Ok c.in-Ok.field-0) c.send.new.self c.in-Ok.ensures.step in
     let keeps = kept_at_once m c.args.engine.now c.apply_reads_writes_if_needed.new.self c.args.now due.0 due.1 c.args.ticket.0 (Ok c.in-Ok.field-0) c.send.new.self c.in-Ok.ensures.step in
-    record { made = posted.0; sent = posted.1; holds = holds; hides = hides; keeps = keeps }
+    let lasts = lasts_at_once m c.args.engine.now c.apply_reads_writes_if_needed.new.self c.args.now due.0 due.1 c.args.ticket.0 (Ok c.in-Ok.field-0) c.send.new.self c.in-Ok.ensures.step in
+    record { made = posted.0; sent = posted.1; holds = holds; hides = hides; keeps = keeps; lasts = lasts }
 
 pub returns-in-Err : goal.returns-in-Err
 returns-in-Err g c =
@@ -35,4 +37,6 @@ returns-in-Err g c =
     c.in-Err.field-0 c.send.new.self c.in-Err.ensures.step c.run_pending_tasks.result run.0 c.run_pending_tasks.new.self run.1 c.send-sent.result c.send-sent.new.self c.send-sent.ensures.step in
     let keeps = kept_after_run m c.args.engine.now c.apply_reads_writes_if_needed.new.self c.args.now due.0 due.1 c.args.ticket.0
     _ c.send.new.self c.in-Err.ensures.step c.run_pending_tasks.result run.0 c.run_pending_tasks.new.self run.1 c.send-sent.result c.send-sent.new.self c.send-sent.ensures.step in
-    record { made = posted.0; sent = posted.1; holds = holds; hides = hides; keeps = keeps }
+    let lasts = lasts_after_run m c.args.engine.now c.apply_reads_writes_if_needed.new.self c.args.now due.0 due.1 c.args.ticket.0
+    c.in-Err.field-0 c.send.new.self c.in-Err.ensures.step c.run_pending_tasks.result run.0 c.run_pending_tasks.new.self run.1 c.send-sent.result c.send-sent.new.self c.send-sent.ensures.step in
+    record { made = posted.0; sent = posted.1; holds = holds; hides = hides; keeps = keeps; lasts = lasts }

@@ -10,16 +10,28 @@ use crate::engine::moka_parts::housekeeper::Clock;
 use crate::engine::moka_parts::notification::Listener;
 use crate::engine::moka_parts::policy::{Expiry, Instant};
 use crate::support::alloc::Global;
+use std::error::Error;
+use std::fmt;
 use crate::support::hash::{BuildHasher, Hash};
 use std::vec::IntoIter;
 
 /// Entries of which one was not put back.
+#[derive(Debug)]
 pub struct RestoreManyRefused<K, V> {
     /// The entry that was refused, and why.
     pub refused: RestoreRefused<K, V>,
     /// The entries after it, in order.
     pub rest: IntoIter<Restored<K, V>>,
 }
+
+impl<K, V> fmt::Display for RestoreManyRefused<K, V> {
+
+    fn fmt(&self, f: &mut fmt::Formatter<'_>) -> fmt::Result {
+        write!(f, "{}", self.refused)
+    }
+}
+
+impl<K: fmt::Debug, V: fmt::Debug> Error for RestoreManyRefused<K, V> {}
 
 impl<
     K: Eq + Hash,
@@ -85,9 +97,10 @@ impl<
     /// Puts each entry back, in order, as `restore_entry`.
     ///
     /// An entry that is there is visible exactly when the one was that it was listed of, until either is read or
-    /// written, if time to live and time to idle are the same (`laws::answers_as_before`). Runs that a later entry
-    /// starts may evict it. How often keys were asked for is not known any more, and entries do not stand in the order
-    /// of writing.
+    /// written, if time to live and time to idle are the same (`laws::answers_as_before`). Without predicates and an
+    /// invalidation of all, and if there is no capacity or it has room for all entries, each is there that has not
+    /// expired at the moment `now` (`IsRoomyFor`); else runs that a later entry starts may evict it. How often keys were
+    /// asked for is not known any more, and entries do not stand in the order of writing.
     ///
     /// # Errors
     /// As `restore_entry`, at the first entry that is refused: it comes back with the entries after it.
@@ -105,6 +118,7 @@ impl<
                 Err(refused) => return Err(RestoreManyRefused { refused, rest }),
             }
         }
+        self.engine.invariant_holds();
         Ok(())
     }
 }

@@ -1,5 +1,8 @@
-use Rattle.std.proofs.Common.{refl, sym, ◌∙◌, inl, inr, [], ◌∷◌}
+use Rattle.std.proofs.Common.{refl, sym, subst, ◌∙◌, inl, inr, [], ◌∷◌}
+use Rattle.moka_drive.specs.Saved.{TakesOnlyExpired}
+use Rattle.moka_drive.proofs.Lasting.{keeps_itself, keeps_then}
 use Rattle.moka_drive.proofs.Restoring.{restored_there, restored_adds, adds_nothing}
+use Rattle.moka_drive.proofs.There.{lasts_restored}
 use Rattle.moka_drive.proofs.cache.Cache.restore_entry.Goals as goal
 
 pub returns-then-is_map_disabled-clause-adds : goal.returns-then-is_map_disabled-clause-adds
@@ -25,3 +28,15 @@ returns-in-Err-clause-made g c = rw (← c.self.view_is) (sym c.is_map_disabled.
 pub returns-clause-made : goal.returns-clause-made
 returns-clause-made g c =
     rw (← c.self.view_is) (inr (sym c.is_map_disabled.ensures ∙ c.if-is_map_disabled.false, c.restore.new.self, c.in-Ok.ticket, c.in-Ok.ensures.step, c.restore.ensures.events, c.post.ensures.made))
+
+pub returns-then-is_map_disabled-clause-lasts : goal.returns-then-is_map_disabled-clause-lasts
+returns-then-is_map_disabled-clause-lasts g c = keeps_itself g.W.Weigher.weighs (c.args.item ∷ []) c.args.now.0 c.args.self.now.engine.state
+
+pub returns-in-Err-clause-lasts : goal.returns-in-Err-clause-lasts
+returns-in-Err-clause-lasts g c =
+    rw (← c.self.view_is) (subst (TakesOnlyExpired g.W.Weigher.weighs (c.args.item ∷ []) c.args.now.0 c.self.inside.engine.state) (sym c.in-Err.ensures.step.2) (keeps_itself g.W.Weigher.weighs (c.args.item ∷ []) c.args.now.0 c.self.inside.engine.state))
+
+pub returns-clause-lasts : goal.returns-clause-lasts
+returns-clause-lasts g c =
+    rw (← c.self.view_is) (keeps_then g.W.Weigher.weighs (c.args.item ∷ []) [] c.args.now.0 c.self.inside.engine.state c.restore.new.self.state c.post.new.engine.state
+    (lasts_restored g.K.PartialEq.eq g.W.Weigher.weighs c.self.inside.engine.state c.restore.new.self.state c.args.item _ c.in-Ok.ticket c.in-Ok.ensures.step c.invariant_holds.ensures.valid c.args.now.0) c.post.ensures.lasts)
