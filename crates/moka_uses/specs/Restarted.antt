@@ -1,11 +1,34 @@
 -- Sessions that were saved, and put back.
-use Rattle.std.specs.Prelude.{◌≡◌, ℕ, List, Some, Contains}
-use Rattle.std.specs.FinMap.{get}
+use Rattle.std.specs.Prelude.{◌≡◌, ◌==◌, ◌≤◌, ℕ, Bool, false, List, Some, None, Contains}
+use Rattle.std.specs.FinMap.{get, empty}
+use Rattle.std.specs.List.{AllByRecursion}
 use Rattle.moka_engine.specs.parts.Record.{Record}
 use Rattle.moka_engine.specs.State.{State}
 use Rattle.moka_engine.specs.declared.base_cache.restores.Restored.{Restored}
-use Rattle.moka_drive.specs.Saved.{IsOfItem}
+use Rattle.moka_drive.specs.Saved.{AddsOnly, AnswerAlike, AreThere, IsOfItem, IsRestored, IsRoomyFor, has_expired}
+use Rattle.moka_drive.specs.Unsent.{HidesNoMore}
 
 -- each session that is there is one of those that were saved: with its token, and used when that was
 abbrev pub AreAmong : {X P W : Type 0} → State ℕ ℕ X P W → List (Restored ℕ ℕ) → Type 0
 AreAmong s saved = (n : ℕ) (r : Record ℕ ℕ) → get s.records n ≡ Some r → (item : Restored ℕ ℕ) × Contains saved item × IsOfItem item r
+
+-- each session that was saved is there, unless it has ended at the moment
+abbrev pub AreBack : {X P W : Type 0} → State ℕ ℕ X P W → List (Restored ℕ ℕ) → ℕ → Type 0
+AreBack s saved now = AllByRecursion (λ item. has_expired s.settings now item ≡ false → IsRestored (λ a b. a == b) s item) saved
+
+-- they were put back at the moment into new sessions with this idle time
+pub record ArePutBack {X P W : Type 0} (weighs : W → ℕ → ℕ → ℕ → Type 0) (saved : List (Restored ℕ ℕ)) (put idle : ℕ) (s : State ℕ ℕ X P W) : Type 0 where
+  pub begun : State ℕ ℕ X P W
+  pub no_records : begun.records ≡ empty
+  pub roomy : IsRoomyFor weighs saved begun
+  pub live : begun.settings.time_to_live ≡ None
+  pub idles : begun.settings.time_to_idle ≡ Some idle
+  pub there : AreThere weighs (λ a b. a == b) put saved begun s
+  pub adds : AddsOnly saved begun s
+  pub hides : HidesNoMore begun s
+
+-- the sessions of the first are those of the second, where those end by this idle time alone: at each moment that is
+-- before neither of the two, each user has the same in both
+abbrev pub AreHandedOver : {X P W : Type 0} → (P → ℕ → ℕ → Bool → Type 0) → ℕ → ℕ → ℕ → State ℕ ℕ X P W → State ℕ ℕ X P W → Type 0
+AreHandedOver says idle saved put first second = first.settings.time_to_idle ≡ Some idle → first.settings.time_to_live ≡ None →
+    (user now : ℕ) → saved ≤ now → put ≤ now → AnswerAlike (λ a b. a == b) says (λ a b. b ≡ a) first second user now

@@ -4,10 +4,11 @@ ghost use Rattle.std.specs.Duration.{as_nanos};
 ghost use Rattle.moka_engine.specs.parts.Instant.{Instant};
 ghost use Rattle.moka_engine.specs.Snapshots.{scene_of};
 ghost use Rattle.moka_drive.specs.Saved.{AreAllMembers, AreSaved};
-ghost use Rattle.moka_uses.specs.Restarted.{AreAmong};
+ghost use Rattle.moka_uses.specs.Restarted.{AreAmong, AreBack, AreHandedOver, ArePutBack};
 
 use crate::sessions::Sessions;
-use moka_engine::{CacheConfig, Clock, OutOfMemory, Restored};
+use moka_drive::laws::made_again_answers_alike;
+use moka_engine::{CacheConfig, Clock, NoExpiry, NoPredicate, NoWeigher, OutOfMemory, Restored};
 use moka_timed::TimedCache;
 use std::alloc::Global;
 use std::time::Duration;
@@ -28,7 +29,7 @@ pub fn save<C: Clock>(
     sessions.save(alloc)
 }
 
-/// Sessions among those that were saved; nothing is promised of how many. Each ends when it would have ended: where it
+/// The sessions that were saved, but for those that have ended meanwhile. Each ends when it would have ended: where it
 /// is not used for the time `idle`, counted from its last use before the restart.
 ///
 /// # Errors
@@ -40,6 +41,9 @@ pub fn start_again<C: Clock + Drop>(
     saved: Vec<Restored<u64, u64>>,
 ) -> Result<Sessions<C>, OutOfMemory>
     ensures idle { IfOk result (λ sessions. sessions.cache.engine.state.settings.time_to_idle ≡ Some (as_nanos idle)) }
+    ensures back { IfOk result (λ sessions. (made : C) × (now : Instant) × (read : C) × C.reads made now read
+        × AreBack sessions.cache.engine.state saved.items now.0
+        × ArePutBack (λ _ _ _ weight. weight ≡ 1) saved.items now.0 (as_nanos idle) sessions.cache.engine.state) }
     ensures among { IfOk result (λ sessions. AreAmong sessions.cache.engine.state saved.items) }
 {
     let config = CacheConfig::default().time_to_idle(idle);
@@ -48,4 +52,26 @@ pub fn start_again<C: Clock + Drop>(
         Ok(()) => Ok(sessions),
         Err(_) => Err(OutOfMemory),
     }
+}
+
+/// New sessions in place of others. Where those have the same idle time and no time to live, each user has the same
+/// session in both, from the moment on at which they were put back.
+///
+/// # Errors
+/// `OutOfMemory`
+pub fn hand_over<C: Clock, D: Clock + Drop>(
+    alloc: Global,
+    sessions: &mut Sessions<C>,
+    idle: Duration,
+    clock: D,
+) -> Result<Sessions<D>, OutOfMemory>
+    ensures { IfOk result (λ again. (saved : Instant) × (put : Instant)
+        × AreHandedOver (λ _ _ _ answer. answer ≡ false) (as_nanos idle) saved.0 put.0 sessions.new.cache.engine.state again.cache.engine.state) }
+{
+    made_again_answers_alike::<u64, u64, NoExpiry, NoPredicate, NoWeigher>();
+    let saved = save(alloc, sessions)?;
+    sessions.cache.engine().invariant_holds();
+    let again = start_again(alloc, idle, clock, saved)?;
+    again.cache.engine().invariant_holds();
+    Ok(again)
 }

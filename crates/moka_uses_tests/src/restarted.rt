@@ -3,7 +3,7 @@ use crate::equal::assert_equal;
 use anyhow::Result;
 use moka_engine::Instant;
 use moka_timed::ManualClock;
-use moka_uses::restarted::{save, start_again};
+use moka_uses::restarted::{hand_over, save, start_again};
 use moka_uses::sessions::{log_in, log_out, start, touch};
 use std::time::Duration;
 
@@ -26,6 +26,26 @@ fn sessions_go_on(rt: HostRuntime) -> Result<()> {
     assert!(rt; again.contains_key(&1));
     again.clock.advance(Duration::from_nanos(1));
     for (user, token) in [(1, None), (2, None), (3, Some(30))] {
+        assert_equal(&rt, touch(&mut again, user)?, token);
+    }
+    Ok(())
+}
+
+#[test]
+fn sessions_are_handed_over(rt: HostRuntime) -> Result<()> {
+    let idle = Duration::from_nanos(100);
+    let clock = ManualClock { now: Instant(0) };
+    let mut sessions = start(rt.alloc(), idle, clock)?;
+    for user in 1..4 {
+        if sessions.cache.engine().is_map_disabled() {
+            return Ok(());
+        }
+        log_in(&mut sessions, user, user * 10)?;
+        sessions.clock.advance(Duration::from_nanos(20));
+    }
+    let clock = ManualClock { now: Instant(110) };
+    let mut again = hand_over(rt.alloc(), &mut sessions, idle, clock)?;
+    for (user, token) in [(1, None), (2, Some(20)), (3, Some(30))] {
         assert_equal(&rt, touch(&mut again, user)?, token);
     }
     Ok(())

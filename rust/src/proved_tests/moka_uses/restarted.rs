@@ -3,7 +3,8 @@
 use crate::support::prelude::*;
 
 use crate::proved_tests::moka_uses::sessions::Sessions;
-use crate::engine::moka_engine::{CacheConfig, Clock, OutOfMemory, Restored};
+use crate::engine::moka_drive::laws::made_again_answers_alike;
+use crate::engine::moka_engine::{CacheConfig, Clock, NoExpiry, NoPredicate, NoWeigher, OutOfMemory, Restored};
 use crate::proved_tests::moka_timed::TimedCache;
 use crate::support::alloc::Global;
 use crate::support::time::Duration;
@@ -20,7 +21,7 @@ pub fn save<C: Clock>(
     sessions.save(alloc)
 }
 
-/// Sessions among those that were saved; nothing is promised of how many. Each ends when it would have ended: where it
+/// The sessions that were saved, but for those that have ended meanwhile. Each ends when it would have ended: where it
 /// is not used for the time `idle`, counted from its last use before the restart.
 ///
 /// # Errors
@@ -38,4 +39,24 @@ pub fn start_again<C: Clock>(
         Ok(()) => Ok(sessions),
         Err(_) => Err(OutOfMemory),
     }
+}
+
+/// New sessions in place of others. Where those have the same idle time and no time to live, each user has the same
+/// session in both, from the moment on at which they were put back.
+///
+/// # Errors
+/// `OutOfMemory`
+pub fn hand_over<C: Clock, D: Clock>(
+    alloc: Global,
+    sessions: &mut Sessions<C>,
+    idle: Duration,
+    clock: D,
+) -> Result<Sessions<D>, OutOfMemory>
+{
+    made_again_answers_alike::<u64, u64, NoExpiry, NoPredicate, NoWeigher>();
+    let saved = save(alloc, sessions)?;
+    sessions.cache.engine().invariant_holds();
+    let again = start_again(alloc, idle, clock, saved)?;
+    again.cache.engine().invariant_holds();
+    Ok(again)
 }

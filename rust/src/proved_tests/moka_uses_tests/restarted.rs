@@ -7,7 +7,7 @@ use crate::proved_tests::moka_uses_tests::equal::assert_equal;
 use crate::support::anyhow::Result;
 use crate::engine::moka_engine::Instant;
 use crate::proved_tests::moka_timed::ManualClock;
-use crate::proved_tests::moka_uses::restarted::{save, start_again};
+use crate::proved_tests::moka_uses::restarted::{hand_over, save, start_again};
 use crate::proved_tests::moka_uses::sessions::{log_in, log_out, start, touch};
 use crate::support::time::Duration;
 
@@ -31,6 +31,27 @@ fn sessions_go_on() -> Result<()> {
     assert!( again.contains_key(&1));
     again.clock.advance(Duration::from_nanos(1));
     for (user, token) in [(1, None), (2, None), (3, Some(30))] {
+        assert_equal(&rt, touch(&mut again, user)?, token);
+    }
+    Ok(())
+}
+
+#[test]
+fn sessions_are_handed_over() -> Result<()> {
+    let rt = HostRuntime;
+    let idle = Duration::from_nanos(100);
+    let clock = ManualClock { now: Instant(0) };
+    let mut sessions = start(rt.alloc(), idle, clock)?;
+    for user in 1..4 {
+        if sessions.cache.engine().is_map_disabled() {
+            return Ok(());
+        }
+        log_in(&mut sessions, user, user * 10)?;
+        sessions.clock.advance(Duration::from_nanos(20));
+    }
+    let clock = ManualClock { now: Instant(110) };
+    let mut again = hand_over(rt.alloc(), &mut sessions, idle, clock)?;
+    for (user, token) in [(1, None), (2, Some(20)), (3, Some(30))] {
         assert_equal(&rt, touch(&mut again, user)?, token);
     }
     Ok(())
