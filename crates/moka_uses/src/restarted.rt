@@ -1,5 +1,5 @@
 //! Sessions that outlast a restart: they are saved when the program ends, and put back when it starts again.
-ghost use Rattle.std.specs.Prelude.{◌≡◌, false, IfOk, Some};
+ghost use Rattle.std.specs.Prelude.{◌≡◌, ◌≤◌, false, length, IfOk, Some};
 ghost use Rattle.std.specs.Duration.{as_nanos};
 ghost use Rattle.moka_engine.specs.parts.Instant.{Instant};
 ghost use Rattle.moka_engine.specs.Snapshots.{scene_of};
@@ -47,6 +47,32 @@ pub fn start_again<C: Clock + Drop>(
     ensures among { IfOk result (λ sessions. AreAmong sessions.cache.engine.state saved.items) }
 {
     let config = CacheConfig::default().time_to_idle(idle);
+    let mut sessions = TimedCache::build(config, alloc, clock)?;
+    match sessions.restore(saved) {
+        Ok(()) => Ok(sessions),
+        Err(_) => Err(OutOfMemory),
+    }
+}
+
+/// As `start_again`, with at most so many sessions. If no more were saved, none is left out that has not ended.
+///
+/// # Errors
+/// `OutOfMemory`, and then the sessions are let go.
+pub fn start_again_within<C: Clock + Drop>(
+    alloc: Global,
+    idle: Duration,
+    capacity: u64,
+    clock: C,
+    saved: Vec<Restored<u64, u64>>,
+) -> Result<Sessions<C>, OutOfMemory>
+    ensures idle { IfOk result (λ sessions. sessions.cache.engine.state.settings.time_to_idle ≡ Some (as_nanos idle)) }
+    ensures back { IfOk result (λ sessions. (made : C) × (now : Instant) × (read : C) × C.reads made now read
+        × (1 ≤ capacity → length saved.items ≤ capacity → AreBack sessions.cache.engine.state saved.items now.0)) }
+{
+    made_again_answers_alike::<u64, u64, NoExpiry, NoPredicate, NoWeigher>();
+    let config = CacheConfig::default()
+        .time_to_idle(idle)
+        .max_capacity(capacity);
     let mut sessions = TimedCache::build(config, alloc, clock)?;
     match sessions.restore(saved) {
         Ok(()) => Ok(sessions),
