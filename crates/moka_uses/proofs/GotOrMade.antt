@@ -51,6 +51,16 @@ module _ {K V S X L P W C : Type 0} (m : Meaning K V X L P W C (Unit {0})) (is_c
   put_given given put (Ok v) is_given makes (Err refused) handed = tt
   put_given given put (Err r) is_given makes (Err refused) handed = tt
 
+  -- an insert that is refused has the key and the value that were to be put, whatever the look-up before it found
+  pub refused_insert : (a : Result (Option (Entry K V)) OutOfMemory) (x : V) (refused : InsertRefused K V) → Made m (call.Get key hash false now ∷ call.Insert key hash x now ∷ []) (reply.Get a ∷ reply.Insert (Err refused) ∷ []) old clock new clock_after → (refused.key ≡ key) × (refused.value ≡ x)
+  refused_insert a x refused made =
+      let step = second_step m (call.Get key hash false now) (call.Insert key hash x now) (reply.Get a) (reply.Insert (Err refused)) old new clock clock_after made in
+      comes_back step.0 (record_of_key m.eq step.0.records key) step.1.events step.1.after step.1.step.1
+    where
+      comes_back : (s : State K V X P W) (o : Option (Record K V)) (e : Events K V) (t : State K V X P W) → InsertsAt m.created m.updated m.weighs s o key hash x now (Err refused) e t → (refused.key ≡ key) × (refused.value ≡ x)
+      comes_back s None e t h = (h.0.0, h.0.1)
+      comes_back s (Some r) e t h = (h.0.0, h.0.1)
+
   -- an insert of what was made that is refused has the value that was made
   pub refused_value : (x : V) (refused : InsertRefused K V) → Makes m (GetsThen key hash now (InsertsMade key hash now x (Err refused))) old clock new clock_after → (refused.key ≡ key) × (refused.value ≡ x)
   refused_value x refused (calls, replies, (later, answers, inl (is, none, quiet), calls_are, replies_are), made) = (ap (λ r. r.key) is, ap (λ r. r.value) is)
@@ -58,14 +68,7 @@ module _ {K V S X L P W C : Type 0} (m : Meaning K V X L P W C (Unit {0})) (is_c
       let c : Call K V P = call.Get key hash false now in
       let d : Call K V P = call.Insert key hash x now in
       let r : Reply K V P = reply.Get (Ok None) in
-      let q : Reply K V P = reply.Insert (Err refused) in
-      let two = subst (λ rs. Made m (c ∷ d ∷ []) rs old clock new clock_after) (replies_are ∙ ap (λ rs. r ∷ rs) answers_are) (subst (λ cs. Made m cs replies old clock new clock_after) (calls_are ∙ ap (λ cs. c ∷ cs) later_is) made) in
-      let step = second_step m c d r q old new clock clock_after two in
-      comes_back step.0 (record_of_key m.eq step.0.records key) step.1.events step.1.after step.1.step.1
-    where
-      comes_back : (s : State K V X P W) (o : Option (Record K V)) (e : Events K V) (t : State K V X P W) → InsertsAt m.created m.updated m.weighs s o key hash x now (Err refused) e t → (refused.key ≡ key) × (refused.value ≡ x)
-      comes_back s None e t h = (h.0.0, h.0.1)
-      comes_back s (Some r) e t h = (h.0.0, h.0.1)
+      refused_insert (Ok None) x refused (subst (λ rs. Made m (c ∷ d ∷ []) rs old clock new clock_after) (replies_are ∙ ap (λ rs. r ∷ rs) answers_are) (subst (λ cs. Made m cs replies old clock new clock_after) (calls_are ∙ ap (λ cs. c ∷ cs) later_is) made))
 
   -- a refusal
   pub refusal : (IsMade : V → Type 0) (made : Option V) (own : Option (InsertRefused K V)) (refused : GetWithRefused K V) → ((x : V) → made ≡ Some x → IsMade x) → HandsOutMade is_clone key (Err own) (Err refused) → Makes m (GetsOrInserts key hash now made (Err own)) old clock new clock_after → ComesBack IsMade key refused

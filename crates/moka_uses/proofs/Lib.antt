@@ -13,3 +13,5 @@ pub mod Bound
 pub mod LoggedOut
 pub mod Seen
 pub mod Batched
+pub mod TakenOut
+pub mod Visited

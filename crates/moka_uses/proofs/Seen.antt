@@ -10,7 +10,7 @@ use Rattle.moka_drive.specs.Synchronous.{Makes, GetsValue}
 use Rattle.moka_uses.proofs.Replied.{IsKept, finds_kept}
 
 -- where clones equal what was cloned, what was got is what is handed on
-copied_same : {V : Type 0} (own : Result (Option V) OutOfMemory) (seen : Option V) → IsCopiedAnswer (λ a b. b ≡ a) own (Ok seen) → own ≡ Ok seen
+pub copied_same : {V : Type 0} (own : Result (Option V) OutOfMemory) (seen : Option V) → IsCopiedAnswer (λ a b. b ≡ a) own (Ok seen) → own ≡ Ok seen
 copied_same (Ok (Some x)) (Some y) copied = ap (λ v. Ok (Some v)) (sym copied)
 copied_same (Ok (Some x)) None copied = absurd copied
 copied_same (Ok None) seen copied = ap Ok (sym copied)

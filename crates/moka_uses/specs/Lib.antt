@@ -7,3 +7,4 @@ pub mod Sessions
 pub mod Borrowed
 pub mod Restarted
 pub mod Logins
+pub mod Visits

@@ -50,4 +50,6 @@ mod shared;
 #[cfg(test)]
 mod texts;
 #[cfg(test)]
+mod visits;
+#[cfg(test)]
 mod weighed;

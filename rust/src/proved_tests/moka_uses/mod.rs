@@ -25,4 +25,5 @@ pub mod selected;
 pub mod sessions;
 pub mod shared;
 pub mod texts;
+pub mod visits;
 pub mod weighed;

@@ -41,6 +41,29 @@ pub fn start_again<C: Clock>(
     }
 }
 
+/// As `start_again`, with at most so many sessions. If no more were saved, none is left out that has not ended.
+///
+/// # Errors
+/// `OutOfMemory`, and then the sessions are let go.
+pub fn start_again_within<C: Clock>(
+    alloc: Global,
+    idle: Duration,
+    capacity: u64,
+    clock: C,
+    saved: Vec<Restored<u64, u64>>,
+) -> Result<Sessions<C>, OutOfMemory>
+{
+    made_again_answers_alike::<u64, u64, NoExpiry, NoPredicate, NoWeigher>();
+    let config = CacheConfig::default()
+        .time_to_idle(idle)
+        .max_capacity(capacity);
+    let mut sessions = TimedCache::build(config, alloc, clock)?;
+    match sessions.restore(saved) {
+        Ok(()) => Ok(sessions),
+        Err(_) => Err(OutOfMemory),
+    }
+}
+
 /// New sessions in place of others. Where those have the same idle time and no time to live, each user has the same
 /// session in both, from the moment on at which they were put back.
 ///

@@ -7,7 +7,7 @@ use crate::proved_tests::moka_uses_tests::equal::assert_equal;
 use crate::support::anyhow::Result;
 use crate::engine::moka_engine::Instant;
 use crate::proved_tests::moka_timed::ManualClock;
-use crate::proved_tests::moka_uses::restarted::{hand_over, save, start_again};
+use crate::proved_tests::moka_uses::restarted::{hand_over, save, start_again, start_again_within};
 use crate::proved_tests::moka_uses::sessions::{log_in, log_out, start, touch};
 use crate::support::time::Duration;
 
@@ -53,6 +53,28 @@ fn sessions_are_handed_over() -> Result<()> {
     let mut again = hand_over(rt.alloc(), &mut sessions, idle, clock)?;
     for (user, token) in [(1, None), (2, Some(20)), (3, Some(30))] {
         assert_equal(&rt, touch(&mut again, user)?, token);
+    }
+    Ok(())
+}
+
+#[test]
+fn sessions_go_on_within_a_bound() -> Result<()> {
+    let rt = HostRuntime;
+    let idle = Duration::from_nanos(100);
+    let clock = ManualClock { now: Instant(0) };
+    let mut sessions = start(rt.alloc(), idle, clock)?;
+    for user in 1..4 {
+        if sessions.cache.engine().is_map_disabled() {
+            return Ok(());
+        }
+        log_in(&mut sessions, user, user * 10)?;
+    }
+    for (capacity, count) in [(3, 3), (2, 2)] {
+        let saved = save(rt.alloc(), &mut sessions)?;
+        let clock = ManualClock { now: Instant(50) };
+        let mut again = start_again_within(rt.alloc(), idle, capacity, clock, saved)?;
+        again.run_pending_tasks();
+        assert_equal(&rt, again.entry_count(), count);
     }
     Ok(())
 }

@@ -1,5 +1,6 @@
 use Rattle.std.proofs.Common.{◌≡◌, Some, None, refl, arith}
 use Rattle.std.specs.Prelude.{length}
+use Rattle.moka_engine.specs.declared.NoWeigher.{NoWeigher}
 use Rattle.moka_uses.proofs.Among.{each_weighs_one, still_back}
 use Rattle.moka_uses.proofs.restarted.start_again_within.Goals as goal
 
@@ -16,5 +17,5 @@ returns-in-Ok-clause-back g c =
       λ some few.
           still_back begun c.restore.new.self.cache.engine.state c.args.saved.items now.0 c.restore.ensures.hides (there (c.made_again_answers_alike.ensures.room c.args.saved.items begun c.args.capacity (length c.args.saved.items)
           (record { records = rw c.in_ok-sessions.ensures.2 refl; outstanding = rw c.in_ok-sessions.ensures.2 refl; writes = rw c.in_ok-sessions.ensures.2 refl; access = rw c.in_ok-sessions.ensures.2 refl })
-          (rw c.in_ok-sessions.ensures.2 refl) (rw c.in_ok-sessions.ensures.2 refl) bounded (grind (arith, some)) (rw weigher (each_weighs_one (λ _ _ _ weight. weight ≡ 1) c.args.saved.items)) few)),
+          (rw c.in_ok-sessions.ensures.2 refl) (rw c.in_ok-sessions.ensures.2 refl) bounded (grind (arith, some)) (rw weigher (each_weighs_one (λ (_ : NoWeigher) _ _ weight. weight ≡ 1) c.args.saved.items)) few)),
     )

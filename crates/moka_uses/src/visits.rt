@@ -1,0 +1,69 @@
+//! Visits, counted by page.
+ghost use Rattle.std.specs.Prelude.{◌≡◌, IfErr, IfOk, IfSome, option_copied};
+ghost use Rattle.moka_uses.specs.ReadThrough.{ComesBack};
+ghost use Rattle.moka_uses.specs.Visits.{HasLeft, IsFull, LooksUp, PutsCount, RemovesCount, meaning, next_count, op_for, page_of};
+
+use moka_drive::laws::hears_themselves;
+use moka_drive::{Cache, CompResult, ComputeRefused, GetWithRefused, Op};
+use moka_engine::{Clock, DefaultHasher, Instant, NoExpiry, NoListener, NoPredicate, NoWeigher};
+
+/// Counts a visit of a page, and hands out how many there are now: one more than the count that is visible at the
+/// moment `now`, or 1 if none is. The count stays at `u64::MAX`.
+///
+/// # Errors
+/// As `Cache::upsert_with`: the page comes back, and with `Insert` the count that was not put.
+pub fn count<C: Clock>(
+    visits: &mut Cache<u64, u64>,
+    page: u64,
+    now: Instant,
+    clock: &mut C,
+) -> Result<u64, GetWithRefused<u64, u64>>
+    ensures counted { IfOk result (λ count. count ≡ next_count visits.old.engine.state page now.0) }
+    ensures put { IfOk result (PutsCount (meaning C.reads) page now visits.old.engine clock.old visits.new.engine clock.new) }
+    ensures back { IfErr result (ComesBack (λ count. count ≡ next_count visits.old.engine.state page now.0) page) }
+{
+    visits.engine().invariant_holds();
+    let one_more = |seen: Option<u64>| seen.unwrap_or(0).saturating_add(1);
+    let entry = visits.entry(page).and_upsert_with(one_more, now, clock)?;
+    Ok(entry.value)
+}
+
+/// Takes out a page whose count, visible at the moment `now`, has reached a limit, and hands out the count; `None` if
+/// the run of maintenance that the look-up made had taken the page out already. A page that has not, or is not visible,
+/// is only looked up, and the answer is `None`.
+///
+/// # Errors
+/// As `Cache::compute_with`: the page comes back.
+pub fn take_full<C: Clock>(
+    visits: &mut Cache<u64, u64>,
+    page: u64,
+    limit: u64,
+    now: Instant,
+    clock: &mut C,
+) -> Result<Option<u64>, ComputeRefused<u64, u64>>
+    ensures full { IfOk result (λ taken. IfSome taken (IsFull visits.old.engine.state page now.0 limit)) }
+    ensures left { IfOk result (λ _. (count : _) → IsFull visits.old.engine.state page now.0 limit count → HasLeft visits.new.engine.state page) }
+    ensures removed { IfOk result (λ taken. (count : _) → IsFull visits.old.engine.state page now.0 limit count
+        → RemovesCount (meaning C.reads) page now visits.old.engine clock.old visits.new.engine clock.new count taken) }
+    ensures looked_up { IfOk result (λ _. ((count : _) → IsFull visits.old.engine.state page now.0 limit count → ⊥)
+        → LooksUp (meaning C.reads) page now visits.old.engine clock.old visits.new.engine clock.new) }
+    ensures back { IfErr result (λ refused. page_of refused ≡ page) }
+{
+    hears_themselves::<u64, u64, DefaultHasher, NoExpiry, NoListener, NoPredicate, NoWeigher, C>();
+    visits.engine().invariant_holds();
+    let remove_full = move |seen: Option<&u64>| -> Op<u64>
+        ensures { result ≡ op_for limit (option_copied seen.entry) }
+    {
+        match seen {
+            Some(count) if *count >= limit => Op::Remove,
+            _ => Op::Nop,
+        }
+    };
+    match visits
+        .entry(page)
+        .and_compute_with(remove_full, now, clock)?
+    {
+        CompResult::Removed(entry) => Ok(Some(entry.value)),
+        _ => Ok(None),
+    }
+}
