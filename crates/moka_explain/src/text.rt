@@ -16,12 +16,12 @@ pub fn write_explained<W: Write>(out: &mut W, explained: &Explained) -> Result<(
     writeln!(out, "{}", ReplyText(reply))?;
     match &explained.answer {
         Answer::Met(look) => write_met(out, look)?,
-        Answer::Became(fates) => write_became(out, fates, applied_in(fates, 0))?,
+        Answer::Became(fates) => write_became(out, fates, applied_in(fates, 0), None)?,
         Answer::MetAndBecame(look, fates) => {
             write_met(out, look)?;
             let applied = applied_in(fates, reads_queued_by(reply));
             if applied.is_any() || has_any_left(&fates.after) {
-                write_became(out, fates, applied)?;
+                write_became(out, fates, applied, Some(look.key))?;
             }
         }
         Answer::Nothing => {}
@@ -66,10 +66,15 @@ fn write_met<W: Write>(out: &mut W, look: &Look) -> Result<()> {
     Ok(())
 }
 
-/// Says what a call applied, and what became of each key.
-fn write_became<W: Write>(out: &mut W, fates: &Fates, applied: Queued) -> Result<()> {
+/// Says what a call applied, and what became of each key, of which a look-up may have hit one.
+fn write_became<W: Write>(
+    out: &mut W,
+    fates: &Fates,
+    applied: Queued,
+    hit: Option<u32>,
+) -> Result<()> {
     write_applied(out, fates.now, applied)?;
-    write_fates(out, &fates.before, &fates.after)
+    write_fates(out, fates, hit)
 }
 
 /// Says at which moment the call was made, and how many operations it applied, if any.
@@ -88,11 +93,12 @@ fn write_applied<W: Write>(out: &mut W, now: Instant, applied: Queued) -> Result
 }
 
 /// Says what became of each key.
-fn write_fates<W: Write>(out: &mut W, before: &[Look], after: &[Look]) -> Result<()> {
-    for (before, after) in before.iter().zip(after.iter()) {
+fn write_fates<W: Write>(out: &mut W, fates: &Fates, hit: Option<u32>) -> Result<()> {
+    for (before, after) in fates.before.iter().zip(fates.after.iter()) {
         let fate = FateText {
             before: *before,
             after: *after,
+            is_hit: hit == Some(before.key),
         };
         writeln!(out, "  {}: {fate}", before.key)?;
     }
@@ -122,12 +128,17 @@ impl fmt::Display for SightText {
 struct FateText {
     before: Look,
     after: Look,
+    /// Whether the call looked the key up first, which may have changed its expiry and its moment of reading.
+    is_hit: bool,
 }
 
 impl fmt::Display for FateText {
     fn fmt<W: fmt::Write>(&self, f: &mut fmt::Formatter<W>) -> fmt::Result {
         let (before, after) = (SightText(self.before.sight), SightText(self.after.sight));
         match (self.before.sight, self.after.sight) {
+            (Sight::Visible, Sight::Absent) if self.is_hit => {
+                f.write_str("removed, to make room, or expired or invalidated through the hit")
+            }
             (Sight::Visible, Sight::Absent) => f.write_str(match self.before.applied {
                 Some(true) => "evicted, to make room",
                 _ => "not admitted, or evicted to make room",
@@ -140,8 +151,8 @@ impl fmt::Display for FateText {
             (_, Sight::Visible) => f.write_str("visible again"),
             (Sight::Visible, _) => write!(f, "hidden now, {after}"),
             _ => match self.after.applied {
-                Some(true) => write!(f, "left for a later run, {after}"),
-                _ => write!(f, "left until its last write is sent, {after}"),
+                Some(true) => write!(f, "still in the map, {after}"),
+                _ => write!(f, "still in the map until its last write is sent, {after}"),
             },
         }
     }
