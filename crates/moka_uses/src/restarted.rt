@@ -41,7 +41,8 @@ pub fn start_again<C: Clock + Drop>(
     saved: Vec<Restored<u64, u64>>,
 ) -> Result<Sessions<C>, OutOfMemory>
     ensures idle { IfOk result (λ sessions. sessions.cache.engine.state.settings.time_to_idle ≡ Some (as_nanos idle)) }
-    ensures back { IfOk result (λ sessions. (made : C) × (now : Instant) × (read : C) × C.reads made now read
+    ensures back { IfOk result (λ sessions. (begun : Instant) × (ticked : C) × C.reads clock begun ticked
+        × (now : Instant) × (read : C) × C.reads ticked now read
         × AreBack sessions.cache.engine.state saved.items now.0
         × ArePutBack (λ _ _ _ weight. weight ≡ 1) saved.items now.0 (as_nanos idle) sessions.cache.engine.state) }
     ensures among { IfOk result (λ sessions. AreAmong sessions.cache.engine.state saved.items) }
@@ -66,7 +67,8 @@ pub fn start_again_within<C: Clock + Drop>(
     saved: Vec<Restored<u64, u64>>,
 ) -> Result<Sessions<C>, OutOfMemory>
     ensures idle { IfOk result (λ sessions. sessions.cache.engine.state.settings.time_to_idle ≡ Some (as_nanos idle)) }
-    ensures back { IfOk result (λ sessions. (made : C) × (now : Instant) × (read : C) × C.reads made now read
+    ensures back { IfOk result (λ sessions. (begun : Instant) × (ticked : C) × C.reads clock begun ticked
+        × (now : Instant) × (read : C) × C.reads ticked now read
         × (1 ≤ capacity → length saved.items ≤ capacity → AreBack sessions.cache.engine.state saved.items now.0)) }
 {
     made_again_answers_alike::<u64, u64, NoExpiry, NoPredicate, NoWeigher>();
@@ -81,7 +83,7 @@ pub fn start_again_within<C: Clock + Drop>(
 }
 
 /// New sessions in place of others. Where those have the same idle time and no time to live, each user has the same
-/// session in both, from the moment on at which they were put back.
+/// session in both, from the moments on at which they were saved and put back, until either is used or changed.
 ///
 /// # Errors
 /// `OutOfMemory`
@@ -91,7 +93,9 @@ pub fn hand_over<C: Clock, D: Clock + Drop>(
     idle: Duration,
     clock: D,
 ) -> Result<Sessions<D>, OutOfMemory>
-    ensures { IfOk result (λ again. (saved : Instant) × (put : Instant)
+    ensures { IfOk result (λ again. (saved : Instant) × (read : C) × C.reads sessions.old.clock saved read
+        × (begun : Instant) × (ticked : D) × D.reads clock begun ticked
+        × (put : Instant) × (read_again : D) × D.reads ticked put read_again
         × AreHandedOver (λ _ _ _ answer. answer ≡ false) (as_nanos idle) saved.0 put.0 sessions.new.cache.engine.state again.cache.engine.state) }
 {
     made_again_answers_alike::<u64, u64, NoExpiry, NoPredicate, NoWeigher>();

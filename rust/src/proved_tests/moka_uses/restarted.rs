@@ -65,7 +65,7 @@ pub fn start_again_within<C: Clock>(
 }
 
 /// New sessions in place of others. Where those have the same idle time and no time to live, each user has the same
-/// session in both, from the moment on at which they were put back.
+/// session in both, from the moments on at which they were saved and put back, until either is used or changed.
 ///
 /// # Errors
 /// `OutOfMemory`

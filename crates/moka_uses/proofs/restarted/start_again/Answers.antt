@@ -27,4 +27,4 @@ returns-in-Ok-clause-back g c =
       adds = c.restore.ensures.adds;
       hides = c.restore.ensures.hides;
     } in
-    (c.in_ok-sessions.sessions.clock, now, read, reads, all_back (λ _ _ _ weight. weight ≡ 1) c.restore.new.self.cache.engine.state c.args.saved.items now.0 (as_nanos c.args.idle) made, made)
+    (c.in_ok-sessions.ensures.0, c.in_ok-sessions.sessions.clock, c.in_ok-sessions.ensures.1, now, read, reads, all_back (λ _ _ _ weight. weight ≡ 1) c.restore.new.self.cache.engine.state c.args.saved.items now.0 (as_nanos c.args.idle) made, made)

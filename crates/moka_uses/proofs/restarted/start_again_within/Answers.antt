@@ -10,7 +10,9 @@ returns-in-Ok-clause-back g c =
     let begun = c.in_ok-sessions.sessions.cache.engine.state in
     let bounded : begun.capacity ≡ Some c.args.capacity = rw (c.in_ok-sessions.ensures.2, c.max_capacity-config.ensures) refl in
     let weigher : begun.settings.weigher ≡ None = rw (c.in_ok-sessions.ensures.2, c.max_capacity-config.ensures, c.time_to_idle.ensures, c.default.ensures) refl in (
+      c.in_ok-sessions.ensures.0,
       c.in_ok-sessions.sessions.clock,
+      c.in_ok-sessions.ensures.1,
       now,
       read,
       reads,
