@@ -20,7 +20,7 @@ use Rattle.moka_parts.specs.Surroundings.{Leads, Heard}
 use Rattle.moka_parts.specs.Calls.{no_events, only_notices, Unchanged, InsertStep, GetStep, GetsAt, ContainsStep, RemoveStep, NotifyStep}
 use Rattle.moka_parts.specs.Copies.{IsCopiedAnswer, IsEntryCopy, IsKvEntryCopy, NotifiesOfCopy}
 use Rattle.moka_parts.specs.Visibility.{IsShown}
-use Rattle.moka_parts.specs.Runs.{Cache, Befalls}
+use Rattle.moka_parts.specs.Runs.{Engine, Befalls}
 use Rattle.moka_parts.specs.Listed.{ListedRun}
 use Rattle.moka_parts.proofs.Contained.{gets_what_is_contained}
 use Rattle.moka_parts.proofs.Lookup.{record_of_key_empty}
@@ -35,13 +35,13 @@ use Rattle.moka_drive.proofs.Quiet.{befalls_after}
 
 module _ {K V S X L P W C : Type 0} (m : Meaning K V X L P W C (Unit {0})) (key : K) (hash : ℕ) (value : V) (now : Instant) where
   -- a disabled map lets key and value go
-  pub let_go : (c : Cache K V S X L P W) (clock : C) → is_disabled c.state.capacity ≡ true → Makes m (InsertsEntry key hash value now (Ok tt)) c clock c clock
+  pub let_go : (c : Engine K V S X L P W) (clock : C) → is_disabled c.state.capacity ≡ true → Makes m (InsertsEntry key hash value now (Ok tt)) c clock c clock
   let_go c clock off = (call.Insert key hash value now ∷ [], reply.Disabled key value ∷ [], inl (refl, refl), made_one m c c clock clock (call.Insert key hash value now) (reply.Disabled key value) no_events (off, refl, refl, (refl, refl)) (nothing_befalls m.tells c) refl refl tt)
 
-  module _ (old mid : Cache K V S X L P W) (clock : C) (enabled : is_disabled old.state.capacity ≡ false) where
+  module _ (old mid : Engine K V S X L P W) (clock : C) (enabled : is_disabled old.state.capacity ≡ false) where
     -- an insert whose ticket is posted
     pub inserted : (a : Ticket × Instant) (e : Events K V) → InsertStep m.created m.updated m.weighs m.eq old.state key hash value now (Ok a) e mid.state → Befalls m.tells e old mid →
-        (new : Cache K V S X L P W) (clock_after : C) → Makes m (Posts now a.0) mid clock new clock_after → Makes m (InsertsEntry key hash value now (Ok tt)) old clock new clock_after
+        (new : Engine K V S X L P W) (clock_after : C) → Makes m (Posts now a.0) mid clock new clock_after → Makes m (InsertsEntry key hash value now (Ok tt)) old clock new clock_after
     inserted a e step befell new clock_after (posting, posted, posts, made) =
         let out = insert_hands_out m.created m.updated m.weighs m.eq old.state key hash value now a e mid.state step in
         let at_now : InsertStep m.created m.updated m.weighs m.eq old.state key hash value now (Ok (a.0, now)) e mid.state = subst (λ at. InsertStep m.created m.updated m.weighs m.eq old.state key hash value now (Ok (a.0, at)) e mid.state) out.1 step in (
@@ -164,7 +164,7 @@ module _ {K V X P W : Type 0} (eq : K → K → Bool) (says : P → K → V → 
       go true a b h copied = none a b h.0 copied
       go false a b h copied = at (record_of_key eq s.records key) a b h copied
 
-module _ {K V S X L P W C : Type 0} (m : Meaning K V X L P W C (Unit {0})) (key : K) (hash : ℕ) (now : Instant) (old new : Cache K V S X L P W) (clock clock_after : C) where
+module _ {K V S X L P W C : Type 0} (m : Meaning K V X L P W C (Unit {0})) (key : K) (hash : ℕ) (now : Instant) (old new : Engine K V S X L P W) (clock clock_after : C) where
   -- a get
   pub got : (a : Result (Option (Entry K V)) OutOfMemory) (e : Events K V) → GetStep m.says m.read (ListedRun m.says m.read old.write_list new.write_list) m.eq old.state key hash false false now.0 a e new.state → Befalls m.tells e old new → Leads m.observes clock e.readings clock_after →
       Makes m (GetsValue key hash now (value_found a)) old clock new clock_after
@@ -223,7 +223,7 @@ module _ {K V L : Type 0} (is_key_clone : K → K → Type 0) (is_value_clone : 
         | inr c ↦ one c (subst (λ ns. Heard tells before ns after) told heard)
       ]
 
-module _ {K V S X L P W C : Type 0} (is_key_clone : K → K → Type 0) (is_value_clone : V → V → Type 0) (m : Meaning K V X L P W C (Unit {0})) (key : K) (hash : ℕ) (now : Instant) (old mid : Cache K V S X L P W) (clock : C) where
+module _ {K V S X L P W C : Type 0} (is_key_clone : K → K → Type 0) (is_value_clone : V → V → Type 0) (m : Meaning K V X L P W C (Unit {0})) (key : K) (hash : ℕ) (now : Instant) (old mid : Engine K V S X L P W) (clock : C) where
   abbrev hears : Meaning K V X L P W C (Unit {0})
   hears = record m { tells = hears_clones is_key_clone is_value_clone m.tells }
 
@@ -237,7 +237,7 @@ module _ {K V S X L P W C : Type 0} (is_key_clone : K → K → Type 0) (is_valu
   )
 
   module _ (entry : KvEntry K V) (ticket : Ticket) (step : RemoveStep m.eq old.state key (Some (entry, ticket)) mid.state) (befell : Befalls m.tells no_events old mid)
-      (told : Result (Unit {0}) OutOfMemory) (notices : List (Notice K V)) (notified : NotifiesOfCopy is_key_clone is_value_clone mid.state.settings entry now told notices) (third : Cache K V S X L P W) (same : third.state ≡ mid.state) (befell_notice : Befalls m.tells (only_notices notices) mid third) where
+      (told : Result (Unit {0}) OutOfMemory) (notices : List (Notice K V)) (notified : NotifiesOfCopy is_key_clone is_value_clone mid.state.settings entry now told notices) (third : Engine K V S X L P W) (same : third.state ≡ mid.state) (befell_notice : Befalls m.tells (only_notices notices) mid third) where
     -- the removal with its notice
     removed_and_told : Made hears (call.Remove key hash (Some now) ∷ []) (reply.Remove (Some (entry, ticket)) (Some told) ∷ []) old clock third clock
     removed_and_told =
@@ -251,7 +251,7 @@ module _ {K V S X L P W C : Type 0} (is_key_clone : K → K → Type 0) (is_valu
         (befalls_after hears.tells h.notices old mid third (heard_nothing m.tells old.listener mid.listener befell.heard) first notice) refl refl tt
 
     -- and its ticket posted
-    pub took : (new : Cache K V S X L P W) (clock_after : C) → Makes m (Posts now ticket) third clock new clock_after → Makes hears (RemovesEntry key hash now (Some (entry.value, told))) old clock new clock_after
+    pub took : (new : Engine K V S X L P W) (clock_after : C) → Makes m (Posts now ticket) third clock new clock_after → Makes hears (RemovesEntry key hash now (Some (entry.value, told))) old clock new clock_after
     took new clock_after (posting, posted, posts, made) = (
       call.Remove key hash (Some now) ∷ posting,
       reply.Remove (Some (entry, ticket)) (Some told) ∷ posted,

@@ -6,7 +6,7 @@ use Rattle.moka_parts.specs.declared.calls.Reply.{Reply}
 use Rattle.moka_parts.specs.declared.error.OutOfMemory.{OutOfMemory}
 use Rattle.moka_parts.specs.declared.error.InsertRefused.{InsertRefused}
 use Rattle.moka_parts.specs.State.{Meaning}
-use Rattle.moka_parts.specs.Runs.{Cache}
+use Rattle.moka_parts.specs.Runs.{Engine}
 use Rattle.moka_drive.specs.declared.entry.CacheEntry.{CacheEntry}
 use Rattle.moka_drive.specs.declared.error.GetWithRefused.{GetWithRefused}
 use Rattle.moka_drive.specs.declared.error.GetWithRefused.TheVariants.{Insert}
@@ -25,7 +25,7 @@ as_upsert (Err refused) = Err (Insert refused)
 
 module _ {K V S X L P W C : Type 0} (m : Meaning K V X L P W C (Unit {0})) (hash_by : S → ℕ)
     (First : List (Call K V P) → List (Reply K V P) → Type 0) (Then : ℕ → List (Call K V P) → List (Reply K V P) → Type 0)
-    (old mid new : Cache K V S X L P W) (c1 c2 c3 : C) where
+    (old mid new : Engine K V S X L P W) (c1 c2 c3 : C) where
   -- calls after calls, of the same hash
   pub in_turn : Makes m First old c1 mid c2 → Makes m (Then (hash_by mid.hasher)) mid c2 new c3 → Makes m (InTurn First (Then (hash_by old.hasher))) old c1 new c3
   in_turn (asked, got, fits, made) after =
@@ -37,7 +37,7 @@ module _ {K V S X L P W C : Type 0} (m : Meaning K V X L P W C (Unit {0})) (hash
       )
 
 module _ {K V S X L P W C : Type 0} (is_key_clone : K → K → Type 0) (is_clone : V → V → Type 0) (m : Meaning K V X L P W C (Unit {0}))
-    (key : K) (hash_by : S → ℕ) (now : Instant) (old mid new : Cache K V S X L P W) (c1 c2 c3 : C) where
+    (key : K) (hash_by : S → ℕ) (now : Instant) (old mid new : Engine K V S X L P W) (c1 c2 c3 : C) where
   -- a look-up, and an insert of the value that was made of what it found
   pub upserted : (own : Result (Option V) OutOfMemory) (seen : Option V) (there : Bool) (value : V) (result : Result (CacheEntry K V) (InsertRefused K V))
       → Makes m (GetsValue key (hash_by old.hasher) now own) old c1 mid c2
@@ -67,11 +67,11 @@ module _ {K V X L P W C : Type 0} (is_key_clone : K → K → Type 0) (is_clone 
 
 module _ {K V S X L P W C : Type 0} (is_key_clone : K → K → Type 0) (is_clone : V → V → Type 0) (m : Meaning K V X L P W C (Unit {0})) where
   -- what was made with no notice of a removal
-  pub heard : (Fit : List (Call K V P) → List (Reply K V P) → Type 0) (old new : Cache K V S X L P W) (c1 c2 : C) → Makes m Fit old c1 new c2 → Makes (hears is_key_clone is_clone m) Fit old c1 new c2
+  pub heard : (Fit : List (Call K V P) → List (Reply K V P) → Type 0) (old new : Engine K V S X L P W) (c1 c2 : C) → Makes m Fit old c1 new c2 → Makes (hears is_key_clone is_clone m) Fit old c1 new c2
   heard Fit old new c1 c2 (calls, replies, fits, made) =
       (calls, replies, fits, made_more m (hears_clones is_key_clone is_clone m.tells) (λ l k v cause after step. inl step) calls replies old new c1 c2 made)
 
-  module _ (key : K) (hash_by : S → ℕ) (now : Instant) (old mid new : Cache K V S X L P W) (c1 c2 c3 : C)
+  module _ (key : K) (hash_by : S → ℕ) (now : Instant) (old mid new : Engine K V S X L P W) (c1 c2 c3 : C)
       (own : Result (Option V) OutOfMemory) (got : Makes m (GetsValue key (hash_by old.hasher) now own) old c1 mid c2) where
     -- a look-up, and an insert of the value that was answered
     pub computed_put : (value : V) (put : Result V (InsertRefused K V)) → Makes m (InsertsMade key (hash_by mid.hasher) now value put) mid c2 new c3

@@ -9,7 +9,7 @@ use Rattle.moka_parts.specs.declared.error.OutOfMemory.{OutOfMemory}
 use Rattle.moka_parts.specs.declared.error.InsertRefused.{InsertRefused}
 use Rattle.moka_parts.specs.State.{Meaning}
 use Rattle.moka_parts.specs.Copies.{IsCopiedAnswer}
-use Rattle.moka_parts.specs.Runs.{Cache}
+use Rattle.moka_parts.specs.Runs.{Engine}
 use Rattle.moka_drive.specs.Synchronous.{Made, Makes, InsertsMade, GetsValue, GetsOrInserts, HandsOutOwn}
 use Rattle.moka_drive.specs.Entries.{HandsOutPut}
 use Rattle.moka_drive.proofs.Made.{made_then}
@@ -18,13 +18,13 @@ use Rattle.moka_drive.proofs.Getting.{made_keeps_hasher}
 module _ {K V S X L P W C : Type 0} (m : Meaning K V X L P W C (Unit {0})) where
   -- what follows calls that were made is of the same hash
   pub same_hash : (Fit : ℕ → List (Call K V P) → List (Reply K V P) → Type 0) (hash_by : S → ℕ)
-      (calls : List (Call K V P)) (replies : List (Reply K V P)) (old mid new : Cache K V S X L P W) (c1 c2 c3 : C)
+      (calls : List (Call K V P)) (replies : List (Reply K V P)) (old mid new : Engine K V S X L P W) (c1 c2 c3 : C)
       → Made m calls replies old c1 mid c2 → Makes m (Fit (hash_by mid.hasher)) mid c2 new c3 → Makes m (Fit (hash_by old.hasher)) mid c2 new c3
   same_hash Fit hash_by calls replies old mid new c1 c2 c3 made after =
       subst (λ h. Makes m (Fit (hash_by h)) mid c2 new c3) (made_keeps_hasher m calls replies old mid c1 c2 made) after
 
 module _ {K V S X L P W C : Type 0} (is_clone : V → V → Type 0) (m : Meaning K V X L P W C (Unit {0}))
-    (key : K) (hash_by : S → ℕ) (now : Instant) (old mid : Cache K V S X L P W) (clock clock_mid : C) where
+    (key : K) (hash_by : S → ℕ) (now : Instant) (old mid : Engine K V S X L P W) (clock clock_mid : C) where
   -- the look-up found a value
   pub found_there : (own : Result (Option V) OutOfMemory) (x : V) → IsCopiedAnswer is_clone own (Ok (Some x))
       → Makes m (GetsValue key (hash_by old.hasher) now own) old clock mid clock_mid
@@ -41,7 +41,7 @@ module _ {K V S X L P W C : Type 0} (is_clone : V → V → Type 0) (m : Meaning
   look_up_refused (Err f) e copied (calls, replies, fits, made) = (calls, replies, (f, fits), made)
 
   module _ (got : Made m (call.Get key (hash_by old.hasher) false now ∷ []) (reply.Get (Ok None) ∷ []) old clock mid clock_mid)
-      (value : V) (new : Cache K V S X L P W) (clock_after : C) where
+      (value : V) (new : Engine K V S X L P W) (clock_after : C) where
     -- the value comes after a look-up that found none, and what is handed out fits
     pub put_and_handed_out : (result : Result V (InsertRefused K V))
         → ((own : Result V (InsertRefused K V)) × HandsOutOwn is_clone own result

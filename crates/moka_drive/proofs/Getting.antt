@@ -11,7 +11,7 @@ use Rattle.moka_parts.specs.declared.error.InsertError.TheVariants as insert_err
 use Rattle.moka_parts.specs.declared.error.InsertRefused.{InsertRefused}
 use Rattle.moka_parts.specs.State.{Meaning}
 use Rattle.moka_parts.specs.Copies.{IsCopiedAnswer}
-use Rattle.moka_parts.specs.Runs.{Cache}
+use Rattle.moka_parts.specs.Runs.{Engine}
 use Rattle.moka_drive.specs.declared.error.GetWithRefused.{GetWithRefused}
 use Rattle.moka_drive.specs.declared.error.GetWithRefused.TheVariants.{Lookup, Insert}
 use Rattle.moka_drive.specs.Synchronous.{Made, Makes, InsertsEntry, InsertsMade, GetsValue, GetsOrInserts, GetsOrInsertsIfMade, GetsOrInsertsIfNoError, Synchronous, HandsOutMade, HandsOutOwn, HandsOutIfMade, HandsOutIfNoError, value_found}
@@ -20,7 +20,7 @@ use Rattle.moka_drive.specs.Counters.{one_more, after_look_up, after_load, after
 use Rattle.moka_drive.proofs.Made.{made_nothing, made_then}
 
 -- what was made leaves the hasher
-pub made_keeps_hasher : {K V S X L P W C : Type 0} (m : Meaning K V X L P W C (Unit {0})) (calls : List (Call K V P)) (replies : List (Reply K V P)) (old new : Cache K V S X L P W) (clock clock_after : C) → Made m calls replies old clock new clock_after → new.hasher ≡ old.hasher
+pub made_keeps_hasher : {K V S X L P W C : Type 0} (m : Meaning K V X L P W C (Unit {0})) (calls : List (Call K V P)) (replies : List (Reply K V P)) (old new : Engine K V S X L P W) (clock clock_after : C) → Made m calls replies old clock new clock_after → new.hasher ≡ old.hasher
 made_keeps_hasher m calls replies old new clock clock_after made = ap (λ c. c.hasher) made.is_run.ends
 
 -- what became of a value that was made, as an answer of a get with a maker
@@ -110,7 +110,7 @@ module _ {K V S X L P W C : Type 0} (is_clone : V → V → Type 0) (m : Meaning
       made_and_handed_out (Err r) (Ok v, handed, made) = absurd handed
       made_and_handed_out (Ok copy) (Err refused, handed, made) = absurd handed
 
-module _ {K V S X L P W C : Type 0} (is_clone : V → V → Type 0) (m : Meaning K V X L P W C (Unit {0})) (key : K) (hash : ℕ) (now : Instant) (old new : Cache K V S X L P W) (clock clock_after : C) where
+module _ {K V S X L P W C : Type 0} (is_clone : V → V → Type 0) (m : Meaning K V X L P W C (Unit {0})) (key : K) (hash : ℕ) (now : Instant) (old new : Engine K V S X L P W) (clock clock_after : C) where
   -- a value that was made is not inserted, since its clone is refused
   pub not_cloned : (value : V) → Makes m (InsertsMade key hash now value (Err (record { error = insert_error.OutOfMemory; key = key; value = value }))) old clock old clock
   not_cloned value = ([], [], inl (refl, refl, refl), made_nothing m old clock)

@@ -12,7 +12,7 @@ use Rattle.moka_parts.specs.declared.policy.Instant.{Instant}
 use Rattle.moka_parts.specs.declared.records.Record.{Record}
 use Rattle.moka_parts.specs.Calls.{ContainsStep, GetsAt, GetStep, Unchanged}
 use Rattle.moka_parts.specs.Records.{record_of_key}
-use Rattle.moka_parts.specs.Runs.{Cache, CallStep, Step, AreSteps, PromisedRun, calls_of, replies_of}
+use Rattle.moka_parts.specs.Runs.{Engine, CallStep, Step, AreSteps, PromisedRun, calls_of, replies_of}
 use Rattle.moka_parts.specs.State.{State, Meaning, Events, is_disabled}
 use Rattle.moka_parts.specs.Visibility.{IsShown}
 use Rattle.moka_drive.specs.Given.{IsCloneOfVisible, IsCloneOfMade, IsHandedOut, GetWithHandsOut, OptionallyGetWithHandsOut, TryGetWithHandsOut}
@@ -22,7 +22,7 @@ use Rattle.moka_drive.proofs.Made.{heads}
 same_value : {V : Type 0} (x y : V) → ◌≡◌ {A = Result (Option V) OutOfMemory} (Ok (Some x)) (Ok (Some y)) → x ≡ y
 same_value x y e = cc
 
-module _ {K V S X L P W C : Type 0} (m : Meaning K V X L P W C (Unit {0})) (is_clone : V → V → Type 0) (key : K) (hash : ℕ) (now : Instant) (old new : Cache K V S X L P W) (clock clock_after : C) where
+module _ {K V S X L P W C : Type 0} (m : Meaning K V X L P W C (Unit {0})) (is_clone : V → V → Type 0) (key : K) (hash : ℕ) (now : Instant) (old new : Engine K V S X L P W) (clock clock_after : C) where
   -- the step of a get that comes first
   first_get : (a : Result (Option (Entry K V)) OutOfMemory) (later : List (Call K V P)) (answers : List (Reply K V P)) (calls : List (Call K V P)) (replies : List (Reply K V P))
       → calls ≡ call.Get key hash false now ∷ later → replies ≡ reply.Get a ∷ answers → Made m calls replies old clock new clock_after

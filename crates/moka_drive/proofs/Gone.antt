@@ -20,7 +20,7 @@ use Rattle.moka_parts.specs.Calls.{RemovesAt, RunStep, KeeperRun, RunsIfDue, Sen
 use Rattle.moka_parts.specs.Housekeeping.{is_due}
 use Rattle.moka_parts.specs.Maintenance.{Terms, Course, Freedom, RunsBy, DoesNothing, at_end}
 use Rattle.moka_parts.specs.Records.{Records, Notice, record_of_key}
-use Rattle.moka_parts.specs.Runs.{Cache, CallStep, Step, AreSteps, PromisedRun, calls_of, replies_of, last_state}
+use Rattle.moka_parts.specs.Runs.{Engine, CallStep, Step, AreSteps, PromisedRun, calls_of, replies_of, last_state}
 use Rattle.moka_parts.specs.Settling.{IsValid}
 use Rattle.moka_parts.specs.State.{State, Meaning, Events, is_disabled}
 use Rattle.moka_parts.proofs.Lookup.{record_of_key_found, absent_key, present_key}
@@ -135,7 +135,7 @@ module _ {K V X L P W C : Type 0} (m : Meaning K V X L P W C (Unit {0})) (key : 
   steps_none s [] posting are none = none
   steps_none s (x ∷ xs) posting are none = steps_none x.after xs posting.1 are.1 (step_none s x.after x.call x.reply x.events posting.0 are.0 none)
 
-  module _ {S : Type 0} (laws : IsEquivalence m.eq) (hash : ℕ) (now : Instant) (old new : Cache K V S X L P W) (clock clock_after : C) (valid : IsValid m.eq old.state) where
+  module _ {S : Type 0} (laws : IsEquivalence m.eq) (hash : ℕ) (now : Instant) (old new : Engine K V S X L P W) (clock clock_after : C) (valid : IsValid m.eq old.state) where
     after_removal : (a : Option (KvEntry K V × Ticket)) (told : Option (Result (Unit {0}) OutOfMemory)) (posting : List (Call K V P)) (posted : List (Reply K V P)) → ArePosting posting → Made m (call.Remove key hash (Some now) ∷ posting) (reply.Remove a told ∷ posted) old clock new clock_after → record_of_key m.eq new.state.records key ≡ None
     after_removal a told posting posted quiet made = none_found m.eq key new.state.records (go made.steps made.is_run.calls_made made.is_run.replies_given made.is_run.are_steps (ap (λ x. x.state) made.is_run.ends))
       where

@@ -4,7 +4,7 @@ use Rattle.moka_parts.specs.declared.error.OutOfMemory.{OutOfMemory}
 use Rattle.moka_parts.specs.declared.policy.Instant.{Instant}
 use Rattle.moka_parts.specs.Copies.{IsCopiedAnswer}
 use Rattle.moka_parts.specs.State.{Meaning}
-use Rattle.moka_parts.specs.Runs.{Cache}
+use Rattle.moka_parts.specs.Runs.{Engine}
 use Rattle.moka_drive.specs.declared.stats.Stats.{Stats}
 use Rattle.moka_drive.specs.Counters.{after_look_up, after_look_ups}
 use Rattle.moka_drive.specs.Many.{GetsItem}
@@ -20,7 +20,7 @@ pub mapped_one_more : {A B : Type 0} (f : A → B) (xs : List A) (x : A) → map
 mapped_one_more f [] x = refl
 mapped_one_more f (y ∷ ys) x = rw (mapped_one_more f ys x) refl
 
-module _ {K V S X L P W C : Type 0} (m : Meaning K V X L P W C (Unit {0})) (is_clone : V → V → Type 0) (hash_of : K → ℕ) (now : Instant) (key : K) (old new : Cache K V S X L P W) (c1 c2 : C) where
+module _ {K V S X L P W C : Type 0} (m : Meaning K V X L P W C (Unit {0})) (is_clone : V → V → Type 0) (hash_of : K → ℕ) (now : Instant) (key : K) (old new : Engine K V S X L P W) (c1 c2 : C) where
   -- a look-up with an answer finds a clone
   pub got_item : (own : Result (Option V) OutOfMemory) (found : Option V) → IsCopiedAnswer is_clone own (Ok found) → Makes m (GetsValue key (hash_of key) now own) old c1 new c2 → Makes m (GetsItem is_clone hash_of now (key, found)) old c1 new c2
   got_item (Ok own) found copied (calls, replies, gets, made) = (calls, replies, (own, copied, gets), made)

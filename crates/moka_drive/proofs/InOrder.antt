@@ -3,7 +3,7 @@ use Rattle.std.proofs.Common.{◌≡◌, refl, ℕ, List, [], ◌∷◌, ◌++�
 use Rattle.moka_parts.specs.declared.calls.Call.{Call}
 use Rattle.moka_parts.specs.declared.calls.Reply.{Reply}
 use Rattle.moka_parts.specs.State.{Meaning}
-use Rattle.moka_parts.specs.Runs.{Cache}
+use Rattle.moka_parts.specs.Runs.{Engine}
 use Rattle.moka_parts.specs.declared.error.InsertRefused.{InsertRefused}
 use Rattle.moka_parts.specs.declared.policy.Instant.{Instant}
 use Rattle.moka_drive.specs.Synchronous.{InsertsEntry, Makes}
@@ -30,11 +30,11 @@ each_then Step (y ∷ ys) x calls cs replies rs (asked, got, later, answers, fir
 
 module _ {A K V S X L P W C : Type 0} (m : Meaning K V X L P W C (Unit {0})) where
   -- no item
-  pub made_none : (Step : A → List (Call K V P) → List (Reply K V P) → Type 0) (c : Cache K V S X L P W) (clock : C) → Makes m (Each Step []) c clock c clock
+  pub made_none : (Step : A → List (Call K V P) → List (Reply K V P) → Type 0) (c : Engine K V S X L P W) (clock : C) → Makes m (Each Step []) c clock c clock
   made_none Step c clock = ([], [], (refl, refl), made_nothing m c clock)
 
   module _ (hash_by : S → K → ℕ) (Step : (K → ℕ) → A → List (Call K V P) → List (Reply K V P) → Type 0)
-      (old mid new : Cache K V S X L P W) (c1 c2 c3 : C) (xs : List A) (made : Makes m (Each (Step (hash_by old.hasher)) xs) old c1 mid c2) where
+      (old mid new : Engine K V S X L P W) (c1 c2 c3 : C) (xs : List A) (made : Makes m (Each (Step (hash_by old.hasher)) xs) old c1 mid c2) where
     -- what follows is of the same hash
     step_of_old : (Fit : (K → ℕ) → List (Call K V P) → List (Reply K V P) → Type 0) → Makes m (Fit (hash_by mid.hasher)) mid c2 new c3 → Makes m (Fit (hash_by old.hasher)) mid c2 new c3
     step_of_old Fit after = subst (λ h. Makes m (Fit (hash_by h)) mid c2 new c3) (made_keeps_hasher m made.0 made.1 old mid c1 c2 made.3) after
@@ -61,7 +61,7 @@ module _ {A K V S X L P W C : Type 0} (m : Meaning K V X L P W C (Unit {0})) whe
 
 module _ {K V S X L P W C : Type 0} (m : Meaning K V X L P W C (Unit {0})) where
   -- what was refused has the item's key and value
-  pub refused_item : (r : InsertRefused K V) (key : K) (value : V) (hash_of : K → ℕ) (now : Instant) (old new : Cache K V S X L P W) (c1 c2 : C)
+  pub refused_item : (r : InsertRefused K V) (key : K) (value : V) (hash_of : K → ℕ) (now : Instant) (old new : Engine K V S X L P W) (c1 c2 : C)
       → r.key ≡ key → r.value ≡ value → Makes m (InsertsEntry key (hash_of key) value now (Err r)) old c1 new c2
       → Makes m (InsertsEntry r.key (hash_of r.key) r.value now (Err r)) old c1 new c2
   refused_item r key value hash_of now old new c1 c2 same_key same_value made =

@@ -12,7 +12,7 @@ use Rattle.moka_parts.specs.Housekeeping.{is_due}
 use Rattle.moka_parts.specs.Listed.{ListedRun, LeavesList}
 use Rattle.moka_parts.specs.Maintenance.{Freedom, Terms, Course, DoesNothing, RunsBy}
 use Rattle.moka_parts.specs.Records.{Notice, Records}
-use Rattle.moka_parts.specs.Runs.{Cache}
+use Rattle.moka_parts.specs.Runs.{Engine}
 use Rattle.moka_parts.specs.State.{State, Events, Meaning, is_disabled}
 use Rattle.moka_parts.proofs.RunKeeps.{Keeps, keeps_itself, run_keeps}
 use Rattle.moka_drive.specs.Saved.{KeepsRecords}
@@ -52,15 +52,15 @@ module _ {K V X P W : Type 0} where
       go None (Err UnknownTicket) h = subst (KeepsRecords s) (sym h) (keeps_itself s.records)
       go o a h = absurd h
 
-module _ {K V S X L P W C : Type 0} (m : Meaning K V X L P W C (Unit {0})) (old mid : Cache K V S X L P W) (now : Instant) (e : Events K V) (due : RunsIfDue (ListedRun m.says m.read old.write_list mid.write_list) old.state (length old.state.writes) now.0 e mid.state) (ticket : ℕ) where
+module _ {K V S X L P W C : Type 0} (m : Meaning K V X L P W C (Unit {0})) (old mid : Engine K V S X L P W) (now : Instant) (e : Events K V) (due : RunsIfDue (ListedRun m.says m.read old.write_list mid.write_list) old.state (length old.state.writes) now.0 e mid.state) (ticket : ℕ) where
   -- a ticket is posted at once
-  pub kept_at_once : (a : Result (Unit {0}) SendError) (new : Cache K V S X L P W) → SendStep mid.state ticket a new.state → KeepsRecords old.state new.state
+  pub kept_at_once : (a : Result (Unit {0}) SendError) (new : Engine K V S X L P W) → SendStep mid.state ticket a new.state → KeepsRecords old.state new.state
   kept_at_once a new step = keeps_then old.state.records mid.state.records new.state.records (due_keeps m.says m.read old.write_list mid.write_list old.state (length old.state.writes) now.0 e mid.state due) (send_keeps mid.state ticket a new.state step)
 
   -- or after a run
-  pub kept_after_run : (refused : Result (Unit {0}) SendError) (full : Cache K V S X L P W) → SendStep mid.state ticket refused full.state →
-      (more : Bool) (f : Events K V) (emptied : Cache K V S X L P W) → RunStep (ListedRun m.says m.read full.write_list emptied.write_list) full.state (record { now = now.0; limit = None; batch = 384 }) more f emptied.state →
-      (a : Result (Unit {0}) SendError) (new : Cache K V S X L P W) → SendStep emptied.state ticket a new.state → KeepsRecords old.state new.state
+  pub kept_after_run : (refused : Result (Unit {0}) SendError) (full : Engine K V S X L P W) → SendStep mid.state ticket refused full.state →
+      (more : Bool) (f : Events K V) (emptied : Engine K V S X L P W) → RunStep (ListedRun m.says m.read full.write_list emptied.write_list) full.state (record { now = now.0; limit = None; batch = 384 }) more f emptied.state →
+      (a : Result (Unit {0}) SendError) (new : Engine K V S X L P W) → SendStep emptied.state ticket a new.state → KeepsRecords old.state new.state
   kept_after_run refused full step more f emptied run a new sent =
       keeps_then old.state.records full.state.records new.state.records (kept_at_once refused full step)
       (keeps_then full.state.records emptied.state.records new.state.records (listed_run_keeps m.says m.read full.write_list emptied.write_list full.state (record { now = now.0; limit = None; batch = 384 }) run.0 f.notices emptied.state run.1) (send_keeps emptied.state ticket a new.state sent))

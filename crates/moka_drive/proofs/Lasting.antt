@@ -24,7 +24,7 @@ use Rattle.moka_parts.specs.Listed.{ListedRun, LeavesList}
 use Rattle.moka_parts.specs.Maintenance.{Choice, Removes, MovesToBack, Drops, Freedom, Terms, Course, Tests, DoesNothing, RunsBy, HasCause, AreJustified, is_past_write, is_past_read, is_front, is_over, after_choice, after_choices, kept_by_choices, after_queued_reads, before_steps, at_end, after_run, tests_of, AreFree}
 use Rattle.moka_parts.specs.Reads.{after_reads, after_read}
 use Rattle.moka_parts.specs.Records.{Notice, Records, counted_of, has_room, is_member}
-use Rattle.moka_parts.specs.Runs.{Cache}
+use Rattle.moka_parts.specs.Runs.{Engine}
 use Rattle.moka_parts.specs.Settling.{IsWaiting}
 use Rattle.moka_parts.specs.State.{State, Contents, Events, Meaning, contents, is_disabled}
 use Rattle.moka_parts.specs.Visibility.{has_lapsed, is_expired, is_past_live, is_past_idle, is_written_before, is_read_before}
@@ -426,15 +426,15 @@ module _ {K V X P W : Type 0} (weighs : W → K → V → ℕ → Type 0) where
       go None there (Err QueueFull) h = absurd h
       go None there (Ok u) h = absurd h
 
-module _ {K V S X L P W C : Type 0} (m : Meaning K V X L P W C (Unit {0})) (old mid : Cache K V S X L P W) (now : Instant) (e : Events K V) (due : RunsIfDue (ListedRun m.says m.read old.write_list mid.write_list) old.state (length old.state.writes) now.0 e mid.state) (ticket : ℕ) where
+module _ {K V S X L P W C : Type 0} (m : Meaning K V X L P W C (Unit {0})) (old mid : Engine K V S X L P W) (now : Instant) (e : Events K V) (due : RunsIfDue (ListedRun m.says m.read old.write_list mid.write_list) old.state (length old.state.writes) now.0 e mid.state) (ticket : ℕ) where
   -- a ticket is posted at once
-  pub lasts_at_once : (a : Result (Unit {0}) SendError) (new : Cache K V S X L P W) → SendStep mid.state ticket a new.state → TakesOnlyExpired m.weighs [] now.0 old.state new.state
+  pub lasts_at_once : (a : Result (Unit {0}) SendError) (new : Engine K V S X L P W) → SendStep mid.state ticket a new.state → TakesOnlyExpired m.weighs [] now.0 old.state new.state
   lasts_at_once a new step = keeps_then m.weighs [] [] now.0 old.state mid.state new.state (due_lasts m.weighs m.says m.read old.write_list mid.write_list old.state (length old.state.writes) now.0 e mid.state due) (send_lasts m.weighs now.0 mid.state ticket a new.state step)
 
   -- or after a run
-  pub lasts_after_run : (error : SendError) (full : Cache K V S X L P W) → SendStep mid.state ticket (Err error) full.state →
-      (more : Bool) (f : Events K V) (emptied : Cache K V S X L P W) → RunStep (ListedRun m.says m.read full.write_list emptied.write_list) full.state (record { now = now.0; limit = None; batch = 384 }) more f emptied.state →
-      (a : Result (Unit {0}) SendError) (new : Cache K V S X L P W) → SendStep emptied.state ticket a new.state → TakesOnlyExpired m.weighs [] now.0 old.state new.state
+  pub lasts_after_run : (error : SendError) (full : Engine K V S X L P W) → SendStep mid.state ticket (Err error) full.state →
+      (more : Bool) (f : Events K V) (emptied : Engine K V S X L P W) → RunStep (ListedRun m.says m.read full.write_list emptied.write_list) full.state (record { now = now.0; limit = None; batch = 384 }) more f emptied.state →
+      (a : Result (Unit {0}) SendError) (new : Engine K V S X L P W) → SendStep emptied.state ticket a new.state → TakesOnlyExpired m.weighs [] now.0 old.state new.state
   lasts_after_run error full refused more f emptied run a new step =
       keeps_then m.weighs [] [] now.0 old.state full.state new.state (lasts_at_once (Err error) full refused)
       (keeps_then m.weighs [] [] now.0 full.state emptied.state new.state (listed_run_lasts m.weighs m.says m.read full.write_list emptied.write_list full.state (record { now = now.0; limit = None; batch = 384 }) run.0 f.notices emptied.state run.1) (send_lasts m.weighs now.0 emptied.state ticket a new.state step))

@@ -12,7 +12,7 @@ use Rattle.moka_parts.specs.State.{State, Meaning, Events}
 use Rattle.moka_parts.specs.Maintenance.{Terms, Course}
 use Rattle.moka_parts.specs.Surroundings.{Leads, NoticeStep, Heard}
 use Rattle.moka_parts.specs.Calls.{no_events}
-use Rattle.moka_parts.specs.Runs.{Cache, Befalls, CallStep, Step, AreSteps, MakesCalls, PromisedRun, passes_after, last_passes, last_state, notices_of, readings_of, ids_of}
+use Rattle.moka_parts.specs.Runs.{Engine, Befalls, CallStep, Step, AreSteps, MakesCalls, PromisedRun, passes_after, last_passes, last_state, notices_of, readings_of, ids_of}
 use Rattle.moka_parts.specs.Listed.{ListedRun, ListedStep, AreListedSteps}
 use Rattle.moka_parts.proofs.RunsGoOn.{Leads-append, Heard-append, MakesCalls_push}
 use Rattle.moka_parts.proofs.OrderedDrive.{listed_call_promised}
@@ -34,12 +34,12 @@ nothing_heard tells None = refl
 nothing_heard tells (Some l) = refl
 
 -- no event befalls a cache that stays the same
-pub nothing_befalls : {K V S X L P W : Type 0} (tells : L → K → V → RemovalCause → L → Type 0) (c : Cache K V S X L P W) → Befalls tells no_events c c
+pub nothing_befalls : {K V S X L P W : Type 0} (tells : L → K → V → RemovalCause → L → Type 0) (c : Engine K V S X L P W) → Befalls tells no_events c c
 nothing_befalls tells c = record { kept = refl; heard = nothing_heard tells c.listener; passes = refl; listed = λ none. refl }
 
 module _ {K V S X L P W C : Type 0} (m : Meaning K V X L P W C (Unit {0})) where
   -- no call was made
-  pub made_nothing : (c : Cache K V S X L P W) (clock : C) → Made m [] [] c clock c clock
+  pub made_nothing : (c : Engine K V S X L P W) (clock : C) → Made m [] [] c clock c clock
   made_nothing c clock = record {
     steps = [];
     is_run = record { calls_made = refl; replies_given = refl; are_steps = tt; ends = refl; heard = nothing_heard m.tells c.listener; read = refl; given = refl };
@@ -48,7 +48,7 @@ module _ {K V S X L P W C : Type 0} (m : Meaning K V X L P W C (Unit {0})) where
   }
 
   -- one call was made
-  pub made_one : (old new : Cache K V S X L P W) (clock clock_after : C) (c : Call K V P) (r : Reply K V P) (e : Events K V) → CallStep m (ListedRun m.says m.read old.write_list new.write_list) old.state c r e new.state → Befalls m.tells e old new → Leads m.observes clock e.readings clock_after → e.ids ≡ [] → IsSentInOrder old.state c
+  pub made_one : (old new : Engine K V S X L P W) (clock clock_after : C) (c : Call K V P) (r : Reply K V P) (e : Events K V) → CallStep m (ListedRun m.says m.read old.write_list new.write_list) old.state c r e new.state → Befalls m.tells e old new → Leads m.observes clock e.readings clock_after → e.ids ≡ [] → IsSentInOrder old.state c
       → Made m (c ∷ []) (r ∷ []) old clock new clock_after
   unfolding made_nothing
   made_one old new clock clock_after c r e step befalls read unasked sent =
@@ -87,7 +87,7 @@ module _ {K V X L P W C I : Type 0} (m : Meaning K V X L P W C I) where
   listed-append s before mid last (x ∷ xs) ys (after, first, rest) k = (after, first, listed-append x.after after mid last xs ys rest k)
 
   -- calls after calls
-  pub calls-append : {S : Type 0} (Runs : State K V X P W → Terms → Course → List (Notice K V) → State K V X P W → Type 0) (cs ds : List (Call K V P)) (rs ss : List (Reply K V P)) (xs ys : List (Step K V X P W)) (old mid new : Cache K V S X L P W) (c1 c2 c3 : C) (i1 i2 i3 : I) →
+  pub calls-append : {S : Type 0} (Runs : State K V X P W → Terms → Course → List (Notice K V) → State K V X P W → Type 0) (cs ds : List (Call K V P)) (rs ss : List (Reply K V P)) (xs ys : List (Step K V X P W)) (old mid new : Engine K V S X L P W) (c1 c2 c3 : C) (i1 i2 i3 : I) →
       MakesCalls m Runs cs rs xs old c1 i1 mid c2 i2 → MakesCalls m Runs ds ss ys mid c2 i2 new c3 i3 → MakesCalls m Runs (cs ++ ds) (rs ++ ss) (xs ++ ys) old c1 i1 new c3 i3
   calls-append Runs cs ds rs ss xs ys old mid new c1 c2 c3 i1 i2 i3 h k =
       let state : mid.state ≡ last_state old.state xs = ap (λ c. c.state) h.ends in
@@ -99,10 +99,10 @@ module _ {K V X L P W C I : Type 0} (m : Meaning K V X L P W C I) where
         calls_made = map-append (λ x. x.call) xs ys ∙ ap (λ zs. zs ++ map (λ x. x.call) ys) h.calls_made ∙ ap (λ zs. cs ++ zs) k.calls_made;
         replies_given = map-append (λ x. x.reply) xs ys ∙ ap (λ zs. zs ++ map (λ x. x.reply) ys) h.replies_given ∙ ap (λ zs. rs ++ zs) k.replies_given;
         are_steps = steps-append Runs old.state xs ys h.are_steps (subst (λ s. AreSteps m Runs s ys) state k.are_steps);
-        ends = k.ends ∙ ap (λ n. record mid { name = n; state = last_state mid.state ys; listener = new.listener; write_list = new.write_list; passes = last_passes mid.passes ys }) name
-            ∙ ap (λ h. record old { hasher = h; state = last_state mid.state ys; listener = new.listener; write_list = new.write_list; passes = last_passes mid.passes ys }) hasher
-            ∙ ap (λ s. record old { state = s; listener = new.listener; write_list = new.write_list; passes = last_passes mid.passes ys }) after
-            ∙ ap (λ p. record old { state = last_state old.state (xs ++ ys); listener = new.listener; write_list = new.write_list; passes = p }) passes;
+        ends = k.ends ∙ ap (λ n. record mid { name = n; state = last_state mid.state ys; listener = new.listener; write_list = new.write_list; passes = last_passes mid.passes ys; room = new.room }) name
+            ∙ ap (λ h. record old { hasher = h; state = last_state mid.state ys; listener = new.listener; write_list = new.write_list; passes = last_passes mid.passes ys; room = new.room }) hasher
+            ∙ ap (λ s. record old { state = s; listener = new.listener; write_list = new.write_list; passes = last_passes mid.passes ys; room = new.room }) after
+            ∙ ap (λ p. record old { state = last_state old.state (xs ++ ys); listener = new.listener; write_list = new.write_list; passes = p; room = new.room }) passes;
         heard = rw (flat_map-append (λ (x : Step K V X P W). x.events.notices) xs ys) (Heard-append m.tells old.listener mid.listener new.listener (notices_of xs) (notices_of ys) h.heard k.heard);
         read = rw (flat_map-append (λ (x : Step K V X P W). x.events.readings) xs ys) (Leads-append m.observes c1 c2 c3 (readings_of xs) (readings_of ys) h.read k.read);
         given = rw (flat_map-append (λ (x : Step K V X P W). x.events.ids) xs ys) (Leads-append m.gives i1 i2 i3 (ids_of xs) (ids_of ys) h.given k.given);
@@ -110,7 +110,7 @@ module _ {K V X L P W C I : Type 0} (m : Meaning K V X L P W C I) where
 
 module _ {K V S X L P W C : Type 0} (m : Meaning K V X L P W C (Unit {0})) where
   -- what was made after what was made
-  pub made_then : (cs ds : List (Call K V P)) (rs ss : List (Reply K V P)) (old mid new : Cache K V S X L P W) (c1 c2 c3 : C) → Made m cs rs old c1 mid c2 → Made m ds ss mid c2 new c3 → Made m (cs ++ ds) (rs ++ ss) old c1 new c3
+  pub made_then : (cs ds : List (Call K V P)) (rs ss : List (Reply K V P)) (old mid new : Engine K V S X L P W) (c1 c2 c3 : C) → Made m cs rs old c1 mid c2 → Made m ds ss mid c2 new c3 → Made m (cs ++ ds) (rs ++ ss) old c1 new c3
   made_then cs ds rs ss old mid new c1 c2 c3 h k =
       let state : mid.state ≡ last_state old.state h.steps = ap (λ c. c.state) h.is_run.ends in
       record {
@@ -167,11 +167,11 @@ module _ {K V X L P W C : Type 0} (m : Meaning K V X L P W C (Unit {0})) (tells 
 
 module _ {K V S X L P W C : Type 0} (m : Meaning K V X L P W C (Unit {0})) (tells : L → K → V → RemovalCause → L → Type 0) (more : (l : L) (k : K) (v : V) (cause : RemovalCause) (after : L) → m.tells l k v cause after → tells l k v cause after) where
   -- what befalls a cache
-  pub befalls_more : (e : Events K V) (old new : Cache K V S X L P W) → Befalls m.tells e old new → Befalls tells e old new
+  pub befalls_more : (e : Events K V) (old new : Engine K V S X L P W) → Befalls m.tells e old new → Befalls tells e old new
   befalls_more e old new h = record { kept = h.kept; heard = heard_more m.tells tells more old.listener new.listener e.notices h.heard; passes = h.passes; listed = h.listed }
 
   -- what was made
-  pub made_more : (calls : List (Call K V P)) (replies : List (Reply K V P)) (old new : Cache K V S X L P W) (clock clock_after : C) → Made m calls replies old clock new clock_after → Made (record m { tells = tells }) calls replies old clock new clock_after
+  pub made_more : (calls : List (Call K V P)) (replies : List (Reply K V P)) (old new : Engine K V S X L P W) (clock clock_after : C) → Made m calls replies old clock new clock_after → Made (record m { tells = tells }) calls replies old clock new clock_after
   made_more calls replies old new clock clock_after h = record {
     steps = h.steps;
     is_run = record {

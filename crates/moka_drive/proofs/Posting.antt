@@ -13,7 +13,7 @@ use Rattle.moka_parts.specs.State.{State, Meaning, Events, is_disabled}
 use Rattle.moka_parts.specs.Maintenance.{Terms, Course}
 use Rattle.moka_parts.specs.Surroundings.{Leads}
 use Rattle.moka_parts.specs.Calls.{no_events, RunStep, RunsIfDue, SendStep}
-use Rattle.moka_parts.specs.Runs.{Cache, Befalls, EndsWell}
+use Rattle.moka_parts.specs.Runs.{Engine, Befalls, EndsWell}
 use Rattle.moka_parts.specs.Bounds.{IsBounded}
 use Rattle.moka_parts.specs.Listed.{ListedRun, LeavesList}
 use Rattle.moka_drive.specs.Synchronous.{Made, Makes, Posts, own_run}
@@ -50,15 +50,15 @@ module _ {K V X P W : Type 0} (says : P → K → V → Bool → Type 0) (read :
 
 module _ {K V S X L P W C : Type 0} (m : Meaning K V X L P W C (Unit {0})) where
   -- a send of the only operation that waits
-  made_send : (mid new : Cache K V S X L P W) (clock : C) (ticket : Ticket) (o : Operation) → mid.state.outstanding ≡ insert empty ticket.0 o → (a : Result (Unit {0}) SendError) → SendStep mid.state ticket.0 a new.state → Befalls m.tells no_events mid new → Made m (call.Send ticket ∷ []) (reply.Send a ∷ []) mid clock new clock
+  made_send : (mid new : Engine K V S X L P W) (clock : C) (ticket : Ticket) (o : Operation) → mid.state.outstanding ≡ insert empty ticket.0 o → (a : Result (Unit {0}) SendError) → SendStep mid.state ticket.0 a new.state → Befalls m.tells no_events mid new → Made m (call.Send ticket ∷ []) (reply.Send a ∷ []) mid clock new clock
   made_send mid new clock ticket o alone a step befell = made_one m mid new clock clock (call.Send ticket) (reply.Send a) no_events (step, refl) befell refl refl (alone_in_order mid.state ticket o alone)
 
   -- a run that a caller asks for
-  pub made_run : (old new : Cache K V S X L P W) (clock clock_after : C) (now : Instant) (more : Bool) (e : Events K V) → RunStep (ListedRun m.says m.read old.write_list new.write_list) old.state (record { now = now.0; limit = None; batch = 384 }) more e new.state → Befalls m.tells e old new → Leads m.observes clock e.readings clock_after
+  pub made_run : (old new : Engine K V S X L P W) (clock clock_after : C) (now : Instant) (more : Bool) (e : Events K V) → RunStep (ListedRun m.says m.read old.write_list new.write_list) old.state (record { now = now.0; limit = None; batch = 384 }) more e new.state → Befalls m.tells e old new → Leads m.observes clock e.readings clock_after
       → Made m (own_run now ∷ []) (reply.Run more ∷ []) old clock new clock_after
   made_run old new clock clock_after now more e step befell read = made_one m old new clock clock_after (own_run now) (reply.Run more) e step befell read (ap (λ (x : Events K V). x.ids) step.3) tt
 
-  module _ (old mid : Cache K V S X L P W) (clock clock_mid : C) (ticket : Ticket) (now : Instant) (o : Operation) (alone : old.state.outstanding ≡ insert empty ticket.0 o) (enabled : is_disabled old.state.capacity ≡ false)
+  module _ (old mid : Engine K V S X L P W) (clock clock_mid : C) (ticket : Ticket) (now : Instant) (o : Operation) (alone : old.state.outstanding ≡ insert empty ticket.0 o) (enabled : is_disabled old.state.capacity ≡ false)
       (e : Events K V) (due : RunsIfDue (ListedRun m.says m.read old.write_list mid.write_list) old.state (length old.state.writes) now.0 e mid.state) (befell : Befalls m.tells e old mid) (read : Leads m.observes clock e.readings clock_mid) where
     after_due : IsAlike old.state mid.state × (e.ids ≡ [])
     after_due = due_alike (ListedRun m.says m.read old.write_list mid.write_list) (listed_run_alike m.says m.read old.write_list mid.write_list) old.state (length old.state.writes) now.0 e mid.state due
@@ -76,7 +76,7 @@ module _ {K V S X L P W C : Type 0} (m : Meaning K V X L P W C (Unit {0})) where
     still_alone = after_due.0.outstanding ∙ alone
 
     -- the queue has room
-    pub posted_at_once : (u : Unit {0}) (new : Cache K V S X L P W) → SendStep mid.state ticket.0 (Ok u) new.state → Befalls m.tells no_events mid new → Makes m (Posts now ticket) old clock new clock_mid × (new.state.outstanding ≡ empty)
+    pub posted_at_once : (u : Unit {0}) (new : Engine K V S X L P W) → SendStep mid.state ticket.0 (Ok u) new.state → Befalls m.tells no_events mid new → Makes m (Posts now ticket) old clock new clock_mid × (new.state.outstanding ≡ empty)
     posted_at_once u new step befell_send = (
       (
         call.RunIfDue now ∷ call.Send ticket ∷ [],
@@ -88,9 +88,9 @@ module _ {K V S X L P W C : Type 0} (m : Meaning K V X L P W C (Unit {0})) where
     )
 
     -- the queue is full, and a run empties it
-    pub posted_after_run : (error : SendError) (full : Cache K V S X L P W) → SendStep mid.state ticket.0 (Err error) full.state → Befalls m.tells no_events mid full →
-        (more : Bool) (f : Events K V) (emptied : Cache K V S X L P W) (clock_after : C) → RunStep (ListedRun m.says m.read full.write_list emptied.write_list) full.state (record { now = now.0; limit = None; batch = 384 }) more f emptied.state → Befalls m.tells f full emptied → Leads m.observes clock_mid f.readings clock_after →
-        (a : Result (Unit {0}) SendError) (new : Cache K V S X L P W) → SendStep emptied.state ticket.0 a new.state → Befalls m.tells no_events emptied new → Makes m (Posts now ticket) old clock new clock_after × (new.state.outstanding ≡ empty)
+    pub posted_after_run : (error : SendError) (full : Engine K V S X L P W) → SendStep mid.state ticket.0 (Err error) full.state → Befalls m.tells no_events mid full →
+        (more : Bool) (f : Events K V) (emptied : Engine K V S X L P W) (clock_after : C) → RunStep (ListedRun m.says m.read full.write_list emptied.write_list) full.state (record { now = now.0; limit = None; batch = 384 }) more f emptied.state → Befalls m.tells f full emptied → Leads m.observes clock_mid f.readings clock_after →
+        (a : Result (Unit {0}) SendError) (new : Engine K V S X L P W) → SendStep emptied.state ticket.0 a new.state → Befalls m.tells no_events emptied new → Makes m (Posts now ticket) old clock new clock_after × (new.state.outstanding ≡ empty)
     posted_after_run error full refused befell_refused more f emptied clock_after run befell_run read_run a new step befell_send =
         let r = refused_alone mid.state ticket.0 o still_alone error full.state refused in
         let alone_full : full.state.outstanding ≡ insert empty ticket.0 o = ap (λ (x : State K V X P W). x.outstanding) r.2 ∙ still_alone in
@@ -113,12 +113,12 @@ module _ {K V S X L P W C : Type 0} (m : Meaning K V X L P W C (Unit {0})) where
         )
 
     -- what was unsent is there afterwards
-    pub held_at_once : (a : Result (Unit {0}) SendError) (new : Cache K V S X L P W) → SendStep mid.state ticket.0 a new.state → HoldsUnsent old.state new.state
+    pub held_at_once : (a : Result (Unit {0}) SendError) (new : Engine K V S X L P W) → SendStep mid.state ticket.0 a new.state → HoldsUnsent old.state new.state
     held_at_once a new step n r older held = subst (IsHeld n r) (sym (send_holds mid.state ticket.0 a new.state step)) (due_kept.0 n r older held)
 
-    pub held_after_run : (error : SendError) (full : Cache K V S X L P W) → SendStep mid.state ticket.0 (Err error) full.state →
-        (more : Bool) (f : Events K V) (emptied : Cache K V S X L P W) → RunStep (ListedRun m.says m.read full.write_list emptied.write_list) full.state (record { now = now.0; limit = None; batch = 384 }) more f emptied.state →
-        (a : Result (Unit {0}) SendError) (new : Cache K V S X L P W) → SendStep emptied.state ticket.0 a new.state → HoldsUnsent old.state new.state
+    pub held_after_run : (error : SendError) (full : Engine K V S X L P W) → SendStep mid.state ticket.0 (Err error) full.state →
+        (more : Bool) (f : Events K V) (emptied : Engine K V S X L P W) → RunStep (ListedRun m.says m.read full.write_list emptied.write_list) full.state (record { now = now.0; limit = None; batch = 384 }) more f emptied.state →
+        (a : Result (Unit {0}) SendError) (new : Engine K V S X L P W) → SendStep emptied.state ticket.0 a new.state → HoldsUnsent old.state new.state
     held_after_run error full refused more f emptied run a new step n r older held =
         let back = refused_alone mid.state ticket.0 o still_alone error full.state refused in
         let older_full : AreOlder n r full.state.writes = subst (λ (x : State K V X P W). AreOlder n r x.writes) (sym back.2) (older_left n r old.state.writes mid.state.writes due_kept.1 older) in
@@ -126,12 +126,12 @@ module _ {K V S X L P W C : Type 0} (m : Meaning K V X L P W C (Unit {0})) where
         subst (IsHeld n r) (sym (send_holds emptied.state ticket.0 a new.state step)) (listed_run_holds m.says m.read full.write_list emptied.write_list full.state (record { now = now.0; limit = None; batch = 384 }) run.0 f.notices emptied.state run.1 n r older_full held_full)
 
     -- and nothing hides more
-    pub hidden_at_once : (a : Result (Unit {0}) SendError) (new : Cache K V S X L P W) → SendStep mid.state ticket.0 a new.state → HidesNoMore old.state new.state
+    pub hidden_at_once : (a : Result (Unit {0}) SendError) (new : Engine K V S X L P W) → SendStep mid.state ticket.0 a new.state → HidesNoMore old.state new.state
     hidden_at_once a new step = then old.state mid.state new.state due_hidden (send_hides mid.state ticket.0 a new.state step)
 
-    pub hidden_after_run : (error : SendError) (full : Cache K V S X L P W) → SendStep mid.state ticket.0 (Err error) full.state →
-        (more : Bool) (f : Events K V) (emptied : Cache K V S X L P W) → RunStep (ListedRun m.says m.read full.write_list emptied.write_list) full.state (record { now = now.0; limit = None; batch = 384 }) more f emptied.state →
-        (a : Result (Unit {0}) SendError) (new : Cache K V S X L P W) → SendStep emptied.state ticket.0 a new.state → HidesNoMore old.state new.state
+    pub hidden_after_run : (error : SendError) (full : Engine K V S X L P W) → SendStep mid.state ticket.0 (Err error) full.state →
+        (more : Bool) (f : Events K V) (emptied : Engine K V S X L P W) → RunStep (ListedRun m.says m.read full.write_list emptied.write_list) full.state (record { now = now.0; limit = None; batch = 384 }) more f emptied.state →
+        (a : Result (Unit {0}) SendError) (new : Engine K V S X L P W) → SendStep emptied.state ticket.0 a new.state → HidesNoMore old.state new.state
     hidden_after_run error full refused more f emptied run a new step =
         then old.state full.state new.state (hidden_at_once (Err error) full refused)
         (then full.state emptied.state new.state (listed_run_hides m.says m.read full.write_list emptied.write_list full.state (record { now = now.0; limit = None; batch = 384 }) run.0 f.notices emptied.state run.1) (send_hides emptied.state ticket.0 a new.state step))

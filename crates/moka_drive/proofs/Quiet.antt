@@ -20,7 +20,7 @@ use Rattle.moka_parts.specs.Maintenance.{Terms, Course}
 use Rattle.moka_parts.specs.Surroundings.{Heard}
 use Rattle.moka_parts.specs.Calls.{no_events, only_notices, GetsAt, GetStep, after_hit, hit_at, hit_operation, KeeperRun, KeysStep, RecordsRead, Unchanged}
 use Rattle.moka_parts.specs.Copies.{ClonesAreEqual, IsCopy}
-use Rattle.moka_parts.specs.Runs.{Cache, Befalls, CallStep, MakesCalls}
+use Rattle.moka_parts.specs.Runs.{Engine, Befalls, CallStep, MakesCalls}
 use Rattle.moka_parts.proofs.Copies.{copy-same}
 use Rattle.moka_drive.specs.Replies.{TellsPending}
 use Rattle.moka_drive.proofs.Made.{nothing_heard}
@@ -31,7 +31,7 @@ empty_of_length [] e = refl
 empty_of_length (x ∷ xs) e = cc
 
 -- before the first call
-pub no_calls : {K V S X L P W C I : Type 0} (m : Meaning K V X L P W C I) (Runs : State K V X P W → Terms → Course → List (Notice K V) → State K V X P W → Type 0) (c : Cache K V S X L P W) (clock : C) (ids : I) → MakesCalls m Runs [] [] [] c clock ids c clock ids
+pub no_calls : {K V S X L P W C I : Type 0} (m : Meaning K V X L P W C I) (Runs : State K V X P W → Terms → Course → List (Notice K V) → State K V X P W → Type 0) (c : Engine K V S X L P W) (clock : C) (ids : I) → MakesCalls m Runs [] [] [] c clock ids c clock ids
 no_calls m Runs c clock ids = record { calls_made = refl; replies_given = refl; are_steps = tt; ends = refl; heard = nothing_heard m.tells c.listener; read = refl; given = refl }
 
 -- where clones of keys are equal, a list of clones is one of the keys themselves
@@ -82,16 +82,19 @@ heard_nothing tells (Some l) None h = absurd h
 
 module _ {K V S X L P W : Type 0} (tells : L → K → V → RemovalCause → L → Type 0) where
   -- where nothing happened before the notices, they are all that befalls the cache
-  pub befalls_after : (ns : List (Notice K V)) (old mid new : Cache K V S X L P W) → mid.listener ≡ old.listener → Befalls tells no_events old mid → Befalls tells (only_notices ns) mid new → Befalls tells (only_notices ns) old new
+  pub befalls_after : (ns : List (Notice K V)) (old mid new : Engine K V S X L P W) → mid.listener ≡ old.listener → Befalls tells no_events old mid → Befalls tells (only_notices ns) mid new → Befalls tells (only_notices ns) old new
   befalls_after ns old mid new same before after =
-      let name : mid.name ≡ old.name = ap (λ (c : Cache K V S X L P W). c.name) before.kept in
-      let hasher : mid.hasher ≡ old.hasher = ap (λ (c : Cache K V S X L P W). c.hasher) before.kept in
+      let name : mid.name ≡ old.name = ap (λ (c : Engine K V S X L P W). c.name) before.kept in
+      let hasher : mid.hasher ≡ old.hasher = ap (λ (c : Engine K V S X L P W). c.hasher) before.kept in
       record {
-        kept = after.kept ∙ ap (λ n. record mid { name = n; state = new.state; listener = new.listener; write_list = new.write_list; passes = new.passes }) name ∙ ap (λ h. record old { hasher = h; state = new.state; listener = new.listener; write_list = new.write_list; passes = new.passes }) hasher;
+        kept =
+            after.kept
+            ∙ ap (λ n. record mid { name = n; state = new.state; listener = new.listener; write_list = new.write_list; passes = new.passes; room = new.room }) name
+            ∙ ap (λ h. record old { hasher = h; state = new.state; listener = new.listener; write_list = new.write_list; passes = new.passes; room = new.room }) hasher;
         heard = subst (λ l. Heard tells l ns new.listener) same after.heard;
         passes = after.passes ∙ before.passes;
         listed = λ none. after.listed none ∙ before.listed refl;
       }
 
-  pub befalls_then : (ns : List (Notice K V)) (old mid new : Cache K V S X L P W) → Befalls tells no_events old mid → Befalls tells (only_notices ns) mid new → Befalls tells (only_notices ns) old new
+  pub befalls_then : (ns : List (Notice K V)) (old mid new : Engine K V S X L P W) → Befalls tells no_events old mid → Befalls tells (only_notices ns) mid new → Befalls tells (only_notices ns) old new
   befalls_then ns old mid new before after = befalls_after ns old mid new (heard_nothing tells old.listener mid.listener before.heard) before after

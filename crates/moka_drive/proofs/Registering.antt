@@ -13,7 +13,7 @@ use Rattle.moka_parts.specs.Records.{Notice}
 use Rattle.moka_parts.specs.Calls.{InvalidateStep, only_ids}
 use Rattle.moka_parts.specs.Listed.{ListedRun, ListedStep, AreListedSteps}
 use Rattle.moka_parts.specs.Maintenance.{Terms, Course}
-use Rattle.moka_parts.specs.Runs.{Cache, Step, CallStep, AreSteps, Befalls, MakesCalls, PromisedRun, last_state, ids_of}
+use Rattle.moka_parts.specs.Runs.{Engine, Step, CallStep, AreSteps, Befalls, MakesCalls, PromisedRun, last_state, ids_of}
 use Rattle.moka_parts.specs.State.{State, Meaning, Events}
 use Rattle.moka_parts.specs.Surroundings.{Leads, Heard}
 use Rattle.moka_parts.proofs.OrderedDrive.{drives_in_order, listed_call_promised}
@@ -72,7 +72,7 @@ unheard told tells (Some a) None h = absurd h
 
 module _ {K V S X L P W C I : Type 0} (m : Meaning K V X L P W C I) where
   -- one call alone
-  made_step : (old new : Cache K V S X L P W) (clock clock_after : C) (ids ids_after : I) (x : Step K V X P W) → ListedStep m old.state old.write_list x new.write_list → x.after ≡ new.state → Befalls m.tells x.events old new → Leads m.observes clock x.events.readings clock_after → Leads m.gives ids x.events.ids ids_after → IsSentInOrder old.state x.call
+  made_step : (old new : Engine K V S X L P W) (clock clock_after : C) (ids ids_after : I) (x : Step K V X P W) → ListedStep m old.state old.write_list x new.write_list → x.after ≡ new.state → Befalls m.tells x.events old new → Leads m.observes clock x.events.readings clock_after → Leads m.gives ids x.events.ids ids_after → IsSentInOrder old.state x.call
       → MadeAsking m (x.call ∷ []) (x.reply ∷ []) old clock ids new clock_after ids_after
   made_step old new clock clock_after ids ids_after x step after befalls read given sent = record {
     steps = x ∷ [];
@@ -81,14 +81,14 @@ module _ {K V S X L P W C I : Type 0} (m : Meaning K V X L P W C I) where
     in_order = (sent, tt);
   }
     where
-      unmade : (c : Cache K V S X L P W) (clock : C) (ids : I) → MakesCalls m (PromisedRun m.says m.read) [] [] [] c clock ids c clock ids
+      unmade : (c : Engine K V S X L P W) (clock : C) (ids : I) → MakesCalls m (PromisedRun m.says m.read) [] [] [] c clock ids c clock ids
       unmade c clock ids = record { calls_made = refl; replies_given = refl; are_steps = tt; ends = refl; heard = nothing_heard m.tells c.listener; read = refl; given = refl }
 
 module _ {K V X L P W C I : Type 0} (S : Type 0) (told : L → K → V → RemovalCause → L → Type 0) (m : Meaning K V X L P W C (Unit {0})) (none : (a : Unit {0}) (id : Uuid) (b : Unit {0}) → m.gives a id b → ⊥) (gives : I → Uuid → I → Type 0) (laws : IsEquivalence m.eq) where
   abbrev n : Meaning K V X L P W C I
   n = asking m gives
 
-  asks_none : (calls : List (Call K V P)) (replies : List (Reply K V P)) (old new : Cache K V S X L P W) (clock clock_after : C) (ids : I) → Made m calls replies old clock new clock_after → MadeAsking n calls replies old clock ids new clock_after ids
+  asks_none : (calls : List (Call K V P)) (replies : List (Reply K V P)) (old new : Engine K V S X L P W) (clock clock_after : C) (ids : I) → Made m calls replies old clock new clock_after → MadeAsking n calls replies old clock ids new clock_after ids
   asks_none calls replies old new clock clock_after ids h = record {
     steps = h.steps;
     is_run = record {
@@ -104,7 +104,7 @@ module _ {K V X L P W C I : Type 0} (S : Type 0) (told : L → K → V → Remov
     in_order = h.in_order;
   }
 
-  one_registered : (predicate : P) (now : Instant) (answer : Result Uuid (PredicateRefused P)) (e : Events K V) (old new : Cache K V S X L P W) (clock : C) (ids ids_after : I) →
+  one_registered : (predicate : P) (now : Instant) (answer : Result Uuid (PredicateRefused P)) (e : Events K V) (old new : Engine K V S X L P W) (clock : C) (ids ids_after : I) →
       InvalidateStep old.state predicate now answer e.ids new.state → e ≡ only_ids e.ids → Befalls told e old new → Leads gives ids e.ids ids_after → MadeAsking n (call.InvalidateIf predicate now ∷ []) (reply.InvalidateIf answer ∷ []) old clock ids new clock ids_after
   one_registered predicate now answer e old new clock ids ids_after step only befalls given =
       let quiet : e.notices ≡ [] = ap (λ (x : Events K V). x.notices) only in
@@ -113,7 +113,7 @@ module _ {K V X L P W C I : Type 0} (S : Type 0) (told : L → K → V → Remov
       let x : Step K V X P W = record { call = call.InvalidateIf predicate now; reply = reply.InvalidateIf answer; events = e; after = new.state } in
       made_step n old new clock clock ids ids_after x ((step, only), befalls.listed) refl (record { kept = befalls.kept; heard = heard; passes = befalls.passes; listed = befalls.listed }) (subst (λ rs. Leads m.observes clock rs clock) (sym unread) refl) given tt
 
-  asking_then : (calls later : List (Call K V P)) (replies answers : List (Reply K V P)) (old mid new : Cache K V S X L P W) (c1 c2 c3 : C) (i1 i2 i3 : I) → MadeAsking n calls replies old c1 i1 mid c2 i2 → MadeAsking n later answers mid c2 i2 new c3 i3 →
+  asking_then : (calls later : List (Call K V P)) (replies answers : List (Reply K V P)) (old mid new : Engine K V S X L P W) (c1 c2 c3 : C) (i1 i2 i3 : I) → MadeAsking n calls replies old c1 i1 mid c2 i2 → MadeAsking n later answers mid c2 i2 new c3 i3 →
       MadeAsking n (calls ++ later) (replies ++ answers) old c1 i1 new c3 i3
   asking_then calls later replies answers old mid new c1 c2 c3 i1 i2 i3 h k =
       let state : mid.state ≡ last_state old.state h.steps = ap (λ c. c.state) h.is_run.ends in

@@ -11,7 +11,7 @@ use Rattle.moka_parts.specs.declared.records.Operation.TheVariants.{Upsert, Remo
 use Rattle.moka_parts.specs.declared.records.Record.{Record}
 use Rattle.moka_parts.specs.Records.{Records}
 use Rattle.moka_parts.specs.Settling.{IsWaiting, IsValid}
-use Rattle.moka_parts.specs.Runs.{Cache}
+use Rattle.moka_parts.specs.Runs.{Engine}
 use Rattle.moka_parts.specs.State.{State, Meaning}
 use Rattle.moka_parts.proofs.Lookup.{present_key}
 use Rattle.moka_parts.proofs.Maps.{same_or_apart, get_inserted, get_past_insert}
@@ -103,11 +103,11 @@ module _ {K V X P W : Type 0} where
 
 module _ {K V S X L P W C : Type 0} (m : Meaning K V X L P W C (Unit {0})) (hash_of : S → K → ℕ) (now : Instant) where
   -- one more is put back
-  pub put_next : (done : List (Restored K V)) (item : Restored K V) (old mid new : Cache K V S X L P W) (c1 c2 c3 : C) → PutsAllBack m hash_of now done old c1 mid c2 → PutsBack m hash_of now item (Ok tt) mid c2 new c3 → PutsAllBack m hash_of now (done ++ item ∷ []) old c1 new c3
+  pub put_next : (done : List (Restored K V)) (item : Restored K V) (old mid new : Engine K V S X L P W) (c1 c2 c3 : C) → PutsAllBack m hash_of now done old c1 mid c2 → PutsBack m hash_of now item (Ok tt) mid c2 new c3 → PutsAllBack m hash_of now (done ++ item ∷ []) old c1 new c3
   put_next [] item old mid new c1 c2 c3 (same, still) put = (
     new,
     c3,
-    subst (λ (c : Cache K V S X L P W). PutsBack m hash_of now item (Ok tt) c c1 new c3) same (subst (λ (c : C). PutsBack m hash_of now item (Ok tt) mid c new c3) still put),
+    subst (λ (c : Engine K V S X L P W). PutsBack m hash_of now item (Ok tt) c c1 new c3) same (subst (λ (c : C). PutsBack m hash_of now item (Ok tt) mid c new c3) still put),
     (refl, refl),
   )
   put_next (x ∷ xs) item old mid new c1 c2 c3 (after, between, first, rest) put = (after, between, first, put_next xs item after mid new between c2 c3 rest put)

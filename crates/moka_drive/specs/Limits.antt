@@ -6,7 +6,7 @@ use Rattle.moka_parts.specs.declared.calls.Reply.{Reply}
 use Rattle.moka_parts.specs.declared.error.InsertRefused.{InsertRefused}
 use Rattle.moka_parts.specs.declared.error.OutOfMemory.{OutOfMemory}
 use Rattle.moka_parts.specs.declared.policy.Instant.{Instant}
-use Rattle.moka_parts.specs.Runs.{Cache}
+use Rattle.moka_parts.specs.Runs.{Engine}
 use Rattle.moka_parts.specs.State.{State, Meaning}
 use Rattle.moka_drive.specs.Computing.{Computed, Computes, Upserts}
 use Rattle.moka_drive.specs.Synchronous.{Made, InsertsEntry, GetsValue, RemovesEntry, GetsOrInserts, GetsOrInsertsIfMade, GetsOrInsertsIfNoError}
@@ -28,7 +28,7 @@ SetNoCapacity (c ∷ cs) = SetsNoCapacity c × SetNoCapacity cs
 
 -- over any list of calls that set no capacity the limits stay
 abbrev pub KeepsLimits : {K V X L P W C : Type 0} → Type 0 → Meaning K V X L P W C (Unit {0}) → Type 0
-KeepsLimits {K} {V} {X} {L} {P} {W} {C} S m = (calls : List (Call K V P)) (replies : List (Reply K V P)) (old new : Cache K V S X L P W) (clock clock_after : C) → Made m calls replies old clock new clock_after → SetNoCapacity calls → HasSameLimits old.state new.state
+KeepsLimits {K} {V} {X} {L} {P} {W} {C} S m = (calls : List (Call K V P)) (replies : List (Reply K V P)) (old new : Engine K V S X L P W) (clock clock_after : C) → Made m calls replies old clock new clock_after → SetNoCapacity calls → HasSameLimits old.state new.state
 
 -- what each call of the synchronous cache stands for sets none
 pub record CallsSetNoCapacity (K V P E : Type 0) (key : K) (hash : ℕ) (now : Instant) : Type 0 where

@@ -5,7 +5,7 @@ use Rattle.moka_parts.specs.declared.calls.Reply.{Reply}
 use Rattle.moka_parts.specs.declared.notification.RemovalCause.{RemovalCause}
 use Rattle.moka_parts.specs.declared.notification.RemovalCause.TheVariants.{Expired, Explicit, Replaced, Size}
 use Rattle.moka_parts.specs.Records.{Notice}
-use Rattle.moka_parts.specs.Runs.{Cache, notices_of}
+use Rattle.moka_parts.specs.Runs.{Engine, notices_of}
 use Rattle.moka_parts.specs.State.{Meaning}
 use Rattle.moka_parts.specs.Surroundings.{Heard}
 use Rattle.moka_parts.specs.Time.{greatest, plus}
@@ -64,7 +64,7 @@ pub record AreCounted {K V : Type 0} (notices : List (Notice K V)) (s t : Remova
 
 -- over any list of calls of a cache the counters are the notices of its run, by cause
 abbrev pub CountsRemovals : {K V X L P W C : Type 0} → Type 0 → Meaning K V X (CountingListener L) P W C (Unit {0}) → Type 0
-CountsRemovals {K} {V} {X} {L} {P} {W} {C} S m = (calls : List (Call K V P)) (replies : List (Reply K V P)) (old new : Cache K V S X (CountingListener L) P W) (clock clock_after : C) → AreHeld (removals_of old.listener) → (made : Made m calls replies old clock new clock_after) →
+CountsRemovals {K} {V} {X} {L} {P} {W} {C} S m = (calls : List (Call K V P)) (replies : List (Reply K V P)) (old new : Engine K V S X (CountingListener L) P W) (clock clock_after : C) → AreHeld (removals_of old.listener) → (made : Made m calls replies old clock new clock_after) →
     AreCounted (notices_of made.steps) (removals_of old.listener) (removals_of new.listener) × AreHeld (removals_of new.listener)
 
 -- and the listener within hears of each

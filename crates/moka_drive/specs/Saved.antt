@@ -12,7 +12,7 @@ use Rattle.moka_parts.specs.Calls.{no_events, Weighs}
 use Rattle.moka_parts.specs.Copies.{ClonesAreEqual}
 use Rattle.moka_parts.specs.Exact.{weight_of_records}
 use Rattle.moka_parts.specs.Records.{counted_of, is_member, numbers_of, record_of_key}
-use Rattle.moka_parts.specs.Runs.{Cache, Befalls, IsEmpty}
+use Rattle.moka_parts.specs.Runs.{Engine, Befalls, IsEmpty}
 use Rattle.moka_parts.specs.Settling.{IsValid, IsWaiting}
 use Rattle.moka_parts.specs.State.{State, Settings, Meaning, is_disabled}
 use Rattle.moka_parts.specs.Time.{has_passed, deadline, moment_of}
@@ -120,10 +120,10 @@ AreThere weighs eq now items s t = IsRoomyFor weighs items s → AllByRecursion 
 module _ {K V S X L P W C : Type 0} (m : Meaning K V X L P W C (Unit {0})) (hash_of : S → K → ℕ) (now : Instant) where
   -- an entry is put back, and its ticket posted; a disabled map lets it go, and one that is refused comes back for that
   -- reason
-  abbrev pub PutsBack : Restored K V → Result (Unit {0}) (RestoreRefused K V) → Cache K V S X L P W → C → Cache K V S X L P W → C → Type 0
+  abbrev pub PutsBack : Restored K V → Result (Unit {0}) (RestoreRefused K V) → Engine K V S X L P W → C → Engine K V S X L P W → C → Type 0
   PutsBack item (Ok done) old clock new clock_after =
       ((is_disabled old.state.capacity ≡ true) × (new ≡ old) × (clock_after ≡ clock))
-      ⊎ ((is_disabled old.state.capacity ≡ false) × (mid : Cache K V S X L P W) × (ticket : Ticket)
+      ⊎ ((is_disabled old.state.capacity ≡ false) × (mid : Engine K V S X L P W) × (ticket : Ticket)
       × RestoreStep m.weighs m.eq old.state item (hash_of old.hasher item.key) (Ok ticket) mid.state × Befalls m.tells no_events old mid
       × Makes m (Posts now ticket) mid clock new clock_after)
   PutsBack item (Err refused) old clock new clock_after =
@@ -131,17 +131,17 @@ module _ {K V S X L P W C : Type 0} (m : Meaning K V X L P W C (Unit {0})) (hash
       × Befalls m.tells no_events old new × (clock_after ≡ clock)
 
   -- each is put back, one after the other
-  abbrev pub PutsAllBack : List (Restored K V) → Cache K V S X L P W → C → Cache K V S X L P W → C → Type 0
+  abbrev pub PutsAllBack : List (Restored K V) → Engine K V S X L P W → C → Engine K V S X L P W → C → Type 0
   PutsAllBack [] old clock new clock_after = (new ≡ old) × (clock_after ≡ clock)
   PutsAllBack (item ∷ items) old clock new clock_after =
-      (mid : Cache K V S X L P W) × (between : C) × PutsBack item (Ok tt) old clock mid between × PutsAllBack items mid between new clock_after
+      (mid : Engine K V S X L P W) × (between : C) × PutsBack item (Ok tt) old clock mid between × PutsAllBack items mid between new clock_after
 
   -- each is put back; or those before the one that is refused, and those after it come back
-  abbrev pub PutsManyBack : List (Restored K V) → Result (Unit {0}) (RestoreManyRefused K V) → Cache K V S X L P W → C → Cache K V S X L P W → C → Type 0
+  abbrev pub PutsManyBack : List (Restored K V) → Result (Unit {0}) (RestoreManyRefused K V) → Engine K V S X L P W → C → Engine K V S X L P W → C → Type 0
   PutsManyBack items (Ok all) old clock new clock_after = PutsAllBack items old clock new clock_after
   PutsManyBack items (Err e) old clock new clock_after =
       (done : List (Restored K V)) × (item : Restored K V) × (items ≡ done ++ item ∷ into_iter_items e.rest)
-      × (mid : Cache K V S X L P W) × (between : C) × PutsAllBack done old clock mid between × PutsBack item (Err e.refused) mid between new clock_after
+      × (mid : Engine K V S X L P W) × (between : C) × PutsAllBack done old clock mid between × PutsBack item (Err e.refused) mid between new clock_after
 
 -- a record that was visible at one moment, and one with the same value, moments and expiry in a cache with the same
 -- times and no invalidation: whenever one is visible the other is

@@ -15,7 +15,7 @@ use Rattle.moka_parts.specs.declared.error.InsertRefused.{InsertRefused}
 use Rattle.moka_parts.specs.declared.error.SendError.TheVariants.{QueueFull}
 use Rattle.moka_parts.specs.State.{State, Meaning}
 use Rattle.moka_parts.specs.Order.{IsOrderly}
-use Rattle.moka_parts.specs.Runs.{Cache, Step, MakesCalls, PromisedRun}
+use Rattle.moka_parts.specs.Runs.{Engine, Step, MakesCalls, PromisedRun}
 use Rattle.moka_parts.specs.Listed.{AreListedSteps}
 use Rattle.moka_drive.specs.declared.error.NotTold.{NotTold}
 use Rattle.moka_drive.specs.declared.stats.Stats.{Stats}
@@ -25,11 +25,11 @@ use Rattle.moka_drive.specs.declared.error.GetWithRefused.TheVariants.{Lookup, I
 
 -- a synchronous cache: an engine, and what was counted
 pub record Synchronous (K V S X L P W : Type 0) : Type 0 where
-  pub engine : Cache K V S X L P W
+  pub engine : Engine K V S X L P W
   pub stats : Stats
 
 -- nothing was counted yet
-abbrev pub fresh : {K V S X L P W : Type 0} → Cache K V S X L P W → Synchronous K V S X L P W
+abbrev pub fresh : {K V S X L P W : Type 0} → Engine K V S X L P W → Synchronous K V S X L P W
 fresh engine = record { engine = engine; stats = no_stats }
 
 -- ---- what was made
@@ -52,7 +52,7 @@ module _ {K V X L P W C : Type 0} (eq : K → K → Bool) (tells : L → K → V
 
 -- these calls, made one after the other, gave these replies: a run of the reference cache whose runs of maintenance
 -- keep their promises, in which operations were sent in order
-pub record Made {K V S X L P W C : Type 0} (m : Meaning K V X L P W C (Unit {0})) (calls : List (Call K V P)) (replies : List (Reply K V P)) (old : Cache K V S X L P W) (clock : C) (new : Cache K V S X L P W) (clock_after : C) : Type 0 where
+pub record Made {K V S X L P W C : Type 0} (m : Meaning K V X L P W C (Unit {0})) (calls : List (Call K V P)) (replies : List (Reply K V P)) (old : Engine K V S X L P W) (clock : C) (new : Engine K V S X L P W) (clock_after : C) : Type 0 where
   pub steps : List (Step K V X P W)
   pub is_run : MakesCalls m (PromisedRun m.says m.read) calls replies steps old clock tt new clock_after tt
   -- with the write list from call to call
@@ -60,7 +60,7 @@ pub record Made {K V S X L P W C : Type 0} (m : Meaning K V X L P W C (Unit {0})
   pub in_order : AreSentInOrder old.state steps
 
 -- some calls that fit were made
-abbrev pub Makes : {K V S X L P W C : Type 0} → Meaning K V X L P W C (Unit {0}) → (List (Call K V P) → List (Reply K V P) → Type 0) → Cache K V S X L P W → C → Cache K V S X L P W → C → Type 0
+abbrev pub Makes : {K V S X L P W C : Type 0} → Meaning K V X L P W C (Unit {0}) → (List (Call K V P) → List (Reply K V P) → Type 0) → Engine K V S X L P W → C → Engine K V S X L P W → C → Type 0
 Makes {K} {V} {P = P} m Fit old clock new clock_after = (calls : List (Call K V P)) × (replies : List (Reply K V P)) × Fit calls replies × Made m calls replies old clock new clock_after
 
 -- the listener hears of key and value, or of clones of both

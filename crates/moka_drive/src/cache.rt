@@ -1,5 +1,5 @@
 //! The synchronous cache: put, get and remove in one call each. moka: `sync::cache`.
-ghost use Rattle.std.specs.Prelude.{◌≡◌, [], true, false, Option, Some, None, Result, Ok, Err, IfOk, IfSome, OnErr, IfErr, is_some, option_copied};
+ghost use Rattle.std.specs.Prelude.{◌≡◌, ◌≤◌, [], true, false, Option, Some, None, Result, Ok, Err, IfOk, IfSome, OnErr, IfErr, is_some, option_copied, unwrap_or};
 ghost use Rattle.std.specs.FinMap as finite;
 ghost use Rattle.std.specs.List.{fold};
 ghost use Rattle.moka_parts.specs.Calls.{CapacityStep, ContainsStep, InvalidateStep, no_events, only_ids};
@@ -9,7 +9,7 @@ ghost use Rattle.moka_parts.specs.Records.{record_of_key};
 ghost use Rattle.moka_parts.specs.Runs.{Befalls};
 ghost use Rattle.moka_parts.specs.State.{Events, is_disabled, limits_of};
 ghost use Rattle.moka_parts.specs.Surroundings.{Leads};
-ghost use Rattle.moka_engine.specs.Config.{new_cache};
+ghost use Rattle.moka_engine.specs.Config.{new_engine};
 ghost use Rattle.moka_parts.specs.declared.calls.Call.TheVariants as call;
 ghost use Rattle.moka_parts.specs.declared.calls.Reply.TheVariants as reply;
 ghost use Rattle.moka_parts.specs.declared.error.InsertRefused.{InsertRefused};
@@ -147,7 +147,8 @@ impl<
         L: Drop,
         P: Drop,
         W: Drop,
-        ensures { IfOk result (λ c. c ≡ fresh (new_cache config hasher now.0)) }
+        ensures empty { IfOk result (λ c. c ≡ fresh (new_engine config hasher now.0 c.engine.room)) }
+        ensures room { IfOk result (λ c. unwrap_or config.initial_capacity 0 ≤ c.engine.room) }
     {
         let engine = config.build_with_hasher(alloc, hasher, now)?;
         Ok(Cache::new(engine))
@@ -665,7 +666,8 @@ impl<
         L: Drop,
         P: Drop,
         W: Drop,
-        ensures { IfOk result (λ c. c ≡ fresh (new_cache config c.engine.hasher now.0)) }
+        ensures empty { IfOk result (λ c. c ≡ fresh (new_engine config c.engine.hasher now.0 c.engine.room)) }
+        ensures room { IfOk result (λ c. unwrap_or config.initial_capacity 0 ≤ c.engine.room) }
     {
         let engine = config.build(alloc, now)?;
         Ok(Cache::new(engine))

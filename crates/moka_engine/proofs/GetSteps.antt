@@ -15,7 +15,7 @@ use Rattle.moka_parts.specs.Expiry.{is_renewal, renewed, answer_to_hit}
 use Rattle.moka_parts.specs.Housekeeping.{is_due}
 use Rattle.moka_parts.specs.Maintenance.{Terms, Course}
 use Rattle.moka_parts.specs.Records.{Notice, record_of_key, with_record}
-use Rattle.moka_parts.specs.Runs.{Cache, Befalls}
+use Rattle.moka_parts.specs.Runs.{Engine, Befalls}
 use Rattle.moka_parts.specs.Settling.{IsValid}
 use Rattle.moka_parts.specs.State.{State, Settings, Events, is_disabled}
 use Rattle.moka_parts.specs.Surroundings.{Leads, IsAskedOnce}
@@ -29,7 +29,7 @@ use Rattle.moka_engine.specs.BaseCache.{IsCache, IsStocked, NoneExpires, expirat
 use Rattle.moka_engine.proofs.Stocked.{stocked-touched, stays-unrenewed}
 use Rattle.moka_inner.specs.Interior.{Interior, IsLocated}
 use Rattle.moka_engine.specs.Looks.{Touches, value_of}
-use Rattle.moka_engine.proofs.CacheSteps.{with_inner, befalls-quietly, befalls-listed, unexpiring-inserted, cache-inner, unexpiring-inside, number-inside, key-inside}
+use Rattle.moka_engine.proofs.EngineSteps.{with_inner, befalls-quietly, befalls-listed, unexpiring-inserted, cache-inner, unexpiring-inside, number-inside, key-inside}
 
 same_duration : (d : Option ℕ) → is_same_duration d d ≡ true
 same_duration None = refl
@@ -173,18 +173,18 @@ enabled-found {eq = eq} {s = s} h i inside key r found = go (is_disabled s.capac
         absurd (cc)
 
 -- what is asked about the value inside is asked about the cache's
-pub asked_of_cache : {K V S X L P W I : Type 0} {old now : Cache K V S X L P W} → old ≡ now → (eq : K → K → Bool) (key : K) (asks : I → V → Bool → I → Type 0) (before after : I) (ignored : Bool)
+pub asked_of_cache : {K V S X L P W I : Type 0} {old now : Engine K V S X L P W} → old ≡ now → (eq : K → K → Bool) (key : K) (asks : I → V → Bool → I → Type 0) (before after : I) (ignored : Bool)
     → IsAskedOnce asks (Some before) (value_of (record_of_key eq old.state.records key)) ignored (Some after) → IsAskedOnce asks (Some before) (value_of (record_of_key eq now.state.records key)) ignored (Some after)
-asked_of_cache is eq key asks before after ignored asked = subst (λ (c : Cache _ _ _ _ _ _ _). IsAskedOnce asks (Some before) (value_of (record_of_key eq c.state.records key)) ignored (Some after)) is asked
+asked_of_cache is eq key asks before after ignored asked = subst (λ (c : Engine _ _ _ _ _ _ _). IsAskedOnce asks (Some before) (value_of (record_of_key eq c.state.records key)) ignored (Some after)) is asked
 
 module _ {K V S X L P W C : Type 0} (says : P → K → V → Bool → Type 0) (read : X → K → V → ℕ → Option ℕ → ℕ → Option ℕ) (Runs : List ℕ → State K V X P W → Terms → Course → List (Notice K V) → State K V X P W → Type 0)
-    (tells : L → K → V → RemovalCause → L → Type 0) (reads : C → Instant → C → Type 0) (eq : K → K → Bool) {old now : Cache K V S X L P W} (is : old ≡ now) (key : K) (hash : ℕ) (need_key ignored : Bool) (moment : Instant) (clock : C) where
+    (tells : L → K → V → RemovalCause → L → Type 0) (reads : C → Instant → C → Type 0) (eq : K → K → Bool) {old now : Engine K V S X L P W} (is : old ≡ now) (key : K) (hash : ℕ) (need_key ignored : Bool) (moment : Instant) (clock : C) where
   -- a look-up of the first cache that answers so, and leaves the second
-  abbrev Gets : Cache K V S X L P W → Result (Option (Entry K V)) OutOfMemory → Cache K V S X L P W → C → Type 0
+  abbrev Gets : Engine K V S X L P W → Result (Option (Entry K V)) OutOfMemory → Engine K V S X L P W → C → Type 0
   Gets before a new after = (e : Events K V) × GetStep says read (Runs before.write_list) eq before.state key hash need_key ignored moment.0 a e new.state × Befalls tells e before new × Leads reads clock e.readings after
 
   -- a read that is recorded at the moment, after a run if one is due
-  abbrev pub Records : Instant → ReadOperation → Cache K V S X L P W → Cache K V S X L P W → C → Type 0
+  abbrev pub Records : Instant → ReadOperation → Engine K V S X L P W → Engine K V S X L P W → C → Type 0
   Records at operation before new after = (e : Events K V) × RecordsRead (Runs before.write_list) before.state at.0 operation e new.state × Befalls tells e before new × Leads reads clock e.readings after
 
   -- in a disabled cache
@@ -193,7 +193,7 @@ module _ {K V S X L P W C : Type 0} (says : P → K → V → Bool → Type 0) (
 
   module _ {l : Option L} (h : IsCache eq l old.state) (i : Interior K V S) (inside : with_inner old.state i ≡ old.state) where
     -- of nothing visible, with what recording the read does
-    pub get_misses : is_disabled old.state.capacity ≡ false → ((r : Record K V) → record_of_key eq i.kept.records key ≡ Some r → IsMissed says old.state ignored r moment.0) → {new : Cache K V S X L P W} {after : C}
+    pub get_misses : is_disabled old.state.capacity ≡ false → ((r : Record K V) → record_of_key eq i.kept.records key ≡ Some r → IsMissed says old.state ignored r moment.0) → {new : Engine K V S X L P W} {after : C}
         → Records moment (Miss hash) now new after → Gets now (Ok None) new after
     get_misses enabled hidden {new} {after} recorded =
         let hidden_so : (r : Record K V) → record_of_key eq old.state.records key ≡ Some r → IsMissed says old.state ignored r moment.0 =
@@ -211,19 +211,19 @@ module _ {K V S X L P W C : Type 0} (says : P → K → V → Bool → Type 0) (
       module _ (at : Instant) (expires : Option Instant) (is_renewed : Bool) (t : Touches read (expirations_of old.state.settings) r moment.0 at.0 expires is_renewed)
           (mid : Interior K V S) (rest : mid ≡ record i { kept = mid.kept }) (kept : mid.kept ≡ record i.kept { records = insert i.kept.records n (record r { read = at; expires = expires }) }) where
         -- the cache with the record noted as read
-        abbrev noted : Cache K V S X L P W
-        noted = record old { hasher = mid.kept.hasher; state = with_inner old.state mid; write_list = mid.kept.written }
+        abbrev noted : Engine K V S X L P W
+        noted = record old { hasher = mid.kept.hasher; state = with_inner old.state mid; write_list = mid.kept.written; room = mid.kept.room }
 
         touched : noted.state ≡ after_hit read old.state r moment.0
         touched = record_read old.state i inside read n r (number-inside h i inside n r there).0 moment.0 at expires is_renewed t mid rest kept
 
         -- of what is visible, with what recording the read does
-        pub get_hits : i.kept.written ≡ old.write_list → i.kept.hasher ≡ old.hasher → (entry : Entry K V) → entry.value ≡ r.value → entry.key ≡ (if need_key then Some r.key else None) → {new : Cache K V S X L P W} {after : C} → Records at (Hit n r.hash is_renewed) noted new after → Gets now (Ok (Some entry)) new after
+        pub get_hits : i.kept.written ≡ old.write_list → i.kept.hasher ≡ old.hasher → (entry : Entry K V) → entry.value ≡ r.value → entry.key ≡ (if need_key then Some r.key else None) → {new : Engine K V S X L P W} {after : C} → Records at (Hit n r.hash is_renewed) noted new after → Gets now (Ok (Some entry)) new after
         get_hits listed hashed entry value own {new} {after} made =
             let same : mid.kept.written ≡ old.write_list = ap (λ (k : Kept K V S). k.written) kept ∙ listed in
             let hasher : mid.kept.hasher ≡ old.hasher = ap (λ (k : Kept K V S). k.hasher) kept ∙ hashed in
-            let of_hasher = subst (λ (h : S). Records at (Hit n r.hash is_renewed) (record old { hasher = h; state = with_inner old.state mid; write_list = mid.kept.written }) new after) hasher made in
-            let recorded = subst (λ ns. Records at (Hit n r.hash is_renewed) (record old { state = with_inner old.state mid; write_list = ns }) new after) same of_hasher in
+            let of_hasher = subst (λ (h : S). Records at (Hit n r.hash is_renewed) (record old { hasher = h; state = with_inner old.state mid; write_list = mid.kept.written; room = mid.kept.room }) new after) hasher made in
+            let recorded = subst (λ ns. Records at (Hit n r.hash is_renewed) (record old { state = with_inner old.state mid; write_list = ns; room = mid.kept.room }) new after) same of_hasher in
             let e = recorded.0 in
             let hit_there : RecordsRead (Runs old.write_list) (after_hit read old.state r moment.0) at.0 (Hit n r.hash is_renewed) e new.state = subst (λ s. RecordsRead (Runs old.write_list) s at.0 (Hit n r.hash is_renewed) e new.state) touched recorded.1 in
             let hit_then : RecordsRead (Runs old.write_list) (after_hit read old.state r moment.0) (hit_at read old.state r moment.0) (Hit n r.hash is_renewed) e new.state =
@@ -235,8 +235,8 @@ module _ {K V S X L P W C : Type 0} (says : P → K → V → Bool → Type 0) (
 
         -- where no run is due the read is only queued
         pub queues_read : is_due old.state.housekeeping (length mid.reads) at.0 ≡ false → (j : Interior K V S) (operation : ReadOperation) → j ≡ record mid { reads = if nat_lt (length mid.reads) queue_length then mid.reads ++ operation ∷ [] else mid.reads }
-            → Records at operation noted (record old { hasher = j.kept.hasher; state = with_inner old.state j; write_list = j.kept.written }) clock
-        queues_read due j operation step = (no_events, (noted.state, rw due (refl, refl), reads_queued noted.state mid refl j operation step), befalls-listed tells noted (with_inner old.state j) j.kept.written j.kept.hasher (ap (λ (x : Interior K V S). x.kept.written) step) (ap (λ (x : Interior K V S). x.kept.hasher) step), refl)
+            → Records at operation noted (record old { hasher = j.kept.hasher; state = with_inner old.state j; write_list = j.kept.written; room = j.kept.room }) clock
+        queues_read due j operation step = (no_events, (noted.state, rw due (refl, refl), reads_queued noted.state mid refl j operation step), befalls-listed tells noted (with_inner old.state j) j.kept (ap (λ (x : Interior K V S). x.kept.written) step) (ap (λ (x : Interior K V S). x.kept.hasher) step), refl)
 
       -- of what cannot be cloned
       pub get_refused : (err : OutOfMemory) → Gets now (Err err) now clock

@@ -16,16 +16,17 @@ use Rattle.moka_parts.specs.Causes.{cause_of_replacement}
 use Rattle.moka_parts.specs.Expiry.{expires_at_first, expires_updated}
 use Rattle.moka_parts.specs.Notification.{HearsOnce}
 use Rattle.moka_parts.specs.Records.{when_listening, record_of_key, with_record}
-use Rattle.moka_parts.specs.Runs.{Cache, Befalls}
+use Rattle.moka_parts.specs.Runs.{Engine, Befalls}
 use Rattle.moka_parts.specs.Settling.{IsValid}
 use Rattle.moka_parts.specs.State.{State, Settings, Events, is_disabled}
 use Rattle.moka_parts.proofs.CallsKeep.{inserted_valid, replaced_valid}
+use Rattle.moka_store.specs.Store.{Kept}
 use Rattle.moka_store.specs.Updates.{updated}
 use Rattle.moka_store.specs.declared.store.Update.{Update}
 use Rattle.moka_engine.specs.BaseCache.{IsCache, IsStocked, NoneExpires, expirations_of, expiring_by}
 use Rattle.moka_engine.proofs.Stocked.{stocked-inserted, update_waits}
 use Rattle.moka_inner.specs.Interior.{Interior, first_record, handing_out_inside}
-use Rattle.moka_engine.proofs.CacheSteps.{with_inner, without_room, inside-roomier, list-roomier, hasher-roomier, stocked-room, befalls-listed, unexpiring-inserted, cache-inner, unexpiring-inside, number-inside, key-inside}
+use Rattle.moka_engine.proofs.EngineSteps.{with_inner, without_room, inside-roomier, list-roomier, hasher-roomier, stocked-room, befalls-listed, unexpiring-inserted, cache-inner, unexpiring-inside, number-inside, key-inside}
 
 -- ---- refusals
 
@@ -128,10 +129,12 @@ stocked-new-record {read = read} {settings = settings} before i j rooms stored k
 -- ---- what the calls return
 
 module _ {K V S X L P W : Type 0} (created : X → K → V → ℕ → Option ℕ) (updating : X → K → V → ℕ → Option ℕ → Option ℕ) (weighs : W → K → V → ℕ → Type 0) (tells : L → K → V → RemovalCause → L → Type 0) (eq : K → K → Bool)
-    {old now : Cache K V S X L P W} (is : old ≡ now) (before : Interior K V S) (inside_before : with_inner old.state before ≡ old.state) (listed : before.kept.written ≡ old.write_list) (hashed : before.kept.hasher ≡ old.hasher) (i : Interior K V S) (rooms : without_room i ≡ without_room before) (key : K) (hash : ℕ) (value : V) (moment : Instant) where
+    {old now : Engine K V S X L P W} (is : old ≡ now) (before : Interior K V S) (inside_before : with_inner old.state before ≡ old.state) (listed : before.kept.written ≡ old.write_list) (hashed : before.kept.hasher ≡ old.hasher) (i : Interior K V S) (rooms : without_room i ≡ without_room before) (key : K) (hash : ℕ) (value : V) (moment : Instant) where
   -- a call that answers so
-  abbrev Inserts : Result (Ticket × Instant) (InsertRefused K V) → State K V X P W → Option L → List ℕ → S → Cache K V S X L P W → Type 0
-  Inserts a t m ns hasher before = (e : Events K V) × InsertStep created updating weighs eq before.state key hash value moment a e t × Befalls tells e before (record old { hasher = hasher; state = t; listener = m; write_list = ns })
+  abbrev Inserts : Result (Ticket × Instant) (InsertRefused K V) → State K V X P W → Option L → Kept K V S → Engine K V S X L P W → Type 0
+  Inserts a t m kept before =
+      (e : Events K V) × InsertStep created updating weighs eq before.state key hash value moment a e t
+      × Befalls tells e before (record old { hasher = kept.hasher; state = t; listener = m; write_list = kept.written; room = kept.room })
 
   -- room was made
   inside_still : with_inner old.state i ≡ old.state
@@ -148,37 +151,37 @@ module _ {K V S X L P W : Type 0} (created : X → K → V → ℕ → Option �
 
   -- a new key, with no room for its record or the operation
   pub new_refused : record_of_key eq before.kept.records key ≡ None → (error : InsertError) → (refusal error ≡ refusal NumbersUsedUp) ↔ (2 ^ 64 ≤ before.next_ticket + len before.kept.records + 1)
-      → Inserts (Err (record { error = error; key = key; value = value })) (with_inner old.state i) old.listener i.kept.written i.kept.hasher now
+      → Inserts (Err (record { error = error; key = key; value = value })) (with_inner old.state i) old.listener i.kept now
   new_refused none error used_up =
       let refused : HasInsertError (with_inner old.state before) 1 error = has_error (with_inner old.state before) 1 error used_up in
-      subst (Inserts (Err (record { error = error; key = key; value = value })) (with_inner old.state i) old.listener i.kept.written i.kept.hasher) is (
+      subst (Inserts (Err (record { error = error; key = key; value = value })) (with_inner old.state i) old.listener i.kept) is (
         no_events,
         rw (found_in_state None none) ((refl, refl, subst (λ t. HasInsertError t 1 error) inside_before refused), (inside_still, refl)),
-        befalls-listed tells old (with_inner old.state i) i.kept.written i.kept.hasher list_still hasher_still,
+        befalls-listed tells old (with_inner old.state i) i.kept list_still hasher_still,
       )
 
   -- a new key, with its record
   pub new_returns : record_of_key eq before.kept.records key ≡ None → (j : Interior K V S) (w : ℕ) → Weighs weighs old.state.settings.weigher key value w
       → (2 ^ 64 ≤ before.next_ticket + len before.kept.records + 1 → ⊥) → (ticket : Ticket) → ticket.0 ≡ i.next_ticket → (expires : Option Instant) → expires ≡ expires_at_first created old.state.settings.expiry key value moment.0
       → j ≡ record (handing_out_inside i (with_record i.kept.records (first_record i.next_number key hash (record { value = value; now = moment; expires = expires; weight = w }))) (Upsert i.next_number 1 w hash) j) { next_number = i.next_number + 1 }
-      → Inserts (Ok (ticket, moment)) (with_inner old.state j) old.listener j.kept.written j.kept.hasher now
+      → Inserts (Ok (ticket, moment)) (with_inner old.state j) old.listener j.kept now
   new_returns none j w weighed enough ticket next expires first step =
       let numbers : nat_le (2 ^ 64) (before.next_ticket + len before.kept.records + 1) ≡ false = not_at_least (2 ^ 64) (before.next_ticket + len before.kept.records + 1) enough in
-      subst (Inserts (Ok (ticket, moment)) (with_inner old.state j) old.listener j.kept.written j.kept.hasher) is (
+      subst (Inserts (Ok (ticket, moment)) (with_inner old.state j) old.listener j.kept) is (
         no_events,
         rw (found_in_state None none) (w, weighed, subst (λ (t : State K V X P W). nat_le (2 ^ 64) (t.next_ticket + len t.records + 1) ≡ false) inside_before numbers, next ∙ ap (λ (t : State K V X P W). t.next_ticket) inside_still, refl, inserts created updating old.state i j inside_still key hash value moment w expires first step, refl),
-        befalls-listed tells old (with_inner old.state j) j.kept.written j.kept.hasher (ap (λ (x : Interior K V S). x.kept.written) step ∙ list_still) (ap (λ (x : Interior K V S). x.kept.hasher) step ∙ hasher_still),
+        befalls-listed tells old (with_inner old.state j) j.kept (ap (λ (x : Interior K V S). x.kept.written) step ∙ list_still) (ap (λ (x : Interior K V S). x.kept.hasher) step ∙ hasher_still),
       )
 
   -- a key that is there, with no room for its operation
   pub update_refused : (r : Record K V) → record_of_key eq before.kept.records key ≡ Some r → (error : InsertError) → (refusal error ≡ refusal NumbersUsedUp) ↔ (2 ^ 64 ≤ before.next_ticket + len before.kept.records)
-      → Inserts (Err (record { error = error; key = key; value = value })) (with_inner old.state i) old.listener i.kept.written i.kept.hasher now
+      → Inserts (Err (record { error = error; key = key; value = value })) (with_inner old.state i) old.listener i.kept now
   update_refused r found error used_up =
       let refused : HasInsertError (with_inner old.state before) 0 error = has_error (with_inner old.state before) 0 error (λ e. let p = used_up.0 e in omega arith, λ p. used_up.1 (omega arith)) in
-      subst (Inserts (Err (record { error = error; key = key; value = value })) (with_inner old.state i) old.listener i.kept.written i.kept.hasher) is (
+      subst (Inserts (Err (record { error = error; key = key; value = value })) (with_inner old.state i) old.listener i.kept) is (
         no_events,
         rw (found_in_state (Some r) found) ((refl, refl, subst (λ t. HasInsertError t 0 error) inside_before refused), (inside_still, refl)),
-        befalls-listed tells old (with_inner old.state i) i.kept.written i.kept.hasher list_still hasher_still,
+        befalls-listed tells old (with_inner old.state i) i.kept list_still hasher_still,
       )
 
   -- a key that is there, with a new value
@@ -186,15 +189,15 @@ module _ {K V S X L P W : Type 0} (created : X → K → V → ℕ → Option �
       → (2 ^ 64 ≤ before.next_ticket + len before.kept.records → ⊥) → (ticket : Ticket) → ticket.0 ≡ i.next_ticket → (expires : Option Instant) → ExpiresUpdated created updating old.state r key value moment expires
       → j ≡ handing_out_inside i (insert i.kept.records n (updated (record { value = value; now = moment; expires = expires; weight = w }) r)) (Upsert n (r.generation + 1) w hash) j
       → (left : V) → left ≡ r.value → (cause : RemovalCause) → cause ≡ cause_of_replacement old.state.settings old.state.invalid_before r moment.0 → HearsOnce tells old.listener key left cause m
-      → Inserts (Ok (ticket, moment)) (with_inner old.state j) m j.kept.written j.kept.hasher now
+      → Inserts (Ok (ticket, moment)) (with_inner old.state j) m j.kept now
   update_returns l h told m j n r there found w weighed enough ticket next expires expiring step left same_value cause same_cause heard =
       let numbers : nat_le (2 ^ 64) (before.next_ticket + len before.kept.records + 0) ≡ false = not_at_least (2 ^ 64) (before.next_ticket + len before.kept.records + 0) (λ p. enough (omega arith)) in
       let step_so = replaces created updating old.state i j inside_still r n (number-inside h before inside_before n r there).0 key hash value moment w expires expiring step in
-      subst (Inserts (Ok (ticket, moment)) (with_inner old.state j) m j.kept.written j.kept.hasher) is (
+      subst (Inserts (Ok (ticket, moment)) (with_inner old.state j) m j.kept) is (
         only_notices (when_listening old.state.settings.listening ((key, r.value, cause_of_replacement old.state.settings old.state.invalid_before r moment.0) ∷ [])),
         rw (found_in_state (Some r) found) (w, weighed, subst (λ (t : State K V X P W). nat_le (2 ^ 64) (t.next_ticket + len t.records + 0) ≡ false) inside_before numbers, next ∙ ap (λ (t : State K V X P W). t.next_ticket) inside_still, refl, step_so, refl),
         record {
-          kept = ap (λ (k : S). record old { hasher = k; state = with_inner old.state j; listener = m; write_list = j.kept.written }) (ap (λ (x : Interior K V S). x.kept.hasher) step ∙ hasher_still);
+          kept = ap (λ (k : S). record old { hasher = k; state = with_inner old.state j; listener = m; write_list = j.kept.written; room = j.kept.room }) (ap (λ (x : Interior K V S). x.kept.hasher) step ∙ hasher_still);
           heard = rw (h.listens ∙ ap is_some told, ← same_value, ← same_cause) heard;
           passes = refl;
           listed = λ none. ap (λ (x : Interior K V S). x.kept.written) step ∙ list_still;

@@ -14,14 +14,14 @@ use Rattle.moka_parts.specs.Listed.{ListedRun, LeavesList}
 use Rattle.moka_parts.specs.Maintenance.{Terms, Course, Freedom, RunsBy, DoesNothing}
 use Rattle.moka_parts.specs.Policy.{Expirations}
 use Rattle.moka_parts.specs.Records.{Notice}
-use Rattle.moka_parts.specs.Runs.{Cache, Befalls}
+use Rattle.moka_parts.specs.Runs.{Engine, Befalls}
 use Rattle.moka_parts.specs.State.{State, Events, is_disabled}
 use Rattle.moka_parts.specs.Surroundings.{Leads}
 use Rattle.moka_parts.proofs.StepsKeep.{valid_with}
 use Rattle.moka_engine.specs.BaseCache.{IsCache, settings_of, state_of}
-use Rattle.moka_engine.specs.CacheRuns.{CacheRuns}
+use Rattle.moka_engine.specs.EngineRuns.{EngineRuns}
 use Rattle.moka_inner.specs.Interior.{Interior}
-use Rattle.moka_engine.proofs.CacheSteps.{with_inner, befalls-quietly}
+use Rattle.moka_engine.proofs.EngineSteps.{with_inner, befalls-quietly}
 use Rattle.moka_engine.proofs.GetSteps.{reads_queued}
 
 -- the housekeeper of a state
@@ -70,8 +70,8 @@ module _ {K V X P W S : Type 0} (i : Interior K V S) (bound : Option Instant) (p
 -- ---- its run
 
 module _ {K V S X L P W C : Type 0} (says : P → K → V → Bool → Type 0) (read : X → K → V → ℕ → Option ℕ → ℕ → Option ℕ) (tells : L → K → V → RemovalCause → L → Type 0) (reads : C → Instant → C → Type 0)
-    {old mid : Cache K V S X L P W} {h k : Keeper} (of_old : h ≡ keeper_of old.state) (now : ℕ) {clock clock_after : C}
-    (ran : MakesRun (CacheRuns says read tells) reads h old now clock k mid clock_after) where
+    {old mid : Engine K V S X L P W} {h k : Keeper} (of_old : h ≡ keeper_of old.state) (now : ℕ) {clock clock_after : C}
+    (ran : MakesRun (EngineRuns says read tells) reads h old now clock k mid clock_after) where
   -- the housekeeper is given the same for its runs as before
   pub keeper_after : (g : Keeper) → g ≡ keeper_of mid.state → k ≡ record g { housekeeping = k.housekeeping }
   keeper_after g of_mid =
@@ -81,11 +81,11 @@ module _ {K V S X L P W C : Type 0} (says : P → K → V → Bool → Type 0) (
       ran.4 ∙ ap (λ (x : Keeper). record x { housekeeping = after_run_due h.housekeeping h.listening now ran.1 }) kept ∙ here
 
   -- the run of the definitions, where only the housekeeping changes after that of the cache
-  pub keeper_runs : {at : Cache K V S X L P W} → at ≡ mid → {t : State K V X P W} → t ≡ record at.state { housekeeping = k.housekeeping } →
+  pub keeper_runs : {at : Engine K V S X L P W} → at ≡ mid → {t : State K V X P W} → t ≡ record at.state { housekeeping = k.housekeeping } →
       (e : Events K V) × KeeperRun (ListedRun says read old.write_list at.write_list) old.state now e t × Befalls tells e old (record at { state = t }) × Leads reads clock e.readings clock_after
   keeper_runs {at} is {t} changed =
-      let ends : record at { state = t } ≡ record mid { state = record mid.state { housekeeping = k.housekeeping } } = ap (λ s. record at { state = s }) changed ∙ ap (λ (c : Cache K V S X L P W). record c { state = record c.state { housekeeping = k.housekeeping } }) is in
-      subst (λ (c : Cache K V S X L P W). (e : Events K V) × KeeperRun (ListedRun says read old.write_list c.write_list) old.state now e c.state × Befalls tells e old c × Leads reads clock e.readings clock_after) (sym ends)
+      let ends : record at { state = t } ≡ record mid { state = record mid.state { housekeeping = k.housekeeping } } = ap (λ s. record at { state = s }) changed ∙ ap (λ (c : Engine K V S X L P W). record c { state = record c.state { housekeeping = k.housekeeping } }) is in
+      subst (λ (c : Engine K V S X L P W). (e : Events K V) × KeeperRun (ListedRun says read old.write_list c.write_list) old.state now e c.state × Befalls tells e old c × Leads reads clock e.readings clock_after) (sym ends)
       (ran.3.0, (ran.1, mid.state, step, next), befalls, subst (λ readings. Leads reads clock readings clock_after) (sym ran.3.3) ran.2)
     where
       step : RunStep (ListedRun says read old.write_list mid.write_list) old.state (keeper_terms old.state.settings now) ran.1 ran.3.0 mid.state
@@ -96,36 +96,36 @@ module _ {K V S X L P W C : Type 0} (says : P → K → V → Bool → Type 0) (
 
       befalls : Befalls tells ran.3.0 old (record mid { state = record mid.state { housekeeping = k.housekeeping } })
       befalls = record {
-        kept = ap (λ (c : Cache K V S X L P W). record c { state = record mid.state { housekeeping = k.housekeeping } }) ran.3.2.kept;
+        kept = ap (λ (c : Engine K V S X L P W). record c { state = record mid.state { housekeeping = k.housekeeping } }) ran.3.2.kept;
         heard = ran.3.2.heard;
         passes = ran.3.2.passes;
         listed = ran.3.2.listed;
       }
 
 -- no run is due, and nothing happens
-pub nothing_due : {K V S X L P W C : Type 0} (Runs : State K V X P W → Terms → Course → List (Notice K V) → State K V X P W → Type 0) (tells : L → K → V → RemovalCause → L → Type 0) (reads : C → Instant → C → Type 0) (c : Cache K V S X L P W) (queued now : ℕ) (clock : C) → is_due c.state.housekeeping queued now ≡ false →
+pub nothing_due : {K V S X L P W C : Type 0} (Runs : State K V X P W → Terms → Course → List (Notice K V) → State K V X P W → Type 0) (tells : L → K → V → RemovalCause → L → Type 0) (reads : C → Instant → C → Type 0) (c : Engine K V S X L P W) (queued now : ℕ) (clock : C) → is_due c.state.housekeeping queued now ≡ false →
     (e : Events K V) × RunsIfDue Runs c.state queued now e c.state × Befalls tells e c c × Leads reads clock e.readings clock
 nothing_due Runs tells reads c queued now clock due = (no_events, rw due (refl, refl), befalls-quietly tells c c.state, refl)
 
 -- ---- a read that is queued after it
 
-module _ {K V S X L P W C : Type 0} (Runs : List ℕ → State K V X P W → Terms → Course → List (Notice K V) → State K V X P W → Type 0) (tells : L → K → V → RemovalCause → L → Type 0) (reads : C → Instant → C → Type 0) (old : Cache K V S X L P W) (now : ℕ) (clock clock_after : C) where
+module _ {K V S X L P W C : Type 0} (Runs : List ℕ → State K V X P W → Terms → Course → List (Notice K V) → State K V X P W → Type 0) (tells : L → K → V → RemovalCause → L → Type 0) (reads : C → Instant → C → Type 0) (old : Engine K V S X L P W) (now : ℕ) (clock clock_after : C) where
   -- the cache has made the run that was due
-  abbrev pub RunsBefore : Cache K V S X L P W → Type 0
+  abbrev pub RunsBefore : Engine K V S X L P W → Type 0
   RunsBefore mid = (e : Events K V) × RunsIfDue (Runs mid.write_list) old.state (length old.state.reads) now e mid.state × Befalls tells e old mid × Leads reads clock e.readings clock_after
 
-  pub read_follows : {at mid : Cache K V S X L P W} → at ≡ mid → RunsBefore mid → (i j : Interior K V S) → with_inner at.state i ≡ at.state → i.kept.written ≡ at.write_list → i.kept.hasher ≡ at.hasher → (read : ReadOperation) → j ≡ record i { reads = if nat_lt (length i.reads) queue_length then i.reads ++ read ∷ [] else i.reads } →
-      (e : Events K V) × RecordsRead (Runs j.kept.written) old.state now read e (with_inner at.state j) × Befalls tells e old (record at { hasher = j.kept.hasher; state = with_inner at.state j; write_list = j.kept.written }) × Leads reads clock e.readings clock_after
+  pub read_follows : {at mid : Engine K V S X L P W} → at ≡ mid → RunsBefore mid → (i j : Interior K V S) → with_inner at.state i ≡ at.state → i.kept.written ≡ at.write_list → i.kept.hasher ≡ at.hasher → (read : ReadOperation) → j ≡ record i { reads = if nat_lt (length i.reads) queue_length then i.reads ++ read ∷ [] else i.reads } →
+      (e : Events K V) × RecordsRead (Runs j.kept.written) old.state now read e (with_inner at.state j) × Befalls tells e old (record at { hasher = j.kept.hasher; state = with_inner at.state j; write_list = j.kept.written; room = j.kept.room }) × Leads reads clock e.readings clock_after
   read_follows {at} is ran i j inside listed hashed read step =
       let before : RunsBefore at = subst RunsBefore (sym is) ran in
       let same : j.kept.written ≡ at.write_list = ap (λ (x : Interior K V S). x.kept.written) step ∙ listed in
       let hasher : j.kept.hasher ≡ at.hasher = ap (λ (x : Interior K V S). x.kept.hasher) step ∙ hashed in
-      subst (λ (h : S). (e : Events K V) × RecordsRead (Runs j.kept.written) old.state now read e (with_inner at.state j) × Befalls tells e old (record at { hasher = h; state = with_inner at.state j; write_list = j.kept.written }) × Leads reads clock e.readings clock_after) (sym hasher)
-      (subst (λ ns. (e : Events K V) × RecordsRead (Runs ns) old.state now read e (with_inner at.state j) × Befalls tells e old (record at { state = with_inner at.state j; write_list = ns }) × Leads reads clock e.readings clock_after) (sym same) (
+      subst (λ (h : S). (e : Events K V) × RecordsRead (Runs j.kept.written) old.state now read e (with_inner at.state j) × Befalls tells e old (record at { hasher = h; state = with_inner at.state j; write_list = j.kept.written; room = j.kept.room }) × Leads reads clock e.readings clock_after) (sym hasher)
+      (subst (λ ns. (e : Events K V) × RecordsRead (Runs ns) old.state now read e (with_inner at.state j) × Befalls tells e old (record at { state = with_inner at.state j; write_list = ns; room = j.kept.room }) × Leads reads clock e.readings clock_after) (sym same) (
         before.0,
         (at.state, before.1, reads_queued at.state i inside j read step),
         record {
-          kept = ap (λ (c : Cache K V S X L P W). record c { state = with_inner at.state j }) before.2.kept;
+          kept = ap (λ (c : Engine K V S X L P W). record c { state = with_inner at.state j; room = j.kept.room }) before.2.kept;
           heard = before.2.heard;
           passes = before.2.passes;
           listed = before.2.listed;

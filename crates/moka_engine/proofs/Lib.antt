@@ -1,5 +1,5 @@
 pub mod Stocked
-pub mod CacheSteps
+pub mod EngineSteps
 pub mod ByTests
 pub mod NewSteps
 pub mod SendSteps

@@ -1,5 +1,5 @@
 -- Look-ups that record nothing as steps of the reference cache.
-use Rattle.std.proofs.Common.{◌≡◌, refl, ℕ, Bool, true, false, List, Option, Some, None, Result, Ok, Err, ap, sym, subst, ◌∙◌}
+use Rattle.std.proofs.Common.{◌≡◌, refl, ℕ, Bool, true, false, Option, Some, None, Result, Ok, Err, ap, sym, subst, ◌∙◌}
 use Rattle.std.specs.FinMap.{get, insert}
 use Rattle.moka_parts.specs.declared.error.OutOfMemory.{OutOfMemory}
 use Rattle.moka_parts.specs.declared.notification.RemovalCause.{RemovalCause}
@@ -7,21 +7,23 @@ use Rattle.moka_parts.specs.declared.policy.Instant.{Instant}
 use Rattle.moka_parts.specs.declared.records.Record.{Record}
 use Rattle.moka_parts.specs.Calls.{no_events, IsMissed, PeeksAt, PeekStep, after_hit}
 use Rattle.moka_parts.specs.Records.{record_of_key}
-use Rattle.moka_parts.specs.Runs.{Cache, Befalls}
+use Rattle.moka_parts.specs.Runs.{Engine, Befalls}
 use Rattle.moka_parts.specs.State.{State, is_disabled}
 use Rattle.moka_parts.specs.Visibility.{has_lapsed, NoneCovers}
 use Rattle.moka_store.specs.Store.{Kept}
 use Rattle.moka_engine.specs.BaseCache.{IsCache, expirations_of}
 use Rattle.moka_inner.specs.Interior.{Interior}
 use Rattle.moka_engine.specs.Looks.{Touches}
-use Rattle.moka_engine.proofs.CacheSteps.{with_inner, befalls-quietly, befalls-listed, number-inside, key-inside}
+use Rattle.moka_engine.proofs.EngineSteps.{with_inner, befalls-quietly, befalls-listed, number-inside, key-inside}
 use Rattle.moka_engine.proofs.GetSteps.{record_read, enabled-found}
 
 module _ {K V S X L P W : Type 0} (says : P → K → V → Bool → Type 0) (read : X → K → V → ℕ → Option ℕ → ℕ → Option ℕ) (tells : L → K → V → RemovalCause → L → Type 0) (eq : K → K → Bool)
-    {old now : Cache K V S X L P W} (is : old ≡ now) (key : K) (ignored : Bool) (moment : Instant) where
+    {old now : Engine K V S X L P W} (is : old ≡ now) (key : K) (ignored : Bool) (moment : Instant) where
   -- a look-up that answers so
-  abbrev Peeks : Result (Option V) OutOfMemory → State K V X P W → List ℕ → S → Cache K V S X L P W → Type 0
-  Peeks a t ns hasher before = PeekStep says read eq before.state key ignored moment.0 a t × Befalls tells no_events before (record old { hasher = hasher; state = t; write_list = ns })
+  abbrev Peeks : Result (Option V) OutOfMemory → State K V X P W → Kept K V S → Engine K V S X L P W → Type 0
+  Peeks a t kept before =
+      PeekStep says read eq before.state key ignored moment.0 a t
+      × Befalls tells no_events before (record old { hasher = kept.hasher; state = t; write_list = kept.written; room = kept.room })
 
   module _ {l : Option L} (h : IsCache eq l old.state) (i : Interior K V S) (inside : with_inner old.state i ≡ old.state) where
     -- of nothing visible, as in a disabled cache
@@ -43,11 +45,11 @@ module _ {K V S X L P W : Type 0} (says : P → K → V → Bool → Type 0) (re
 
       -- of what is visible
       pub peek_hits : (at : Instant) (expires : Option Instant) (is_renewed : Bool) → Touches read (expirations_of old.state.settings) r moment.0 at.0 expires is_renewed
-          → (j : Interior K V S) → j ≡ record i { kept = j.kept } → j.kept ≡ record i.kept { records = insert i.kept.records n (record r { read = at; expires = expires }) } → i.kept.written ≡ old.write_list → i.kept.hasher ≡ old.hasher → (value : V) → value ≡ r.value → Peeks (Ok (Some value)) (with_inner old.state j) j.kept.written j.kept.hasher now
+          → (j : Interior K V S) → j ≡ record i { kept = j.kept } → j.kept ≡ record i.kept { records = insert i.kept.records n (record r { read = at; expires = expires }) } → i.kept.written ≡ old.write_list → i.kept.hasher ≡ old.hasher → (value : V) → value ≡ r.value → Peeks (Ok (Some value)) (with_inner old.state j) j.kept now
       peek_hits at expires is_renewed t j rest kept listed hashed value same =
           let done : PeekStep says read eq old.state key ignored moment.0 (Ok (Some value)) (after_hit read old.state r moment.0) = rw (enabled, key-inside h i inside key (Some r) found) ((accepted, (shown, uncovered)), same, refl) in
           let touched = record_read old.state i inside read n r (number-inside h i inside n r there).0 moment.0 at expires is_renewed t j rest kept in
-          subst (Peeks (Ok (Some value)) (with_inner old.state j) j.kept.written j.kept.hasher) is (subst (λ u. PeekStep says read eq old.state key ignored moment.0 (Ok (Some value)) u) (sym touched) done, befalls-listed tells old (with_inner old.state j) j.kept.written j.kept.hasher (ap (λ (k : Kept K V S). k.written) kept ∙ listed) (ap (λ (k : Kept K V S). k.hasher) kept ∙ hashed))
+          subst (Peeks (Ok (Some value)) (with_inner old.state j) j.kept) is (subst (λ u. PeekStep says read eq old.state key ignored moment.0 (Ok (Some value)) u) (sym touched) done, befalls-listed tells old (with_inner old.state j) j.kept (ap (λ (k : Kept K V S). k.written) kept ∙ listed) (ap (λ (k : Kept K V S). k.hasher) kept ∙ hashed))
 
       -- of what cannot be cloned
       pub peek_refused : (e : OutOfMemory) → PeekStep says read eq now.state key ignored moment.0 (Err e) now.state × Befalls tells no_events now now

@@ -8,21 +8,21 @@ use Rattle.moka_parts.specs.declared.policy.Instant.{Instant}
 use Rattle.moka_parts.specs.declared.records.Registered.{Registered}
 use Rattle.moka_parts.specs.Calls.{only_ids, InvalidateStep}
 use Rattle.moka_parts.specs.Registry.{Registers}
-use Rattle.moka_parts.specs.Runs.{Cache, Befalls}
+use Rattle.moka_parts.specs.Runs.{Engine, Befalls}
 use Rattle.moka_parts.specs.State.{State, Events}
 use Rattle.moka_parts.specs.Surroundings.{Leads}
 use Rattle.moka_parts.proofs.Registry.{invalidate_step}
 use Rattle.moka_parts.proofs.StepsKeep.{valid_with}
 use Rattle.moka_engine.specs.BaseCache.{IsCache}
-use Rattle.moka_engine.proofs.CacheSteps.{nothing_heard}
+use Rattle.moka_engine.proofs.EngineSteps.{nothing_heard}
 
-module _ {K V S X L P W I : Type 0} (tells : L → K → V → RemovalCause → L → Type 0) (gives : I → Uuid → I → Type 0) {old now : Cache K V S X L P W} (is : old ≡ now) (predicate : P) (moment : Instant) (source after : I) where
+module _ {K V S X L P W I : Type 0} (tells : L → K → V → RemovalCause → L → Type 0) (gives : I → Uuid → I → Type 0) {old now : Engine K V S X L P W} (is : old ≡ now) (predicate : P) (moment : Instant) (source after : I) where
   -- a registration that answers so, and leaves these predicates
-  abbrev Registering : Result Uuid (PredicateRefused P) → List (Registered P) → Cache K V S X L P W → Type 0
+  abbrev Registering : Result Uuid (PredicateRefused P) → List (Registered P) → Engine K V S X L P W → Type 0
   Registering a qs before = (e : Events K V) × (InvalidateStep before.state predicate moment a e.ids (record old.state { predicates = qs }) × (e ≡ only_ids e.ids)) × Befalls tells e before (record old { state = record old.state { predicates = qs } }) × Leads gives source e.ids after
 
   -- one that is refused without a question
-  abbrev Refused : Cache K V S X L P W → Type 0
+  abbrev Refused : Engine K V S X L P W → Type 0
   Refused c = (e : Events K V) × (InvalidateStep c.state predicate moment (Err (record { error = InvalidationClosuresDisabled; predicate = predicate })) e.ids c.state × (e ≡ only_ids e.ids)) × Befalls tells e c c × Leads gives source e.ids after
 
   quietly : (ids : List Uuid) (t : State K V X P W) → Befalls tells (only_ids ids) old (record old { state = t })

@@ -17,7 +17,7 @@ use Rattle.moka_engine.specs.BaseCache.{IsCache, IsStocked, NoneExpires}
 use Rattle.moka_engine.specs.Restores.{is_unsupported, restored_record, restored}
 use Rattle.moka_engine.proofs.Stocked.{stocked-inserted}
 use Rattle.moka_inner.specs.Interior.{Interior, first_record, handing_out_inside}
-use Rattle.moka_engine.proofs.CacheSteps.{with_inner, without_room, inside-roomier, stocked-room, unexpiring-inserted, cache-inner, unexpiring-inside}
+use Rattle.moka_engine.proofs.EngineSteps.{with_inner, without_room, inside-roomier, stocked-room, unexpiring-inserted, cache-inner, unexpiring-inside}
 
 -- what is put in twice under a number is what is put in last
 insert_again : {X : Type 0} (m : FinMap nat_cmp X) (n : ℕ) (x y : X) → insert (insert m n x) n y ≡ insert m n y

@@ -17,7 +17,7 @@ use Rattle.moka_parts.specs.Maintenance as parts
 use Rattle.moka_parts.specs.Maintenance.{Terms, tests_of}
 use Rattle.moka_parts.specs.Calls.{RunStep}
 use Rattle.moka_parts.specs.Surroundings.{Leads}
-use Rattle.moka_parts.specs.Runs.{Cache, Befalls}
+use Rattle.moka_parts.specs.Runs.{Engine, Befalls}
 use Rattle.moka_parts.specs.Listed.{ListedRun}
 use Rattle.moka_parts.proofs.AtEnd.{bare_is_exact}
 use Rattle.moka_parts.proofs.RunReturns.{run_returns, disabled_promised}
@@ -123,24 +123,24 @@ module _ {K V X L P W C S : Type 0} {tells : L → K → V → RemovalCause → 
         go false unset =
             ap (λ e. has_passed (moment_of e) terms.now) (run_leaves_lasting s simple terms by_state stored.ordered refl applied limited refl sketched ran (h.served.unexpiring (nowhere settings.expiry unset)) k r there)
 
-    abbrev ended : Option (List ℕ) → S → State K V X P W → Cache K V S X L P W
-    ended name hasher u = record { name = name; hasher = hasher; state = u; listener = n; write_list = j.kept.written; passes = passes }
+    abbrev ended : Option (List ℕ) → S → State K V X P W → Engine K V S X L P W
+    ended name hasher u = record { name = name; hasher = hasher; state = u; listener = n; write_list = j.kept.written; passes = passes; room = j.kept.room }
 
     -- the run keeps its promises
-    pub cache_runs : (name : Option (List ℕ)) (passes_before : ℕ) {now : Cache K V S X L P W} →
-        record { name = name; hasher = i.kept.hasher; state = s; listener = l; write_list = i.kept.written; passes = passes_before } ≡ now →
-        (e : Events K V) × RunStep (ListedRun says read now.write_list j.kept.written) now.state terms left e t × Befalls tells e now (record { name = name; hasher = j.kept.hasher; state = t; listener = n; write_list = j.kept.written; passes = passes }) × Leads reads clock e.readings clock_after
+    pub cache_runs : (name : Option (List ℕ)) (passes_before : ℕ) {now : Engine K V S X L P W} →
+        record { name = name; hasher = i.kept.hasher; state = s; listener = l; write_list = i.kept.written; passes = passes_before; room = i.kept.room } ≡ now →
+        (e : Events K V) × RunStep (ListedRun says read now.write_list j.kept.written) now.state terms left e t × Befalls tells e now (record { name = name; hasher = j.kept.hasher; state = t; listener = n; write_list = j.kept.written; passes = passes; room = j.kept.room }) × Leads reads clock e.readings clock_after
     cache_runs name passes_before is =
-        run_returns is j.kept.written (run_promised s simple terms by_state stored.ordered refl applied limited refl sketched ran read lasts h.listens) (ap (λ (u : State K V X P W). ended name j.kept.hasher u) ends ∙ ap (λ (h : S). ended name h (with_contents s (contents_with j.sketch j.kept) left_predicates)) keeps.hasher)
+        run_returns is j.kept.written j.kept.room (run_promised s simple terms by_state stored.ordered refl applied limited refl sketched ran read lasts h.listens) (ap (λ (u : State K V X P W). ended name j.kept.hasher u) ends ∙ ap (λ (h : S). ended name h (with_contents s (contents_with j.sketch j.kept) left_predicates)) keeps.hasher)
 
 -- ---- a disabled cache
 
 -- a run of it does nothing
 pub disabled_cache_runs : {K V S X L P W C : Type 0} (says : P → K → V → Bool → Type 0) (read : X → K → V → ℕ → Option ℕ → ℕ → Option ℕ) (tells : L → K → V → RemovalCause → L → Type 0) (reads : C → Instant → C → Type 0) {eq : K → K → Bool}
-    {old now : Cache K V S X L P W} → old ≡ now → IsCache eq old.listener old.state → is_disabled old.state.capacity ≡ true → (terms : Terms) (clock : C) →
+    {old now : Engine K V S X L P W} → old ≡ now → IsCache eq old.listener old.state → is_disabled old.state.capacity ≡ true → (terms : Terms) (clock : C) →
     (e : Events K V) × RunStep (ListedRun says read now.write_list old.write_list) now.state terms false e old.state × Befalls tells e now (record old { passes = 0 }) × Leads reads clock e.readings clock
 disabled_cache_runs says read tells reads {eq} {old} {now} is h disabled terms clock =
-    run_returns is old.write_list (disabled_promised old.state (h.valid.numbered.disabled disabled) disabled terms says read tells reads old.write_list old.listener clock) refl
+    run_returns is old.write_list old.room (disabled_promised old.state (h.valid.numbered.disabled disabled) disabled terms says read tells reads old.write_list old.listener clock) refl
 
 -- and its report is exact
 pub disabled_exact : {K V X L P W : Type 0} {eq : K → K → Bool} {l : Option L} (s : State K V X P W) → IsCache eq l s → is_disabled s.capacity ≡ true → IsExact s

@@ -8,7 +8,7 @@ use Rattle.moka_parts.specs.State.{State}
 use Rattle.moka_parts.proofs.StepsKeep.{sent_valid}
 use Rattle.moka_engine.specs.BaseCache.{IsCache}
 use Rattle.moka_inner.specs.Interior.{Interior}
-use Rattle.moka_engine.proofs.CacheSteps.{with_inner, cache-inner, unexpiring-inside}
+use Rattle.moka_engine.proofs.EngineSteps.{with_inner, cache-inner, unexpiring-inside}
 
 module _ {K V X L P W S : Type 0} {eq : K → K → Bool} {l : Option L} {s : State K V X P W} (h : IsCache eq l s) (i j : Interior K V S) (inside : with_inner s i ≡ s) where
   -- whatever the answer

@@ -10,7 +10,7 @@ use Rattle.moka_parts.specs.Housekeeper.{Keeper}
 use Rattle.moka_parts.specs.Policy.{Expirations}
 use Rattle.moka_parts.specs.Records.{Records}
 use Rattle.moka_parts.specs.Settling.{IsValid}
-use Rattle.moka_parts.specs.Runs.{Cache}
+use Rattle.moka_parts.specs.Runs.{Engine}
 use Rattle.moka_parts.specs.State.{State, Settings, keeps_write_list, new_state}
 use Rattle.moka_store.specs.Store.{Kept}
 use Rattle.moka_maintenance.specs.Timers.{AreTimed}
@@ -52,14 +52,16 @@ state_of i invalid_before predicates count weight keeper capacity settings = rec
 }
 
 -- a cache without records
-abbrev pub empty_cache : {K V S X L P W : Type 0} → Option (List ℕ) → S → Settings X W → Option ℕ → (now first_ticket : ℕ) → Option L → Cache K V S X L P W
-empty_cache name hasher settings capacity now first_ticket listener = record {
+abbrev pub empty_engine : {K V S X L P W : Type 0} → Option (List ℕ) → S → Settings X W → Option ℕ → (now first_ticket : ℕ) → Option L
+    → (room : ℕ) → Engine K V S X L P W
+empty_engine name hasher settings capacity now first_ticket listener room = record {
   name = name;
   hasher = hasher;
   state = new_state settings capacity now first_ticket;
   listener = listener;
   write_list = [];
   passes = 0;
+  room = room;
 }
 
 -- which of the settings let records expire

@@ -2,9 +2,9 @@
 use Rattle.std.specs.Prelude.{ℕ, Bool, false, List, Option, Some, None, is_some}
 use Rattle.moka_parts.specs.declared.policy.EvictionPolicy.{EvictionPolicy}
 use Rattle.moka_parts.specs.declared.policy.EvictionPolicy.TheVariants.{TinyLfu}
-use Rattle.moka_parts.specs.Runs.{Cache}
+use Rattle.moka_parts.specs.Runs.{Engine}
 use Rattle.moka_parts.specs.State.{Settings}
-use Rattle.moka_engine.specs.BaseCache.{empty_cache}
+use Rattle.moka_engine.specs.BaseCache.{empty_engine}
 
 -- what was chosen; durations are in nanoseconds, the name is in bytes
 pub record Config (X L W : Type 0) : Type 0 where
@@ -117,6 +117,7 @@ module _ {X L W : Type 0} where
     run_batch = c.run_batch;
   }
 
-  -- the empty cache, made with this hasher at now
-  abbrev pub new_cache : {K V S P : Type 0} → Config X L W → S → ℕ → Cache K V S X L P W
-  new_cache c hasher now = empty_cache c.name hasher (chosen_settings c) c.max_capacity now c.first_ticket c.listener
+  -- the empty cache, made with this hasher at now, with this room
+  abbrev pub new_engine : {K V S P : Type 0} → Config X L W → S → (now room : ℕ) → Engine K V S X L P W
+  new_engine c hasher now room =
+      empty_engine c.name hasher (chosen_settings c) c.max_capacity now c.first_ticket c.listener room

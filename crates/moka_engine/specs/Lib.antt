@@ -5,7 +5,7 @@ pub mod LooksBy
 pub mod Sights
 pub mod Snapshots
 pub mod Restores
-pub mod CacheRuns
+pub mod EngineRuns
 pub mod Makes
 pub mod parts
 pub use Rattle.moka_parts.specs.Time

@@ -1,5 +1,5 @@
 //! The cache. moka: `sync::base_cache`.
-ghost use Rattle.std.specs.Prelude.{◌≡◌, ◌≤◌, ◌||◌, true, false, [], length, map, is_some, List, Option, Some, None, Ok, Err, IfOk, IfErr, option_map, option_copied};
+ghost use Rattle.std.specs.Prelude.{◌≡◌, ◌≤◌, ◌||◌, true, false, [], length, map, is_some, List, Option, Some, None, Ok, Err, IfOk, IfErr, option_map, option_copied, unwrap_or};
 ghost use Rattle.std.specs.List.{AllZip, fold};
 ghost use Rattle.std.specs.String.{string_bytes};
 ghost use Rattle.moka_parts.specs.Calls.{no_events, only_notices, CapacityStep, InsertStep, SendStep, RemoveStep, ContainsStep, KeysStep};
@@ -15,7 +15,7 @@ ghost use Rattle.moka_store.specs.Hashing.{IsKeyHash};
 ghost use Rattle.moka_parts.specs.declared.calls.Call.TheVariants as call;
 ghost use Rattle.moka_parts.specs.declared.calls.Reply.TheVariants as reply;
 ghost use Rattle.moka_parts.specs.declared.records.ReadOperation.TheVariants.{Hit};
-ghost use Rattle.moka_engine.specs.BaseCache.{IsServed, empty_cache, settings_of};
+ghost use Rattle.moka_engine.specs.BaseCache.{IsServed, empty_engine, settings_of};
 ghost use Rattle.moka_engine.specs.Makes.{Makes, meaning};
 
 use self::gets::Moments;
@@ -162,10 +162,10 @@ impl<
     ghost use Rattle.std.specs.Coded.{codes, coded_ℕ};
     ghost use Rattle.std.specs.FinMap as finite;
     ghost use Rattle.std.specs.String.{string_bytes};
-    ghost use Rattle.moka_parts.specs.Runs.{Cache};
+    ghost use Rattle.moka_parts.specs.Runs.{Engine};
     ghost use Rattle.moka_engine.specs.BaseCache.{IsWhole, settings_of, state_of};
 
-    ghost Value = { Cache K V S X L P W };
+    ghost Value = { Engine K V S X L P W };
 
     ghost coded = { Prim.hlevel (codes, finite.code, coded_ℕ, K.code, V.code, S.code, X.code, L.code, P.code, W.code) };
 
@@ -177,6 +177,7 @@ impl<
       listener = c.notifier;
       write_list = c.inner.kept.written;
       passes = c.passes;
+      room = c.inner.kept.room;
     } };
 
     ghost invariant = { λ c. IsWhole K.eq X.read c.notifier c.inner.kept
@@ -244,10 +245,11 @@ impl<
         P: Drop,
         W: Drop,
         requires first { 1 ≤ first_ticket }
-        ensures { IfOk result (λ c. c ≡ empty_cache (option_map string_bytes name) build_hasher
+        ensures empty { IfOk result (λ c. c ≡ empty_engine (option_map string_bytes name) build_hasher
             (settings_of eviction_policy expiration_policy weigher invalidator_enabled
             (new_keeper (is_some eviction_listener) housekeeper_config now.0))
-            max_capacity now.0 first_ticket eviction_listener) }
+            max_capacity now.0 first_ticket eviction_listener c.room) }
+        ensures room { IfOk result (λ c. unwrap_or initial_capacity 0 ≤ c.room) }
     {
         let initial_capacity = initial_capacity.unwrap_or(0);
         let ordered = needs_write_list(&expiration_policy, invalidator_enabled);

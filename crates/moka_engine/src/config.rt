@@ -1,8 +1,8 @@
 //! What a cache is made with. moka: `sync::builder`.
-ghost use Rattle.std.specs.Prelude.{◌≡◌, ◌≤◌, true, Some, IfOk, option_map};
+ghost use Rattle.std.specs.Prelude.{◌≡◌, ◌≤◌, true, Some, IfOk, option_map, unwrap_or};
 ghost use Rattle.std.specs.Duration.{as_nanos};
 ghost use Rattle.std.specs.String.{string_bytes};
-ghost use Rattle.moka_engine.specs.Config.{new_cache, with_expiry, with_listener, with_weigher};
+ghost use Rattle.moka_engine.specs.Config.{new_engine, with_expiry, with_listener, with_weigher};
 
 use crate::base_cache::BaseCache;
 use moka_parts::closures::{NoPredicate, NoWeigher, PredicateFn, Weigher};
@@ -271,7 +271,8 @@ impl<X, L, P, W> CacheConfig<X, L, P, W> {
         L: Listener<K, V> + Drop,
         P: PredicateFn<K, V> + Drop,
         W: Weigher<K, V> + Drop,
-        ensures { IfOk result (λ c. c ≡ new_cache self c.hasher now.0) }
+        ensures empty { IfOk result (λ c. c ≡ new_engine self c.hasher now.0 c.room) }
+        ensures room { IfOk result (λ c. unwrap_or self.initial_capacity 0 ≤ c.room) }
     {
         self.build_with_hasher(alloc, DefaultHasher::default(), now)
     }
@@ -294,7 +295,8 @@ impl<X, L, P, W> CacheConfig<X, L, P, W> {
         L: Listener<K, V> + Drop,
         P: PredicateFn<K, V> + Drop,
         W: Weigher<K, V> + Drop,
-        ensures { IfOk result (λ c. c ≡ new_cache self hasher now.0) }
+        ensures empty { IfOk result (λ c. c ≡ new_engine self hasher now.0 c.room) }
+        ensures room { IfOk result (λ c. unwrap_or self.initial_capacity 0 ≤ c.room) }
     {
         let choices = self.choices;
         let (live, idle) = (choices.time_to_live, choices.time_to_idle);

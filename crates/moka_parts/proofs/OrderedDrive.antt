@@ -15,7 +15,7 @@ use Rattle.moka_parts.specs.Maintenance.{Freedom, Terms, Course, RunsBy, DoesNot
 use Rattle.moka_parts.specs.Settling.{IsValid}
 use Rattle.moka_parts.specs.Order.{waiting_by_ticket, written_at, written_by, IsWriteList, IsInOrder, IsOrderly, write_list_at_end}
 use Rattle.moka_parts.specs.Laws.{StaysInOrder}
-use Rattle.moka_parts.specs.Runs.{Cache, CallStep, Step, AreSteps, AreOrderly, MakesCalls, PromisedRun, OrderlyRun, IsEmpty, last_state}
+use Rattle.moka_parts.specs.Runs.{Engine, CallStep, Step, AreSteps, AreOrderly, MakesCalls, PromisedRun, OrderlyRun, IsEmpty, last_state}
 use Rattle.moka_parts.specs.Listed.{ListedRun, ListedStep, AreListedSteps}
 use Rattle.moka_parts.specs.Drives.{Drives}
 use Rattle.moka_parts.proofs.Maps.{itself_tested, entries-empty}
@@ -136,13 +136,13 @@ module _ {K V X L P W C I : Type 0} (m : Meaning K V X L P W C I) where
   AreListedSteps_push s before mid last (y ∷ xs) x (after, first, rest) step = (after, first, AreListedSteps_push y.after after mid last xs x rest step)
 
   -- one more call of a cache
-  pub lists_go_on : {S : Type 0} (Runs : State K V X P W → Terms → Course → List (Notice K V) → State K V X P W → Type 0) (calls : List (Call K V P)) (replies : List (Reply K V P)) (steps : List (Step K V X P W)) (old mid : Cache K V S X L P W) (clock clock_after : C) (ids ids_after : I) (x : Step K V X P W) (last : List ℕ) →
+  pub lists_go_on : {S : Type 0} (Runs : State K V X P W → Terms → Course → List (Notice K V) → State K V X P W → Type 0) (calls : List (Call K V P)) (replies : List (Reply K V P)) (steps : List (Step K V X P W)) (old mid : Engine K V S X L P W) (clock clock_after : C) (ids ids_after : I) (x : Step K V X P W) (last : List ℕ) →
       MakesCalls m Runs calls replies steps old clock ids mid clock_after ids_after → AreListedSteps m old.state old.write_list steps mid.write_list → ListedStep m mid.state mid.write_list x last → AreListedSteps m old.state old.write_list (steps ++ x ∷ []) last
   lists_go_on Runs calls replies steps old mid clock clock_after ids ids_after x last made lists step =
       AreListedSteps_push old.state old.write_list mid.write_list last steps x lists (subst (λ s. ListedStep m s mid.write_list x last) (ap (λ c. c.state) made.ends) step)
 
   -- what `drive` promises, from the write lists beside its calls
-  pub drives_in_order : {S : Type 0} (calls : List (Call K V P)) (replies : List (Reply K V P)) (steps : List (Step K V X P W)) (old new : Cache K V S X L P W) (clock clock_after : C) (ids ids_after : I) →
+  pub drives_in_order : {S : Type 0} (calls : List (Call K V P)) (replies : List (Reply K V P)) (steps : List (Step K V X P W)) (old new : Engine K V S X L P W) (clock clock_after : C) (ids ids_after : I) →
       IsEquivalence m.eq → IsValid m.eq old.state → (keeps_write_list old.state.settings ≡ true → IsWriteList old.state old.write_list) →
       MakesCalls m (PromisedRun m.says m.read) calls replies steps old clock ids new clock_after ids_after → AreListedSteps m old.state old.write_list steps new.write_list → Drives m calls replies old clock ids new clock_after ids_after
   drives_in_order calls replies steps old new clock clock_after ids ids_after laws valid listed made lists = record {

@@ -15,7 +15,7 @@ use Rattle.moka_parts.specs.Records.{Notice, record_of_key}
 use Rattle.moka_parts.specs.State.{State, Meaning, Events, is_disabled}
 use Rattle.moka_parts.specs.Maintenance.{Terms, Course, MaintenanceRun}
 use Rattle.moka_parts.specs.Calls.{after_hit, hit_at, hit_operation, RunStep, KeeperRun, RunsIfDue, Unchanged, RecordsRead, GetsAt, GetStep}
-use Rattle.moka_parts.specs.Runs.{CallStep, Step, Cache, AreSteps, MakesCalls, PromisedRun}
+use Rattle.moka_parts.specs.Runs.{CallStep, Step, Engine, AreSteps, MakesCalls, PromisedRun}
 use Rattle.moka_parts.specs.Laws.{IsOfReference}
 use Rattle.moka_parts.proofs.RunsGoOn.{promised_is_run}
 
@@ -82,7 +82,7 @@ module _ {K V X L P W C I : Type 0} (m : Meaning K V X L P W C I) (More Less : S
 -- a run of a list of calls
 pub weaker_is_run : {K V S X L P W C I : Type 0} (m : Meaning K V X L P W C I) (More Less : State K V X P W → Terms → Course → List (Notice K V) → State K V X P W → Type 0)
     (weaker : (s : State K V X P W) (terms : Terms) (course : Course) (notices : List (Notice K V)) (t : State K V X P W) → More s terms course notices t → Less s terms course notices t)
-    (calls : List (Call K V P)) (replies : List (Reply K V P)) (steps : List (Step K V X P W)) (old new : Cache K V S X L P W) (clock clock_after : C) (ids ids_after : I) →
+    (calls : List (Call K V P)) (replies : List (Reply K V P)) (steps : List (Step K V X P W)) (old new : Engine K V S X L P W) (clock clock_after : C) (ids ids_after : I) →
     MakesCalls m More calls replies steps old clock ids new clock_after ids_after → MakesCalls m Less calls replies steps old clock ids new clock_after ids_after
 weaker_is_run m More Less weaker calls replies steps old new clock clock_after ids ids_after h = record {
   calls_made = h.calls_made;

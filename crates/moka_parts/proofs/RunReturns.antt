@@ -12,7 +12,7 @@ use Rattle.moka_parts.specs.Maintenance.{Terms, Course, is_late}
 use Rattle.moka_parts.specs.Exact.{IsWithin}
 use Rattle.moka_parts.specs.Settling.{IsBare, LeavesBehind, Settles}
 use Rattle.moka_parts.specs.Calls.{run_events, RunStep}
-use Rattle.moka_parts.specs.Runs.{Cache, Befalls}
+use Rattle.moka_parts.specs.Runs.{Engine, Befalls}
 use Rattle.moka_parts.specs.Listed.{ListedRun}
 use Rattle.moka_parts.proofs.AtEnd.{bare_is_exact}
 use Rattle.moka_parts.proofs.Maps.{nothing_at}
@@ -28,10 +28,10 @@ pub record IsPromised {K V X P W L C : Type 0} (says : P → K → V → Bool �
 
 -- a cache that has made such a run
 pub run_returns : {K V S X L P W C : Type 0} {says : P → K → V → Bool → Type 0} {read : X → K → V → ℕ → Option ℕ → ℕ → Option ℕ} {tells : L → K → V → RemovalCause → L → Type 0} {reads : C → Instant → C → Type 0}
-    {old now new : Cache K V S X L P W} (is : old ≡ now) {terms : Terms} {answer : Bool} {passes : ℕ} {t : State K V X P W} {m : Option L} {clock clock_after : C} (write_list : List ℕ) →
-    IsPromised says read tells reads old.write_list write_list old.state terms answer passes t old.listener m clock clock_after → new ≡ record old { state = t; listener = m; write_list = write_list; passes = passes } →
+    {old now new : Engine K V S X L P W} (is : old ≡ now) {terms : Terms} {answer : Bool} {passes : ℕ} {t : State K V X P W} {m : Option L} {clock clock_after : C} (write_list : List ℕ) (room : ℕ) →
+    IsPromised says read tells reads old.write_list write_list old.state terms answer passes t old.listener m clock clock_after → new ≡ record old { state = t; listener = m; write_list = write_list; passes = passes; room = room } →
     (e : Events K V) × RunStep (ListedRun says read now.write_list new.write_list) now.state terms answer e new.state × Befalls tells e now new × Leads reads clock e.readings clock_after
-run_returns {K} {V} {S} {X} {L} {P} {W} {C} {says} {read} {tells} {reads} {old} {now} {new} is {terms} {answer} {passes} {t} {m} {clock} {clock_after} write_list h ends =
+run_returns {K} {V} {S} {X} {L} {P} {W} {C} {says} {read} {tells} {reads} {old} {now} {new} is {terms} {answer} {passes} {t} {m} {clock} {clock_after} write_list room h ends =
     subst (λ now. (e : Events K V) × RunStep (ListedRun says read now.write_list new.write_list) now.state terms answer e new.state × Befalls tells e now new × Leads reads clock e.readings clock_after) is
     (subst (λ new. (e : Events K V) × RunStep (ListedRun says read old.write_list new.write_list) old.state terms answer e new.state × Befalls tells e old new × Leads reads clock e.readings clock_after) (sym ends) (
       run_events h.notices (record { answer = answer; readings = h.readings; passes = passes }),

@@ -9,7 +9,7 @@ use Rattle.moka_parts.specs.Maintenance.{Terms, Course, Freedom, RunsBy, DoesNot
 use Rattle.moka_parts.specs.Bounds.{IsBounded}
 use Rattle.moka_parts.specs.Surroundings.{Leads, NoticeStep, Heard}
 use Rattle.moka_parts.specs.Order.{IsOrderly}
-use Rattle.moka_parts.specs.Runs.{PromisedRun, Cache, Befalls, Step, CallStep, AreSteps, AreOrderly, MakesCalls, passes_after, last_passes, last_state, notices_of, readings_of, ids_of}
+use Rattle.moka_parts.specs.Runs.{PromisedRun, Engine, Befalls, Step, CallStep, AreSteps, AreOrderly, MakesCalls, passes_after, last_passes, last_state, notices_of, readings_of, ids_of}
 
 -- steps after steps
 pub Leads-append : {S A : Type 0} (step : S → A → S → Type 0) (a b c : S) (xs ys : List A) → Leads step a xs b → Leads step b ys c → Leads step a (xs ++ ys) c
@@ -54,7 +54,7 @@ module _ {K V X L P W C I : Type 0} (m : Meaning K V X L P W C I) (Runs : State 
   AreSteps_push s (y ∷ xs) x h k = (h.0, AreSteps_push y.after xs x h.1 k)
 
 -- one more call
-pub MakesCalls_push : {K V S X L P W C I : Type 0} (m : Meaning K V X L P W C I) (Runs : State K V X P W → Terms → Course → List (Notice K V) → State K V X P W → Type 0) (calls : List (Call K V P)) (replies : List (Reply K V P)) (steps : List (Step K V X P W)) (old mid new : Cache K V S X L P W) (c1 c2 c3 : C) (i1 i2 i3 : I) (x : Step K V X P W) →
+pub MakesCalls_push : {K V S X L P W C I : Type 0} (m : Meaning K V X L P W C I) (Runs : State K V X P W → Terms → Course → List (Notice K V) → State K V X P W → Type 0) (calls : List (Call K V P)) (replies : List (Reply K V P)) (steps : List (Step K V X P W)) (old mid new : Engine K V S X L P W) (c1 c2 c3 : C) (i1 i2 i3 : I) (x : Step K V X P W) →
     MakesCalls m Runs calls replies steps old c1 i1 mid c2 i2 → CallStep m Runs mid.state x.call x.reply x.events x.after → x.after ≡ new.state →
     Befalls m.tells x.events mid new → Leads m.observes c2 x.events.readings c3 → Leads m.gives i2 x.events.ids i3 →
     MakesCalls m Runs (calls ++ x.call ∷ []) (replies ++ x.reply ∷ []) (steps ++ x ∷ []) old c1 i1 new c3 i3
@@ -68,7 +68,7 @@ MakesCalls_push m Runs calls replies steps old mid new c1 c2 c3 i1 i2 i3 x h k s
       calls_made = map_push (λ x. x.call) steps x ∙ ap (λ cs. cs ++ x.call ∷ []) h.calls_made;
       replies_given = map_push (λ x. x.reply) steps x ∙ ap (λ rs. rs ++ x.reply ∷ []) h.replies_given;
       are_steps = AreSteps_push m Runs old.state steps x h.are_steps (rw (← state) k);
-      ends = befalls.kept ∙ ap (λ n. record mid { name = n; state = new.state; listener = new.listener; write_list = new.write_list; passes = new.passes }) name ∙ ap (λ h. record old { hasher = h; state = new.state; listener = new.listener; write_list = new.write_list; passes = new.passes }) hasher ∙ ap (λ s. record old { state = s; listener = new.listener; write_list = new.write_list; passes = new.passes }) after ∙ ap (λ p. record old { state = last_state old.state (steps ++ x ∷ []); listener = new.listener; write_list = new.write_list; passes = p }) passes;
+      ends = befalls.kept ∙ ap (λ n. record mid { name = n; state = new.state; listener = new.listener; write_list = new.write_list; passes = new.passes; room = new.room }) name ∙ ap (λ h. record old { hasher = h; state = new.state; listener = new.listener; write_list = new.write_list; passes = new.passes; room = new.room }) hasher ∙ ap (λ s. record old { state = s; listener = new.listener; write_list = new.write_list; passes = new.passes; room = new.room }) after ∙ ap (λ p. record old { state = last_state old.state (steps ++ x ∷ []); listener = new.listener; write_list = new.write_list; passes = p; room = new.room }) passes;
       heard = rw (flat_map_push (λ x. x.events.notices) steps x) (Heard-append m.tells old.listener mid.listener new.listener (notices_of steps) x.events.notices h.heard befalls.heard);
       read = rw (flat_map_push (λ x. x.events.readings) steps x) (Leads-append m.observes c1 c2 c3 (readings_of steps) x.events.readings h.read read);
       given = rw (flat_map_push (λ x. x.events.ids) steps x) (Leads-append m.gives i1 i2 i3 (ids_of steps) x.events.ids h.given given);

@@ -26,7 +26,7 @@ use Rattle.moka_parts.specs.Maintenance.{Choice, Removes, MovesToBack, Drops, Fr
 use Rattle.moka_parts.specs.Exact.{IsExact, IsWithin}
 use Rattle.moka_parts.specs.Calls.{GetStep, PeekStep, ContainsStep, SendStep, RemoveStep, entry_of}
 use Rattle.moka_parts.specs.Order.{IsInOrder, KeepsOrder, AgesOutInOrder}
-use Rattle.moka_parts.specs.Runs.{Cache, Step, CallStep, AreOrderly, AreSteps, MakesCalls, ReferenceRun, PromisedRun, last_state}
+use Rattle.moka_parts.specs.Runs.{Engine, Step, CallStep, AreOrderly, AreSteps, MakesCalls, ReferenceRun, PromisedRun, last_state}
 use Rattle.moka_parts.specs.Listed.{ListedRun, ListedStep, AreListedSteps}
 use Rattle.moka_parts.specs.declared.policy.EvictionPolicy.TheVariants.{TinyLfu}
 
@@ -232,7 +232,7 @@ StaysInOrder {K} {V} {X} {L} {P} {W} m = (s : State K V X P W) (steps : List (St
 
 -- calls whose runs of maintenance keep their promises are a run of the reference cache
 abbrev pub IsOfReference : {K V X L P W C I : Type 0} → (S : Type 0) → Meaning K V X L P W C I → Type 0
-IsOfReference {K} {V} {X} {L} {P} {W} {C} {I} S m = (calls : List (Call K V P)) (replies : List (Reply K V P)) (steps : List (Step K V X P W)) (old new : Cache K V S X L P W) (clock clock_after : C) (ids ids_after : I) →
+IsOfReference {K} {V} {X} {L} {P} {W} {C} {I} S m = (calls : List (Call K V P)) (replies : List (Reply K V P)) (steps : List (Step K V X P W)) (old new : Engine K V S X L P W) (clock clock_after : C) (ids ids_after : I) →
     MakesCalls m (PromisedRun m.says m.read) calls replies steps old clock ids new clock_after ids_after → ReferenceRun m calls replies steps old clock ids new clock_after ids_after
 
 -- ---- the runs and calls that contracts promise, with their write lists

@@ -20,9 +20,9 @@ use Rattle.moka_parts.specs.Surroundings.{Heard}
 pub use Rattle.moka_parts.specs.Surroundings.{Leads}
 use Rattle.moka_parts.specs.Calls.{no_events, only_notices, only_ids, Unchanged, InsertStep, SendStep, GetStep, PeekStep, ContainsStep, KeyStep, ScanStep, RemoveStep, NotifiesAfter, InvalidateStep, CapacityStep, RunStep, RunsIfDue, KeysStep, oldest_ticket}
 
--- what contracts see of a cache: its name and hasher, the state, the listener, the write list, and the passes of its
--- last run
-pub record Cache (K V S X L P W : Type 0) : Type 0 where
+-- what contracts see of a cache: its name and hasher, the state, the listener, the write list, the passes of its last
+-- run, and for how many more records it has room
+pub record Engine (K V S X L P W : Type 0) : Type 0 where
   -- as bytes
   pub name : Option (List ℕ)
   pub hasher : S
@@ -31,16 +31,18 @@ pub record Cache (K V S X L P W : Type 0) : Type 0 where
   -- the members' numbers in the order of writing, where that is kept
   pub write_list : List ℕ
   pub passes : ℕ
+  -- in its tables
+  pub room : ℕ
 
 -- the passes of the last run, where this many were made before
 abbrev pub passes_after : ℕ → Option ℕ → ℕ
 passes_after before None = before
 passes_after before (Some passes) = passes
 
--- a call with these events changes no more of a cache than its state, what the listener has heard, the write list and
--- the passes
-pub record Befalls {K V S X L P W : Type 0} (tells : L → K → V → RemovalCause → L → Type 0) (e : Events K V) (old new : Cache K V S X L P W) : Type 0 where
-  pub kept : new ≡ record old { state = new.state; listener = new.listener; write_list = new.write_list; passes = new.passes }
+-- a call with these events changes no more of a cache than its state, what the listener has heard, the write list, the
+-- passes and the room
+pub record Befalls {K V S X L P W : Type 0} (tells : L → K → V → RemovalCause → L → Type 0) (e : Events K V) (old new : Engine K V S X L P W) : Type 0 where
+  pub kept : new ≡ record old { state = new.state; listener = new.listener; write_list = new.write_list; passes = new.passes; room = new.room }
   pub heard : Heard tells old.listener e.notices new.listener
   pub passes : new.passes ≡ passes_after old.passes e.passes
   -- without a run of maintenance the write list stays
@@ -130,17 +132,17 @@ module _ {K V X L P W C I : Type 0} (m : Meaning K V X L P W C I) (Runs : State 
 
 -- the calls, made one after the other, give the replies and lead from the first cache, clock and source of identifiers
 -- to the second
-pub record MakesCalls {K V S X L P W C I : Type 0} (m : Meaning K V X L P W C I) (Runs : State K V X P W → Terms → Course → List (Notice K V) → State K V X P W → Type 0) (calls : List (Call K V P)) (replies : List (Reply K V P)) (steps : List (Step K V X P W)) (old : Cache K V S X L P W) (clock : C) (ids : I) (new : Cache K V S X L P W) (clock_after : C) (ids_after : I) : Type 0 where
+pub record MakesCalls {K V S X L P W C I : Type 0} (m : Meaning K V X L P W C I) (Runs : State K V X P W → Terms → Course → List (Notice K V) → State K V X P W → Type 0) (calls : List (Call K V P)) (replies : List (Reply K V P)) (steps : List (Step K V X P W)) (old : Engine K V S X L P W) (clock : C) (ids : I) (new : Engine K V S X L P W) (clock_after : C) (ids_after : I) : Type 0 where
   pub calls_made : calls_of steps ≡ calls
   pub replies_given : replies_of steps ≡ replies
   pub are_steps : AreSteps m Runs old.state steps
-  pub ends : new ≡ record old { state = last_state old.state steps; listener = new.listener; write_list = new.write_list; passes = last_passes old.passes steps }
+  pub ends : new ≡ record old { state = last_state old.state steps; listener = new.listener; write_list = new.write_list; passes = last_passes old.passes steps; room = new.room }
   pub heard : Heard m.tells old.listener (notices_of steps) new.listener
   pub read : Leads m.observes clock (readings_of steps) clock_after
   pub given : Leads m.gives ids (ids_of steps) ids_after
 
 -- a run of the reference cache
-abbrev pub ReferenceRun : {K V S X L P W C I : Type 0} → Meaning K V X L P W C I → List (Call K V P) → List (Reply K V P) → List (Step K V X P W) → Cache K V S X L P W → C → I → Cache K V S X L P W → C → I → Type 0
+abbrev pub ReferenceRun : {K V S X L P W C I : Type 0} → Meaning K V X L P W C I → List (Call K V P) → List (Reply K V P) → List (Step K V X P W) → Engine K V S X L P W → C → I → Engine K V S X L P W → C → I → Type 0
 ReferenceRun m calls replies steps old clock ids new clock_after ids_after = MakesCalls m (MaintenanceRun m.says) calls replies steps old clock ids new clock_after ids_after
 
 module _ {K V X P W : Type 0} (says : P → K → V → Bool → Type 0) (read : X → K → V → ℕ → Option ℕ → ℕ → Option ℕ) where

@@ -9,7 +9,7 @@ use Rattle.moka_parts.specs.declared.policy.Instant.{Instant}
 use Rattle.moka_parts.specs.Listed.{ListedRun, AreListedSteps}
 use Rattle.moka_parts.specs.Maintenance.{Terms, Course}
 use Rattle.moka_parts.specs.Records.{Notice}
-use Rattle.moka_parts.specs.Runs.{Cache, CallStep, Step, AreSteps, PromisedRun, readings_of, ids_of}
+use Rattle.moka_parts.specs.Runs.{Engine, CallStep, Step, AreSteps, PromisedRun, readings_of, ids_of}
 use Rattle.moka_parts.specs.State.{State, Meaning, Events}
 use Rattle.moka_parts.specs.Surroundings.{Leads}
 use Rattle.moka_drive.specs.Synchronous.{Made, hears_clones}
@@ -60,7 +60,7 @@ module _ {K V X L P W C D : Type 0} (m : Meaning K V X L P W C (Unit {0})) (obse
       (after, (step_by (ListedRun m.says m.read before after) s x.after x.call x.reply x.events step.0, step.1), listed_by x.after after last xs rest)
 
   -- what was made
-  made_by : {S : Type 0} (calls : List (Call K V P)) (replies : List (Reply K V P)) (old new : Cache K V S X L P W) (clock clock_after : C) (own own_after : D) → ((moments : List Instant) → Leads m.observes clock moments clock_after → Leads observes own moments own_after)
+  made_by : {S : Type 0} (calls : List (Call K V P)) (replies : List (Reply K V P)) (old new : Engine K V S X L P W) (clock clock_after : C) (own own_after : D) → ((moments : List Instant) → Leads m.observes clock moments clock_after → Leads observes own moments own_after)
       → ((ids : List Uuid) → Leads m.gives tt ids tt → Leads gives tt ids tt) → Made m calls replies old clock new clock_after → Made by_others calls replies old own new own_after
   made_by calls replies old new clock clock_after own own_after reads given h = record {
     steps = h.steps;
@@ -77,12 +77,12 @@ module _ {K V X L P W C D : Type 0} (m : Meaning K V X L P W C (Unit {0})) (obse
     in_order = h.in_order;
   }
 
-module _ {K V S X L P W C : Type 0} (m : Meaning K V X L P W C (Unit {0})) (calls : List (Call K V P)) (replies : List (Reply K V P)) (old new : Cache K V S X L P W) (clock clock_after : C) where
+module _ {K V S X L P W C : Type 0} (m : Meaning K V X L P W C (Unit {0})) (calls : List (Call K V P)) (replies : List (Reply K V P)) (old new : Engine K V S X L P W) (clock clock_after : C) where
   -- at some moments
   pub made_anytime : Made m calls replies old clock new clock_after → Made (anytime m) calls replies old tt new tt
   made_anytime made = made_by {D = Unit {0}} m (λ _ _ _. Unit {0}) m.gives calls replies old new clock clock_after tt tt (λ moments _. tells_any moments) (λ ids given. given) made
 
-module _ {K V S X L P W C : Type 0} (m : Meaning K V X L P W C (Unit {0})) (is_key_clone : K → K → Type 0) (is_clone : V → V → Type 0) (calls : List (Call K V P)) (replies : List (Reply K V P)) (old new : Cache K V S X L P W) (clock clock_after : C) where
+module _ {K V S X L P W C : Type 0} (m : Meaning K V X L P W C (Unit {0})) (is_key_clone : K → K → Type 0) (is_clone : V → V → Type 0) (calls : List (Call K V P)) (replies : List (Reply K V P)) (old new : Engine K V S X L P W) (clock clock_after : C) where
   -- with identifiers, whoever gives them
   pub made_with_ids : Made (record m { tells = hears_clones is_key_clone is_clone m.tells }) calls replies old clock new clock_after → Made (for_all_calls is_key_clone is_clone m) calls replies old clock new clock_after
   made_with_ids made = made_by (record m { tells = hears_clones is_key_clone is_clone m.tells }) m.observes (λ _ _ _. Unit {0}) calls replies old new clock clock_after clock clock_after (λ moments read. read) (λ ids _. tells_any ids) made

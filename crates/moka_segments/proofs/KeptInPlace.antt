@@ -11,7 +11,7 @@ use Rattle.moka_parts.specs.declared.error.OutOfMemory.{OutOfMemory}
 use Rattle.moka_parts.specs.declared.error.PredicateRefused.{PredicateRefused}
 use Rattle.moka_parts.specs.declared.notification.RemovalCause.{RemovalCause}
 use Rattle.moka_parts.specs.State.{Meaning}
-use Rattle.moka_parts.specs.Runs.{Cache}
+use Rattle.moka_parts.specs.Runs.{Engine}
 use Rattle.moka_drive.specs.Synchronous.{Synchronous, Makes, Posts, InsertsEntry, GetsValue, RemovesEntry, InsertsMade, GetsOrInserts, hears_clones, removed, invalidated}
 use Rattle.moka_drive.specs.declared.error.GetWithRefused.{GetWithRefused}
 use Rattle.moka_segments.specs.Keys.{Belongs, EachKey, InsertsOnly, KeysBelong, KeepsKeys}
@@ -108,7 +108,7 @@ module _ {K V S X L P W : Type 0} (hash_of : S → K → ℕ) where
 
 module _ {K V S X L P W C : Type 0} (hash_of : S → K → ℕ) (m : Meaning K V X L P W C (Unit {0})) where
   -- what calls that fit leave of a segment's keys
-  kept : (Fit : List (Call K V P) → List (Reply K V P) → Type 0) (Is : K → Type 0) (x y : Cache K V S X L P W) (clock clock_after : C) → ((calls : List (Call K V P)) (replies : List (Reply K V P)) → Fit calls replies → InsertsOnly Is calls)
+  kept : (Fit : List (Call K V P) → List (Reply K V P) → Type 0) (Is : K → Type 0) (x y : Engine K V S X L P W) (clock clock_after : C) → ((calls : List (Call K V P)) (replies : List (Reply K V P)) → Fit calls replies → InsertsOnly Is calls)
       → Makes m Fit x clock y clock_after → EachKey Is x.state.records → EachKey Is y.state.records
   kept Fit Is x y clock clock_after only (calls, replies, fits, made) held = keys_made m Is calls replies x y clock clock_after made (only calls replies fits) held
 

@@ -19,7 +19,7 @@ use Rattle.moka_parts.specs.Housekeeping.{is_due}
 use Rattle.moka_parts.specs.Listed.{ListedRun, AreListedSteps}
 use Rattle.moka_parts.specs.Maintenance.{Terms, Course}
 use Rattle.moka_parts.specs.Records.{Notice, Records, record_of_key}
-use Rattle.moka_parts.specs.Runs.{Cache, CallStep, Step, calls_of, last_state}
+use Rattle.moka_parts.specs.Runs.{Engine, CallStep, Step, calls_of, last_state}
 use Rattle.moka_parts.specs.State.{State, Meaning, Events, is_disabled}
 use Rattle.moka_parts.proofs.Lookup.{record_of_key_found}
 use Rattle.moka_parts.proofs.Maps.{same_or_apart, get_inserted, get_past_insert, nothing_at}
@@ -179,9 +179,9 @@ module _ {K V X L P W C : Type 0} (m : Meaning K V X L P W C (Unit {0})) (Is : K
 
 module _ {K V S X L P W C : Type 0} (m : Meaning K V X L P W C (Unit {0})) (Is : K → Type 0) where
   -- whatever calls were made
-  pub keys_made : (calls : List (Call K V P)) (replies : List (Reply K V P)) (old new : Cache K V S X L P W) (clock clock_after : C) → Made m calls replies old clock new clock_after → InsertsOnly Is calls → EachKey Is old.state.records → EachKey Is new.state.records
+  pub keys_made : (calls : List (Call K V P)) (replies : List (Reply K V P)) (old new : Engine K V S X L P W) (clock clock_after : C) → Made m calls replies old clock new clock_after → InsertsOnly Is calls → EachKey Is old.state.records → EachKey Is new.state.records
   keys_made calls replies old new clock clock_after made only held =
-      subst (λ (c : Cache K V S X L P W). EachKey Is c.state.records) (sym made.is_run.ends)
+      subst (λ (c : Engine K V S X L P W). EachKey Is c.state.records) (sym made.is_run.ends)
       (keys_of_steps m Is old.state old.write_list new.write_list made.steps (subst (InsertsOnly Is) (sym made.is_run.calls_made) only) held made.listed)
 
 -- a new cache holds no key

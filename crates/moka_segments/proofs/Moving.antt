@@ -13,7 +13,7 @@ use Rattle.moka_parts.specs.declared.policy.Instant.{Instant}
 use Rattle.moka_parts.specs.Calls.{InvalidateStep, no_events, only_ids}
 use Rattle.moka_parts.specs.Copies.{IsCopiedAnswer}
 use Rattle.moka_parts.specs.Listed.{ListedStep}
-use Rattle.moka_parts.specs.Runs.{Cache, Befalls, Step, PromisedRun}
+use Rattle.moka_parts.specs.Runs.{Engine, Befalls, Step, PromisedRun}
 use Rattle.moka_parts.specs.State.{Meaning, Events}
 use Rattle.moka_parts.proofs.OrderedDrive.{listed_call_promised}
 use Rattle.moka_parts.proofs.RunsGoOn.{MakesCalls_push}
@@ -117,11 +117,11 @@ module _ {K V S X L P W C : Type 0} (m : Meaning K V X L P W C (Unit {0})) where
 
 module _ {K V S X L P W C : Type 0} (m : Meaning K V X L P W C (Unit {0})) (is_key_clone : K → K → Type 0) (is_clone : V → V → Type 0) where
   -- calls that fit
-  makes_wide : (Fit Fits : List (Call K V P) → List (Reply K V P) → Type 0) → ((calls : List (Call K V P)) (replies : List (Reply K V P)) → Fit calls replies → Fits calls replies) → (x y : Cache K V S X L P W) (clock clock_after : C) → Makes m Fit x clock y clock_after → Makes (for_all_calls is_key_clone is_clone m) Fits x clock y clock_after
+  makes_wide : (Fit Fits : List (Call K V P) → List (Reply K V P) → Type 0) → ((calls : List (Call K V P)) (replies : List (Reply K V P)) → Fit calls replies → Fits calls replies) → (x y : Engine K V S X L P W) (clock clock_after : C) → Makes m Fit x clock y clock_after → Makes (for_all_calls is_key_clone is_clone m) Fits x clock y clock_after
   makes_wide Fit Fits fits x y clock clock_after (calls, replies, fit, made) = (calls, replies, fits calls replies fit, made_for_all m is_key_clone is_clone calls replies x y clock clock_after made)
 
   -- a predicate was registered, or refused
-  registers_wide : (predicate : P) (now : Instant) (answer : Result Uuid (PredicateRefused P)) (e : Events K V) (x y : Cache K V S X L P W) (clock : C) → InvalidateStep x.state predicate now answer e.ids y.state → e ≡ only_ids e.ids → Befalls m.tells e x y
+  registers_wide : (predicate : P) (now : Instant) (answer : Result Uuid (PredicateRefused P)) (e : Events K V) (x y : Engine K V S X L P W) (clock : C) → InvalidateStep x.state predicate now answer e.ids y.state → e ≡ only_ids e.ids → Befalls m.tells e x y
       → Made (for_all_calls is_key_clone is_clone m) (call.InvalidateIf predicate now ∷ []) (reply.InvalidateIf answer ∷ []) x clock y clock
   registers_wide predicate now answer e x y clock step only befalls =
       let asked : Events K V = only_ids e.ids in

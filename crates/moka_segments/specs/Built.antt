@@ -1,6 +1,6 @@
 -- The segments of a new cache.
-use Rattle.std.specs.Prelude.{◌≡◌, ℕ, ◌<◌, List, length, Option, Some, None, slice_index_or, ⊤}
-use Rattle.moka_engine.specs.Config.{Config, new_cache}
+use Rattle.std.specs.Prelude.{◌≡◌, ℕ, ◌<◌, ◌≤◌, List, length, Option, Some, None, slice_index_or, unwrap_or, ⊤}
+use Rattle.moka_engine.specs.Config.{Config, new_engine}
 use Rattle.moka_drive.specs.Synchronous.{Synchronous, fresh}
 use Rattle.moka_segments.specs.Routing.{Routing, share}
 use Rattle.moka_segments.specs.Segmented.{Segmented}
@@ -16,11 +16,12 @@ abbrev pub SumsTo : {K V S X L P W : Type 0} → Option ℕ → List (Synchronou
 SumsTo None segments = ⊤
 SumsTo (Some capacity) segments = whole_capacity segments ≡ Some capacity
 
--- a new segment with this configuration, and a clone of the hasher
+-- a new segment with this configuration, room for its initial capacity, and a clone of the hasher
 pub record IsSegment {K V S X L P W : Type 0} (routing : Routing S) (is_clone : S → S → Type 0) (now : ℕ) (config : Config X L W) (s : Synchronous K V S X L P W) : Type 0 where
   pub hasher : S
   pub cloned : is_clone routing.hasher hasher
-  pub is : s ≡ fresh (new_cache config hasher now)
+  pub is : s ≡ fresh (new_engine config hasher now s.engine.room)
+  pub room : unwrap_or config.initial_capacity 0 ≤ s.engine.room
 
 module _ {K V S X L P W : Type 0} (routing : Routing S) (whole : Option ℕ) (is_clone : S → S → Type 0) (now : ℕ) where
   -- a new segment with this configuration but for the capacity

@@ -1,5 +1,5 @@
 //! A synchronous cache that owns its clock.
-ghost use Rattle.std.specs.Prelude.{◌≡◌, true, false, Option, Some, None, Result, IfOk, IfErr, OnErr, is_some, option_copied};
+ghost use Rattle.std.specs.Prelude.{◌≡◌, ◌≤◌, true, false, Option, Some, None, Result, IfOk, IfErr, OnErr, is_some, option_copied, unwrap_or};
 ghost use Rattle.std.specs.List.{fold};
 ghost use Rattle.moka_parts.specs.Calls.{CapacityStep, ContainsStep, InvalidateStep, no_events, only_ids};
 ghost use Rattle.moka_parts.specs.Copies.{IsCopiedAnswer};
@@ -12,7 +12,7 @@ ghost use Rattle.moka_parts.specs.declared.calls.Reply.TheVariants as reply;
 ghost use Rattle.moka_parts.specs.declared.error.InsertRefused.{InsertRefused};
 ghost use Rattle.moka_parts.specs.declared.error.OutOfMemory.{OutOfMemory};
 ghost use Rattle.moka_parts.specs.declared.policy.Instant.{Instant};
-ghost use Rattle.moka_engine.specs.Config.{new_cache};
+ghost use Rattle.moka_engine.specs.Config.{new_engine};
 ghost use Rattle.moka_drive.specs.Counters.{after_look_up};
 ghost use Rattle.moka_drive.specs.Unsent.{IsThere, ShowsWrites};
 ghost use Rattle.moka_drive.specs.Synchronous.{fresh, Makes, meaning_of, hears_clones, Just, own_run, InsertsEntry, GetsValue, RemovesEntry, removed, invalidated, GetsWith, GetsWithIfMade, GetsWithIfNoError};
@@ -74,7 +74,9 @@ impl<
         L: Drop,
         P: Drop,
         W: Drop,
-        ensures { IfOk result (λ c. (now : Instant) × C.reads clock now c.clock × (c.cache ≡ fresh (new_cache config c.cache.engine.hasher now.0))) }
+        ensures empty { IfOk result (λ c. (now : Instant) × C.reads clock now c.clock
+            × (c.cache ≡ fresh (new_engine config c.cache.engine.hasher now.0 c.cache.engine.room))) }
+        ensures room { IfOk result (λ c. unwrap_or config.initial_capacity 0 ≤ c.cache.engine.room) }
     {
         let now = clock.now();
         let cache = Cache::build(config, alloc, now)?;

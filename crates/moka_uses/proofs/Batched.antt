@@ -5,7 +5,7 @@ use Rattle.std.specs.Vec.Iter.{into_iter_items}
 use Rattle.std.specs.declared.alloc.Global.{Global}
 use Rattle.std.specs.declared.vec.Vec.{Vec}
 use Rattle.moka_engine.specs.parts.Instant.{Instant}
-use Rattle.moka_engine.specs.Runs.{Cache}
+use Rattle.moka_engine.specs.Runs.{Engine}
 use Rattle.moka_engine.specs.State.{Meaning}
 use Rattle.moka_drive.specs.declared.many.GetManyRefused.{GetManyRefused}
 use Rattle.moka_drive.specs.declared.many.InsertManyRefused.{InsertManyRefused}
@@ -17,7 +17,7 @@ same_length : {A B : Type 0} (pairs : List (A × B)) → length (map (λ p. p.1)
 same_length [] = refl
 same_length (p ∷ ps) = rw (same_length ps) refl
 
-module _ {K V S X L P W C : Type 0} (m : Meaning K V X L P W C (Unit {0})) (hash_of : K → ℕ) (now : Instant) (old new : Cache K V S X L P W) (clock clock_after : C) where
+module _ {K V S X L P W C : Type 0} (m : Meaning K V X L P W C (Unit {0})) (hash_of : K → ℕ) (now : Instant) (old new : Engine K V S X L P W) (clock clock_after : C) where
   -- of an insert of many that was refused the rest comes back
   pub rest_back : (rows : List (K × V)) (result : Result (Unit {0}) (InsertManyRefused K V)) → Makes m (InsertsMany hash_of now rows result) old clock new clock_after
       → IfErr result (λ e. (put : List (K × V)) × (rows ≡ put ++ (e.refused.key, e.refused.value) ∷ into_iter_items e.rest) × (e.done ≡ length put))

@@ -12,7 +12,7 @@ use Rattle.moka_engine.specs.parts.Reply.{Reply}
 use Rattle.moka_engine.specs.parts.Reply.TheVariants as reply
 use Rattle.moka_engine.specs.Calls.{GetsAt, InsertsAt, Unchanged}
 use Rattle.moka_engine.specs.Records.{record_of_key}
-use Rattle.moka_engine.specs.Runs.{Cache, PromisedRun}
+use Rattle.moka_engine.specs.Runs.{Engine, PromisedRun}
 use Rattle.moka_engine.specs.State.{State, Meaning, Events, is_disabled}
 use Rattle.moka_drive.specs.declared.entry.CacheEntry.{CacheEntry}
 use Rattle.moka_drive.specs.declared.error.GetWithRefused.{GetWithRefused}
@@ -23,7 +23,7 @@ use Rattle.moka_uses.specs.Handled.{IsCloneOfKept}
 use Rattle.moka_uses.specs.ReadThrough.{ComesBack, FindsNothing}
 use Rattle.moka_uses.proofs.Replied.{finds_kept, only_step, second_step}
 
-module _ {K V S X L P W C : Type 0} (m : Meaning K V X L P W C (Unit {0})) (is_clone : V → V → Type 0) (key : K) (hash : ℕ) (now : Instant) (old new : Cache K V S X L P W) (clock clock_after : C) where
+module _ {K V S X L P W C : Type 0} (m : Meaning K V X L P W C (Unit {0})) (is_clone : V → V → Type 0) (key : K) (hash : ℕ) (now : Instant) (old new : Engine K V S X L P W) (clock clock_after : C) where
   -- what a maker gave, of which this is a clone
   abbrev pub IsCloneOfMade : (V → Type 0) → V → Type 0
   IsCloneOfMade IsMade value = (own : V) × IsMade own × is_clone own value

@@ -9,7 +9,7 @@ use Rattle.moka_engine.specs.parts.Uuid.{Uuid}
 use Rattle.moka_engine.specs.Calls.{ContainsStep, InvalidateStep}
 use Rattle.moka_engine.specs.Laws.{StaysHidden}
 use Rattle.moka_engine.specs.Records.{record_of_key}
-use Rattle.moka_engine.specs.Runs.{Cache}
+use Rattle.moka_engine.specs.Runs.{Engine}
 use Rattle.moka_engine.specs.Settling.{IsValid}
 use Rattle.moka_engine.specs.State.{State}
 use Rattle.moka_engine.specs.Visibility.{Covers, NoneCovers, SomeCovers, IsShown}
@@ -38,7 +38,7 @@ shown_as_before says p r s not later false (inr some) = inr (some_more says p r 
 says_yes : (whose user : ℕ) → whose ≡ user → true ≡ (whose == user)
 says_yes whose user e = grind (arith, e)
 
-module _ {S X L W C I : Type 0} (reads : C → Instant → C → Type 0) (gives : I → Uuid → I → Type 0) (old new : Cache ℕ Session S X L OfUser W) (user : ℕ) (now : Instant) where
+module _ {S X L W C I : Type 0} (reads : C → Instant → C → Type 0) (gives : I → Uuid → I → Type 0) (old new : Engine ℕ Session S X L OfUser W) (user : ℕ) (now : Instant) where
   module _ (id : Uuid) (same : new.state ≡ record old.state { predicates = old.state.predicates ++ record { id = id; predicate = record { 0 = user }; registered = now } ∷ [] }) where
     abbrev p : Registered OfUser
     p = record { id = id; predicate = record { 0 = user }; registered = now }

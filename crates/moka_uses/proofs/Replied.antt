@@ -13,7 +13,7 @@ use Rattle.moka_engine.specs.parts.Reply.TheVariants as reply
 use Rattle.moka_engine.specs.parts.Ticket.{Ticket}
 use Rattle.moka_engine.specs.Calls.{GetsAt, RemovesAt, Unchanged, entry_of}
 use Rattle.moka_engine.specs.Records.{record_of_key}
-use Rattle.moka_engine.specs.Runs.{Cache, CallStep, Step, AreSteps, PromisedRun, calls_of, replies_of, last_state}
+use Rattle.moka_engine.specs.Runs.{Engine, CallStep, Step, AreSteps, PromisedRun, calls_of, replies_of, last_state}
 use Rattle.moka_engine.specs.State.{State, Meaning, Events, is_disabled}
 use Rattle.moka_drive.specs.declared.error.NotTold.{NotTold}
 use Rattle.moka_drive.specs.Synchronous.{Made, Makes, GetsValue, RemovesEntry, removed}
@@ -52,7 +52,7 @@ abbrev pub IsKept : {K V X P W : Type 0} → (K → K → Bool) → State K V X 
 IsKept {K} {V} eq s key value = (r : Record K V) × (record_of_key eq s.records key ≡ Some r) × (value ≡ r.value)
 
 module _ {K V S X L P W C : Type 0} (m : Meaning K V X L P W C (Unit {0})) where
-  pub first_step : (c : Call K V P) (cs : List (Call K V P)) (r : Reply K V P) (rs : List (Reply K V P)) (old new : Cache K V S X L P W) (clock clock_after : C) → Made m (c ∷ cs) (r ∷ rs) old clock new clock_after → FirstStep m c r old.state
+  pub first_step : (c : Call K V P) (cs : List (Call K V P)) (r : Reply K V P) (rs : List (Reply K V P)) (old new : Engine K V S X L P W) (clock clock_after : C) → Made m (c ∷ cs) (r ∷ rs) old clock new clock_after → FirstStep m c r old.state
   first_step c cs r rs old new clock clock_after made = go made.steps made.is_run.calls_made made.is_run.replies_given made.is_run.are_steps
     where
       go : (steps : List (Step K V X P W)) → calls_of steps ≡ c ∷ cs → replies_of steps ≡ r ∷ rs → AreSteps m (PromisedRun m.says m.read) old.state steps → FirstStep m c r old.state
@@ -64,7 +64,7 @@ module _ {K V S X L P W C : Type 0} (m : Meaning K V X L P W C (Unit {0})) where
       }
 
   -- the step of the only call leads to the state afterwards
-  pub only_step : (c : Call K V P) (r : Reply K V P) (old new : Cache K V S X L P W) (clock clock_after : C) → Made m (c ∷ []) (r ∷ []) old clock new clock_after → (e : Events K V) × CallStep m (PromisedRun m.says m.read) old.state c r e new.state
+  pub only_step : (c : Call K V P) (r : Reply K V P) (old new : Engine K V S X L P W) (clock clock_after : C) → Made m (c ∷ []) (r ∷ []) old clock new clock_after → (e : Events K V) × CallStep m (PromisedRun m.says m.read) old.state c r e new.state
   only_step c r old new clock clock_after made = go made.steps made.is_run.calls_made made.is_run.replies_given made.is_run.are_steps (ap (λ x. x.state) made.is_run.ends)
     where
       go : (steps : List (Step K V X P W)) → calls_of steps ≡ c ∷ [] → replies_of steps ≡ r ∷ [] → AreSteps m (PromisedRun m.says m.read) old.state steps → new.state ≡ last_state old.state steps → (e : Events K V) × CallStep m (PromisedRun m.says m.read) old.state c r e new.state
@@ -76,7 +76,7 @@ module _ {K V S X L P W C : Type 0} (m : Meaning K V X L P W C (Unit {0})) where
       )
 
   -- the second call's step, from some state
-  pub second_step : (c d : Call K V P) (r q : Reply K V P) (old new : Cache K V S X L P W) (clock clock_after : C) → Made m (c ∷ d ∷ []) (r ∷ q ∷ []) old clock new clock_after → (s : State K V X P W) × FirstStep m d q s
+  pub second_step : (c d : Call K V P) (r q : Reply K V P) (old new : Engine K V S X L P W) (clock clock_after : C) → Made m (c ∷ d ∷ []) (r ∷ q ∷ []) old clock new clock_after → (s : State K V X P W) × FirstStep m d q s
   second_step c d r q old new clock clock_after made = go made.steps made.is_run.calls_made made.is_run.replies_given made.is_run.are_steps
     where
       go : (steps : List (Step K V X P W)) → calls_of steps ≡ c ∷ d ∷ [] → replies_of steps ≡ r ∷ q ∷ [] → AreSteps m (PromisedRun m.says m.read) old.state steps → (s : State K V X P W) × FirstStep m d q s
@@ -94,7 +94,7 @@ module _ {K V S X L P W C : Type 0} (m : Meaning K V X L P W C (Unit {0})) where
   -- ---- removals
 
   -- the value that a removal takes out is that of the key's record, if there is one
-  pub takes_value : (key : K) (hash : ℕ) (now : Instant) (taken : Option (V × Result (Unit {0}) OutOfMemory)) (old new : Cache K V S X L P W) (clock clock_after : C) → Makes m (RemovesEntry key hash now taken) old clock new clock_after → option_map (λ t. t.0) taken ≡ option_map (λ r. r.value) (record_of_key m.eq old.state.records key)
+  pub takes_value : (key : K) (hash : ℕ) (now : Instant) (taken : Option (V × Result (Unit {0}) OutOfMemory)) (old new : Engine K V S X L P W) (clock clock_after : C) → Makes m (RemovesEntry key hash now taken) old clock new clock_after → option_map (λ t. t.0) taken ≡ option_map (λ r. r.value) (record_of_key m.eq old.state.records key)
   takes_value key hash now None old new clock clock_after (calls, replies, (calls_are, replies_are), made) =
       let first = first_step (call.Remove key hash (Some now)) [] (reply.Remove None None) [] old new clock clock_after (subst (λ rs. Made m (call.Remove key hash (Some now) ∷ []) rs old clock new clock_after) replies_are (subst (λ cs. Made m cs replies old clock new clock_after) calls_are made)) in
       none (record_of_key m.eq old.state.records key) first.after first.step.0
@@ -114,12 +114,12 @@ module _ {K V S X L P W C : Type 0} (m : Meaning K V X L P W C (Unit {0})) where
   -- ---- look-ups
 
   -- what a get answers
-  get_made : (key : K) (hash : ℕ) (now : Instant) (a : Result (Option (Entry K V)) OutOfMemory) (calls : List (Call K V P)) (replies : List (Reply K V P)) (old new : Cache K V S X L P W) (clock clock_after : C) → calls ≡ call.Get key hash false now ∷ [] → replies ≡ reply.Get a ∷ [] → Made m calls replies old clock new clock_after → FirstStep m (call.Get key hash false now) (reply.Get a) old.state
+  get_made : (key : K) (hash : ℕ) (now : Instant) (a : Result (Option (Entry K V)) OutOfMemory) (calls : List (Call K V P)) (replies : List (Reply K V P)) (old new : Engine K V S X L P W) (clock clock_after : C) → calls ≡ call.Get key hash false now ∷ [] → replies ≡ reply.Get a ∷ [] → Made m calls replies old clock new clock_after → FirstStep m (call.Get key hash false now) (reply.Get a) old.state
   get_made key hash now a calls replies old new clock clock_after calls_are replies_are made =
       first_step (call.Get key hash false now) [] (reply.Get a) [] old new clock clock_after (subst (λ rs. Made m (call.Get key hash false now ∷ []) rs old clock new clock_after) replies_are (subst (λ cs. Made m cs replies old clock new clock_after) calls_are made))
 
   -- the value that a get finds is that of the key's record
-  pub finds_kept : (key : K) (hash : ℕ) (now : Instant) (value : V) (old new : Cache K V S X L P W) (clock clock_after : C) → Makes m (GetsValue key hash now (Ok (Some value))) old clock new clock_after → IsKept m.eq old.state key value
+  pub finds_kept : (key : K) (hash : ℕ) (now : Instant) (value : V) (old new : Engine K V S X L P W) (clock clock_after : C) → Makes m (GetsValue key hash now (Ok (Some value))) old clock new clock_after → IsKept m.eq old.state key value
   finds_kept key hash now value old new clock clock_after (calls, replies, (Ok (Some entry), is, calls_are, replies_are), made) =
       let first = get_made key hash now (Ok (Some entry)) calls replies old new clock clock_after calls_are replies_are made in
       at (is_disabled old.state.capacity) (record_of_key m.eq old.state.records key) refl first.events first.after first.step

@@ -4,7 +4,7 @@ use Rattle.std.specs.Prelude.{IfOk, IfSome}
 use Rattle.moka_engine.specs.parts.Instant.{Instant}
 use Rattle.moka_engine.specs.parts.OutOfMemory.{OutOfMemory}
 use Rattle.moka_engine.specs.Copies.{IsCopiedAnswer}
-use Rattle.moka_engine.specs.Runs.{Cache}
+use Rattle.moka_engine.specs.Runs.{Engine}
 use Rattle.moka_engine.specs.State.{Meaning}
 use Rattle.moka_drive.specs.Synchronous.{Makes, GetsValue}
 use Rattle.moka_uses.proofs.Replied.{IsKept, finds_kept}
@@ -17,7 +17,7 @@ copied_same (Ok None) seen copied = ap Ok (sym copied)
 copied_same (Err e) seen copied = cc
 
 -- what a get finds is the value that is kept
-pub found_kept : {K V S X L P W C : Type 0} (m : Meaning K V X L P W C (Unit {0})) (key : K) (hash : ℕ) (now : Instant) (old new : Cache K V S X L P W) (clock clock_after : C) (own result : Result (Option V) OutOfMemory) → IsCopiedAnswer (λ a b. b ≡ a) own result → Makes m (GetsValue key hash now own) old clock new clock_after
+pub found_kept : {K V S X L P W C : Type 0} (m : Meaning K V X L P W C (Unit {0})) (key : K) (hash : ℕ) (now : Instant) (old new : Engine K V S X L P W) (clock clock_after : C) (own result : Result (Option V) OutOfMemory) → IsCopiedAnswer (λ a b. b ≡ a) own result → Makes m (GetsValue key hash now own) old clock new clock_after
     → IfOk result (λ found. IfSome found (IsKept m.eq old.state key))
 found_kept m key hash now old new clock clock_after own (Ok (Some value)) copied makes = finds_kept m key hash now value old new clock clock_after (subst (λ o. Makes m (GetsValue key hash now o) old clock new clock_after) (copied_same own (Some value) copied) makes)
 found_kept m key hash now old new clock clock_after own (Ok None) copied makes = tt

@@ -15,7 +15,7 @@ use Rattle.moka_engine.specs.parts.Ticket.{Ticket}
 use Rattle.moka_engine.specs.Calls.{GetsAt, GetStep, RecordsRead, RemovesAt, Unchanged, after_hit, hit_record}
 use Rattle.moka_engine.specs.Listed.{ListedRun, AreListedSteps}
 use Rattle.moka_engine.specs.Records.{Records, record_of_key}
-use Rattle.moka_engine.specs.Runs.{Cache, CallStep, Step, calls_of, replies_of, last_state}
+use Rattle.moka_engine.specs.Runs.{Engine, CallStep, Step, calls_of, replies_of, last_state}
 use Rattle.moka_engine.specs.Settling.{IsValid}
 use Rattle.moka_engine.specs.State.{State, Meaning, Events, is_disabled}
 use Rattle.moka_engine.proofs.Lookup.{absent_key, record_of_key_found}
@@ -117,7 +117,7 @@ pub posts_post : {P : Type 0} (now : Instant) (ticket : Ticket) (calls : List (C
 posts_post now ticket calls replies (inl (is, replied)) = subst ArePosting (sym is) (tt, (tt, tt))
 posts_post now ticket calls replies (inr (more, is, replied)) = subst ArePosting (sym is) (tt, (tt, (tt, (tt, tt))))
 
-module _ {S X L P W C : Type 0} (reads : C → Instant → C → Type 0) (page hash : ℕ) (now : Instant) (old : Cache ℕ ℕ S X L P W) (clock : C) (new : Cache ℕ ℕ S X L P W) (clock_after : C) (valid : IsValid (λ a b. a == b) old.state) where
+module _ {S X L P W C : Type 0} (reads : C → Instant → C → Type 0) (page hash : ℕ) (now : Instant) (old : Engine ℕ ℕ S X L P W) (clock : C) (new : Engine ℕ ℕ S X L P W) (clock_after : C) (valid : IsValid (λ a b. a == b) old.state) where
   abbrev m : Meaning ℕ ℕ X L P W C (Unit {0})
   m = meaning reads
 

@@ -15,7 +15,7 @@ use Rattle.moka_engine.specs.Calls.{GetsAt, GetStep, Unchanged}
 use Rattle.moka_engine.specs.Copies.{IsCopiedAnswer}
 use Rattle.moka_engine.specs.Maintenance.{Terms, Course}
 use Rattle.moka_engine.specs.Records.{Notice, Records, record_of_key}
-use Rattle.moka_engine.specs.Runs.{Cache, CallStep, PromisedRun}
+use Rattle.moka_engine.specs.Runs.{Engine, CallStep, PromisedRun}
 use Rattle.moka_engine.specs.Settling.{IsValid}
 use Rattle.moka_engine.specs.State.{State, Meaning, Events, is_disabled}
 use Rattle.moka_engine.specs.Visibility.{SomeCovers, has_lapsed}
@@ -86,7 +86,7 @@ record_of_count s page now count has = at (record_of_key (λ a b. a == b) s.reco
     at (Some r) here e = (r, here, shown r (has_lapsed s.settings s.invalid_before r now) e)
 
 -- what is promised if this count is handed out, or none
-pub record IsTaken {S X L P W C : Type 0} (m : Meaning ℕ ℕ X L P W C (Unit {0})) (page limit : ℕ) (now : Instant) (old : Cache ℕ ℕ S X L P W) (clock : C) (new : Cache ℕ ℕ S X L P W) (clock_after : C) (taken : Option ℕ) : Type 0 where
+pub record IsTaken {S X L P W C : Type 0} (m : Meaning ℕ ℕ X L P W C (Unit {0})) (page limit : ℕ) (now : Instant) (old : Engine ℕ ℕ S X L P W) (clock : C) (new : Engine ℕ ℕ S X L P W) (clock_after : C) (taken : Option ℕ) : Type 0 where
   pub full : IfSome taken (IsFull old.state page now.0 limit)
   pub left : (count : ℕ) → IsFull old.state page now.0 limit count → HasLeft new.state page
   pub removed : (count : ℕ) → IsFull old.state page now.0 limit count → RemovesCount m page now old clock new clock_after count taken
@@ -96,10 +96,10 @@ pub record IsTaken {S X L P W C : Type 0} (m : Meaning ℕ ℕ X L P W C (Unit {
 pub left_in : (page : ℕ) (new last : Records ℕ ℕ) → last ≡ new → record_of_key (λ a b. a == b) new page ≡ None → record_of_key (λ a b. a == b) last page ≡ None
 left_in page new last same left = ap (λ m. record_of_key (λ a b. a == b) m page) same ∙ left
 
-pub looks_in : {S X L P W C : Type 0} (m : Meaning ℕ ℕ X L P W C (Unit {0})) (page : ℕ) (now : Instant) (old : Cache ℕ ℕ S X L P W) (clock : C) (new last : Cache ℕ ℕ S X L P W) (clock_after : C) → last ≡ new → LooksUp m page now old clock new clock_after → LooksUp m page now old clock last clock_after
+pub looks_in : {S X L P W C : Type 0} (m : Meaning ℕ ℕ X L P W C (Unit {0})) (page : ℕ) (now : Instant) (old : Engine ℕ ℕ S X L P W) (clock : C) (new last : Engine ℕ ℕ S X L P W) (clock_after : C) → last ≡ new → LooksUp m page now old clock new clock_after → LooksUp m page now old clock last clock_after
 looks_in m page now old clock new last clock_after same looks = subst (λ c. LooksUp m page now old clock c clock_after) (sym same) looks
 
-pub removes_in : {S X L P W C : Type 0} (m : Meaning ℕ ℕ X L P W C (Unit {0})) (page : ℕ) (now : Instant) (old : Cache ℕ ℕ S X L P W) (clock : C) (new last : Cache ℕ ℕ S X L P W) (clock_after : C) (count : ℕ) (taken : Option ℕ) → last ≡ new → RemovesCount m page now old clock new clock_after count taken → RemovesCount m page now old clock last clock_after count taken
+pub removes_in : {S X L P W C : Type 0} (m : Meaning ℕ ℕ X L P W C (Unit {0})) (page : ℕ) (now : Instant) (old : Engine ℕ ℕ S X L P W) (clock : C) (new last : Engine ℕ ℕ S X L P W) (clock_after : C) (count : ℕ) (taken : Option ℕ) → last ≡ new → RemovesCount m page now old clock new clock_after count taken → RemovesCount m page now old clock last clock_after count taken
 removes_in m page now old clock new last clock_after count taken same removes = subst (λ c. RemovesCount m page now old clock c clock_after count taken) (sym same) removes
 
 -- the count that is handed out
@@ -147,10 +147,10 @@ goes_on IsRight refused (Err e) is right = subst IsRight (sym is.1) right
 goes_on IsRight refused (Ok x) is right = tt
 
 -- a count that was put, in what the cache is afterwards
-pub put_in : {S X L P W C : Type 0} (m : Meaning ℕ ℕ X L P W C (Unit {0})) (page : ℕ) (now : Instant) (old : Cache ℕ ℕ S X L P W) (clock : C) (new last : Cache ℕ ℕ S X L P W) (clock_after : C) (count : ℕ) → last ≡ new → PutsCount m page now old clock new clock_after count → PutsCount m page now old clock last clock_after count
+pub put_in : {S X L P W C : Type 0} (m : Meaning ℕ ℕ X L P W C (Unit {0})) (page : ℕ) (now : Instant) (old : Engine ℕ ℕ S X L P W) (clock : C) (new last : Engine ℕ ℕ S X L P W) (clock_after : C) (count : ℕ) → last ≡ new → PutsCount m page now old clock new clock_after count → PutsCount m page now old clock last clock_after count
 put_in m page now old clock new last clock_after count same puts = subst (λ c. PutsCount m page now old clock c clock_after count) (sym same) puts
 
-module _ {S X L P W C : Type 0} (reads : C → Instant → C → Type 0) (page hash : ℕ) (now : Instant) (old : Cache ℕ ℕ S X L P W) (clock : C) (new : Cache ℕ ℕ S X L P W) (clock_after : C) (valid : IsValid (λ a b. a == b) old.state) where
+module _ {S X L P W C : Type 0} (reads : C → Instant → C → Type 0) (page hash : ℕ) (now : Instant) (old : Engine ℕ ℕ S X L P W) (clock : C) (new : Engine ℕ ℕ S X L P W) (clock_after : C) (valid : IsValid (λ a b. a == b) old.state) where
   abbrev m : Meaning ℕ ℕ X L P W C (Unit {0})
   m = meaning reads
 

@@ -4,11 +4,11 @@ use Rattle.moka_engine.specs.parts.Call.{Call}
 use Rattle.moka_engine.specs.parts.Registered.{Registered}
 use Rattle.moka_engine.specs.Laws.{CoversNothingIn}
 use Rattle.moka_engine.specs.Order.{IsInOrder}
-use Rattle.moka_engine.specs.Runs.{Cache, Step, CallStep, AreOrderly, calls_of, last_state}
+use Rattle.moka_engine.specs.Runs.{Engine, Step, CallStep, AreOrderly, calls_of, last_state}
 use Rattle.moka_engine.specs.State.{Meaning, keeps_write_list}
 
 -- the calls lead from one cache to the other
-pub record Follows {K V S X L P W C I : Type 0} (m : Meaning K V X L P W C I) (calls : List (Call K V P)) (old new : Cache K V S X L P W) : Type 0 where
+pub record Follows {K V S X L P W C I : Type 0} (m : Meaning K V X L P W C I) (calls : List (Call K V P)) (old new : Engine K V S X L P W) : Type 0 where
   pub steps : List (Step K V X P W)
   pub made : calls_of steps ≡ calls
   -- in the order of time they keep the order of writing

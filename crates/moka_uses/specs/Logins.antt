@@ -7,7 +7,7 @@ use Rattle.moka_engine.specs.Calls.{ContainsStep}
 use Rattle.moka_engine.specs.Laws.{NeverGoesBack, InsertsNever, last_moment}
 use Rattle.moka_engine.specs.Maintenance.{MaintenanceRun}
 use Rattle.moka_engine.specs.Records.{record_of_key}
-use Rattle.moka_engine.specs.Runs.{Cache, Step, AreSteps, last_state}
+use Rattle.moka_engine.specs.Runs.{Engine, Step, AreSteps, last_state}
 use Rattle.moka_engine.specs.State.{State, Meaning}
 use Rattle.moka_uses.specs.declared.logins.OfUser.{OfUser}
 use Rattle.moka_uses.specs.declared.logins.Session.{Session}
@@ -44,7 +44,7 @@ StaysEnded {X} {L} {W} m s number now = (steps : List (Step ℕ Session X OfUser
     ContainsStep is_of (λ a b. a == b) (last_state s steps) number later shown → shown ≡ false
 
 -- what a log-out of a user at a moment leads to
-pub record LogsOut {S X L W C I : Type 0} (m : Meaning ℕ Session X L OfUser W C I) (old new : Cache ℕ Session S X L OfUser W) (user now : ℕ) : Type 0 where
+pub record LogsOut {S X L W C I : Type 0} (m : Meaning ℕ Session X L OfUser W C I) (old new : Engine ℕ Session S X L OfUser W) (user now : ℕ) : Type 0 where
   -- none of the user's sessions is shown
   pub ended : (number : ℕ) → IsOfUser old.state number user now → HasEnded new.state number
   -- nor after further calls

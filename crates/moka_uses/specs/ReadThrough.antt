@@ -1,7 +1,7 @@
 -- A cache in front of a source.
 use Rattle.std.specs.Prelude.{◌≡◌, ℕ, None, Ok}
 use Rattle.moka_engine.specs.parts.Instant.{Instant}
-use Rattle.moka_engine.specs.Runs.{Cache}
+use Rattle.moka_engine.specs.Runs.{Engine}
 use Rattle.moka_engine.specs.State.{Meaning}
 use Rattle.moka_drive.specs.declared.error.GetWithRefused.{GetWithRefused}
 use Rattle.moka_drive.specs.declared.error.GetWithRefused.TheVariants.{Lookup, Insert}
@@ -13,5 +13,5 @@ ComesBack IsGiven key (Lookup k) = k ≡ key
 ComesBack IsGiven key (Insert refused) = (refused.key ≡ key) × IsGiven refused.value
 
 -- the cache made a look-up of the key that found nothing, and no other call
-abbrev pub FindsNothing : {K V S X L P W C : Type 0} → Meaning K V X L P W C (Unit {0}) → K → Instant → Cache K V S X L P W → C → Cache K V S X L P W → C → Type 0
+abbrev pub FindsNothing : {K V S X L P W C : Type 0} → Meaning K V X L P W C (Unit {0}) → K → Instant → Engine K V S X L P W → C → Engine K V S X L P W → C → Type 0
 FindsNothing m key now old clock new clock_after = (hash : ℕ) × Makes m (GetsValue key hash now (Ok None)) old clock new clock_after

@@ -4,7 +4,7 @@ use Rattle.moka_engine.specs.parts.Instant.{Instant}
 use Rattle.moka_engine.specs.parts.OutOfMemory.{OutOfMemory}
 use Rattle.moka_engine.specs.parts.Record.{Record}
 use Rattle.moka_engine.specs.Records.{record_of_key}
-use Rattle.moka_engine.specs.Runs.{Cache}
+use Rattle.moka_engine.specs.Runs.{Engine}
 use Rattle.moka_engine.specs.State.{State, Meaning}
 use Rattle.moka_engine.specs.Visibility.{has_lapsed}
 use Rattle.moka_drive.specs.declared.compute.ComputeRefused.{ComputeRefused}
@@ -42,7 +42,7 @@ module _ {X P W : Type 0} (s : State ℕ ℕ X P W) where
 abbrev pub meaning : {X L P W C : Type 0} → (C → Instant → C → Type 0) → Meaning ℕ ℕ X L P W C (Unit {0})
 meaning reads = record { eq = λ a b. a == b; tells = λ before _ _ _ after. after ≡ before; says = λ _ _ _ answer. answer ≡ false; weighs = λ _ _ _ weight. weight ≡ 1; observes = reads; gives = λ _ _ _. ⊥; created = λ _ _ _ _. None; read = λ _ _ _ _ left _. left; updated = λ _ _ _ _ left. left }
 
-module _ {S X L P W C : Type 0} (m : Meaning ℕ ℕ X L P W C (Unit {0})) (page : ℕ) (now : Instant) (old : Cache ℕ ℕ S X L P W) (clock : C) (new : Cache ℕ ℕ S X L P W) (clock_after : C) where
+module _ {S X L P W C : Type 0} (m : Meaning ℕ ℕ X L P W C (Unit {0})) (page : ℕ) (now : Instant) (old : Engine ℕ ℕ S X L P W) (clock : C) (new : Engine ℕ ℕ S X L P W) (clock_after : C) where
   -- the cache made a look-up of the page, and no other call
   abbrev pub LooksUp : Type 0
   LooksUp = (hash : ℕ) × Makes m (GetsValue page hash now (Ok (count_at old.state page now.0))) old clock new clock_after

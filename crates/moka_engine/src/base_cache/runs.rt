@@ -213,9 +213,9 @@ impl<
     P: PredicateFn<K, V> + Drop,
     W: Weigher<K, V>,
 > InnerSync for BaseCache<K, V, S, X, L, P, W> {
-    ghost use Rattle.moka_engine.specs.CacheRuns.{CacheRuns};
+    ghost use Rattle.moka_engine.specs.EngineRuns.{EngineRuns};
 
-    ghost runs = { CacheRuns P.says X.read L.tells };
+    ghost runs = { EngineRuns P.says X.read L.tells };
 
     fn run_pending_tasks<C: Clock>(
         &mut self,

@@ -13,7 +13,7 @@ do_insert_with_hash-requires-2 c =
     let t = c.do_insert_with_hash.new.self.state in
     let put = hands_out (λ _ _ _ _. None) (λ _ _ _ _ left. left) (λ _ _ _ weight. weight ≡ 1) (λ a b. a == b) s c.args.key c.hash-hash.result c.args.first (record { 0 = 0 }) (c.in_ok-put.put, c.in_ok-put.field-0-1) c.in_ok-put.ensures.0 t c.in_ok-put.ensures.1.1 in
     let sent = sends t _ _ c.send.new.self.state c.in_ok-send.ensures.step in
-    record { enabled = ap is_disabled (sent.alike.capacity ∙ put.alike.capacity ∙ ap (λ x. x.state.capacity) c.in_ok-cache.ensures) ∙ search rules }
+    record { enabled = ap is_disabled (sent.alike.capacity ∙ put.alike.capacity ∙ ap (λ x. x.state.capacity) c.in_ok-cache.ensures.empty) ∙ search rules }
 
 pub returns : goal.returns
 returns c =
@@ -25,10 +25,10 @@ returns c =
     let o = c.do_insert_with_hash-2.new.self in
     let p = c.send-2.new.self in
     let told = told_of_the_first (λ a b. a == b) (λ _ _ _ _. None) (λ _ _ _ _ left. left) (λ _ _ _ weight. weight ≡ 1)
-    nat_eq_equiv _ _ _ l.state (ap (λ x. x.state) c.in_ok-cache.ensures) (search rules)
+    nat_eq_equiv _ _ _ l.state (ap (λ x. x.state) c.in_ok-cache.ensures.empty) (search rules)
     c.args.key c.hash-hash.result c.args.first (record { 0 = 0 }) (c.in_ok-put.put, c.in_ok-put.field-0-1) put.0 m.state put.1.1
     _ _ n.state c.in_ok-send.ensures.step
     c.hash-hash.result c.args.second (record { 0 = 0 }) (c.in_ok-replaced.replaced, c.in_ok-replaced.field-0-1) again.0 o.state again.1.1 in
     heard_of_the_second (λ (c : Counter). record { count = min (c.count + 1) greatest }) (λ before _ _ _ after. after ≡ record { count = min (before.count + 1) greatest }) (λ _ _ _ _ _ h. h)
     (record { count = 0 }) l.listener m.listener n.listener o.listener p.listener put.0.notices again.0.notices
-    (ap (λ x. x.listener) c.in_ok-cache.ensures ∙ search rules) put.2.heard c.in_ok-send.ensures.events.heard again.2.heard c.in_ok-send-2.ensures.events.heard told.0 told.1
+    (ap (λ x. x.listener) c.in_ok-cache.ensures.empty ∙ search rules) put.2.heard c.in_ok-send.ensures.events.heard again.2.heard c.in_ok-send-2.ensures.events.heard told.0 told.1

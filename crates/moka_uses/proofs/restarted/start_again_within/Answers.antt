@@ -8,16 +8,16 @@ pub returns-in-Ok-clause-back : goal.returns-in-Ok-clause-back
 returns-in-Ok-clause-back g c =
     let (now, read, reads, put, there, lasts) = c.in-Ok.ensures.made in
     let begun = c.in_ok-sessions.sessions.cache.engine.state in
-    let bounded : begun.capacity ≡ Some c.args.capacity = rw (c.in_ok-sessions.ensures.2, c.max_capacity-config.ensures) refl in
-    let weigher : begun.settings.weigher ≡ None = rw (c.in_ok-sessions.ensures.2, c.max_capacity-config.ensures, c.time_to_idle.ensures, c.default.ensures) refl in (
-      c.in_ok-sessions.ensures.0,
+    let bounded : begun.capacity ≡ Some c.args.capacity = rw (c.in_ok-sessions.ensures.empty.2, c.max_capacity-config.ensures) refl in
+    let weigher : begun.settings.weigher ≡ None = rw (c.in_ok-sessions.ensures.empty.2, c.max_capacity-config.ensures, c.time_to_idle.ensures, c.default.ensures) refl in (
+      c.in_ok-sessions.ensures.empty.0,
       c.in_ok-sessions.sessions.clock,
-      c.in_ok-sessions.ensures.1,
+      c.in_ok-sessions.ensures.empty.1,
       now,
       read,
       reads,
       λ some few.
           still_back begun c.restore.new.self.cache.engine.state c.args.saved.items now.0 c.restore.ensures.hides (there (c.made_again_answers_alike.ensures.room c.args.saved.items begun c.args.capacity (length c.args.saved.items)
-          (record { records = rw c.in_ok-sessions.ensures.2 refl; outstanding = rw c.in_ok-sessions.ensures.2 refl; writes = rw c.in_ok-sessions.ensures.2 refl; access = rw c.in_ok-sessions.ensures.2 refl })
-          (rw c.in_ok-sessions.ensures.2 refl) (rw c.in_ok-sessions.ensures.2 refl) bounded (grind (arith, some)) (rw weigher (each_weighs_one (λ (_ : NoWeigher) _ _ weight. weight ≡ 1) c.args.saved.items)) few)),
+          (record { records = rw c.in_ok-sessions.ensures.empty.2 refl; outstanding = rw c.in_ok-sessions.ensures.empty.2 refl; writes = rw c.in_ok-sessions.ensures.empty.2 refl; access = rw c.in_ok-sessions.ensures.empty.2 refl })
+          (rw c.in_ok-sessions.ensures.empty.2 refl) (rw c.in_ok-sessions.ensures.empty.2 refl) bounded (grind (arith, some)) (rw weigher (each_weighs_one (λ (_ : NoWeigher) _ _ weight. weight ≡ 1) c.args.saved.items)) few)),
     )

@@ -3,7 +3,7 @@ use Rattle.moka_parts.specs.declared.records.ReadOperation.TheVariants.{Hit}
 use Rattle.moka_parts.specs.declared.records.Record.{Record}
 use Rattle.moka_parts.specs.Housekeeping.{is_due}
 use Rattle.moka_parts.specs.Listed.{ListedRun}
-use Rattle.moka_parts.specs.Runs.{Cache}
+use Rattle.moka_parts.specs.Runs.{Engine}
 use Rattle.moka_parts.specs.State.{is_disabled}
 use Rattle.moka_parts.proofs.Tested.{record_by_key}
 use Rattle.moka_store.specs.Hashing.{index_hash}
@@ -44,7 +44,7 @@ returns-then-is_map_disabled g c =
 
 pub returns-in_default : goal.returns-in_default
 returns-in_default g c =
-    let enabled = ap (λ (x : Cache g.row.K.Denot g.row.V.Denot g.row.S.Denot g.row.X.Denot g.row.L.Denot g.row.P.Denot g.row.W.Denot). is_disabled x.state.capacity) c.self.view_is ∙ (sym c.is_map_disabled.ensures ∙ c.if-is_map_disabled.false) in
+    let enabled = ap (λ (x : Engine g.row.K.Denot g.row.V.Denot g.row.S.Denot g.row.X.Denot g.row.L.Denot g.row.P.Denot g.row.W.Denot). is_disabled x.state.capacity) c.self.view_is ∙ (sym c.is_map_disabled.ensures ∙ c.if-is_map_disabled.false) in
     let found = get_by_misses g.P.PredicateFn.says g.X.Expiry.read (λ (before : List ℕ). ListedRun g.P.PredicateFn.says g.X.Expiry.read before c.record_miss.new.self.write_list) g.L.Listener.tells g.C.Clock.reads c.self.view_is (g.T.KeyTest.passes c.args.test.now) c.args.hash c.args.need_key c.args.now c.args.clock.now
     c.self.inside.inner refl enabled c.in_default.ensures c.record_miss.ensures in
     (Ok None, found, refl)

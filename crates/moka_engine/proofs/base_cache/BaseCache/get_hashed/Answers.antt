@@ -2,7 +2,7 @@ use Rattle.std.proofs.Common.{refl, ℕ, List, Some, None, Ok, Err, ap, sym, ◌
 use Rattle.moka_parts.specs.declared.records.ReadOperation.TheVariants.{Hit}
 use Rattle.moka_parts.specs.Housekeeping.{is_due}
 use Rattle.moka_parts.specs.Listed.{ListedRun}
-use Rattle.moka_parts.specs.Runs.{Cache}
+use Rattle.moka_parts.specs.Runs.{Engine}
 use Rattle.moka_parts.specs.State.{is_disabled}
 use Rattle.moka_engine.specs.Looks.{entry_at}
 use Rattle.moka_engine.proofs.GetSteps.{cache-queued, cache-touched, stocked-read, number-read, get_finds_nothing, get_misses, get_hits, queues_read, get_refused, located-read, asked_of_cache}
@@ -29,7 +29,7 @@ returns-then-is_map_disabled g c =
 
 pub returns-in_default : goal.returns-in_default
 returns-in_default g c =
-    let enabled = ap (λ (x : Cache g.row.K.Denot g.row.V.Denot g.row.S.Denot g.row.X.Denot g.row.L.Denot g.row.P.Denot g.row.W.Denot). is_disabled x.state.capacity) c.self.view_is ∙ (sym c.is_map_disabled.ensures ∙ c.if-is_map_disabled.false) in
+    let enabled = ap (λ (x : Engine g.row.K.Denot g.row.V.Denot g.row.S.Denot g.row.X.Denot g.row.L.Denot g.row.P.Denot g.row.W.Denot). is_disabled x.state.capacity) c.self.view_is ∙ (sym c.is_map_disabled.ensures ∙ c.if-is_map_disabled.false) in
     let at = c.in_default.ensures in
     let found = get_misses g.P.PredicateFn.says g.X.Expiry.read (λ (before : List ℕ). ListedRun g.P.PredicateFn.says g.X.Expiry.read before c.record_miss.new.self.write_list) g.L.Listener.tells g.C.Clock.reads g.K.PartialEq.eq c.self.view_is c.args.look.key.now c.args.look.hashes.hash c.args.look.need_key at.0 c.args.look.now c.args.clock.now
     c.self.invariant.cache c.self.inside.inner refl enabled at.2 c.record_miss.ensures in

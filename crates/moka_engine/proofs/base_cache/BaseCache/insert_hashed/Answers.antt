@@ -1,8 +1,8 @@
 use Rattle.std.proofs.Common.{refl, sym, ap, ◌∙◌}
-use Rattle.moka_parts.specs.Runs.{Cache}
+use Rattle.moka_parts.specs.Runs.{Engine}
 use Rattle.moka_parts.specs.State.{is_disabled}
 use Rattle.moka_parts.specs.declared.error.InsertError.TheVariants.{NumbersUsedUp}
-use Rattle.moka_engine.proofs.CacheSteps.{without_room, still_set}
+use Rattle.moka_engine.proofs.EngineSteps.{without_room, still_set}
 use Rattle.moka_engine.proofs.InsertSteps.{cache-updated, cache-inserted, stocked-updated, stocked-new-record, update_refused, update_returns, new_refused, new_returns}
 use Rattle.moka_engine.proofs.base_cache.BaseCache.insert_hashed.Goals as goal
 
@@ -41,7 +41,7 @@ pub invariant_of-self-in_default : goal.invariant_of-self-in_default
 invariant_of-self-in_default g c =
     record {
       cache = cache-inserted c.self.invariant.cache c.self.inside.inner refl c.reserve_record.new.self c.insert.new.self (ap without_room c.in_default-reserve_record.ensures.rest) g.X.Expiry.created g.met.K.Eq.laws
-          (ap (λ (x : Cache g.row.K.Denot g.row.V.Denot g.row.S.Denot g.row.X.Denot g.row.L.Denot g.row.P.Denot g.row.W.Denot). is_disabled x.state.capacity) c.self.view_is ∙ c.requires.enabled)
+          (ap (λ (x : Engine g.row.K.Denot g.row.V.Denot g.row.S.Denot g.row.X.Denot g.row.L.Denot g.row.P.Denot g.row.W.Denot). is_disabled x.state.capacity) c.self.view_is ∙ c.requires.enabled)
           c.args.key (sym c.in_default.ensures.found)
           c.args.hashes.hash c.args.value c.args.now c.weigh-weight.result c.expires_at_creation-expires.result c.expires_at_creation-expires.ensures c.insert.ensures.step;
       store = stocked-new-record c.self.inside.inner c.reserve_record.new.self c.insert.new.self (ap without_room c.in_default-reserve_record.ensures.rest) c.self.invariant.store c.args.key c.args.hashes.hash _ c.insert.ensures.step;

@@ -1,6 +1,6 @@
 use Rattle.std.proofs.Common.{refl, ap, sym, ◌∙◌}
 use Rattle.moka_inner.specs.Interior.{Interior}
-use Rattle.moka_engine.proofs.CacheSteps.{befalls-listed}
+use Rattle.moka_engine.proofs.EngineSteps.{befalls-listed}
 use Rattle.moka_engine.proofs.Stocked.{stocked-removed}
 use Rattle.moka_engine.proofs.RemoveSteps.{cache-removed, remove_returns}
 use Rattle.moka_engine.proofs.base_cache.BaseCache.remove_hashed.Goals as goal
@@ -21,4 +21,4 @@ returns-clause-step g c =
     c.remove-record.ensures.taken (sym at.found ∙ (sym at.numbered ∙ c.remove-record.ensures.taken)) c.remove-record.ensures.step c.remove-record.result.1 c.remove-record.ensures.ticket
 
 pub returns-clause-events : goal.returns-clause-events
-returns-clause-events g c = rw (← c.self.view_is) (befalls-listed g.L.Listener.tells _ _ c.remove-record.new.self.kept.written c.remove-record.new.self.kept.hasher (ap (λ (x : Interior g.row.K.Denot g.row.V.Denot g.row.S.Denot). x.kept.written) c.remove-record.ensures.step) (ap (λ (x : Interior g.row.K.Denot g.row.V.Denot g.row.S.Denot). x.kept.hasher) c.remove-record.ensures.step))
+returns-clause-events g c = rw (← c.self.view_is) (befalls-listed g.L.Listener.tells _ _ c.remove-record.new.self.kept (ap (λ (x : Interior g.row.K.Denot g.row.V.Denot g.row.S.Denot). x.kept.written) c.remove-record.ensures.step) (ap (λ (x : Interior g.row.K.Denot g.row.V.Denot g.row.S.Denot). x.kept.hasher) c.remove-record.ensures.step))

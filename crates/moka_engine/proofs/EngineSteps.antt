@@ -5,10 +5,11 @@ use Rattle.moka_parts.specs.declared.notification.RemovalCause.{RemovalCause}
 use Rattle.moka_parts.specs.declared.records.Record.{Record}
 use Rattle.moka_parts.specs.Calls.{no_events}
 use Rattle.moka_parts.specs.Records.{Notice, Records, record_of_key}
-use Rattle.moka_parts.specs.Runs.{Cache, Befalls}
+use Rattle.moka_parts.specs.Runs.{Engine, Befalls}
 use Rattle.moka_parts.specs.Settling.{IsValid}
 use Rattle.moka_parts.specs.State.{State}
 use Rattle.moka_parts.specs.Surroundings.{Heard}
+use Rattle.moka_store.specs.Store.{Kept}
 use Rattle.moka_store.proofs.Gets.{after_insert, after_remove}
 use Rattle.moka_parts.specs.State.{Settings}
 use Rattle.moka_engine.specs.BaseCache.{IsCache, IsStocked, NoneExpires}
@@ -43,12 +44,18 @@ module _ {K V L : Type 0} (tells : L → K → V → RemovalCause → L → Type
   still_set (Some l) None ns h = absurd h
 
 -- a call that tells nothing changes the state alone
-pub befalls-quietly : {K V S X L P W : Type 0} (tells : L → K → V → RemovalCause → L → Type 0) (c : Cache K V S X L P W) (t : State K V X P W) → Befalls tells no_events c (record c { state = t })
+pub befalls-quietly : {K V S X L P W : Type 0} (tells : L → K → V → RemovalCause → L → Type 0) (c : Engine K V S X L P W) (t : State K V X P W) → Befalls tells no_events c (record c { state = t })
 befalls-quietly tells c t = record { kept = refl; heard = nothing_heard tells c.listener; passes = refl; listed = λ none. refl }
 
--- nor where the write list and the hasher are said anew
-pub befalls-listed : {K V S X L P W : Type 0} (tells : L → K → V → RemovalCause → L → Type 0) (c : Cache K V S X L P W) (t : State K V X P W) (ns : List ℕ) (hasher : S) → ns ≡ c.write_list → hasher ≡ c.hasher → Befalls tells no_events c (record c { hasher = hasher; state = t; write_list = ns })
-befalls-listed {S = S} tells c t ns hasher same kept = record { kept = ap (λ (h : S). record c { hasher = h; state = t; write_list = ns }) kept; heard = nothing_heard tells c.listener; passes = refl; listed = λ none. same }
+-- nor where hasher, write list and room are said anew, by the store
+pub befalls-listed : {K V S X L P W : Type 0} (tells : L → K → V → RemovalCause → L → Type 0) (c : Engine K V S X L P W) (t : State K V X P W) (kept : Kept K V S)
+    → kept.written ≡ c.write_list → kept.hasher ≡ c.hasher → Befalls tells no_events c (record c { hasher = kept.hasher; state = t; write_list = kept.written; room = kept.room })
+befalls-listed {S = S} tells c t kept same hashed = record {
+  kept = ap (λ (h : S). record c { hasher = h; state = t; write_list = kept.written; room = kept.room }) hashed;
+  heard = nothing_heard tells c.listener;
+  passes = refl;
+  listed = λ none. same;
+}
 
 -- room is nothing that the order of writing has
 pub list-roomier : {K V S : Type 0} (i j : Interior K V S) → without_room j ≡ without_room i → j.kept.written ≡ i.kept.written
