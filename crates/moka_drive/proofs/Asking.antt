@@ -24,12 +24,13 @@ use Rattle.moka_parts.specs.Runs.{Engine, Befalls}
 use Rattle.moka_parts.specs.Listed.{ListedRun}
 use Rattle.moka_parts.proofs.Contained.{gets_what_is_contained}
 use Rattle.moka_parts.proofs.Lookup.{record_of_key_empty}
+use Rattle.moka_drive.specs.Given.{Sees}
 use Rattle.moka_drive.specs.Synchronous.{Made, Makes, Posts, InsertsEntry, GetsValue, RemovesEntry, value_found, hears_clones}
 use Rattle.moka_drive.proofs.Made.{nothing_befalls, made_one, made_then, made_more, befalls_more}
 use Rattle.moka_drive.proofs.Waiting.{insert_hands_out, insert_hands_back, get_alike}
 use Rattle.moka_drive.proofs.Posting.{listed_run_alike}
 use Rattle.moka_drive.proofs.Limits.{remove_limits}
-use Rattle.moka_drive.proofs.Quiet.{befalls_after}
+use Rattle.moka_drive.proofs.Quiet.{befalls_after, heard_nothing}
 
 -- ---- inserts
 
@@ -82,6 +83,13 @@ module _ {K V : Type 0} (is_key_clone : K → K → Type 0) (is_value_clone : V 
   copied_alike Q (Ok (Some x)) (Ok (Some y)) copied h = h
   copied_alike Q (Ok (Some x)) (Ok None) copied h = absurd copied
   copied_alike Q (Ok (Some x)) (Err e) copied h = absurd copied
+
+-- a value that is the record's, and there just where the key is contained, is what is seen
+pub as_seen : {K V X P W : Type 0} (eq : K → K → Bool) (says : P → K → V → Bool → Type 0) (is_clone : V → V → Type 0) (s : State K V X P W) (key : K) (now : ℕ) (got : Result (Option V) OutOfMemory)
+    → IfOk got (λ found. IfSome found (λ v. (r : Record K V) × (record_of_key eq s.records key ≡ Some r) × is_clone r.value v)) → IfOk got (λ found. ContainsStep says eq s key now (is_some found)) → IfOk got (Sees eq says is_clone s key now)
+as_seen eq says is_clone s key now (Ok (Some v)) (r, there, cloned) shown = (r, there, subst (λ o. IsShown says s o now true) there shown, cloned)
+as_seen eq says is_clone s key now (Ok None) value shown = shown
+as_seen eq says is_clone s key now (Err e) value shown = tt
 
 module _ {K V X P W : Type 0} (eq : K → K → Bool) (says : P → K → V → Bool → Type 0) (read : X → K → V → ℕ → Option ℕ → ℕ → Option ℕ) (Runs : State K V X P W → Terms → Course → List (Notice K V) → State K V X P W → Type 0) where
   -- a get finds a value just where the key is contained
@@ -173,13 +181,6 @@ module _ {K V S X L P W C : Type 0} (m : Meaning K V X L P W C (Unit {0})) (key 
       (call.Get key hash false now ∷ [], reply.Get a ∷ [], (a, refl, refl, refl), made_one m old new clock clock_after (call.Get key hash false now) (reply.Get a) e step befell read alike.1 tt)
 
 -- ---- removals
-
--- who was told nothing is still the same
-heard_nothing : {K V L : Type 0} (tells : L → K → V → RemovalCause → L → Type 0) (l m : Option L) → Heard tells l [] m → m ≡ l
-heard_nothing tells None None h = refl
-heard_nothing tells (Some l) (Some m) h = ap Some h
-heard_nothing tells None (Some m) h = absurd h
-heard_nothing tells (Some l) None h = absurd h
 
 module _ {K V L : Type 0} (is_key_clone : K → K → Type 0) (is_value_clone : V → V → Type 0) (tells : L → K → V → RemovalCause → L → Type 0) where
   -- the notice of an entry, if one is told, and what the listener heard of it

@@ -1,17 +1,22 @@
 -- What calls that compute a value make, from a look-up and what follows it.
-use Rattle.std.proofs.Common.{◌≡◌, refl, ℕ, Bool, true, false, List, ◌++◌, Option, Some, Result, Ok, Err, IfOk, is_some, ◌∙◌, inl}
+use Rattle.std.proofs.Common.{◌≡◌, refl, ℕ, Bool, true, false, List, ◌++◌, Option, Some, None, option_map, Result, Ok, Err, IfOk, is_some, ap, sym, subst, ◌∙◌, inl}
+use Rattle.std.specs.Prelude.{IfSome}
+use Rattle.std.proofs.lemmas.Option.{none-some, same_Some}
 use Rattle.moka_parts.specs.declared.policy.Instant.{Instant}
 use Rattle.moka_parts.specs.declared.calls.Call.{Call}
 use Rattle.moka_parts.specs.declared.calls.Reply.{Reply}
 use Rattle.moka_parts.specs.declared.error.OutOfMemory.{OutOfMemory}
 use Rattle.moka_parts.specs.declared.error.InsertRefused.{InsertRefused}
-use Rattle.moka_parts.specs.State.{Meaning}
+use Rattle.moka_parts.specs.declared.records.Record.{Record}
+use Rattle.moka_parts.specs.Records.{Records, record_of_key}
+use Rattle.moka_parts.specs.State.{State, Meaning}
 use Rattle.moka_parts.specs.Runs.{Engine}
 use Rattle.moka_drive.specs.declared.entry.CacheEntry.{CacheEntry}
 use Rattle.moka_drive.specs.declared.error.GetWithRefused.{GetWithRefused}
 use Rattle.moka_drive.specs.declared.error.GetWithRefused.TheVariants.{Insert}
 use Rattle.moka_drive.specs.Synchronous.{Makes, hears_clones, InsertsMade, GetsValue, RemovesEntry, HandsOutOwn}
 use Rattle.moka_drive.specs.Entries.{entry_value, IsFresh}
+use Rattle.moka_drive.specs.Given.{Sees}
 use Rattle.moka_drive.specs.declared.compute.CompResult.TheVariants.{Inserted, ReplacedWith}
 use Rattle.moka_drive.specs.declared.compute.ComputeRefused.TheVariants as compute_refused
 use Rattle.moka_drive.specs.Computing.{InTurn, Upserts, HandsOutUpserted, Puts, Takes, Computes, HandsOutComputedPut}
@@ -109,3 +114,19 @@ module _ {K V : Type 0} (is_key_clone : K → K → Type 0) (is_clone : V → V 
   put_refused Q there r (Ok v, handed, made) = absurd handed
   put_refused Q true r (Err refused, handed, made) = (Err refused, handed, made)
   put_refused Q false r (Err refused, handed, made) = (Err refused, handed, made)
+
+-- ---- what was taken out
+
+-- what was seen is a clone of what was taken out, since the key kept its value in between
+pub was_seen : {K V X P W : Type 0} (eq : K → K → Bool) (says : P → K → V → Bool → Type 0) (is_clone : V → V → Type 0) (s : State K V X P W) (mid : Records K V) (key : K) (now : ℕ) (seen : Option V) (taken : Option (V × Result (Unit {0}) OutOfMemory))
+    → Sees eq says is_clone s key now seen → ((p : Record K V) → record_of_key eq mid key ≡ Some p → (r : Record K V) × (record_of_key eq s.records key ≡ Some r) × (p.value ≡ r.value))
+    → option_map (λ t. t.0) taken ≡ option_map (λ r. r.value) (record_of_key eq mid key) → IfSome taken (λ t. IfSome seen (is_clone t.0))
+was_seen eq says is_clone s mid key now seen None sees stays is = tt
+was_seen eq says is_clone s mid key now None (Some t) sees stays is = tt
+was_seen {K} {V} eq says is_clone s mid key now (Some v) (Some t) (r, here, visible, cloned) stays is = go (record_of_key eq mid key) refl is
+  where
+    go : (o : Option (Record K V)) → record_of_key eq mid key ≡ o → Some t.0 ≡ option_map (λ r. r.value) o → is_clone t.0 v
+    go None there is = absurd (none-some t.0 (sym is))
+    go (Some p) there is =
+        let was = stays p there in
+        subst (λ x. is_clone x v) (sym (same_Some t.0 p.value is ∙ was.2 ∙ ap (λ (x : Record K V). x.value) (same_Some was.0 r (sym was.1 ∙ here)))) cloned

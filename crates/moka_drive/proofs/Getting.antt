@@ -1,5 +1,6 @@
 -- What a get with a maker makes, from a get and an insert.
-use Rattle.std.proofs.Common.{◌≡◌, refl, ℕ, false, List, [], ◌∷◌, Option, Some, None, Result, Ok, Err, ap, sym, subst, ◌∙◌, inl, inr, option_map}
+use Rattle.std.proofs.Common.{◌≡◌, refl, ℕ, false, List, [], ◌∷◌, Option, Some, None, Result, Ok, Err, ap, sym, subst, ◌∙◌, inl, inr, option_map, IfErr}
+use Rattle.std.proofs.lemmas.Option.{same_Some}
 use Rattle.moka_parts.specs.declared.policy.Instant.{Instant}
 use Rattle.moka_parts.specs.declared.calls.Entry.{Entry}
 use Rattle.moka_parts.specs.declared.calls.Call.{Call}
@@ -14,9 +15,9 @@ use Rattle.moka_parts.specs.Copies.{IsCopiedAnswer}
 use Rattle.moka_parts.specs.Runs.{Engine}
 use Rattle.moka_drive.specs.declared.error.GetWithRefused.{GetWithRefused}
 use Rattle.moka_drive.specs.declared.error.GetWithRefused.TheVariants.{Lookup, Insert}
-use Rattle.moka_drive.specs.Synchronous.{Made, Makes, InsertsEntry, InsertsMade, GetsValue, GetsOrInserts, GetsOrInsertsIfMade, GetsOrInsertsIfNoError, Synchronous, HandsOutMade, HandsOutOwn, HandsOutIfMade, HandsOutIfNoError, value_found}
-use Rattle.moka_drive.specs.declared.stats.Stats.{Stats}
-use Rattle.moka_drive.specs.Counters.{one_more, after_look_up, after_load, after_get_with}
+use Rattle.moka_drive.specs.Given.{Sees}
+use Rattle.moka_drive.specs.Synchronous.{Made, Makes, InsertsEntry, InsertsMade, GetsValue, GetsThen, GetsOrInserts, Synchronous, HandsOutOwn, IsGotWith, IsGotWithIfMade, IsGotWithIfNoError, value_found}
+use Rattle.moka_drive.specs.Counters.{one_more, after_look_up, after_load}
 use Rattle.moka_drive.proofs.Made.{made_nothing, made_then}
 
 -- what was made leaves the hasher
@@ -40,75 +41,122 @@ abbrev pub without_error : {V E F : Type 0} → Result V E → Result (Result V 
 without_error (Ok value) = Ok (Ok value)
 without_error (Err refused) = Err refused
 
-module _ {K V S X L P W C : Type 0} (is_clone : V → V → Type 0) (m : Meaning K V X L P W C (Unit {0})) (key : K) (hash_by : S → ℕ) (now : Instant) (old mid : Synchronous K V S X L P W) (clock clock_mid : C) where
-  -- what a get with a maker comes to, for what was made and what is answered
-  abbrev pub GetsWith : Option V → Synchronous K V S X L P W → C → Result V (GetWithRefused K V) → Type 0
-  GetsWith made new clock_after result = (own : Result V (Option (InsertRefused K V))) × HandsOutMade is_clone key own result × Makes m (GetsOrInserts key (hash_by old.engine.hasher) now made own) old.engine clock new.engine clock_after × (new.stats ≡ after_get_with made own old.stats)
-
+module _ {K V S X L P W C : Type 0} (is_clone : V → V → Type 0) (m : Meaning K V X L P W C (Unit {0})) (key : K) (hash : ℕ) (now : Instant) (old mid : Engine K V S X L P W) (clock clock_mid : C) where
   -- a get that found nothing
-  pub got_nothing : (own : Result (Option V) OutOfMemory) → IsCopiedAnswer is_clone own (Ok None) → Makes m (GetsValue key (hash_by old.engine.hasher) now own) old.engine clock mid.engine clock_mid → Made m (call.Get key (hash_by old.engine.hasher) false now ∷ []) (reply.Get (Ok None) ∷ []) old.engine clock mid.engine clock_mid
-  got_nothing (Err e) copied made = (let impossible : Ok None ≡ Err e = copied in absurd (cc))
-  got_nothing (Ok (Some v)) copied made = absurd copied
-  got_nothing (Ok None) copied (calls, replies, (a, is, calls_are, replies_are), made) =
-      subst (λ cs. Made m cs (reply.Get (Ok None) ∷ []) old.engine clock mid.engine clock_mid) calls_are (subst (λ rs. Made m calls rs old.engine clock mid.engine clock_mid) (replies_are ∙ ap (λ a. reply.Get a ∷ []) (nothing a is)) made)
+  pub got_nothing : (seen : Option V) → seen ≡ None → (own : Result (Option V) OutOfMemory) × IsCopiedAnswer is_clone own (Ok seen) × Makes m (GetsValue key hash now own) old clock mid clock_mid → Made m (call.Get key hash false now ∷ []) (reply.Get (Ok None) ∷ []) old clock mid clock_mid
+  got_nothing seen none (own, copied, made) = go own (subst (λ o. IsCopiedAnswer is_clone own (Ok o)) none copied) made
     where
       nothing : (a : Result (Option (Entry K V)) OutOfMemory) → Ok None ≡ value_found a → a ≡ Ok None
       nothing (Ok None) is = refl
       nothing (Ok (Some entry)) is = (let impossible : Ok None ≡ Ok (Some entry.value) = is in absurd (cc))
       nothing (Err e) is = (let impossible : Ok None ≡ Err e = is in absurd (cc))
 
-  -- a get that found a value
-  pub got_value : (own : Result (Option V) OutOfMemory) (x : V) → IsCopiedAnswer is_clone own (Ok (Some x)) → Makes m (GetsValue key (hash_by old.engine.hasher) now own) old.engine clock mid.engine clock_mid → mid.stats ≡ after_look_up {V = V} {E = OutOfMemory} (Ok (Some x)) old.stats → GetsWith None mid clock_mid (Ok x)
-  got_value (Err e) x copied made counted = (let impossible : Ok (Some x) ≡ Err e = copied in absurd (cc))
-  got_value (Ok None) x copied made counted = (let impossible : Some x ≡ None = copied in absurd (cc))
-  got_value (Ok (Some v)) x copied made counted = (Ok v, copied, made, counted)
+      go : (own : Result (Option V) OutOfMemory) → IsCopiedAnswer is_clone own (Ok None) → Makes m (GetsValue key hash now own) old clock mid clock_mid → Made m (call.Get key hash false now ∷ []) (reply.Get (Ok None) ∷ []) old clock mid clock_mid
+      go (Err e) copied made = (let impossible : Ok None ≡ Err e = copied in absurd (cc))
+      go (Ok (Some v)) copied made = absurd copied
+      go (Ok None) copied (calls, replies, (a, is, calls_are, replies_are), made) =
+          subst (λ cs. Made m cs (reply.Get (Ok None) ∷ []) old clock mid clock_mid) calls_are (subst (λ rs. Made m calls rs old clock mid clock_mid) (replies_are ∙ ap (λ a. reply.Get a ∷ []) (nothing a is)) made)
 
-  -- a get that was refused
-  pub got_refused : (own : Result (Option V) OutOfMemory) (e : OutOfMemory) → IsCopiedAnswer is_clone own (Err e) → Makes m (GetsValue key (hash_by old.engine.hasher) now own) old.engine clock mid.engine clock_mid → mid.stats ≡ old.stats → GetsWith None mid clock_mid (Err (Lookup key))
-  got_refused (Ok a) e copied made counted = absurd copied
-  got_refused (Err f) e copied (calls, replies, fits, made) counted = (Err None, refl, (calls, replies, (f, fits), made), counted)
+  -- a get that found nothing, and an insert of the value that was made, refused or not
+  pub got_then : Made m (call.Get key hash false now ∷ []) (reply.Get (Ok None) ∷ []) old clock mid clock_mid → (value : V) (new : Engine K V S X L P W) (clock_after : C) (own : Result V (InsertRefused K V)) → Makes m (InsertsMade key hash now value own) mid clock_mid new clock_after
+      → Makes m (GetsOrInserts key hash now (Some value) (lifted own)) old clock new clock_after
+  got_then got value new clock_after own (calls, replies, fits, made) = go own (calls, replies, fits, refl, refl)
+    where
+      after : Made m (call.Get key hash false now ∷ calls) (reply.Get (Ok None) ∷ replies) old clock new clock_after
+      after = made_then m (call.Get key hash false now ∷ []) calls (reply.Get (Ok None) ∷ []) replies old mid new clock clock_mid clock_after got made
 
-  module _ (got : Made m (call.Get key (hash_by old.engine.hasher) false now ∷ []) (reply.Get (Ok None) ∷ []) old.engine clock mid.engine clock_mid) (missed : mid.stats ≡ after_look_up {V = V} {E = OutOfMemory} (Ok None) old.stats)
+      go : (own : Result V (InsertRefused K V)) → GetsThen key hash now (InsertsMade key hash now value own) (call.Get key hash false now ∷ calls) (reply.Get (Ok None) ∷ replies) → Makes m (GetsOrInserts key hash now (Some value) (lifted own)) old clock new clock_after
+      go (Ok v) fits = (call.Get key hash false now ∷ calls, reply.Get (Ok None) ∷ replies, fits, after)
+      go (Err refused) fits = (call.Get key hash false now ∷ calls, reply.Get (Ok None) ∷ replies, fits, after)
+
+module _ {K V S X L P W C : Type 0} (is_clone : V → V → Type 0) (m : Meaning K V X L P W C (Unit {0})) (key : K) (hash_by : S → ℕ) (now : Instant) (old mid : Synchronous K V S X L P W) (clock clock_mid : C) where
+  -- what a get with a maker comes to, where this was made
+  abbrev pub Gets : Option V → (V → Type 0) → Synchronous K V S X L P W → C → Result V (GetWithRefused K V) → Type 0
+  Gets made Answers new clock_after result = (own : Result V (Option (InsertRefused K V))) × IsGotWith m is_clone key (hash_by old.engine.hasher) now old clock new clock_after made own Answers result
+
+  -- what the look-up before it made
+  abbrev pub LooksUp : Result (Option V) OutOfMemory → Type 0
+  LooksUp got = (own : Result (Option V) OutOfMemory) × IsCopiedAnswer is_clone own got × Makes m (GetsValue key (hash_by old.engine.hasher) now own) old.engine clock mid.engine clock_mid
+
+  -- a look-up that found a value
+  pub got_value : (Answers : V → Type 0) (seen : Option V) (x : V) → seen ≡ Some x → LooksUp (Ok seen) → mid.stats ≡ after_look_up {E = OutOfMemory} (Ok seen) old.stats → Sees m.eq m.says is_clone old.engine.state key now.0 seen → Gets None Answers mid clock_mid (Ok x)
+  got_value Answers seen x is looks counted sees = go (subst (λ o. LooksUp (Ok o)) is looks)
+    where
+      go : LooksUp (Ok (Some x)) → Gets None Answers mid clock_mid (Ok x)
+      go (Err e, copied, made) = (let impossible : Ok (Some x) ≡ Err e = copied in absurd (cc))
+      go (Ok None, copied, made) = (let impossible : Some x ≡ None = copied in absurd (cc))
+      go (Ok (Some v), copied, made) =
+          (Ok v, ((λ value e. absurd (cc)), copied, made, subst (λ o. mid.stats ≡ after_look_up {E = OutOfMemory} (Ok o) old.stats) is counted, inl (subst (Sees m.eq m.says is_clone old.engine.state key now.0) is sees), tt))
+
+  -- one that was refused
+  pub got_refused : (Answers : V → Type 0) (e : OutOfMemory) → LooksUp (Err e) → mid.stats ≡ old.stats → mid.engine.state ≡ old.engine.state → Gets None Answers mid clock_mid (Err (Lookup key))
+  got_refused Answers e (Ok a, copied, made) counted same = absurd copied
+  got_refused Answers e (Err f, copied, (calls, replies, fits, made)) counted same = (Err None, ((λ value e. absurd (cc)), refl, (calls, replies, (f, fits), made), counted, tt, (refl, same)))
+
+  -- one that found nothing, and the call of the maker counted
+  module _ (seen : Option V) (none : seen ≡ None) (looks : LooksUp (Ok seen)) (missed : mid.stats ≡ after_look_up {E = OutOfMemory} (Ok seen) old.stats)
       (loaded : Synchronous K V S X L P W) (counted_load : loaded ≡ record mid { stats = after_load mid.stats }) where
+    got : Made m (call.Get key (hash_by old.engine.hasher) false now ∷ []) (reply.Get (Ok None) ∷ []) old.engine clock mid.engine clock_mid
+    got = got_nothing is_clone m key (hash_by old.engine.hasher) now old.engine mid.engine clock clock_mid seen none looks
+
     loaded_engine : loaded.engine ≡ mid.engine
     loaded_engine = ap (λ x. x.engine) counted_load
 
     loaded_stats : loaded.stats ≡ record old.stats { misses = one_more old.stats.misses; loads = one_more old.stats.loads }
-    loaded_stats = ap (λ x. x.stats) counted_load ∙ ap after_load missed
+    loaded_stats = ap (λ x. x.stats) counted_load ∙ ap after_load (subst (λ o. mid.stats ≡ after_look_up {E = OutOfMemory} (Ok o) old.stats) none missed)
 
     -- no value was made
-    pub got_only : Makes m (GetsValue key (hash_by old.engine.hasher) now (Ok None)) old.engine clock loaded.engine clock_mid × (loaded.stats ≡ record old.stats { misses = one_more old.stats.misses; loads = one_more old.stats.loads })
+    got_only : Makes m (GetsValue key (hash_by old.engine.hasher) now (Ok None)) old.engine clock loaded.engine clock_mid × (loaded.stats ≡ record old.stats { misses = one_more old.stats.misses; loads = one_more old.stats.loads })
     got_only = ((_, _, (Ok None, refl, refl, refl), subst (λ x. Made m (call.Get key (hash_by old.engine.hasher) false now ∷ []) (reply.Get (Ok None) ∷ []) old.engine clock x clock_mid) (sym loaded_engine) got), loaded_stats)
 
-    module _ (value : V) (new : Synchronous K V S X L P W) (clock_after : C) (kept : new.stats ≡ loaded.stats) where
-      -- the value that was made was inserted or not
-      made_after : (own : Result V (InsertRefused K V)) → Makes m (InsertsMade key (hash_by old.engine.hasher) now value own) mid.engine clock_mid new.engine clock_after → Makes m (GetsOrInserts key (hash_by old.engine.hasher) now (Some value) (lifted own)) old.engine clock new.engine clock_after
-      made_after (Ok v) (calls, replies, fits, made) = (
-        call.Get key (hash_by old.engine.hasher) false now ∷ calls,
-        reply.Get (Ok None) ∷ replies,
-        (calls, replies, fits, refl, refl),
-        made_then m (call.Get key (hash_by old.engine.hasher) false now ∷ []) calls (reply.Get (Ok None) ∷ []) replies old.engine mid.engine new.engine clock clock_mid clock_after got made,
-      )
-      made_after (Err refused) (calls, replies, fits, made) = (
-        call.Get key (hash_by old.engine.hasher) false now ∷ calls,
-        reply.Get (Ok None) ∷ replies,
-        (calls, replies, fits, refl, refl),
-        made_then m (call.Get key (hash_by old.engine.hasher) false now ∷ []) calls (reply.Get (Ok None) ∷ []) replies old.engine mid.engine new.engine clock clock_mid clock_after got made,
-      )
+    -- the maker declined
+    pub declined : (Answers : Option V → Type 0) → Answers None → (own : Result (Option V) (Option (InsertRefused K V))) × IsGotWithIfMade m is_clone key (hash_by old.engine.hasher) now old clock loaded clock_mid (Some None) own Answers (Ok None)
+    declined Answers answered = (Ok None, ((λ answer e. subst Answers (same_Some None answer e) answered), tt, got_only.0, got_only.1, (tt, answered), tt))
 
-      -- the same from the insert after the load
-      made_after_load : (own : Result V (InsertRefused K V)) → Makes m (InsertsMade key (hash_by loaded.engine.hasher) now value own) loaded.engine clock_mid new.engine clock_after → Makes m (GetsOrInserts key (hash_by old.engine.hasher) now (Some value) (lifted own)) old.engine clock new.engine clock_after
-      made_after_load own made =
-          let after_get = subst (λ x. Makes m (InsertsMade key (hash_by x.hasher) now value own) x clock_mid new.engine clock_after) loaded_engine made in
-          let hasher = made_keeps_hasher m (call.Get key (hash_by old.engine.hasher) false now ∷ []) (reply.Get (Ok None) ∷ []) old.engine mid.engine clock clock_mid got in
-          made_after own (subst (λ s. Makes m (InsertsMade key (hash_by s) now value own) mid.engine clock_mid new.engine clock_after) hasher after_get)
+    -- the maker failed
+    pub failed : {E : Type 0} (Answers : Result V E → Type 0) (error : E) → Answers (Err error) → (own : Result (Result V E) (Option (InsertRefused K V))) × IsGotWithIfNoError m is_clone key (hash_by old.engine.hasher) now old clock loaded clock_mid (Some (Err error)) own Answers (Ok (Err error))
+    failed Answers error answered =
+        (Ok (Err error), ((λ answer e. subst Answers (same_Some (Err error) answer e) answered), refl, (got_only.0.0, got_only.0.1, (refl, got_only.0.2), got_only.0.3), got_only.1, (tt, answered), tt))
 
-      -- and what is handed out fits
-      pub made_and_handed_out : (result : Result V (InsertRefused K V)) → ((own : Result V (InsertRefused K V)) × HandsOutOwn is_clone own result × Makes m (InsertsMade key (hash_by loaded.engine.hasher) now value own) loaded.engine clock_mid new.engine clock_after) → GetsWith (Some value) new clock_after (as_insert result)
-      made_and_handed_out (Ok copy) (Ok v, handed, made) = (Ok v, handed, made_after_load (Ok v) made, kept ∙ loaded_stats)
-      made_and_handed_out (Err r) (Err refused, handed, made) = (Err (Some refused), handed, made_after_load (Err refused) made, kept ∙ loaded_stats)
-      made_and_handed_out (Err r) (Ok v, handed, made) = absurd handed
-      made_and_handed_out (Ok copy) (Err refused, handed, made) = absurd handed
+    -- a value was made, and inserted or not
+    pub made_and_handed_out : Sees m.eq m.says is_clone old.engine.state key now.0 seen → (Answers : V → Type 0) (value : V) → Answers value → (new : Synchronous K V S X L P W) (clock_after : C) → new.stats ≡ loaded.stats
+        → (result : Result V (InsertRefused K V)) → ((own : Result V (InsertRefused K V)) × HandsOutOwn is_clone own result × Makes m (InsertsMade key (hash_by loaded.engine.hasher) now value own) loaded.engine clock_mid new.engine clock_after)
+        → IfErr result (λ refused. (refused.key ≡ key) × (refused.value ≡ value)) → Gets (Some value) Answers new clock_after (as_insert result)
+    made_and_handed_out sees Answers value answered new clock_after kept result (own, handed, made) back = go own result handed (after own made) back
+      where
+        after : (own : Result V (InsertRefused K V)) → Makes m (InsertsMade key (hash_by loaded.engine.hasher) now value own) loaded.engine clock_mid new.engine clock_after → Makes m (InsertsMade key (hash_by old.engine.hasher) now value own) mid.engine clock_mid new.engine clock_after
+        after own made = subst (λ s. Makes m (InsertsMade key (hash_by s) now value own) mid.engine clock_mid new.engine clock_after) (made_keeps_hasher m _ _ old.engine mid.engine clock clock_mid got)
+            (subst (λ x. Makes m (InsertsMade key (hash_by x.hasher) now value own) x clock_mid new.engine clock_after) loaded_engine made)
+
+        posted : (v : V) → Some value ≡ Some v → Answers v
+        posted v is = subst Answers (same_Some value v is) answered
+
+        go : (own result : Result V (InsertRefused K V)) → HandsOutOwn is_clone own result → Makes m (InsertsMade key (hash_by old.engine.hasher) now value own) mid.engine clock_mid new.engine clock_after
+            → IfErr result (λ refused. (refused.key ≡ key) × (refused.value ≡ value)) → Gets (Some value) Answers new clock_after (as_insert result)
+        go (Ok v) (Ok copy) handed made back = (
+          Ok v,
+          (
+            posted,
+            handed,
+            got_then is_clone m key (hash_by old.engine.hasher) now old.engine mid.engine clock clock_mid got value new.engine clock_after (Ok v) made,
+            kept ∙ loaded_stats,
+            inr (subst (Sees m.eq m.says is_clone old.engine.state key now.0) none sees, (value, answered, subst (λ x. is_clone x copy) made.2.0 handed)),
+            tt,
+          ),
+        )
+        go (Err refused) (Err r) handed made back = (
+          Err (Some refused),
+          (
+            posted,
+            handed,
+            got_then is_clone m key (hash_by old.engine.hasher) now old.engine mid.engine clock clock_mid got value new.engine clock_after (Err refused) made,
+            kept ∙ loaded_stats,
+            tt,
+            (back.0, subst Answers (sym back.1) answered),
+          ),
+        )
+        go (Ok v) (Err r) handed made back = absurd handed
+        go (Err refused) (Ok copy) handed made back = absurd handed
 
 module _ {K V S X L P W C : Type 0} (is_clone : V → V → Type 0) (m : Meaning K V X L P W C (Unit {0})) (key : K) (hash : ℕ) (now : Instant) (old new : Engine K V S X L P W) (clock clock_after : C) where
   -- a value that was made is not inserted, since its clone is refused
@@ -123,34 +171,31 @@ module _ {K V S X L P W C : Type 0} (is_clone : V → V → Type 0) (m : Meaning
   pub not_inserted : (value : V) (refused : InsertRefused K V) → Makes m (InsertsEntry key hash value now (Err refused)) old clock new clock_after → Makes m (InsertsMade key hash now value (Err refused)) old clock new clock_after
   not_inserted value refused (calls, replies, fits, made) = (calls, replies, inr fits, made)
 
-  -- ---- makers that may decline or fail
+-- ---- makers that may decline or fail
 
-  -- what such a get comes to
-  abbrev pub GetsIfMade : Option (Option V) → Result (Option V) (GetWithRefused K V) → Stats → Stats → Type 0
-  GetsIfMade made result s t = (own : Result (Option V) (Option (InsertRefused K V))) × HandsOutIfMade is_clone key own result × Makes m (GetsOrInsertsIfMade key hash now made own) old clock new clock_after × (t ≡ after_get_with made own s)
+module _ {K V S X L P W C : Type 0} (is_clone : V → V → Type 0) (m : Meaning K V X L P W C (Unit {0})) (key : K) (hash : ℕ) (now : Instant) (old new : Synchronous K V S X L P W) (clock clock_after : C) where
+  -- where the maker did not decline
+  pub if_made : (Answers : Option V → Type 0) (made : Option V) (result : Result V (GetWithRefused K V))
+      → (own : Result V (Option (InsertRefused K V))) × IsGotWith m is_clone key hash now old clock new clock_after made own (λ v. Answers (Some v)) result
+      → (own : Result (Option V) (Option (InsertRefused K V))) × IsGotWithIfMade m is_clone key hash now old clock new clock_after (option_map Some made) own Answers (optional result)
+  if_made Answers None (Ok x) (Ok v, (post, handed, makes, counted, given, back)) = (Ok (Some v), ((λ answer e. absurd (cc)), handed, makes, counted, (given, tt), tt))
+  if_made Answers None (Err x) (Err e, (post, handed, makes, counted, given, back)) = (Err e, ((λ answer e. absurd (cc)), handed, makes, counted, tt, back))
+  if_made Answers (Some value) (Ok x) (Ok v, (post, handed, makes, counted, given, back)) = (Ok (Some v), ((λ answer e. subst Answers (same_Some (Some value) answer e) (post value refl)), handed, makes, counted, (given, tt), tt))
+  if_made Answers (Some value) (Err x) (Err e, (post, handed, makes, counted, given, back)) = (Err e, ((λ answer e. subst Answers (same_Some (Some value) answer e) (post value refl)), handed, makes, counted, tt, back))
+  if_made Answers made (Ok x) (Err None, came) = absurd came.1
+  if_made Answers made (Ok x) (Err (Some e), came) = absurd came.1
+  if_made Answers made (Err (Lookup k)) (Ok v, came) = absurd came.1
+  if_made Answers made (Err (Insert k)) (Ok v, came) = absurd came.1
 
-  abbrev pub GetsIfNoError : {E : Type 0} → Option (Result V E) → Result (Result V E) (GetWithRefused K V) → Stats → Stats → Type 0
-  GetsIfNoError made result s t = (own : Result (Result V _) (Option (InsertRefused K V))) × HandsOutIfNoError is_clone key own result × Makes m (GetsOrInsertsIfNoError key hash now made own) old clock new clock_after × (t ≡ after_get_with made own s)
-
-  module _ (s t : Stats) where
-    -- where the maker did not decline
-    pub if_made : (made : Option V) (result : Result V (GetWithRefused K V)) (own : Result V (Option (InsertRefused K V))) → HandsOutMade is_clone key own result → Makes m (GetsOrInserts key hash now made own) old clock new clock_after → t ≡ after_get_with made own s → GetsIfMade (option_map Some made) (optional result) s t
-    if_made None (Ok x) (Ok v) handed makes counted = (Ok (Some v), handed, makes, counted)
-    if_made None (Err x) (Err e) handed makes counted = (Err e, handed, makes, counted)
-    if_made (Some value) (Ok x) (Ok v) handed makes counted = (Ok (Some v), handed, makes, counted)
-    if_made (Some value) (Err x) (Err e) handed makes counted = (Err e, handed, makes, counted)
-    if_made made (Ok x) (Err None) handed makes counted = absurd handed
-    if_made made (Ok x) (Err (Some e)) handed makes counted = absurd handed
-    if_made made (Err (Lookup k)) (Ok v) handed makes counted = absurd handed
-    if_made made (Err (Insert k)) (Ok v) handed makes counted = absurd handed
-
-    -- where it did not fail
-    pub if_no_error : {E : Type 0} (made : Option V) (result : Result V (GetWithRefused K V)) (own : Result V (Option (InsertRefused K V))) → HandsOutMade is_clone key own result → Makes m (GetsOrInserts key hash now made own) old clock new clock_after → t ≡ after_get_with made own s → GetsIfNoError {E = E} (option_map Ok made) (without_error result) s t
-    if_no_error None (Ok x) (Ok v) handed makes counted = (Ok (Ok v), handed, makes, counted)
-    if_no_error None (Err x) (Err e) handed makes counted = (Err e, handed, makes, counted)
-    if_no_error (Some value) (Ok x) (Ok v) handed makes counted = (Ok (Ok v), handed, makes, counted)
-    if_no_error (Some value) (Err x) (Err e) handed makes counted = (Err e, handed, makes, counted)
-    if_no_error made (Ok x) (Err None) handed makes counted = absurd handed
-    if_no_error made (Ok x) (Err (Some e)) handed makes counted = absurd handed
-    if_no_error made (Err (Lookup k)) (Ok v) handed makes counted = absurd handed
-    if_no_error made (Err (Insert k)) (Ok v) handed makes counted = absurd handed
+  -- where it did not fail
+  pub if_no_error : {E : Type 0} (Answers : Result V E → Type 0) (made : Option V) (result : Result V (GetWithRefused K V))
+      → (own : Result V (Option (InsertRefused K V))) × IsGotWith m is_clone key hash now old clock new clock_after made own (λ v. Answers (Ok v)) result
+      → (own : Result (Result V E) (Option (InsertRefused K V))) × IsGotWithIfNoError m is_clone key hash now old clock new clock_after (option_map Ok made) own Answers (without_error result)
+  if_no_error Answers None (Ok x) (Ok v, (post, handed, makes, counted, given, back)) = (Ok (Ok v), ((λ answer e. absurd (cc)), handed, makes, counted, (given, tt), tt))
+  if_no_error Answers None (Err x) (Err e, (post, handed, makes, counted, given, back)) = (Err e, ((λ answer e. absurd (cc)), handed, makes, counted, tt, back))
+  if_no_error Answers (Some value) (Ok x) (Ok v, (post, handed, makes, counted, given, back)) = (Ok (Ok v), ((λ answer e. subst Answers (same_Some (Ok value) answer e) (post value refl)), handed, makes, counted, (given, tt), tt))
+  if_no_error Answers (Some value) (Err x) (Err e, (post, handed, makes, counted, given, back)) = (Err e, ((λ answer e. subst Answers (same_Some (Ok value) answer e) (post value refl)), handed, makes, counted, tt, back))
+  if_no_error Answers made (Ok x) (Err None, came) = absurd came.1
+  if_no_error Answers made (Ok x) (Err (Some e), came) = absurd came.1
+  if_no_error Answers made (Err (Lookup k)) (Ok v, came) = absurd came.1
+  if_no_error Answers made (Err (Insert k)) (Ok v, came) = absurd came.1

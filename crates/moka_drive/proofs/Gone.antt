@@ -1,32 +1,28 @@
 -- A key that was removed has no record, also after the ticket of its removal was posted.
-use Rattle.std.proofs.Common.{◌≡◌, refl, ℕ, Bool, true, false, true≢false, List, [], ◌∷◌, Option, Some, None, Result, Ok, Err, ap, sym, subst, ◌∙◌, inl, inr}
-use Rattle.std.specs.Prelude.{MatchBool, ⊤, length}
+use Rattle.std.proofs.Common.{◌≡◌, refl, ℕ, Bool, true, true≢false, List, [], ◌∷◌, Option, Some, None, Result, option_map, ap, sym, subst, ◌∙◌, inl, inr}
+use Rattle.std.specs.Prelude.{⊤, length}
 use Rattle.std.specs.Cmp.{IsEquivalence}
 use Rattle.std.specs.FinMap.{get, remove}
 use Rattle.moka_parts.specs.declared.calls.Call.{Call}
 use Rattle.moka_parts.specs.declared.calls.Call.TheVariants as call
 use Rattle.moka_parts.specs.declared.policy.Instant.{Instant}
 use Rattle.moka_parts.specs.declared.calls.KvEntry.{KvEntry}
-use Rattle.moka_parts.specs.declared.records.Operation.{Operation}
 use Rattle.moka_parts.specs.declared.error.OutOfMemory.{OutOfMemory}
 use Rattle.moka_parts.specs.declared.records.Record.{Record}
 use Rattle.moka_parts.specs.declared.calls.Reply.{Reply}
 use Rattle.moka_parts.specs.declared.calls.Reply.TheVariants as reply
-use Rattle.moka_parts.specs.declared.error.SendError.{SendError}
-use Rattle.moka_parts.specs.declared.error.SendError.TheVariants.{UnknownTicket, QueueFull}
 use Rattle.moka_parts.specs.declared.calls.Ticket.{Ticket}
-use Rattle.moka_parts.specs.Bounds.{IsBounded}
-use Rattle.moka_parts.specs.Calls.{RemovesAt, RunStep, KeeperRun, RunsIfDue, SendsAt, SendStep, Unchanged}
-use Rattle.moka_parts.specs.Housekeeping.{is_due}
-use Rattle.moka_parts.specs.Maintenance.{Terms, Course, Freedom, RunsBy, DoesNothing, at_end}
-use Rattle.moka_parts.specs.Records.{Records, Notice, record_of_key}
-use Rattle.moka_parts.specs.Runs.{Engine, CallStep, Step, AreSteps, PromisedRun, calls_of, replies_of, last_state}
+use Rattle.moka_parts.specs.Calls.{RemovesAt}
+use Rattle.moka_parts.specs.Listed.{ListedRun, AreListedSteps}
+use Rattle.moka_parts.specs.Records.{Records, record_of_key}
+use Rattle.moka_parts.specs.Runs.{Engine, CallStep, Step, calls_of, replies_of, last_state}
 use Rattle.moka_parts.specs.Settling.{IsValid}
-use Rattle.moka_parts.specs.State.{State, Meaning, Events, is_disabled}
+use Rattle.moka_parts.specs.State.{State, Meaning, Events}
 use Rattle.moka_parts.proofs.Lookup.{record_of_key_found, absent_key, present_key}
 use Rattle.moka_parts.proofs.Maps.{same_or_apart, get_removed, get_past_remove}
-use Rattle.moka_parts.proofs.RunKeeps.{Keeps, run_keeps}
+use Rattle.moka_parts.proofs.RunKeeps.{Keeps}
 use Rattle.moka_drive.specs.Synchronous.{Made, Makes, RemovesEntry, Posts}
+use Rattle.moka_drive.proofs.Keeping.{due_keeps, listed_run_keeps, send_keeps}
 use Rattle.moka_drive.proofs.Made.{heads, tails}
 
 -- ---- records
@@ -73,34 +69,13 @@ module _ {K V X P W : Type 0} (eq : K → K → Bool) (key : K) where
       go None found h = none_alike s t h.1 (λ n r there same. true≢false (sym same ∙ absent_key eq s.records key found n r there))
       go (Some r) found h = subst (λ (x : State K V X P W). HasNone eq key x.records) (sym h.1) (without r found)
 
-  sent_none : (s t : State K V X P W) (ticket : ℕ) (a : Result (Unit {0}) SendError) → SendStep s ticket a t → HasNone eq key s.records → HasNone eq key t.records
-  sent_none s t ticket a step none = go (get s.outstanding ticket) a step
+  -- what is taken out is the key's value
+  pub value_taken : (s t : State K V X P W) (a : Option (KvEntry K V × Ticket)) → RemovesAt s (record_of_key eq s.records key) a t → option_map (λ x. x.0.value) a ≡ option_map (λ r. r.value) (record_of_key eq s.records key)
+  value_taken s t a step = go (record_of_key eq s.records key) step
     where
-      go : (o : Option Operation) (a : Result (Unit {0}) SendError) → SendsAt s ticket o a t → HasNone eq key t.records
-      go (Some o) (Ok x) h = subst (λ (x : State K V X P W). HasNone eq key x.records) (sym h.1) none
-      go (Some o) (Err QueueFull) h = none_alike s t h.1 none
-      go (Some o) (Err UnknownTicket) h = absurd h
-      go None (Err UnknownTicket) h = none_alike s t h none
-      go None (Err QueueFull) h = absurd h
-      go None (Ok x) h = absurd h
-
-  module _ (says : P → K → V → Bool → Type 0) (read : X → K → V → ℕ → Option ℕ → ℕ → Option ℕ) where
-    run_none : (s t : State K V X P W) (terms : Terms) (course : Course) (notices : List (Notice K V)) → PromisedRun says read s terms course notices t → HasNone eq key s.records → HasNone eq key t.records
-    run_none s t terms course notices run none = go (is_disabled s.capacity) run.0
-      where
-        go : (b : Bool) → MatchBool b (DoesNothing s course notices t) ((ch : Freedom) × RunsBy says s terms ch course notices t × IsBounded s terms ch course) → HasNone eq key t.records
-        go true h = none_alike s t h.0 none
-        go false (ch, by, detail) = subst (λ (x : State K V X P W). HasNone eq key x.records) (sym by.1) (kept_none eq key s.records (at_end s ch).records (run_keeps s ch) none)
-
-    asked_none : (s t : State K V X P W) (terms : Terms) (answer : Bool) (e : Events K V) → RunStep (PromisedRun says read) s terms answer e t → HasNone eq key s.records → HasNone eq key t.records
-    asked_none s t terms answer e (course, run, same, events) none = run_none s t terms course e.notices run none
-
-    due_none : (s t : State K V X P W) (queued now : ℕ) (e : Events K V) → RunsIfDue (PromisedRun says read) s queued now e t → HasNone eq key s.records → HasNone eq key t.records
-    due_none s t queued now e step none = go (is_due s.housekeeping queued now) step
-      where
-        go : (b : Bool) → MatchBool b (KeeperRun (PromisedRun says read) s now e t) (Unchanged s e t) → HasNone eq key t.records
-        go true (answer, mid, run, same) = subst (λ (x : State K V X P W). HasNone eq key x.records) (sym same) (asked_none s mid _ answer e run none)
-        go false h = none_alike s t h.0 none
+      go : (o : Option (Record K V)) → RemovesAt s o a t → option_map (λ x. x.0.value) a ≡ option_map (λ r. r.value) o
+      go None h = ap (option_map (λ x. x.0.value)) h.0
+      go (Some r) h = ap (option_map (λ x. x.0.value)) h.0
 
 -- ---- lists of calls
 
@@ -122,22 +97,22 @@ module _ {K V P : Type 0} where
   posts_post now ticket calls replies (inr (more, is, replied)) = subst ArePosting (sym is) (tt, (tt, (tt, (tt, tt))))
 
 module _ {K V X L P W C : Type 0} (m : Meaning K V X L P W C (Unit {0})) (key : K) where
-  step_none : (s t : State K V X P W) (c : Call K V P) (r : Reply K V P) (e : Events K V) → IsPosting c → CallStep m (PromisedRun m.says m.read) s c r e t → HasNone m.eq key s.records → HasNone m.eq key t.records
-  step_none s t (call.Send ticket) (reply.Send a) e posting step none = sent_none m.eq key s t ticket.0 a step.0 none
-  step_none s t (call.RunIfDue now) reply.RunIfDue e posting step none = due_none m.eq key m.says m.read s t (length s.writes) now.0 e step none
-  step_none s t (call.Run now limit repeats batch) (reply.Run more) e posting step none = asked_none m.eq key m.says m.read s t _ more e step none
-  step_none s t (call.Send ticket) r e posting step none = absurd step
-  step_none s t (call.RunIfDue now) r e posting step none = absurd step
-  step_none s t (call.Run now limit repeats batch) r e posting step none = absurd step
-  step_none s t c r e posting step none = absurd posting
+  step_none : (before after : List ℕ) (s t : State K V X P W) (c : Call K V P) (r : Reply K V P) (e : Events K V) → IsPosting c → CallStep m (ListedRun m.says m.read before after) s c r e t → HasNone m.eq key s.records → HasNone m.eq key t.records
+  step_none before after s t (call.Send ticket) (reply.Send a) e posting step none = kept_none m.eq key s.records t.records (send_keeps s ticket.0 a t step.0) none
+  step_none before after s t (call.RunIfDue now) reply.RunIfDue e posting step none = kept_none m.eq key s.records t.records (due_keeps m.says m.read before after s (length s.writes) now.0 e t step) none
+  step_none before after s t (call.Run now limit repeats batch) (reply.Run more) e posting step none = kept_none m.eq key s.records t.records (listed_run_keeps m.says m.read before after s _ step.0 e.notices t step.1) none
+  step_none before after s t (call.Send ticket) r e posting step none = absurd step
+  step_none before after s t (call.RunIfDue now) r e posting step none = absurd step
+  step_none before after s t (call.Run now limit repeats batch) r e posting step none = absurd step
+  step_none before after s t c r e posting step none = absurd posting
 
-  steps_none : (s : State K V X P W) (steps : List (Step K V X P W)) → ArePosting (calls_of steps) → AreSteps m (PromisedRun m.says m.read) s steps → HasNone m.eq key s.records → HasNone m.eq key (last_state s steps).records
-  steps_none s [] posting are none = none
-  steps_none s (x ∷ xs) posting are none = steps_none x.after xs posting.1 are.1 (step_none s x.after x.call x.reply x.events posting.0 are.0 none)
+  steps_none : (s : State K V X P W) (before last : List ℕ) (steps : List (Step K V X P W)) → ArePosting (calls_of steps) → AreListedSteps m s before steps last → HasNone m.eq key s.records → HasNone m.eq key (last_state s steps).records
+  steps_none s before last [] posting are none = none
+  steps_none s before last (x ∷ xs) posting (after, step, rest) none = steps_none x.after after last xs posting.1 rest (step_none before after s x.after x.call x.reply x.events posting.0 step.0 none)
 
   module _ {S : Type 0} (laws : IsEquivalence m.eq) (hash : ℕ) (now : Instant) (old new : Engine K V S X L P W) (clock clock_after : C) (valid : IsValid m.eq old.state) where
     after_removal : (a : Option (KvEntry K V × Ticket)) (told : Option (Result (Unit {0}) OutOfMemory)) (posting : List (Call K V P)) (posted : List (Reply K V P)) → ArePosting posting → Made m (call.Remove key hash (Some now) ∷ posting) (reply.Remove a told ∷ posted) old clock new clock_after → record_of_key m.eq new.state.records key ≡ None
-    after_removal a told posting posted quiet made = none_found m.eq key new.state.records (go made.steps made.is_run.calls_made made.is_run.replies_given made.is_run.are_steps (ap (λ x. x.state) made.is_run.ends))
+    after_removal a told posting posted quiet made = none_found m.eq key new.state.records (go made.steps made.is_run.calls_made made.is_run.replies_given made.listed (ap (λ x. x.state) made.is_run.ends))
       where
         c : Call K V P
         c = call.Remove key hash (Some now)
@@ -145,13 +120,14 @@ module _ {K V X L P W C : Type 0} (m : Meaning K V X L P W C (Unit {0})) (key : 
         r : Reply K V P
         r = reply.Remove a told
 
-        go : (steps : List (Step K V X P W)) → calls_of steps ≡ c ∷ posting → replies_of steps ≡ r ∷ posted → AreSteps m (PromisedRun m.says m.read) old.state steps → new.state ≡ last_state old.state steps → HasNone m.eq key new.state.records
+        go : (steps : List (Step K V X P W)) → calls_of steps ≡ c ∷ posting → replies_of steps ≡ r ∷ posted → AreListedSteps m old.state old.write_list steps new.write_list → new.state ≡ last_state old.state steps → HasNone m.eq key new.state.records
         go [] calls replies are ends = (let impossible : [] ≡ c ∷ posting = calls in absurd (cc))
-        go (x ∷ xs) calls replies are ends =
-            let step : CallStep m (PromisedRun m.says m.read) old.state c r x.events x.after =
-            subst (λ c. CallStep m (PromisedRun m.says m.read) old.state c r x.events x.after) (heads x.call c (calls_of xs) posting calls) (subst (λ r. CallStep m (PromisedRun m.says m.read) old.state x.call r x.events x.after) (heads x.reply r (replies_of xs) posted replies) are.0) in
+        go (x ∷ xs) calls replies (after, first, rest) ends =
+            let step : CallStep m (ListedRun m.says m.read old.write_list after) old.state c r x.events x.after =
+            subst (λ c. CallStep m (ListedRun m.says m.read old.write_list after) old.state c r x.events x.after) (heads x.call c (calls_of xs) posting calls)
+            (subst (λ r. CallStep m (ListedRun m.says m.read old.write_list after) old.state x.call r x.events x.after) (heads x.reply r (replies_of xs) posted replies) first.0) in
             none_alike m.eq key (last_state x.after xs) new.state ends
-            (steps_none x.after xs (subst ArePosting (sym (tails x.call c (calls_of xs) posting calls)) quiet) are.1 (removed_none m.eq key old.state x.after a laws valid step.0))
+            (steps_none x.after after new.write_list xs (subst ArePosting (sym (tails x.call c (calls_of xs) posting calls)) quiet) rest (removed_none m.eq key old.state x.after a laws valid step.0))
 
     -- after a removal no record has the key
     pub has_left : (taken : Option (V × Result (Unit {0}) OutOfMemory)) → Makes m (RemovesEntry key hash now taken) old clock new clock_after → record_of_key m.eq new.state.records key ≡ None

@@ -1,5 +1,5 @@
 -- What a look-up of many keys makes.
-use Rattle.std.proofs.Common.{◌≡◌, refl, ℕ, List, [], ◌∷◌, ◌++◌, Option, Result, Ok, Err, map}
+use Rattle.std.proofs.Common.{◌≡◌, refl, ℕ, List, [], ◌∷◌, ◌++◌, Option, Result, Ok, Err}
 use Rattle.moka_parts.specs.declared.error.OutOfMemory.{OutOfMemory}
 use Rattle.moka_parts.specs.declared.policy.Instant.{Instant}
 use Rattle.moka_parts.specs.Copies.{IsCopiedAnswer}
@@ -14,11 +14,6 @@ use Rattle.moka_drive.specs.Synchronous.{GetsValue, Makes}
 pub counts_one_more : {V : Type 0} (found : List (Option V)) (one : Option V) (s : Stats) → after_look_ups (found ++ one ∷ []) s ≡ after_look_up {V = V} {E = OutOfMemory} (Ok one) (after_look_ups found s)
 counts_one_more [] one s = refl
 counts_one_more {V} (f ∷ fs) one s = counts_one_more fs one (after_look_up {V = V} {E = OutOfMemory} (Ok f) s)
-
--- what is found of a key behind others
-pub mapped_one_more : {A B : Type 0} (f : A → B) (xs : List A) (x : A) → map f (xs ++ x ∷ []) ≡ map f xs ++ f x ∷ []
-mapped_one_more f [] x = refl
-mapped_one_more f (y ∷ ys) x = rw (mapped_one_more f ys x) refl
 
 module _ {K V S X L P W C : Type 0} (m : Meaning K V X L P W C (Unit {0})) (is_clone : V → V → Type 0) (hash_of : K → ℕ) (now : Instant) (key : K) (old new : Engine K V S X L P W) (c1 c2 : C) where
   -- a look-up with an answer finds a clone

@@ -1,9 +1,11 @@
 -- Where nothing but time takes a record out, what has not expired stays in runs and sends.
-use Rattle.std.proofs.Common.{◌≡◌, refl, ℕ, zero, suc, ◌<◌, ◌≤◌, Bool, true, false, ◌&&◌, ◌||◌, nat_lt, List, [], ◌∷◌, ◌++◌, append_assoc, length, Option, Some, None, is_some, Result, Ok, Err, ap, sym, subst, ◌∙◌, inl, inr, MatchBool, true≢false, arith, if◌then◌else◌}
+use Rattle.std.proofs.Common.{◌≡◌, refl, ℕ, zero, suc, ◌<◌, ◌≤◌, Bool, true, false, ◌||◌, nat_lt, List, [], ◌∷◌, ◌++◌, append_assoc, length, Option, Some, None, is_some, Result, Ok, Err, ap, sym, subst, ◌∙◌, inl, inr, MatchBool, true≢false, arith, if◌then◌else◌}
 use Rattle.std.specs.Prelude.{Contains}
 use Rattle.std.specs.Option.{option_map_or}
-use Rattle.std.specs.FinMap.{get, insert, remove}
+use Rattle.std.specs.FinMap.{get, remove}
 use Rattle.std.proofs.lemmas.List.Elements.{Contains-append_left, Contains-append_right, Contains-push, Contains-push_cases}
+use Rattle.std.proofs.lemmas.Bool.{and_parts, or_parts}
+use Rattle.std.proofs.lemmas.Option.{same_Some}
 use Rattle.moka_parts.specs.declared.policy.EvictionPolicy.{EvictionPolicy}
 use Rattle.moka_parts.specs.declared.policy.Instant.{Instant}
 use Rattle.moka_parts.specs.declared.records.Operation.{Operation}
@@ -29,28 +31,14 @@ use Rattle.moka_parts.specs.Settling.{IsWaiting}
 use Rattle.moka_parts.specs.State.{State, Contents, Events, Meaning, contents, is_disabled}
 use Rattle.moka_parts.specs.Visibility.{has_lapsed, is_expired, is_past_live, is_past_idle, is_written_before, is_read_before}
 use Rattle.moka_parts.specs.Writes.{Fate, Ignored, Overtaken, Counted, Admitted, TooHeavy, Preferred, Refused, with_applied, fate_by_policy, fate_of_newcomer, fate_of_record, after_fate, after_write, after_writes}
-use Rattle.moka_parts.proofs.Maps.{AreApart, same_or_apart, get_inserted, get_past_insert, get_removed, get_past_remove}
+use Rattle.moka_parts.proofs.Maps.{AreApart, same_or_apart, get_removed, get_past_remove}
 use Rattle.moka_parts.proofs.RunKeeps.{reads_keep}
 use Rattle.moka_engine.specs.declared.base_cache.restores.Restored.{Restored}
 use Rattle.moka_drive.specs.Saved.{HasRoomFor, IsRoomyFor, KeepsUnexpired, TakesOnlyExpired, WeighAtMost}
 use Rattle.moka_drive.proofs.Alike.{none_kept}
 use Rattle.moka_drive.proofs.Roomy.{FitsIn, enters, enters_again, left, moved_back, taken_out, never_over, newcomer_has_room}
-
-same_some : {A : Type 0} (x y : A) → Some x ≡ Some y → x ≡ y
-same_some x y e = cc
-
-none_of : {A : Type 0} (o : Option A) → is_some o ≡ false → o ≡ None
-none_of None e = refl
-none_of (Some x) e = cc
-
--- of alternatives of which none holds the first does not
-none_first : (a b : Bool) → (a || b) ≡ false → a ≡ false
-none_first false b none = refl
-none_first true b none = cc
-
-both_last : (a b : Bool) → (a && b) ≡ true → b ≡ true
-both_last true b e = e
-both_last false b e = cc
+use Rattle.moka_drive.proofs.Quiet.{none_of}
+use Rattle.moka_drive.proofs.Stays.{noted_by}
 
 -- the tests of a run with this capacity, and no invalidation of all
 abbrev tests_with : Option ℕ → ℕ → Option ℕ → Option ℕ → Tests
@@ -187,14 +175,8 @@ module _ {K V : Type 0} (capacity : Option ℕ) (Waits : ℕ → ℕ → Type 0)
     abbrev Stands : Records K V → Type 0
     Stands records = (g : ℕ) × (get records n ≡ Some (record r { applied = g }))
 
-    -- an operation of a record is noted in it
     noted : (records : Records K V) (k g : ℕ) (q : Record K V) → get records k ≡ Some q → Stands records → Stands (with_applied records k q g)
-    noted records k g q there stands = elim (same_or_apart n k) [
-      | inl e ↦
-          let same : q ≡ record r { applied = stands.0 } = same_some q (record r { applied = stands.0 }) (sym there ∙ sym (ap (get records) e) ∙ stands.1) in
-          (g, ap (get (insert records k (record q { applied = g }))) e ∙ get_inserted records k (record q { applied = g }) ∙ ap (λ (x : Record K V). Some (record x { applied = g })) same)
-      | inr apart ↦ (stands.0, get_past_insert records k (record q { applied = g }) n apart ∙ stands.1)
-    ]
+    noted records k g q there (a, is) = let by = noted_by n r (λ _. Unit {0}) records records k g q there (λ at. tt) (a, is, tt) (a, is, tt) in (by.0, by.1)
 
     fate_lasts : (c : Contents K V) (k g w : ℕ) (moved : List ℕ) (q : Record K V) (f : Fate) → get c.records k ≡ Some q → LeavesAll f → Stands c.records → Stands (after_fate c k g w moved q f).records
     fate_lasts c k g w moved q Ignored there leaves stands = stands
@@ -225,13 +207,13 @@ module _ {K V : Type 0} (capacity : Option ℕ) (Waits : ℕ → ℕ → Type 0)
       leaves_another : (c : Contents K V) (k : ℕ) (q : Record K V) (cause : RemovalCause) → get c.records k ≡ Some q → HasCause says (tests_with capacity now live idle) c [] k q cause → FitsAll c → Stands c.records → AreApart n k
       leaves_another c k q Expired there ground fits stands = elim (same_or_apart n k) [
         | inl e ↦
-            let same : q ≡ record r { applied = stands.0 } = same_some q (record r { applied = stands.0 }) (sym there ∙ sym (ap (get c.records) e) ∙ stands.1) in
+            let same : q ≡ record r { applied = stands.0 } = same_Some q (record r { applied = stands.0 }) (sym there ∙ sym (ap (get c.records) e) ∙ stands.1) in
             absurd (true≢false (sym ground ∙ ap (λ (x : Record K V). is_expired x now || is_past_write (tests_with capacity now live idle) x || is_past_read (tests_with capacity now live idle) x) same ∙ fresh))
         | inr apart ↦ apart
       ]
       leaves_another c k q Explicit there (inl ground) fits stands = absurd (true≢false (sym ground))
       leaves_another c k q Explicit there (inr covered) fits stands = absurd covered
-      leaves_another c k q Size there ground fits stands = absurd (true≢false (sym (both_last (is_front k c.access) (is_over capacity c.access) ground) ∙ never_over capacity Waits limit c fits))
+      leaves_another c k q Size there ground fits stands = absurd (true≢false (sym (and_parts (is_front k c.access) (is_over capacity c.access) ground).1 ∙ never_over capacity Waits limit c fits))
       leaves_another c k q Replaced there ground fits stands = absurd ground
 
       steps_last : (c : Contents K V) (xs : List Choice) → AreJustified says (tests_with capacity now live idle) c [] xs → FitsAll c → Stands c.records → Stands (after_choices c xs).records
@@ -365,8 +347,8 @@ module _ {K V X P W : Type 0} (weighs : W → K → V → ℕ → Type 0) where
 
     stays_there : (n : ℕ) (r : Record K V) → get s.records n ≡ Some r → has_lapsed s.settings s.invalid_before r now ≡ false → (g : ℕ) × (get (at_end s ch).records n ≡ Some (record r { applied = g }))
     stays_there n r there lapsed =
-        let fresh = none_first (is_expired r now || is_past_live s.settings r now || is_past_idle s.settings r now) (is_written_before s.invalid_before r)
-        (none_first (is_expired r now || is_past_live s.settings r now || is_past_idle s.settings r now || is_written_before s.invalid_before r) (is_read_before s.invalid_before r) lapsed) in
+        let fresh = (or_parts (is_expired r now || is_past_live s.settings r now || is_past_idle s.settings r now) (is_written_before s.invalid_before r)
+        (or_parts (is_expired r now || is_past_live s.settings r now || is_past_idle s.settings r now || is_written_before s.invalid_before r) (is_read_before s.invalid_before r) lapsed).0).0 in
         let queued : (g : ℕ) × (get (after_queued_reads s).records n ≡ Some (record r { applied = g })) = (r.applied, ap (λ records. get records n) (reads_keep (contents s) s.reads) ∙ there) in
         let written = writes_last s.capacity (WaitsIn s) (weight_of_records s.records) n r s.settings.policy (after_queued_reads s) s.writes ch.moves waiting queued_fit queued in
         steps_last s.capacity (WaitsIn s) (weight_of_records s.records) n r says now s.settings.time_to_live s.settings.time_to_idle fresh (before_steps s ch) ch.steps just written_fit written

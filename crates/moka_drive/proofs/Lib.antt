@@ -5,7 +5,6 @@ pub mod Waiting
 pub mod Posting
 pub mod Asking
 pub mod Gone
-pub mod Given
 pub mod ByTest
 pub mod Stays
 pub mod Put

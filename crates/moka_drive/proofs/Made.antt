@@ -2,7 +2,9 @@
 use Rattle.std.proofs.Common.{◌≡◌, refl, ℕ, List, [], ◌∷◌, ◌++◌, map, Option, Some, None, Ok, Err, ap, sym, subst, ◌∙◌}
 use Rattle.std.proofs.lemmas.List.{map-append}
 use Rattle.std.proofs.lemmas.Grind.{flat_map-append}
+use Rattle.uuid.specs.declared.Uuid.{Uuid}
 use Rattle.moka_parts.specs.declared.notification.RemovalCause.{RemovalCause}
+use Rattle.moka_parts.specs.declared.policy.Instant.{Instant}
 use Rattle.moka_parts.specs.declared.calls.Call.{Call}
 use Rattle.moka_parts.specs.declared.calls.Call.TheVariants as call
 use Rattle.moka_parts.specs.declared.calls.Reply.{Reply}
@@ -120,7 +122,7 @@ module _ {K V S X L P W C : Type 0} (m : Meaning K V X L P W C (Unit {0})) where
         in_order = sent-append old.state h.steps k.steps h.in_order (subst (λ s. AreSentInOrder s k.steps) state k.in_order);
       }
 
--- ---- a listener that may hear more
+-- ---- another way of telling, by which a listener may hear more
 
 module _ {K V L : Type 0} (told tells : L → K → V → RemovalCause → L → Type 0) (more : (l : L) (k : K) (v : V) (cause : RemovalCause) (after : L) → told l k v cause after → tells l k v cause after) where
   leads_more : (a b : L) (ns : List (Notice K V)) → Leads (NoticeStep told) a ns b → Leads (NoticeStep tells) a ns b
@@ -133,37 +135,42 @@ module _ {K V L : Type 0} (told tells : L → K → V → RemovalCause → L →
   heard_more None (Some b) ns h = absurd h
   heard_more (Some a) None ns h = absurd h
 
-module _ {K V X L P W C : Type 0} (m : Meaning K V X L P W C (Unit {0})) (tells : L → K → V → RemovalCause → L → Type 0) where
-  step_more : (Runs : State K V X P W → Terms → Course → List (Notice K V) → State K V X P W → Type 0) (s t : State K V X P W) (c : Call K V P) (r : Reply K V P) (e : Events K V) → CallStep m Runs s c r e t → CallStep (record m { tells = tells }) Runs s c r e t
-  step_more Runs s t (call.Insert key hash value now) (reply.Insert a) e h = h
-  step_more Runs s t (call.Insert key hash value now) (reply.Disabled k v) e h = h
-  step_more Runs s t (call.Send ticket) (reply.Send a) e h = h
-  step_more Runs s t (call.Get key hash need_key now) (reply.Get a) e h = h
-  step_more Runs s t (call.GetUnrecorded key hash now) (reply.GetUnrecorded a) e h = h
-  step_more Runs s t (call.Contains key hash now) (reply.Contains shown) e h = h
-  step_more Runs s t (call.Key key hash) (reply.Key a) e h = h
-  step_more Runs s t (call.Scan key now) (reply.Scan a) e h = h
-  step_more Runs s t (call.Remove key hash now) (reply.Remove removed told) e h = h
-  step_more Runs s t (call.InvalidateAll now) reply.InvalidateAll e h = h
-  step_more Runs s t (call.InvalidateIf predicate now) (reply.InvalidateIf a) e h = h
-  step_more Runs s t (call.Run now limit repeats batch) (reply.Run left) e h = h
-  step_more Runs s t (call.RunIfDue now) reply.RunIfDue e h = h
-  step_more Runs s t call.DisableAutoRun reply.DisableAutoRun e h = h
-  step_more Runs s t (call.Keys segment) (reply.Keys (Ok (Some keys))) e h = h
-  step_more Runs s t (call.Keys segment) (reply.Keys (Ok None)) e h = h
-  step_more Runs s t (call.Keys segment) (reply.Keys (Err refused)) e h = h
-  step_more Runs s t call.Report (reply.Report count weight predicates) e h = h
-  step_more Runs s t call.Pending (reply.Pending handed oldest writes reads) e h = h
-  step_more Runs s t (call.SetCapacity capacity) (reply.SetCapacity a) e h = h
-  step_more Runs s t c r e h = absurd h
+module _ {K V X L P W C I D J : Type 0} (m : Meaning K V X L P W C I) (tells : L → K → V → RemovalCause → L → Type 0) (observes : D → Instant → D → Type 0) (gives : J → Uuid → J → Type 0) where
+  -- the same, with another way of telling, another clock and another source of identifiers, on none of which a step
+  -- depends
+  abbrev pub otherwise : Meaning K V X L P W D J
+  otherwise = record { eq = m.eq; tells = tells; says = m.says; weighs = m.weighs; observes = observes; gives = gives; created = m.created; read = m.read; updated = m.updated }
 
-  steps_more : (Runs : State K V X P W → Terms → Course → List (Notice K V) → State K V X P W → Type 0) (s : State K V X P W) (xs : List (Step K V X P W)) → AreSteps m Runs s xs → AreSteps (record m { tells = tells }) Runs s xs
-  steps_more Runs s [] h = tt
-  steps_more Runs s (x ∷ xs) h = (step_more Runs s x.after x.call x.reply x.events h.0, steps_more Runs x.after xs h.1)
+  step_otherwise : (Runs : State K V X P W → Terms → Course → List (Notice K V) → State K V X P W → Type 0) (s t : State K V X P W) (c : Call K V P) (r : Reply K V P) (e : Events K V) → CallStep m Runs s c r e t → CallStep otherwise Runs s c r e t
+  step_otherwise Runs s t (call.Insert key hash value now) (reply.Insert a) e h = h
+  step_otherwise Runs s t (call.Insert key hash value now) (reply.Disabled k v) e h = h
+  step_otherwise Runs s t (call.Send ticket) (reply.Send a) e h = h
+  step_otherwise Runs s t (call.Get key hash need_key now) (reply.Get a) e h = h
+  step_otherwise Runs s t (call.GetUnrecorded key hash now) (reply.GetUnrecorded a) e h = h
+  step_otherwise Runs s t (call.Contains key hash now) (reply.Contains shown) e h = h
+  step_otherwise Runs s t (call.Key key hash) (reply.Key a) e h = h
+  step_otherwise Runs s t (call.Scan key now) (reply.Scan a) e h = h
+  step_otherwise Runs s t (call.Remove key hash now) (reply.Remove removed told) e h = h
+  step_otherwise Runs s t (call.InvalidateAll now) reply.InvalidateAll e h = h
+  step_otherwise Runs s t (call.InvalidateIf predicate now) (reply.InvalidateIf a) e h = h
+  step_otherwise Runs s t (call.Run now limit repeats batch) (reply.Run left) e h = h
+  step_otherwise Runs s t (call.RunIfDue now) reply.RunIfDue e h = h
+  step_otherwise Runs s t call.DisableAutoRun reply.DisableAutoRun e h = h
+  step_otherwise Runs s t (call.Keys segment) (reply.Keys (Ok (Some keys))) e h = h
+  step_otherwise Runs s t (call.Keys segment) (reply.Keys (Ok None)) e h = h
+  step_otherwise Runs s t (call.Keys segment) (reply.Keys (Err refused)) e h = h
+  step_otherwise Runs s t call.Report (reply.Report count weight predicates) e h = h
+  step_otherwise Runs s t call.Pending (reply.Pending handed oldest writes reads) e h = h
+  step_otherwise Runs s t (call.SetCapacity capacity) (reply.SetCapacity a) e h = h
+  step_otherwise Runs s t c r e h = absurd h
 
-  listed_more : (s : State K V X P W) (before last : List ℕ) (xs : List (Step K V X P W)) → AreListedSteps m s before xs last → AreListedSteps (record m { tells = tells }) s before xs last
-  listed_more s before last [] h = h
-  listed_more s before last (x ∷ xs) (after, step, rest) = (after, (step_more (ListedRun m.says m.read before after) s x.after x.call x.reply x.events step.0, step.1), listed_more x.after after last xs rest)
+  pub steps_otherwise : (Runs : State K V X P W → Terms → Course → List (Notice K V) → State K V X P W → Type 0) (s : State K V X P W) (xs : List (Step K V X P W)) → AreSteps m Runs s xs → AreSteps otherwise Runs s xs
+  steps_otherwise Runs s [] h = tt
+  steps_otherwise Runs s (x ∷ xs) h = (step_otherwise Runs s x.after x.call x.reply x.events h.0, steps_otherwise Runs x.after xs h.1)
+
+  pub listed_otherwise : (s : State K V X P W) (before last : List ℕ) (xs : List (Step K V X P W)) → AreListedSteps m s before xs last → AreListedSteps otherwise s before xs last
+  listed_otherwise s before last [] h = h
+  listed_otherwise s before last (x ∷ xs) (after, step, rest) = (after, (step_otherwise (ListedRun m.says m.read before after) s x.after x.call x.reply x.events step.0, step.1), listed_otherwise x.after after last xs rest)
 
 module _ {K V S X L P W C : Type 0} (m : Meaning K V X L P W C (Unit {0})) (tells : L → K → V → RemovalCause → L → Type 0) (more : (l : L) (k : K) (v : V) (cause : RemovalCause) (after : L) → m.tells l k v cause after → tells l k v cause after) where
   -- what befalls a cache
@@ -177,12 +184,12 @@ module _ {K V S X L P W C : Type 0} (m : Meaning K V X L P W C (Unit {0})) (tell
     is_run = record {
       calls_made = h.is_run.calls_made;
       replies_given = h.is_run.replies_given;
-      are_steps = steps_more m tells (PromisedRun m.says m.read) old.state h.steps h.is_run.are_steps;
+      are_steps = steps_otherwise m tells m.observes m.gives (PromisedRun m.says m.read) old.state h.steps h.is_run.are_steps;
       ends = h.is_run.ends;
       heard = heard_more m.tells tells more old.listener new.listener (notices_of h.steps) h.is_run.heard;
       read = h.is_run.read;
       given = h.is_run.given;
     };
-    listed = listed_more m tells old.state old.write_list new.write_list h.steps h.listed;
+    listed = listed_otherwise m tells m.observes m.gives old.state old.write_list new.write_list h.steps h.listed;
     in_order = h.in_order;
   }

@@ -1,10 +1,11 @@
 -- A cache made again of what was saved of another answers as that one does.
-use Rattle.std.proofs.Common.{◌≡◌, refl, ℕ, ◌<◌, ◌≤◌, ◌==◌, Bool, true, false, ◌||◌, List, [], ◌∷◌, Option, Some, None, ap, sym, subst, ◌∙◌, inl, inr, arith, true≢false}
+use Rattle.std.proofs.Common.{◌≡◌, refl, ℕ, ◌<◌, ◌≤◌, ◌==◌, Bool, true, false, List, [], ◌∷◌, Option, Some, None, ap, sym, subst, ◌∙◌, inl, inr, arith, true≢false}
 use Rattle.std.specs.Prelude.{Contains}
 use Rattle.std.specs.Cmp.{IsEquivalence}
 use Rattle.std.specs.FinMap.{get}
 use Rattle.std.specs.List.{IsDistinct, sum_by}
 use Rattle.std.proofs.lemmas.List.Elements.{Contains-append_left, Contains-append_right, Contains-append_cases, Contains-push, Contains-push_cases}
+use Rattle.std.proofs.lemmas.Option.{same_Some}
 use Rattle.moka_parts.specs.declared.records.Member.{Member}
 use Rattle.moka_parts.specs.declared.records.Operation.{Operation}
 use Rattle.moka_parts.specs.declared.records.Operation.TheVariants.{Upsert}
@@ -25,6 +26,7 @@ use Rattle.moka_engine.specs.declared.base_cache.restores.Restored.{Restored}
 use Rattle.moka_engine.specs.Snapshots.{Seen, IsListed, scene_of}
 use Rattle.moka_drive.specs.Saved.{AreAsWeighed, AreSaved, IsOfItem, IsSaved, IsRestored, HasRoomFor, IsMadeAgain, IsFound, AnswerAlike, MadeAgainAnswersAlike, EmptyHasRoom, has_expired}
 use Rattle.moka_drive.proofs.Answering.{answers_alike}
+use Rattle.moka_drive.proofs.Answering.{none_of_five}
 
 -- ---- what has not expired had not expired before
 
@@ -33,17 +35,6 @@ not_passed_before None t u le none = refl
 not_passed_before (Some d) t u le none = grind arith
 
 -- none of five tests that all fail holds
-none_of_five : (a b c d e : Bool) → (a || b || c || d || e) ≡ false → (a ≡ false) × (b ≡ false) × (c ≡ false) × (d ≡ false) × (e ≡ false)
-none_of_five false false false false false none = (refl, refl, refl, refl, refl)
-none_of_five true b c d e none = cc
-none_of_five false true c d e none = cc
-none_of_five false false true d e none = cc
-none_of_five false false false true e none = cc
-none_of_five false false false false true none = cc
-
-same_some : {A : Type 0} (x y : A) → Some x ≡ Some y → x ≡ y
-same_some x y e = cc
-
 -- the entry was saved of the record
 record IsSavedOf {K V : Type 0} (is_value_clone : V → V → Type 0) (r : Record K V) (item : Restored K V) : Type 0 where
   key : item.key ≡ r.key
@@ -90,7 +81,7 @@ module _ {K V X P W : Type 0} (weighs : W → K → V → ℕ → Type 0) (eq : 
         go : ((rest : List (Restored K V)) → is_member n members ≡ true → Saved members rest → (item : Restored K V) × Contains rest item × IsSavedOf is_value_clone r item) → (b : Bool) → (a.number == n) ≡ b → Saved (a ∷ members) items → (item : Restored K V) × Contains items item × IsSavedOf is_value_clone r item
         go next true same (inl (passed, rest)) = absurd (not_both says first r saved (passed r (ap (get first.records) (same_by_test a.number n same) ∙ there)) visible)
         go next true same (inr (seen, item, rest, is, listed, saved_item, more)) =
-            let one : listed.kept ≡ r = same_some listed.kept r (sym listed.there ∙ ap (get first.records) (same_by_test a.number n same) ∙ there) in
+            let one : listed.kept ≡ r = same_Some listed.kept r (sym listed.there ∙ ap (get first.records) (same_by_test a.number n same) ∙ there) in
             (item, subst (λ xs. Contains xs item) (sym is) (Contains-append_left (item ∷ []) rest item (Contains-push [] item)), subst (λ x. IsSavedOf is_value_clone x item) one (saved_of a seen item listed saved_item))
         go next false other (inl (passed, rest)) = next items (later other) rest
         go next false other (inr (seen, item, rest, is, listed, saved_item, more)) =

@@ -1,5 +1,5 @@
 -- Before the first call, and where nothing happens.
-use Rattle.std.proofs.Common.{◌≡◌, refl, ap, sym, subst, ◌∙◌, ℕ, Bool, true, false, MatchBool, List, [], ◌∷◌, length, Option, Some, None, Result, Ok, Err, IfOk, IfErr, option_map}
+use Rattle.std.proofs.Common.{◌≡◌, refl, ap, sym, subst, ◌∙◌, ℕ, Bool, true, false, MatchBool, List, [], ◌∷◌, length, Option, Some, None, is_some, Result, Ok, Err, IfOk, IfErr, option_map}
 use Rattle.std.proofs.lemmas.List.Elements.{same_from_all_zip}
 use Rattle.std.specs.List.{AllZip}
 use Rattle.std.specs.declared.alloc.Global.{Global}
@@ -24,6 +24,11 @@ use Rattle.moka_parts.specs.Runs.{Engine, Befalls, CallStep, MakesCalls}
 use Rattle.moka_parts.proofs.Copies.{copy-same}
 use Rattle.moka_drive.specs.Replies.{TellsPending}
 use Rattle.moka_drive.proofs.Made.{nothing_heard}
+
+-- what is not there is nothing
+pub none_of : {A : Type 0} (o : Option A) → is_some o ≡ false → o ≡ None
+none_of None e = refl
+none_of (Some x) e = cc
 
 -- a list of no length is empty
 pub empty_of_length : {A : Type 0} (xs : List A) → length xs ≡ 0 → xs ≡ []
@@ -74,7 +79,7 @@ pending_step m Runs s (reply.Pending handed oldest writes reads) told = (told.0,
 pending_step m Runs s r told = absurd told
 
 -- who was told nothing is still the same
-heard_nothing : {K V L : Type 0} (tells : L → K → V → RemovalCause → L → Type 0) (l m : Option L) → Heard tells l [] m → m ≡ l
+pub heard_nothing : {K V L : Type 0} (tells : L → K → V → RemovalCause → L → Type 0) (l m : Option L) → Heard tells l [] m → m ≡ l
 heard_nothing tells None None h = refl
 heard_nothing tells (Some l) (Some m) h = ap Some h
 heard_nothing tells None (Some m) h = absurd h

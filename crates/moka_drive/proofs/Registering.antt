@@ -1,5 +1,5 @@
 -- Registrations, joined with the calls that ask for no identifiers.
-use Rattle.std.proofs.Common.{◌≡◌, refl, ℕ, List, [], ◌∷◌, ◌++◌, Option, Some, None, Result, Ok, Err, ap, sym, subst}
+use Rattle.std.proofs.Common.{◌≡◌, refl, List, [], ◌∷◌, ◌++◌, Option, Some, None, Result, ap, sym, subst}
 use Rattle.std.specs.Cmp.{IsEquivalence}
 use Rattle.uuid.specs.declared.Uuid.{Uuid}
 use Rattle.moka_parts.specs.declared.calls.Call.{Call}
@@ -9,54 +9,16 @@ use Rattle.moka_parts.specs.declared.calls.Reply.TheVariants as reply
 use Rattle.moka_parts.specs.declared.error.PredicateRefused.{PredicateRefused}
 use Rattle.moka_parts.specs.declared.notification.RemovalCause.{RemovalCause}
 use Rattle.moka_parts.specs.declared.policy.Instant.{Instant}
-use Rattle.moka_parts.specs.Records.{Notice}
 use Rattle.moka_parts.specs.Calls.{InvalidateStep, only_ids}
-use Rattle.moka_parts.specs.Listed.{ListedRun, ListedStep, AreListedSteps}
-use Rattle.moka_parts.specs.Maintenance.{Terms, Course}
-use Rattle.moka_parts.specs.Runs.{Engine, Step, CallStep, AreSteps, Befalls, MakesCalls, PromisedRun, last_state, ids_of}
-use Rattle.moka_parts.specs.State.{State, Meaning, Events}
+use Rattle.moka_parts.specs.Listed.{ListedStep, AreListedSteps}
+use Rattle.moka_parts.specs.Runs.{Engine, Step, Befalls, MakesCalls, PromisedRun, last_state, ids_of}
+use Rattle.moka_parts.specs.State.{Meaning, Events}
 use Rattle.moka_parts.specs.Surroundings.{Leads, Heard}
 use Rattle.moka_parts.proofs.OrderedDrive.{drives_in_order, listed_call_promised}
 use Rattle.moka_parts.proofs.RunsGoOn.{MakesCalls_push}
 use Rattle.moka_drive.specs.Synchronous.{Made, IsSentInOrder, AreSentInOrder}
 use Rattle.moka_drive.specs.Registering.{MadeAsking, JoinsRegistrations}
-use Rattle.moka_drive.proofs.Made.{nothing_heard, calls-append, listed-append, sent-append}
-
-module _ {K V X L P W C I : Type 0} (m : Meaning K V X L P W C (Unit {0})) (gives : I → Uuid → I → Type 0) where
-  -- the same with a source of identifiers
-  abbrev pub asking : Meaning K V X L P W C I
-  asking = record { eq = m.eq; tells = m.tells; says = m.says; weighs = m.weighs; observes = m.observes; gives = gives; created = m.created; read = m.read; updated = m.updated }
-
-  step_asking : (Runs : State K V X P W → Terms → Course → List (Notice K V) → State K V X P W → Type 0) (s t : State K V X P W) (c : Call K V P) (r : Reply K V P) (e : Events K V) → CallStep m Runs s c r e t → CallStep asking Runs s c r e t
-  step_asking Runs s t (call.Insert key hash value now) (reply.Insert a) e h = h
-  step_asking Runs s t (call.Insert key hash value now) (reply.Disabled k v) e h = h
-  step_asking Runs s t (call.Send ticket) (reply.Send a) e h = h
-  step_asking Runs s t (call.Get key hash need_key now) (reply.Get a) e h = h
-  step_asking Runs s t (call.GetUnrecorded key hash now) (reply.GetUnrecorded a) e h = h
-  step_asking Runs s t (call.Contains key hash now) (reply.Contains shown) e h = h
-  step_asking Runs s t (call.Key key hash) (reply.Key a) e h = h
-  step_asking Runs s t (call.Scan key now) (reply.Scan a) e h = h
-  step_asking Runs s t (call.Remove key hash now) (reply.Remove removed told) e h = h
-  step_asking Runs s t (call.InvalidateAll now) reply.InvalidateAll e h = h
-  step_asking Runs s t (call.InvalidateIf predicate now) (reply.InvalidateIf a) e h = h
-  step_asking Runs s t (call.Run now limit repeats batch) (reply.Run left) e h = h
-  step_asking Runs s t (call.RunIfDue now) reply.RunIfDue e h = h
-  step_asking Runs s t call.DisableAutoRun reply.DisableAutoRun e h = h
-  step_asking Runs s t (call.Keys segment) (reply.Keys (Ok (Some keys))) e h = h
-  step_asking Runs s t (call.Keys segment) (reply.Keys (Ok None)) e h = h
-  step_asking Runs s t (call.Keys segment) (reply.Keys (Err refused)) e h = h
-  step_asking Runs s t call.Report (reply.Report count weight predicates) e h = h
-  step_asking Runs s t call.Pending (reply.Pending handed oldest writes reads) e h = h
-  step_asking Runs s t (call.SetCapacity capacity) (reply.SetCapacity a) e h = h
-  step_asking Runs s t c r e h = absurd h
-
-  steps_asking : (Runs : State K V X P W → Terms → Course → List (Notice K V) → State K V X P W → Type 0) (s : State K V X P W) (xs : List (Step K V X P W)) → AreSteps m Runs s xs → AreSteps asking Runs s xs
-  steps_asking Runs s [] h = tt
-  steps_asking Runs s (x ∷ xs) h = (step_asking Runs s x.after x.call x.reply x.events h.0, steps_asking Runs x.after xs h.1)
-
-  listed_asking : (s : State K V X P W) (before last : List ℕ) (xs : List (Step K V X P W)) → AreListedSteps m s before xs last → AreListedSteps asking s before xs last
-  listed_asking s before last [] h = h
-  listed_asking s before last (x ∷ xs) (after, step, rest) = (after, (step_asking (ListedRun m.says m.read before after) s x.after x.call x.reply x.events step.0, step.1), listed_asking x.after after last xs rest)
+use Rattle.moka_drive.proofs.Made.{nothing_heard, calls-append, listed-append, listed_otherwise, otherwise, sent-append, steps_otherwise}
 
 -- a source that gives none gave none
 none_given : {I : Type 0} (gives : (Unit {0}) → Uuid → (Unit {0}) → Type 0) → ((a : Unit {0}) (id : Uuid) (b : Unit {0}) → gives a id b → ⊥) → (given : List Uuid) → Leads gives tt given tt → (more : I → Uuid → I → Type 0) (ids : I) → Leads more ids given ids
@@ -86,7 +48,7 @@ module _ {K V S X L P W C I : Type 0} (m : Meaning K V X L P W C I) where
 
 module _ {K V X L P W C I : Type 0} (S : Type 0) (told : L → K → V → RemovalCause → L → Type 0) (m : Meaning K V X L P W C (Unit {0})) (none : (a : Unit {0}) (id : Uuid) (b : Unit {0}) → m.gives a id b → ⊥) (gives : I → Uuid → I → Type 0) (laws : IsEquivalence m.eq) where
   abbrev n : Meaning K V X L P W C I
-  n = asking m gives
+  n = otherwise m m.tells m.observes gives
 
   asks_none : (calls : List (Call K V P)) (replies : List (Reply K V P)) (old new : Engine K V S X L P W) (clock clock_after : C) (ids : I) → Made m calls replies old clock new clock_after → MadeAsking n calls replies old clock ids new clock_after ids
   asks_none calls replies old new clock clock_after ids h = record {
@@ -94,13 +56,13 @@ module _ {K V X L P W C I : Type 0} (S : Type 0) (told : L → K → V → Remov
     is_run = record {
       calls_made = h.is_run.calls_made;
       replies_given = h.is_run.replies_given;
-      are_steps = steps_asking m gives (PromisedRun m.says m.read) old.state h.steps h.is_run.are_steps;
+      are_steps = steps_otherwise m m.tells m.observes gives (PromisedRun m.says m.read) old.state h.steps h.is_run.are_steps;
       ends = h.is_run.ends;
       heard = h.is_run.heard;
       read = h.is_run.read;
       given = none_given m.gives none (ids_of h.steps) h.is_run.given gives ids;
     };
-    listed = listed_asking m gives old.state old.write_list new.write_list h.steps h.listed;
+    listed = listed_otherwise m m.tells m.observes gives old.state old.write_list new.write_list h.steps h.listed;
     in_order = h.in_order;
   }
 

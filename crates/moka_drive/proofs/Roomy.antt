@@ -4,6 +4,7 @@ use Rattle.std.specs.List.{IsDistinct}
 use Rattle.std.specs.FinMap.{get, remove, values}
 use Rattle.std.proofs.lemmas.List.Sums.{sum_by-cons}
 use Rattle.std.proofs.lemmas.List.Sorted.{sum_by-IsPermutation}
+use Rattle.std.proofs.lemmas.Option.{none-some, same_Some}
 use Rattle.moka_parts.specs.declared.records.Member.{Member}
 use Rattle.moka_parts.specs.declared.records.Record.{Record}
 use Rattle.moka_parts.specs.Exact.{weight_of_records}
@@ -15,12 +16,6 @@ use Rattle.moka_parts.proofs.AccessList.{counted_taken_out, counted_past_taken_o
 use Rattle.moka_parts.proofs.Counting.{front_once, rest_once}
 use Rattle.moka_parts.proofs.Maps.{AreApart, same_or_apart, itself_tested, get_inserted, get_past_insert, get_removed, get_past_remove}
 use Rattle.moka_parts.proofs.Values.{values_removed, values_replaced}
-
-same_some : {A : Type 0} (x y : A) → Some x ≡ Some y → x ≡ y
-same_some x y e = cc
-
-not_none : {A : Type 0} (x : A) → None ≡ Some x → ⊥
-not_none x e = cc
 
 module _ {K V : Type 0} where
   -- the record stands there with this weight
@@ -42,7 +37,7 @@ module _ {K V : Type 0} where
       omega (arith, rest, all, one, first.2)
     where
       past : Stays records a.number a.counted → (n w : ℕ) → counted_of n access ≡ Some w → (n ≡ a.number) ⊎ AreApart n a.number → Stays (remove records a.number) n w
-      past first n w is (inl same) = absurd (not_none w (sym (front_once a access once) ∙ sym (ap (λ k. counted_of k access) same) ∙ is))
+      past first n w is (inl same) = absurd (none-some w (sym (front_once a access once) ∙ sym (ap (λ k. counted_of k access) same) ∙ is))
       past first n w is (inr apart) =
           let at = counted n w (ap (λ b. cond b (Some a.counted) (counted_of n access)) apart.back ∙ is) in
           (at.0, get_past_remove records a.number n apart ∙ at.1, at.2)
@@ -65,7 +60,7 @@ module _ {K V : Type 0} where
           omega (arith, rest, all, within)
         where
           past : (n w : ℕ) → counted_of n access ≡ Some w → (n ≡ k) ⊎ AreApart n k → Stays (remove records k) n w
-          past n w is (inl same) = absurd (not_none w (sym outside ∙ sym (ap (λ m. counted_of m access) same) ∙ is))
+          past n w is (inl same) = absurd (none-some w (sym outside ∙ sym (ap (λ m. counted_of m access) same) ∙ is))
           past n w is (inr apart) = let at = fits.counted n w is in (at.0, get_past_remove records k n apart ∙ at.1, at.2)
 
       -- the members are within the limit
@@ -83,7 +78,7 @@ module _ {K V : Type 0} where
       }
         where
           past : (n w : ℕ) → counted_of n (without_member k access) ≡ Some w → (n ≡ k) ⊎ AreApart n k → Stays records n w
-          past n w is (inl same) = absurd (not_none w (sym (counted_taken_out k access) ∙ sym (ap (λ m. counted_of m (without_member k access)) same) ∙ is))
+          past n w is (inl same) = absurd (none-some w (sym (counted_taken_out k access) ∙ sym (ap (λ m. counted_of m (without_member k access)) same) ∙ is))
           past n w is (inr apart) = fits.counted n w (sym (counted_past_taken_out k n access apart) ∙ is)
 
       pub moved_back : (k : ℕ) → Fits records (to_back k access)
@@ -104,11 +99,11 @@ module _ {K V : Type 0} where
       }
         where
           past : (n w : ℕ) → counted_of n (without_member k access) ≡ Some w → (n ≡ k) ⊎ AreApart n k → Stays (remove records k) n w
-          past n w is (inl same) = absurd (not_none w (sym (counted_taken_out k access) ∙ sym (ap (λ m. counted_of m (without_member k access)) same) ∙ is))
+          past n w is (inl same) = absurd (none-some w (sym (counted_taken_out k access) ∙ sym (ap (λ m. counted_of m (without_member k access)) same) ∙ is))
           past n w is (inr apart) = let at = fits.counted n w (sym (counted_past_taken_out k n access apart) ∙ is) in (at.0, get_past_remove records k n apart ∙ at.1, at.2)
 
           still : (n w : ℕ) → Waits n w → (r : Record K V) → get (remove records k) n ≡ Some r → (n ≡ k) ⊎ AreApart n k → r.weight ≡ w
-          still n w waits r at (inl same) = absurd (not_none r (sym (get_removed records k) ∙ sym (ap (get (remove records k)) same) ∙ at))
+          still n w waits r at (inl same) = absurd (none-some r (sym (get_removed records k) ∙ sym (ap (get (remove records k)) same) ∙ at))
           still n w waits r at (inr apart) = fits.waiting n w waits r (sym (get_past_remove records k n apart) ∙ at)
 
       -- a record enters the access list with its own weight
@@ -130,12 +125,12 @@ module _ {K V : Type 0} where
           past : (n v : ℕ) → counted_of n (access ++ member k w ∷ []) ≡ Some v → (n ≡ k) ⊎ AreApart n k → Stays (with_applied records k q g) n v
           past n v is (inl same) =
               let own : Some w ≡ Some v = sym (counted_pushed k w access outside) ∙ sym (ap (λ m. counted_of m (access ++ member k w ∷ [])) same) ∙ is in
-              (record q { applied = g }, ap (get (with_applied records k q g)) same ∙ get_inserted records k (record q { applied = g }), weight ∙ same_some w v own)
+              (record q { applied = g }, ap (get (with_applied records k q g)) same ∙ get_inserted records k (record q { applied = g }), weight ∙ same_Some w v own)
           past n v is (inr apart) = let at = fits.counted n v (sym (counted_past_pushed k w n access apart) ∙ is) in (at.0, get_past_insert records k (record q { applied = g }) n apart ∙ at.1, at.2)
 
           still : (n v : ℕ) → Waits n v → (r : Record K V) → get (with_applied records k q g) n ≡ Some r → (n ≡ k) ⊎ AreApart n k → r.weight ≡ v
           still n v waits r at (inl same) =
-              let is : record q { applied = g } ≡ r = same_some (record q { applied = g }) r (sym (get_inserted records k (record q { applied = g })) ∙ sym (ap (get (with_applied records k q g)) same) ∙ at) in
+              let is : record q { applied = g } ≡ r = same_Some (record q { applied = g }) r (sym (get_inserted records k (record q { applied = g })) ∙ sym (ap (get (with_applied records k q g)) same) ∙ at) in
               sym (ap (λ (x : Record K V). x.weight) is) ∙ fits.waiting n v waits q (ap (get records) same ∙ there)
           still n v waits r at (inr apart) = fits.waiting n v waits r (sym (get_past_insert records k (record q { applied = g }) n apart) ∙ at)
 

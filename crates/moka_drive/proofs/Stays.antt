@@ -1,7 +1,9 @@
 -- A record whose present operation was not sent yet stays in every run.
-use Rattle.std.proofs.Common.{◌≡◌, refl, ℕ, ◌<◌, Bool, true, false, cond, ◌==◌, ◌&&◌, ◌-◌, nat_lt, List, [], ◌∷◌, Option, Some, None, Result, Ok, Err, option_map, ap, sym, subst, ◌∙◌, ◌⊎◌, inl, inr, MatchBool, true≢false, arith, if◌then◌else◌}
+use Rattle.std.proofs.Common.{◌≡◌, refl, ℕ, ◌<◌, Bool, true, false, cond, ◌==◌, ◌-◌, nat_lt, List, [], ◌∷◌, Option, Some, None, Result, Ok, Err, option_map, ap, sym, subst, ◌∙◌, ◌⊎◌, inl, inr, MatchBool, true≢false, arith, if◌then◌else◌}
 use Rattle.std.specs.Option.{option_map_or}
 use Rattle.std.specs.FinMap.{get, insert, remove}
+use Rattle.std.proofs.lemmas.Bool.{and_parts}
+use Rattle.std.proofs.lemmas.Option.{same_Some}
 use Rattle.moka_parts.specs.declared.policy.EvictionPolicy.{EvictionPolicy}
 use Rattle.moka_parts.specs.declared.policy.EvictionPolicy.TheVariants.{TinyLfu, Lru}
 use Rattle.moka_parts.specs.declared.records.Record.{Record}
@@ -22,13 +24,6 @@ use Rattle.moka_parts.specs.declared.error.SendError.TheVariants.{UnknownTicket,
 use Rattle.moka_parts.specs.Housekeeping.{is_due}
 use Rattle.moka_parts.specs.Calls.{KeeperRun, RunsIfDue, Unchanged, SendsAt, SendStep}
 use Rattle.moka_drive.specs.Unsent.{IsHeld, IsOlder, AreOlder, HoldsUnsent}
-
-both : (a b : Bool) → (a && b) ≡ true → b ≡ true
-both true b e = e
-both false b e = cc
-
-same_some : {A : Type 0} (x y : A) → Some x ≡ Some y → x ≡ y
-same_some x y e = cc
 
 not_equal : (a g : ℕ) → a < g → (a == g) ≡ false
 not_equal a g less = grind arith
@@ -53,18 +48,24 @@ module _ {K V : Type 0} (n : ℕ) (r : Record K V) where
   past_remove : (records : Records K V) (k : ℕ) → AreApart n k → IsHeld n r records → IsHeld n r (remove records k)
   past_remove records k apart h = record { applied = h.applied; there = get_past_remove records k n apart ∙ h.there; below = h.below }
 
+  -- the record is there but for the applied generation, of which this holds
+  abbrev pub StandsBy : (ℕ → Type 0) → Records K V → Type 0
+  StandsBy Q records = (a : ℕ) × (get records n ≡ Some (record r { applied = a })) × Q a
+
+  -- an operation of a record is noted in it
+  pub noted_by : (Q : ℕ → Type 0) (others records : Records K V) (k g : ℕ) (q : Record K V) → get records k ≡ Some q → (k ≡ n → Q g) → StandsBy Q records → StandsBy Q others → StandsBy Q (with_applied others k q g)
+  noted_by Q others records k g q there older stands rest = elim (same_or_apart n k) [
+    | inl e ↦
+        let same : q ≡ record r { applied = stands.0 } = same_Some q (record r { applied = stands.0 }) (sym there ∙ sym (ap (get records) e) ∙ stands.1) in
+        (g, ap (get (insert others k (record q { applied = g }))) e ∙ get_inserted others k (record q { applied = g }) ∙ ap (λ (x : Record K V). Some (record x { applied = g })) same, older (sym e))
+    | inr apart ↦ (rest.0, get_past_insert others k (record q { applied = g }) n apart ∙ rest.1, rest.2)
+  ]
+
   -- what an operation older than the record is noted in
   noted : (others records : Records K V) (k g : ℕ) (q : Record K V) → get records k ≡ Some q → (k ≡ n → g < r.generation) → IsHeld n r records → IsHeld n r others → IsHeld n r (with_applied others k q g)
-  noted others records k g q there older h rest = elim (same_or_apart n k) [
-    | inl e ↦
-        let same : q ≡ record r { applied = h.applied } = same_some q (record r { applied = h.applied }) (sym there ∙ sym (ap (get records) e) ∙ h.there) in
-        record {
-          applied = g;
-          there = ap (get (insert others k (record q { applied = g }))) e ∙ get_inserted others k (record q { applied = g }) ∙ ap (λ (x : Record K V). Some (record x { applied = g })) same;
-          below = older (sym e);
-        }
-    | inr apart ↦ past_insert others k (record q { applied = g }) apart rest
-  ]
+  noted others records k g q there older h rest =
+      let (applied, is, below) = noted_by (λ a. a < r.generation) others records k g q there older (h.applied, h.there, h.below) (rest.applied, rest.there, rest.below) in
+      record { applied = applied; there = is; below = below }
 
   -- ---- members that leave
 
@@ -82,12 +83,12 @@ module _ {K V : Type 0} (n : ℕ) (r : Record K V) where
   others_settled records h (a ∷ members) = one_more_other a (settled_members records members) (is_settled records a.number) (apart_from_settled records h a.number) (others_settled records h members)
 
   others_front : (a : Member) (front : List Member) (b : Bool) (o : Option (List Member)) → AreApart n a.number → ((behind : List Member) → o ≡ Some behind → AreOthers behind) → (if b then Some [] else option_map (λ front. a ∷ front) o) ≡ Some front → AreOthers front
-  others_front a front true o apart rest e = subst AreOthers (same_some [] front e) tt
+  others_front a front true o apart rest e = subst AreOthers (same_Some [] front e) tt
   others_front a front false None apart rest e = (let impossible : None ≡ Some front = e in absurd (cc))
-  others_front a front false (Some behind) apart rest e = subst AreOthers (same_some (a ∷ behind) front e) (apart, rest behind refl)
+  others_front a front false (Some behind) apart rest e = subst AreOthers (same_Some (a ∷ behind) front e) (apart, rest behind refl)
 
   others_none : (front : List Member) (b : Bool) → (if b then Some [] else None) ≡ Some front → AreOthers front
-  others_none front true e = subst AreOthers (same_some [] front e) tt
+  others_none front true e = subst AreOthers (same_Some [] front e) tt
   others_none front false e = (let impossible : None ≡ Some front = e in absurd (cc))
 
   others_prefix : (members : List Member) (w : ℕ) (front : List Member) → prefix members w ≡ Some front → AreOthers members → AreOthers front
@@ -135,7 +136,7 @@ module _ {K V : Type 0} (n : ℕ) (r : Record K V) where
       go false differs = noted c.records c.records k g q there older h h
       go true same = elim (same_or_apart n k) [
         | inl e ↦
-            let is : q ≡ record r { applied = h.applied } = same_some q (record r { applied = h.applied }) (sym there ∙ sym (ap (get c.records) e) ∙ h.there) in
+            let is : q ≡ record r { applied = h.applied } = same_Some q (record r { applied = h.applied }) (sym there ∙ sym (ap (get c.records) e) ∙ h.there) in
             absurd (true≢false (sym same ∙ ap (λ (x : Record K V). x.generation == g) is ∙ not_equal_back g r.generation (older (sym e))))
         | inr apart ↦ past_remove c.records k apart h
       ]
@@ -166,7 +167,7 @@ module _ {K V : Type 0} (n : ℕ) (r : Record K V) where
 
   module _ {P : Type 0} (says : P → K → V → Bool → Type 0) (q : Tests) where
     choice_holds : (c : Contents K V) (ps : List (Registered P)) (x : Choice) → IsJustified says q c ps x → IsHeld n r c.records → IsHeld n r (after_choice c x).records
-    choice_holds c ps (Removes k cause) (gone, there, settled, ground) h = past_remove c.records k (apart_from_settled c.records h k (both (is_member k c.access) (is_settled c.records k) settled)) h
+    choice_holds c ps (Removes k cause) (gone, there, settled, ground) h = past_remove c.records k (apart_from_settled c.records h k (and_parts (is_member k c.access) (is_settled c.records k) settled).1) h
     choice_holds c ps (MovesToBack k) just h = h
     choice_holds c ps (Drops i) just h = h
 

@@ -5,6 +5,7 @@ use Rattle.std.specs.FinMap.{get, insert, values}
 use Rattle.std.proofs.lemmas.List.Sums.{sum_by-cons}
 use Rattle.std.proofs.lemmas.List.Sorted.{sum_by-IsPermutation}
 use Rattle.std.specs.List.{AllByRecursion}
+use Rattle.std.proofs.lemmas.Option.{same_Some}
 use Rattle.moka_parts.specs.declared.calls.Ticket.{Ticket}
 use Rattle.moka_parts.specs.declared.records.Operation.TheVariants.{Upsert}
 use Rattle.moka_parts.specs.declared.records.Record.{Record}
@@ -19,9 +20,6 @@ use Rattle.moka_parts.proofs.Values.{values_inserted}
 use Rattle.moka_engine.specs.declared.base_cache.restores.Restored.{Restored}
 use Rattle.moka_engine.specs.Restores.{RestoreStep, restored, restored_record}
 use Rattle.moka_drive.specs.Saved.{AreAsWeighed, HasRoomFor, IsOfItem, IsRestored, IsRoomyFor, KeepsUnexpired, TakesOnlyExpired, has_expired}
-
-same_some : {A : Type 0} (x y : A) → Some x ≡ Some y → x ≡ y
-same_some x y e = cc
 
 module _ {K V X P W : Type 0} (eq : K → K → Bool) where
   -- putting an entry back takes nothing out, and leaves room for the others
@@ -57,14 +55,14 @@ module _ {K V X P W : Type 0} (eq : K → K → Bool) where
         own n g w x same r there =
             let number : s.next_number ≡ n = cc in
             let weight : step.0 ≡ w = cc in
-            let is : record_of ≡ r = same_some record_of r (sym (get_inserted s.records s.next_number record_of) ∙ ap (get (insert s.records s.next_number record_of)) number ∙ there) in
+            let is : record_of ≡ r = same_Some record_of r (sym (get_inserted s.records s.next_number record_of) ∙ ap (get (insert s.records s.next_number record_of)) number ∙ there) in
             sym (ap (λ (y : Record K V). y.weight) is) ∙ weight
 
         waits : (n g w x : ℕ) → IsWaiting (restored s item hash step.0) (Upsert n g w x) → (r : Record K V) → get (insert s.records s.next_number record_of) n ≡ Some r → r.weight ≡ w
         waits n g w x (inr queued) r there = before n g w x (inr queued) r there
         waits n g w x (inl (k, at)) r there = elim (same_or_apart k s.next_ticket) [
           | inl same ↦
-              own n g w x (same_some (Upsert s.next_number 1 step.0 hash) (Upsert n g w x) (sym (get_inserted s.outstanding s.next_ticket (Upsert s.next_number 1 step.0 hash)) ∙ sym (ap (get (insert s.outstanding s.next_ticket (Upsert s.next_number 1 step.0 hash))) same) ∙ at)) r there
+              own n g w x (same_Some (Upsert s.next_number 1 step.0 hash) (Upsert n g w x) (sym (get_inserted s.outstanding s.next_ticket (Upsert s.next_number 1 step.0 hash)) ∙ sym (ap (get (insert s.outstanding s.next_ticket (Upsert s.next_number 1 step.0 hash))) same) ∙ at)) r there
           | inr apart ↦ before n g w x (inl (k, sym (get_past_insert s.outstanding s.next_ticket (Upsert s.next_number 1 step.0 hash) k apart) ∙ at)) r there
         ]
 

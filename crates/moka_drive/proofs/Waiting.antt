@@ -2,6 +2,7 @@
 use Rattle.std.proofs.Common.{◌≡◌, refl, ℕ, ◌+◌, ◌<◌, ◌≤◌, Bool, true, false, List, [], length, Option, Some, None, is_some, Result, Ok, Err, ap, sym, subst, ◌∙◌, inl, inr, MatchBool, true≢false, arith}
 use Rattle.std.specs.FinMap.{get, insert, remove, empty, contains_key, get-empty}
 use Rattle.std.specs.Ordering.{nat_cmp}
+use Rattle.std.proofs.lemmas.Option.{same_Some}
 use Rattle.moka_parts.specs.declared.policy.Instant.{Instant}
 use Rattle.moka_parts.specs.declared.records.Record.{Record}
 use Rattle.moka_parts.specs.declared.records.Operation.{Operation}
@@ -142,9 +143,6 @@ module _ {K V X P W : Type 0} where
   pub remove_hands_out : (eq : K → K → Bool) (s : State K V X P W) (key : K) (a : KvEntry K V × Ticket) (t : State K V X P W) → IsWellNumbered eq s → RemoveStep eq s key (Some a) t → HandsOut s a.1 t × (is_disabled s.capacity ≡ false)
   remove_hands_out eq s key a t well step = go (record_of_key eq s.records key) refl step
     where
-      same_some : (x y : KvEntry K V × Ticket) → Some x ≡ Some y → x ≡ y
-      same_some x y e = cc
-
       enabled : (r : Record K V) → record_of_key eq s.records key ≡ Some r → (b : Bool) → is_disabled s.capacity ≡ b → b ≡ false
       enabled r found false off = refl
       enabled r found true off = (let none : record_of_key eq s.records key ≡ None = ap (λ records. record_of_key eq records key) (well.disabled off).no_records ∙ record_of_key_empty eq key in let impossible : None ≡ Some r = sym none ∙ found in absurd (cc))
@@ -152,7 +150,7 @@ module _ {K V X P W : Type 0} where
       go : (o : Option (Record K V)) → record_of_key eq s.records key ≡ o → RemovesAt s o (Some a) t → HandsOut s a.1 t × (is_disabled s.capacity ≡ false)
       go None found h = (let impossible : Some a ≡ None = h.0 in absurd (cc))
       go (Some r) found h =
-          let ticket : a.1.0 ≡ s.next_ticket = ap (λ (x : KvEntry K V × Ticket). x.1.0) (same_some a (entry_of r, record { 0 = s.next_ticket }) h.0) in
+          let ticket : a.1.0 ≡ s.next_ticket = ap (λ (x : KvEntry K V × Ticket). x.1.0) (same_Some a (entry_of r, record { 0 = s.next_ticket }) h.0) in
           (record { operation = Removal r.number (r.generation + 1); outstanding = ap (λ (x : State K V X P W). x.outstanding) h.1 ∙ ap (λ n. insert s.outstanding n (Removal r.number (r.generation + 1))) (sym ticket); capacity = ap (λ (x : State K V X P W). x.capacity) h.1 }, enabled r found (is_disabled s.capacity) refl)
 
   -- ---- sends

@@ -1,11 +1,12 @@
 -- Calls that compute a key's value from the one that is there: which calls of the reference cache each stands for, and
 -- what it answers.
-use Rattle.std.specs.Prelude.{◌≡◌, ℕ, Bool, true, false, List, ◌++◌, Option, Some, None, Result, Ok, Err, is_some, ⊤}
+use Rattle.std.specs.Prelude.{◌≡◌, ℕ, Bool, true, false, List, ◌++◌, Option, Some, None, Result, Ok, Err, IfOk, IfSome, IfErr, is_some, ⊤}
 use Rattle.moka_parts.specs.declared.calls.Call.{Call}
 use Rattle.moka_parts.specs.declared.calls.Reply.{Reply}
 use Rattle.moka_parts.specs.declared.error.InsertRefused.{InsertRefused}
 use Rattle.moka_parts.specs.declared.error.OutOfMemory.{OutOfMemory}
 use Rattle.moka_parts.specs.declared.policy.Instant.{Instant}
+use Rattle.moka_parts.specs.Records.{record_of_key}
 use Rattle.moka_parts.specs.State.{Meaning}
 use Rattle.moka_parts.specs.Copies.{IsCopiedAnswer}
 use Rattle.moka_parts.specs.Texts.{out_of_memory_text, insert_text}
@@ -20,6 +21,7 @@ use Rattle.moka_drive.specs.declared.error.GetWithRefused.{GetWithRefused}
 use Rattle.moka_drive.specs.declared.error.GetWithRefused.TheVariants as get_with_refused
 use Rattle.moka_drive.specs.Counters.{after_look_up}
 use Rattle.moka_drive.specs.Entries.{IsFound, IsFresh}
+use Rattle.moka_drive.specs.Given.{Sees, ComesBack}
 use Rattle.moka_drive.specs.Synchronous.{Synchronous, Makes, GetsValue, InsertsMade, RemovesEntry}
 
 -- calls that fit the first, and then calls that fit the second
@@ -118,7 +120,8 @@ module _ {K V : Type 0} (is_key_clone : K → K → Type 0) (is_clone : V → V 
 -- ---- what a call that computes promises
 
 module _ {K V S X L P W C : Type 0} (m : Meaning K V X L P W C (Unit {0})) (is_key_clone : K → K → Type 0) (is_clone : V → V → Type 0) (key : K) (hash : ℕ) (now : Instant) (old : Synchronous K V S X L P W) (clock : C) (new : Synchronous K V S X L P W) (clock_after : C) where
-  -- the function sees a clone of what was found, and what it makes of that is put
+  -- the function sees a clone of the value that is visible, or nothing if none is, and what it makes of that is put, or
+  -- comes back
   abbrev pub AndUpserts : (Option V → V → Type 0) → Result (CacheEntry K V) (GetWithRefused K V) → Type 0
   AndUpserts Answers result = (own : Result (Option V) OutOfMemory) × (got : Result (Option V) OutOfMemory)
       × IsCopiedAnswer is_clone own got
@@ -127,8 +130,12 @@ module _ {K V S X L P W C : Type 0} (m : Meaning K V X L P W C (Unit {0})) (is_k
       × HandsOutUpserted is_key_clone is_clone key got put result
       × Makes m (Upserts key hash now own put) old.engine clock new.engine clock_after
       × (new.stats ≡ after_look_up got old.stats)
+      × IfOk got (Sees m.eq m.says is_clone old.engine.state key now.0)
+      × IfErr result (ComesBack old.engine.state new.engine.state key
+      (λ value. (seen : Option V) × (got ≡ Ok seen) × Answers seen value))
 
-  -- the function sees a clone of what was found, and what it answers is done
+  -- the same, and what it answers is done; where that takes the key out, no record of it is left, and what was seen is
+  -- a clone of what was taken
   abbrev pub AndComputes : (Option V → Op V → Type 0) → Result (CompResult K V) (ComputeRefused K V) → Type 0
   AndComputes Answers result = (own : Result (Option V) OutOfMemory) × (got : Result (Option V) OutOfMemory)
       × IsCopiedAnswer is_clone own got
@@ -137,6 +144,10 @@ module _ {K V S X L P W C : Type 0} (m : Meaning K V X L P W C (Unit {0})) (is_k
       × HandsOutComputed is_key_clone is_clone key got done result
       × Makes m (Computes key hash now own done) old.engine clock new.engine clock_after
       × (new.stats ≡ after_look_up got old.stats)
+      × IfOk got (Sees m.eq m.says is_clone old.engine.state key now.0)
+      × ((taken : Option (V × Result (Unit {0}) OutOfMemory)) → done ≡ Some (Takes taken)
+      → (record_of_key m.eq new.engine.state.records key ≡ None)
+      × IfSome taken (λ t. IfOk got (λ seen. IfSome seen (is_clone t.0))))
 
 -- ---- what refusals print
 

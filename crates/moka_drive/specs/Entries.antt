@@ -1,5 +1,5 @@
 -- Entry calls: what they answer beside the values of the calls that they stand for.
-use Rattle.std.specs.Prelude.{◌≡◌, ℕ, true, false, Option, Some, None, Result, Ok, Err, IfOk, IfSome}
+use Rattle.std.specs.Prelude.{◌≡◌, ℕ, true, false, Option, Some, None, Result, Ok, Err, IfOk, IfSome, IfErr}
 use Rattle.moka_parts.specs.declared.error.InsertError.TheVariants as insert_error
 use Rattle.moka_parts.specs.declared.error.InsertRefused.{InsertRefused}
 use Rattle.moka_parts.specs.declared.policy.Instant.{Instant}
@@ -7,8 +7,9 @@ use Rattle.moka_parts.specs.State.{Meaning}
 use Rattle.moka_drive.specs.declared.entry.CacheEntry.{CacheEntry}
 use Rattle.moka_drive.specs.declared.error.GetWithRefused.{GetWithRefused}
 use Rattle.moka_drive.specs.declared.stats.Stats.{Stats}
-use Rattle.moka_drive.specs.Counters.{one_more, after_get_with}
-use Rattle.moka_drive.specs.Synchronous.{Synchronous, Makes, HandsOutMade, HandsOutIfMade, HandsOutIfNoError, GetsOrInserts, GetsOrInsertsIfMade, GetsOrInsertsIfNoError}
+use Rattle.moka_drive.specs.Counters.{one_more}
+use Rattle.moka_drive.specs.Given.{IsHandedOut}
+use Rattle.moka_drive.specs.Synchronous.{Synchronous, Makes, GetsOrInserts, IsGotWith, IsGotWithIfMade, IsGotWithIfNoError}
 
 -- ---- the values of what is answered
 
@@ -60,7 +61,7 @@ after_get_or_insert (Some put) answer s = record s { misses = one_more s.misses 
 -- ---- what an entry call promises
 
 module _ {K V S X L P W C : Type 0} (m : Meaning K V X L P W C (Unit {0})) (is_key_clone : K → K → Type 0) (is_clone : V → V → Type 0) (key : K) (hash : ℕ) (now : Instant) (old : Synchronous K V S X L P W) (clock : C) (new : Synchronous K V S X L P W) (clock_after : C) where
-  -- a get, and only if it misses this value is put
+  -- a get, and only if it misses this value is put; what is handed out, or comes back
   abbrev pub OrInserts : V → Result (CacheEntry K V) (InsertRefused K V) → Type 0
   OrInserts value result = (put : Option V) × (own : Result V (Option (InsertRefused K V)))
       × ((v : V) → put ≡ Some v → v ≡ value)
@@ -68,30 +69,24 @@ module _ {K V S X L P W C : Type 0} (m : Meaning K V X L P W C (Unit {0})) (is_k
       × IfOk result (IsEntryOf is_key_clone key put)
       × Makes m (GetsOrInserts key hash now put own) old.engine clock new.engine clock_after
       × (new.stats ≡ after_get_or_insert put own old.stats)
+      × IfOk result (λ e. IsHandedOut m.eq m.says is_clone old.engine.state key now.0 (λ v. v ≡ value) e.value)
+      × IfErr result (λ refused. (refused.key ≡ key) × (refused.value ≡ value))
 
   -- a get, and only if it misses a value is made, as the maker makes it
   abbrev pub OrInsertsMade : (V → Type 0) → Result (CacheEntry K V) (GetWithRefused K V) → Type 0
   OrInsertsMade Answers result = (made : Option V) × (own : Result V (Option (InsertRefused K V)))
-      × ((value : V) → made ≡ Some value → Answers value)
-      × HandsOutMade is_clone key own (entry_value result)
       × IfOk result (IsEntryOf is_key_clone key made)
-      × Makes m (GetsOrInserts key hash now made own) old.engine clock new.engine clock_after
-      × (new.stats ≡ after_get_with made own old.stats)
+      × IsGotWith m is_clone key hash now old clock new clock_after made own Answers (entry_value result)
 
   -- the same if the maker may decline
   abbrev pub OrInsertsIfMade : (Option V → Type 0) → Result (Option (CacheEntry K V)) (GetWithRefused K V) → Type 0
   OrInsertsIfMade Answers result = (made : Option (Option V)) × (own : Result (Option V) (Option (InsertRefused K V)))
-      × ((answer : Option V) → made ≡ Some answer → Answers answer)
-      × HandsOutIfMade is_clone key own (entry_value_if_made result)
       × IfOk result (λ found. IfSome found (IsEntryOf is_key_clone key made))
-      × Makes m (GetsOrInsertsIfMade key hash now made own) old.engine clock new.engine clock_after
-      × (new.stats ≡ after_get_with made own old.stats)
+      × IsGotWithIfMade m is_clone key hash now old clock new clock_after made own Answers (entry_value_if_made result)
 
   -- or fail
   abbrev pub OrInsertsIfNoError : {E : Type 0} → (Result V E → Type 0) → Result (Result (CacheEntry K V) E) (GetWithRefused K V) → Type 0
   OrInsertsIfNoError {E} Answers result = (made : Option (Result V E)) × (own : Result (Result V E) (Option (InsertRefused K V)))
-      × ((answer : Result V E) → made ≡ Some answer → Answers answer)
-      × HandsOutIfNoError is_clone key own (entry_value_if_no_error result)
       × IfOk result (λ found. IfOk found (IsEntryOf is_key_clone key made))
-      × Makes m (GetsOrInsertsIfNoError key hash now made own) old.engine clock new.engine clock_after
-      × (new.stats ≡ after_get_with made own old.stats)
+      × IsGotWithIfNoError m is_clone key hash now old clock new clock_after made own Answers
+      (entry_value_if_no_error result)

@@ -1,42 +1,37 @@
--- What a get with a maker hands out.
-use Rattle.std.specs.Prelude.{◌≡◌, ℕ, Bool, false, Option, Some, None, Result, Ok, Err, IfOk, IfSome, IfNone, IfErr, ◌⊎◌}
-use Rattle.moka_parts.specs.declared.policy.Instant.{Instant}
+-- What a look-up sees, and what a call hands out that makes a value where none is seen.
+use Rattle.std.specs.Prelude.{◌≡◌, ℕ, Bool, false, Option, Some, None, ◌⊎◌}
 use Rattle.moka_parts.specs.declared.records.Record.{Record}
 use Rattle.moka_parts.specs.Calls.{ContainsStep}
 use Rattle.moka_parts.specs.Records.{record_of_key}
-use Rattle.moka_parts.specs.State.{State, Meaning, is_disabled}
+use Rattle.moka_parts.specs.State.{State}
 use Rattle.moka_parts.specs.Visibility.{IsVisible}
 use Rattle.moka_drive.specs.declared.error.GetWithRefused.{GetWithRefused}
-use Rattle.moka_drive.specs.Synchronous.{Synchronous, GetsWith, GetsWithIfMade, GetsWithIfNoError}
+use Rattle.moka_drive.specs.declared.error.GetWithRefused.TheVariants.{Lookup, Insert}
 
-module _ {K V X P W : Type 0} (eq : K → K → Bool) (says : P → K → V → Bool → Type 0) (is_clone : V → V → Type 0) where
+module _ {K V X P W : Type 0} (eq : K → K → Bool) (says : P → K → V → Bool → Type 0)
+    (is_clone : V → V → Type 0) where
   -- the key is there and visible at the moment, and this is a clone of its value
   abbrev pub IsCloneOfVisible : State K V X P W → K → ℕ → V → Type 0
-  IsCloneOfVisible s key now value = (r : Record K V) × (record_of_key eq s.records key ≡ Some r) × IsVisible says s r now × is_clone r.value value
+  IsCloneOfVisible s key now value =
+      (r : Record K V) × (record_of_key eq s.records key ≡ Some r) × IsVisible says s r now × is_clone r.value value
+
+  -- what a look-up of the key sees at the moment: a clone of the value that is visible, or nothing if none is
+  abbrev pub Sees : State K V X P W → K → ℕ → Option V → Type 0
+  Sees s key now (Some value) = IsCloneOfVisible s key now value
+  Sees s key now None = ContainsStep says eq s key now false
 
   -- the key is not found at the moment, for which a value was made, and this is a clone of it
   abbrev pub IsCloneOfMade : State K V X P W → K → ℕ → (V → Type 0) → V → Type 0
-  IsCloneOfMade s key now Answers value = (is_disabled s.capacity ≡ false → ContainsStep says eq s key now false) × ((made : V) × Answers made × is_clone made value)
+  IsCloneOfMade s key now Answers value =
+      ContainsStep says eq s key now false × ((made : V) × Answers made × is_clone made value)
 
   -- one of the two
   abbrev pub IsHandedOut : State K V X P W → K → ℕ → (V → Type 0) → V → Type 0
   IsHandedOut s key now Answers value = IsCloneOfVisible s key now value ⊎ IsCloneOfMade s key now Answers value
 
-module _ {K V X L P W C : Type 0} (m : Meaning K V X L P W C (Unit {0})) (is_clone : V → V → Type 0) where
-  -- what `get_with` hands out by makers of a type: a value that is visible, or one that was made since none was
-  abbrev pub GetWithHandsOut : (S : Type 0) {F : Type 0} → (F → V → Type 0) → Type 0
-  GetWithHandsOut S {F} makes = (key : K) (hash : ℕ) (now : Instant) (old new : Synchronous K V S X L P W) (clock clock_after : C) (init : F) (result : Result V (GetWithRefused K V)) →
-      GetsWith m is_clone key hash now old clock new clock_after (makes init) result →
-      IfOk result (λ value. IsHandedOut m.eq m.says is_clone old.engine.state key now.0 (makes init) value)
-
-  -- the same of `optionally_get_with`, or nothing, if the maker declined
-  abbrev pub OptionallyGetWithHandsOut : (S : Type 0) {F : Type 0} → (F → Option V → Type 0) → Type 0
-  OptionallyGetWithHandsOut S {F} makes = (key : K) (hash : ℕ) (now : Instant) (old new : Synchronous K V S X L P W) (clock clock_after : C) (init : F) (result : Result (Option V) (GetWithRefused K V)) →
-      GetsWithIfMade m is_clone key hash now old clock new clock_after (makes init) result →
-      IfOk result (λ found. IfSome found (λ value. IsHandedOut m.eq m.says is_clone old.engine.state key now.0 (λ v. makes init (Some v)) value) × IfNone found (makes init None))
-
-  -- the same of `try_get_with`, or the maker's error
-  abbrev pub TryGetWithHandsOut : (S : Type 0) {E F : Type 0} → (F → Result V E → Type 0) → Type 0
-  TryGetWithHandsOut S {E} {F} makes = (key : K) (hash : ℕ) (now : Instant) (old new : Synchronous K V S X L P W) (clock clock_after : C) (init : F) (result : Result (Result V E) (GetWithRefused K V)) →
-      GetsWithIfNoError m is_clone key hash now old clock new clock_after (makes init) result →
-      IfOk result (λ answer. IfOk answer (λ value. IsHandedOut m.eq m.says is_clone old.engine.state key now.0 (λ v. makes init (Ok v)) value) × IfErr answer (λ error. makes init (Err error)))
+-- what comes back with a refusal: of a look-up the key, and nothing has changed; of an insert the key and a value that
+-- was made
+abbrev pub ComesBack : {K V X P W : Type 0} → State K V X P W → State K V X P W → K → (V → Type 0)
+    → GetWithRefused K V → Type 0
+ComesBack s t key Answers (Lookup k) = (k ≡ key) × (t ≡ s)
+ComesBack s t key Answers (Insert refused) = (refused.key ≡ key) × Answers refused.value

@@ -1,6 +1,6 @@
 -- The cache that sends its own operations: which calls of the reference cache each of its calls stands for, and what it
 -- answers.
-use Rattle.std.specs.Prelude.{◌≡◌, ℕ, Bool, false, List, [], ◌∷◌, Option, Some, None, Result, Ok, Err, ◌⊎◌, ⊤}
+use Rattle.std.specs.Prelude.{◌≡◌, ℕ, Bool, false, List, [], ◌∷◌, Option, Some, None, Result, Ok, Err, IfOk, IfSome, IfNone, IfErr, ◌⊎◌, ⊤}
 use Rattle.moka_parts.specs.declared.notification.RemovalCause.{RemovalCause}
 use Rattle.moka_parts.specs.declared.policy.Instant.{Instant}
 use Rattle.moka_parts.specs.declared.calls.Ticket.{Ticket}
@@ -22,6 +22,7 @@ use Rattle.moka_drive.specs.declared.stats.Stats.{Stats}
 use Rattle.moka_drive.specs.Counters.{no_stats, after_get_with}
 use Rattle.moka_drive.specs.declared.error.GetWithRefused.{GetWithRefused}
 use Rattle.moka_drive.specs.declared.error.GetWithRefused.TheVariants.{Lookup, Insert}
+use Rattle.moka_drive.specs.Given.{IsHandedOut, ComesBack}
 
 -- a synchronous cache: an engine, and what was counted
 pub record Synchronous (K V S X L P W : Type 0) : Type 0 where
@@ -161,6 +162,11 @@ removed None = Ok None
 removed (Some (value, Ok told)) = Ok (Some value)
 removed (Some (value, Err refused)) = Err (record { error = refused; value = value })
 
+-- the value that such an answer hands out, told or not
+abbrev pub taken_out : {V : Type 0} → Result (Option V) (NotTold V) → Option V
+taken_out (Ok value) = value
+taken_out (Err refused) = Some refused.value
+
 -- what an invalidation answers: the value alone where it was not told
 abbrev pub invalidated : {V : Type 0} → Option (V × Result (Unit {0}) OutOfMemory) → Result (Unit {0}) (NotTold V)
 invalidated None = Ok tt
@@ -197,27 +203,52 @@ HandsOutIfNoError is_clone key own result = ⊥
 -- ---- what a call with a maker promises
 
 module _ {K V S X L P W C : Type 0} (m : Meaning K V X L P W C (Unit {0})) (is_clone : V → V → Type 0) (key : K) (hash : ℕ) (now : Instant) (old : Synchronous K V S X L P W) (clock : C) (new : Synchronous K V S X L P W) (clock_after : C) where
-  -- a get, and only where it misses a value is made, as the maker makes it; what is handed out, the calls that were
-  -- made, and what was counted
-  abbrev pub GetsWith : (V → Type 0) → Result V (GetWithRefused K V) → Type 0
-  GetsWith Answers result = (made : Option V) × (own : Result V (Option (InsertRefused K V)))
-      × ((value : V) → made ≡ Some value → Answers value)
+  -- where this was made of a get that missed, as the maker makes it: the calls that were made, and what was counted;
+  -- and what is handed out, or comes back
+  abbrev pub IsGotWith : Option V → Result V (Option (InsertRefused K V)) → (V → Type 0)
+      → Result V (GetWithRefused K V) → Type 0
+  IsGotWith made own Answers result = ((value : V) → made ≡ Some value → Answers value)
       × HandsOutMade is_clone key own result
       × Makes m (GetsOrInserts key hash now made own) old.engine clock new.engine clock_after
       × (new.stats ≡ after_get_with made own old.stats)
+      × IfOk result (IsHandedOut m.eq m.says is_clone old.engine.state key now.0 Answers)
+      × IfErr result (ComesBack old.engine.state new.engine.state key Answers)
+
+  -- the same where the maker may decline
+  abbrev pub IsGotWithIfMade : Option (Option V) → Result (Option V) (Option (InsertRefused K V)) → (Option V → Type 0)
+      → Result (Option V) (GetWithRefused K V) → Type 0
+  IsGotWithIfMade made own Answers result = ((answer : Option V) → made ≡ Some answer → Answers answer)
+      × HandsOutIfMade is_clone key own result
+      × Makes m (GetsOrInsertsIfMade key hash now made own) old.engine clock new.engine clock_after
+      × (new.stats ≡ after_get_with made own old.stats)
+      × IfOk result (λ found.
+      IfSome found (IsHandedOut m.eq m.says is_clone old.engine.state key now.0 (λ v. Answers (Some v)))
+      × IfNone found (Answers None))
+      × IfErr result (ComesBack old.engine.state new.engine.state key (λ v. Answers (Some v)))
+
+  -- or fail
+  abbrev pub IsGotWithIfNoError : {E : Type 0} → Option (Result V E) → Result (Result V E) (Option (InsertRefused K V))
+      → (Result V E → Type 0) → Result (Result V E) (GetWithRefused K V) → Type 0
+  IsGotWithIfNoError made own Answers result = ((answer : Result V _) → made ≡ Some answer → Answers answer)
+      × HandsOutIfNoError is_clone key own result
+      × Makes m (GetsOrInsertsIfNoError key hash now made own) old.engine clock new.engine clock_after
+      × (new.stats ≡ after_get_with made own old.stats)
+      × IfOk result (λ found.
+      IfOk found (IsHandedOut m.eq m.says is_clone old.engine.state key now.0 (λ v. Answers (Ok v)))
+      × IfErr found (λ e. Answers (Err e)))
+      × IfErr result (ComesBack old.engine.state new.engine.state key (λ v. Answers (Ok v)))
+
+  -- a get, and only where it misses a value is made
+  abbrev pub GetsWith : (V → Type 0) → Result V (GetWithRefused K V) → Type 0
+  GetsWith Answers result =
+      (made : Option V) × (own : Result V (Option (InsertRefused K V))) × IsGotWith made own Answers result
 
   -- the same where the maker may decline
   abbrev pub GetsWithIfMade : (Option V → Type 0) → Result (Option V) (GetWithRefused K V) → Type 0
   GetsWithIfMade Answers result = (made : Option (Option V)) × (own : Result (Option V) (Option (InsertRefused K V)))
-      × ((answer : Option V) → made ≡ Some answer → Answers answer)
-      × HandsOutIfMade is_clone key own result
-      × Makes m (GetsOrInsertsIfMade key hash now made own) old.engine clock new.engine clock_after
-      × (new.stats ≡ after_get_with made own old.stats)
+      × IsGotWithIfMade made own Answers result
 
   -- or fail
   abbrev pub GetsWithIfNoError : {E : Type 0} → (Result V E → Type 0) → Result (Result V E) (GetWithRefused K V) → Type 0
-  GetsWithIfNoError {E} Answers result = (made : Option (Result V E)) × (own : Result (Result V E) (Option (InsertRefused K V)))
-      × ((answer : Result V E) → made ≡ Some answer → Answers answer)
-      × HandsOutIfNoError is_clone key own result
-      × Makes m (GetsOrInsertsIfNoError key hash now made own) old.engine clock new.engine clock_after
-      × (new.stats ≡ after_get_with made own old.stats)
+  GetsWithIfNoError {E} Answers result = (made : Option (Result V E))
+      × (own : Result (Result V E) (Option (InsertRefused K V))) × IsGotWithIfNoError made own Answers result

@@ -1,5 +1,5 @@
 //! The synchronous cache: put, get and remove in one call each. moka: `sync::cache`.
-ghost use Rattle.std.specs.Prelude.{◌≡◌, ◌≤◌, [], true, false, Option, Some, None, Result, Ok, Err, IfOk, IfSome, OnErr, IfErr, is_some, option_copied, unwrap_or};
+ghost use Rattle.std.specs.Prelude.{◌≡◌, ◌≤◌, [], true, false, Option, Some, None, Result, Ok, Err, IfOk, IfSome, OnErr, IfErr, is_some, option_copied, unwrap_or, option_map};
 ghost use Rattle.std.specs.FinMap as finite;
 ghost use Rattle.std.specs.List.{fold};
 ghost use Rattle.moka_parts.specs.Calls.{CapacityStep, ContainsStep, InvalidateStep, no_events, only_ids};
@@ -18,8 +18,9 @@ ghost use Rattle.moka_parts.specs.declared.records.Operation.{Operation};
 ghost use Rattle.moka_parts.specs.declared.records.Record.{Record};
 ghost use Rattle.moka_drive.specs.Unsent.{HoldsUnsent, HidesNoMore, IsThere, ShowsWrites};
 ghost use Rattle.moka_drive.specs.Counters.{after_look_up, after_load};
+ghost use Rattle.moka_drive.specs.Given.{Sees};
 ghost use Rattle.moka_drive.specs.Saved.{AreAllMembers, KeepsRecords, TakesOnlyExpired};
-ghost use Rattle.moka_drive.specs.Synchronous.{fresh, value_found, InsertsMade, HandsOutOwn, Makes, meaning_of, hears_clones, Just, own_run, Posts, InsertsEntry, GetsValue, RemovesEntry, removed, invalidated, GetsWith, GetsWithIfMade, GetsWithIfNoError};
+ghost use Rattle.moka_drive.specs.Synchronous.{fresh, value_found, InsertsMade, HandsOutOwn, Makes, meaning_of, hears_clones, Just, own_run, Posts, InsertsEntry, GetsValue, RemovesEntry, removed, invalidated, taken_out, GetsWith, GetsWithIfMade, GetsWithIfNoError};
 
 use crate::error::{GetWithRefused, NotTold};
 use crate::stats::Stats;
@@ -294,6 +295,7 @@ impl<
             (GetsValue key.now (S.Hasher.finish (fold S.Hasher.write (S.build_hasher self.old.engine.hasher) (K.hash_input key.now))) now own)
             self.old.engine clock.old self.new.engine clock.new }
         ensures value { IfOk result (λ found. IfSome found (λ v. (r : Record K V) × (record_of_key K.eq self.old.engine.state.records key.now ≡ Some r) × V.is_clone r.value v)) }
+        ensures sees { IfOk result (Sees K.eq P.says V.is_clone self.old.engine.state key.now now.0) }
         ensures shown { IfOk result (λ found. ContainsStep P.says K.eq self.old.engine.state key.now now.0 (is_some found)) }
         ensures found { ContainsStep P.says K.eq self.old.engine.state key.now now.0 true → IfOk result (λ found. is_some found ≡ true) }
         ensures unchanged { OnErr result ((self.new.engine.state ≡ self.old.engine.state) × (clock.new ≡ clock.old)) }
@@ -322,10 +324,14 @@ impl<
             (GetsValue key.now (S.Hasher.finish (fold S.Hasher.write (S.build_hasher self.old.engine.hasher) (K.hash_input key.now))) now own)
             self.old.engine clock.old self.new.engine clock.new }
         ensures value { IfOk result (λ found. IfSome found (λ v. (r : Record K V) × (record_of_key K.eq self.old.engine.state.records key.now ≡ Some r) × V.is_clone r.value v)) }
+        ensures sees { IfOk result (Sees K.eq P.says V.is_clone self.old.engine.state key.now now.0) }
         ensures shown { IfOk result (λ found. ContainsStep P.says K.eq self.old.engine.state key.now now.0 (is_some found)) }
         ensures found { ContainsStep P.says K.eq self.old.engine.state key.now now.0 true → IfOk result (λ found. is_some found ≡ true) }
         ensures unchanged { OnErr result ((self.new.engine.state ≡ self.old.engine.state) × (clock.new ≡ clock.old)) }
         ensures counted { self.new.stats ≡ after_look_up result self.old.stats }
+        ensures stays { (p : Record K V) → record_of_key K.eq self.new.engine.state.records key.now ≡ Some p
+            → (r : Record K V) × (record_of_key K.eq self.old.engine.state.records key.now ≡ Some r)
+            × (p.value ≡ r.value) }
         ensures hasher { self.new.engine.hasher ≡ self.old.engine.hasher }
     {
         self.engine.invariant_holds();
@@ -355,6 +361,8 @@ impl<
             (RemovesEntry key.now (S.Hasher.finish (fold S.Hasher.write (S.build_hasher self.old.engine.hasher) (K.hash_input key.now))) now taken)
             self.old.engine clock.old self.new.engine clock.new }
         ensures gone { record_of_key K.eq self.new.engine.state.records key.now ≡ None }
+        ensures value { taken_out result
+            ≡ option_map (λ r. r.value) (record_of_key K.eq self.old.engine.state.records key.now) }
         ensures counted { self.new.stats ≡ self.old.stats }
     {
         let hash = self.engine.hash(key);
@@ -415,6 +423,8 @@ impl<
             (RemovesEntry key.now (S.Hasher.finish (fold S.Hasher.write (S.build_hasher self.old.engine.hasher) (K.hash_input key.now))) now result)
             self.old.engine clock.old self.new.engine clock.new }
         ensures gone { record_of_key K.eq self.new.engine.state.records key.now ≡ None }
+        ensures value { option_map (λ t. t.0) result
+            ≡ option_map (λ r. r.value) (record_of_key K.eq self.old.engine.state.records key.now) }
         ensures counted { self.new.stats ≡ self.old.stats }
     {
         self.engine.invariant_holds();
@@ -552,6 +562,7 @@ impl<
             × Makes (meaning_of K.eq L.tells P.says W.weighs C.reads X.created X.read X.updated)
             (InsertsMade put.key (S.Hasher.finish (fold S.Hasher.write (S.build_hasher self.old.engine.hasher) (K.hash_input put.key))) now put.value own)
             self.old.engine clock.old self.new.engine clock.new }
+        ensures back { IfErr result (λ refused. (refused.key ≡ put.key) × (refused.value ≡ put.value)) }
         ensures counted { self.new.stats ≡ self.old.stats }
     {
         let Put { key, hash, value } = put;

@@ -1,7 +1,8 @@
 //! Entry calls that compute a key's value from the one that is there. moka: `ops::compute`, `sync::entry_selector`.
-ghost use Rattle.std.specs.Prelude.{◌≡◌, Option, Some, None, Result, Ok, Err, is_some, option_copied};
+ghost use Rattle.std.specs.Prelude.{◌≡◌, Option, Some, None, Result, Ok, Err, is_some, option_copied, option_map};
 ghost use Rattle.std.specs.List.{fold};
 ghost use Rattle.moka_parts.specs.Calls.{ContainsStep};
+ghost use Rattle.moka_parts.specs.Records.{record_of_key};
 ghost use Rattle.moka_parts.specs.declared.error.InsertRefused.{InsertRefused};
 ghost use Rattle.moka_parts.specs.declared.error.OutOfMemory.{OutOfMemory};
 ghost use Rattle.moka_drive.specs.Computing.{HandsOutComputedPut, HandsOutTaken, AndUpserts, AndComputes};
@@ -212,7 +213,10 @@ impl<
             × HandsOutTaken K.is_clone V.is_clone key taken result
             × Makes (meaning_of K.eq (hears_clones K.is_clone V.is_clone L.tells) P.says W.weighs C.reads X.created X.read X.updated)
             (RemovesEntry key (S.Hasher.finish (fold S.Hasher.write (S.build_hasher self.old.engine.hasher) (K.hash_input key))) now taken)
-            self.old.engine clock.old self.new.engine clock.new }
+            self.old.engine clock.old self.new.engine clock.new
+            × (option_map (λ t. t.0) taken
+            ≡ option_map (λ r. r.value) (record_of_key K.eq self.old.engine.state.records key)) }
+        ensures gone { record_of_key K.eq self.new.engine.state.records key ≡ None }
         ensures counted { self.new.stats ≡ self.old.stats }
     {
         // None is there if the run of maintenance that the look-up made had taken it already.

@@ -1,7 +1,7 @@
 //! Entry calls: a look-up and what follows it in one call. moka: `sync::entry_selector`.
 //!
 //! `cache.entry(key).or_insert(value, ..)` is `cache.get_or_insert(key, value, ..)`, and so on: each call names moka's.
-ghost use Rattle.std.specs.Prelude.{◌≡◌, true, false, Option, Some, None, Result, Ok, Err, IfOk};
+ghost use Rattle.std.specs.Prelude.{◌≡◌, true, false, Option, Some, None, Result, Ok, Err, IfOk, IfErr};
 ghost use Rattle.std.specs.List.{fold};
 ghost use Rattle.moka_parts.specs.Calls.{ContainsStep};
 ghost use Rattle.moka_parts.specs.declared.error.InsertRefused.{InsertRefused};
@@ -201,6 +201,7 @@ impl<
             × Makes (meaning_of K.eq L.tells P.says W.weighs C.reads X.created X.read X.updated)
             (InsertsMade put.key (S.Hasher.finish (fold S.Hasher.write (S.build_hasher self.old.engine.hasher) (K.hash_input put.key))) now put.value own)
             self.old.engine clock.old self.new.engine clock.new }
+        ensures back { IfErr result (λ refused. (refused.key ≡ put.key) × (refused.value ≡ put.value)) }
         ensures entry { IfOk result (λ e. IsFresh K.is_clone put.key e × (e.is_old_value_replaced ≡ is_old_value_replaced)) }
         ensures counted { self.new.stats ≡ self.old.stats }
     {

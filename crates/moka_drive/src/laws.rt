@@ -1,7 +1,6 @@
 //! Laws of the calls that a synchronous cache made. None of these functions does anything: the contract of each is a
 //! law.
 ghost use Rattle.moka_drive.specs.Removed.{counting, CountsRemovals, PassesOn};
-ghost use Rattle.moka_drive.specs.Given.{GetWithHandsOut, OptionallyGetWithHandsOut, TryGetWithHandsOut};
 ghost use Rattle.moka_drive.specs.Limits.{CallsSetNoCapacity, KeepsLimits};
 ghost use Rattle.moka_drive.specs.Saved.{AnswersAlike, EmptyHasRoom, MadeAgainAnswersAlike};
 ghost use Rattle.moka_parts.specs.declared.policy.Instant.{Instant};
@@ -161,7 +160,8 @@ pub fn answers_as_before<K, V, X, P: PredicateFn<K, V>, W>()
 
 /// A cache made again of what `save` lists of another, put back by `restore` into an empty one with the same times and
 /// room for all, answers each look-up as the first does at the same moment, if neither saving nor putting back was
-/// later: what one finds the other finds, with a clone of the value. Clones of keys have to be equal.
+/// later, until an entry of either is read or written: what one finds the other finds, with a clone of the value.
+/// Clones of keys have to be equal.
 pub fn made_again_answers_alike<
     K: Eq + Clone,
     V: Clone,
@@ -171,53 +171,6 @@ pub fn made_again_answers_alike<
 >()
     ensures alike { MadeAgainAnswersAlike X W.weighs K.eq P.says K.is_clone V.is_clone }
     ensures room { EmptyHasRoom X P W.weighs }
-{}
-
-/// What `get_with` hands out is a clone of a value that is visible at the moment of the call, or of one that the maker
-/// made since none was.
-pub fn get_with_hands_out<
-    K: Eq,
-    V: Clone,
-    S,
-    X: Expiry<K, V>,
-    L: Listener<K, V>,
-    P: PredicateFn<K, V>,
-    W: Weigher<K, V>,
-    C: Clock,
-    F: FnOnce() -> V,
->()
-    ensures { GetWithHandsOut (meaning_of K.eq L.tells P.says W.weighs C.reads X.created X.read X.updated) V.is_clone S F.post }
-{}
-
-/// So is what `optionally_get_with` hands out; and nothing is handed out only if the maker declined.
-pub fn optionally_get_with_hands_out<
-    K: Eq,
-    V: Clone,
-    S,
-    X: Expiry<K, V>,
-    L: Listener<K, V>,
-    P: PredicateFn<K, V>,
-    W: Weigher<K, V>,
-    C: Clock,
-    F: FnOnce() -> Option<V>,
->()
-    ensures { OptionallyGetWithHandsOut (meaning_of K.eq L.tells P.says W.weighs C.reads X.created X.read X.updated) V.is_clone S F.post }
-{}
-
-/// So is what `try_get_with` hands out; and an error within `Ok` is the maker's.
-pub fn try_get_with_hands_out<
-    K: Eq,
-    V: Clone,
-    S,
-    X: Expiry<K, V>,
-    L: Listener<K, V>,
-    P: PredicateFn<K, V>,
-    W: Weigher<K, V>,
-    C: Clock,
-    E,
-    F: FnOnce() -> Result<V, E>,
->()
-    ensures { TryGetWithHandsOut (meaning_of K.eq L.tells P.says W.weighs C.reads X.created X.read X.updated) V.is_clone S F.post }
 {}
 
 /// Times, policy and the like stay as they were built, and so does the capacity unless a call sets it; and none of the

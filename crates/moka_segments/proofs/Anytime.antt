@@ -1,19 +1,14 @@
 -- What was made by one clock and source of identifiers was made by others that may tell the same.
-use Rattle.std.proofs.Common.{ℕ, refl, List, [], ◌∷◌, Some, None, Ok, Err, inl}
+use Rattle.std.proofs.Common.{refl, List, [], ◌∷◌, inl}
 use Rattle.uuid.specs.declared.Uuid.{Uuid}
 use Rattle.moka_parts.specs.declared.calls.Call.{Call}
-use Rattle.moka_parts.specs.declared.calls.Call.TheVariants as call
 use Rattle.moka_parts.specs.declared.calls.Reply.{Reply}
-use Rattle.moka_parts.specs.declared.calls.Reply.TheVariants as reply
 use Rattle.moka_parts.specs.declared.policy.Instant.{Instant}
-use Rattle.moka_parts.specs.Listed.{ListedRun, AreListedSteps}
-use Rattle.moka_parts.specs.Maintenance.{Terms, Course}
-use Rattle.moka_parts.specs.Records.{Notice}
-use Rattle.moka_parts.specs.Runs.{Engine, CallStep, Step, AreSteps, PromisedRun, readings_of, ids_of}
-use Rattle.moka_parts.specs.State.{State, Meaning, Events}
+use Rattle.moka_parts.specs.Runs.{Engine, PromisedRun, readings_of, ids_of}
+use Rattle.moka_parts.specs.State.{Meaning}
 use Rattle.moka_parts.specs.Surroundings.{Leads}
 use Rattle.moka_drive.specs.Synchronous.{Made, hears_clones}
-use Rattle.moka_drive.proofs.Made.{made_more}
+use Rattle.moka_drive.proofs.Made.{listed_otherwise, made_more, otherwise, steps_otherwise}
 use Rattle.moka_segments.specs.Laws.{anytime}
 use Rattle.moka_segments.specs.Moves.{for_all_calls}
 
@@ -23,57 +18,21 @@ tells_any [] = refl
 tells_any (t ∷ ts) = (tt {0}, tt {0}, tells_any ts)
 
 module _ {K V X L P W C D : Type 0} (m : Meaning K V X L P W C (Unit {0})) (observes : D → Instant → D → Type 0) (gives : Unit {0} → Uuid → Unit {0} → Type 0) where
-  -- the same by this clock and this source of identifiers
-  abbrev by_others : Meaning K V X L P W D (Unit {0})
-  by_others = record { eq = m.eq; tells = m.tells; says = m.says; weighs = m.weighs; observes = observes; gives = gives; created = m.created; read = m.read; updated = m.updated }
-
-  step_by : (Runs : State K V X P W → Terms → Course → List (Notice K V) → State K V X P W → Type 0) (s t : State K V X P W) (c : Call K V P) (r : Reply K V P) (e : Events K V) → CallStep m Runs s c r e t → CallStep by_others Runs s c r e t
-  step_by Runs s t (call.Insert key hash value now) (reply.Insert a) e h = h
-  step_by Runs s t (call.Insert key hash value now) (reply.Disabled k v) e h = h
-  step_by Runs s t (call.Send ticket) (reply.Send a) e h = h
-  step_by Runs s t (call.Get key hash need_key now) (reply.Get a) e h = h
-  step_by Runs s t (call.GetUnrecorded key hash now) (reply.GetUnrecorded a) e h = h
-  step_by Runs s t (call.Contains key hash now) (reply.Contains shown) e h = h
-  step_by Runs s t (call.Key key hash) (reply.Key a) e h = h
-  step_by Runs s t (call.Scan key now) (reply.Scan a) e h = h
-  step_by Runs s t (call.Remove key hash now) (reply.Remove removed told) e h = h
-  step_by Runs s t (call.InvalidateAll now) reply.InvalidateAll e h = h
-  step_by Runs s t (call.InvalidateIf predicate now) (reply.InvalidateIf a) e h = h
-  step_by Runs s t (call.Run now limit repeats batch) (reply.Run left) e h = h
-  step_by Runs s t (call.RunIfDue now) reply.RunIfDue e h = h
-  step_by Runs s t call.DisableAutoRun reply.DisableAutoRun e h = h
-  step_by Runs s t (call.Keys segment) (reply.Keys (Ok (Some keys))) e h = h
-  step_by Runs s t (call.Keys segment) (reply.Keys (Ok None)) e h = h
-  step_by Runs s t (call.Keys segment) (reply.Keys (Err refused)) e h = h
-  step_by Runs s t call.Report (reply.Report count weight predicates) e h = h
-  step_by Runs s t call.Pending (reply.Pending handed oldest writes reads) e h = h
-  step_by Runs s t (call.SetCapacity capacity) (reply.SetCapacity a) e h = h
-  step_by Runs s t c r e h = absurd h
-
-  steps_by : (Runs : State K V X P W → Terms → Course → List (Notice K V) → State K V X P W → Type 0) (s : State K V X P W) (xs : List (Step K V X P W)) → AreSteps m Runs s xs → AreSteps by_others Runs s xs
-  steps_by Runs s [] h = tt
-  steps_by Runs s (x ∷ xs) h = (step_by Runs s x.after x.call x.reply x.events h.0, steps_by Runs x.after xs h.1)
-
-  listed_by : (s : State K V X P W) (before last : List ℕ) (xs : List (Step K V X P W)) → AreListedSteps m s before xs last → AreListedSteps by_others s before xs last
-  listed_by s before last [] h = h
-  listed_by s before last (x ∷ xs) (after, step, rest) =
-      (after, (step_by (ListedRun m.says m.read before after) s x.after x.call x.reply x.events step.0, step.1), listed_by x.after after last xs rest)
-
   -- what was made
   made_by : {S : Type 0} (calls : List (Call K V P)) (replies : List (Reply K V P)) (old new : Engine K V S X L P W) (clock clock_after : C) (own own_after : D) → ((moments : List Instant) → Leads m.observes clock moments clock_after → Leads observes own moments own_after)
-      → ((ids : List Uuid) → Leads m.gives tt ids tt → Leads gives tt ids tt) → Made m calls replies old clock new clock_after → Made by_others calls replies old own new own_after
+      → ((ids : List Uuid) → Leads m.gives tt ids tt → Leads gives tt ids tt) → Made m calls replies old clock new clock_after → Made (otherwise m m.tells observes gives) calls replies old own new own_after
   made_by calls replies old new clock clock_after own own_after reads given h = record {
     steps = h.steps;
     is_run = record {
       calls_made = h.is_run.calls_made;
       replies_given = h.is_run.replies_given;
-      are_steps = steps_by (PromisedRun m.says m.read) old.state h.steps h.is_run.are_steps;
+      are_steps = steps_otherwise m m.tells observes gives (PromisedRun m.says m.read) old.state h.steps h.is_run.are_steps;
       ends = h.is_run.ends;
       heard = h.is_run.heard;
       read = reads (readings_of h.steps) h.is_run.read;
       given = given (ids_of h.steps) h.is_run.given;
     };
-    listed = listed_by old.state old.write_list new.write_list h.steps h.listed;
+    listed = listed_otherwise m m.tells observes gives old.state old.write_list new.write_list h.steps h.listed;
     in_order = h.in_order;
   }
 

@@ -144,7 +144,7 @@ module _ {K V S X L P W C : Type 0} (hash_of : S → K → ℕ) (m : Meaning K V
 
     pub get_with_keeps : (is_clone : V → V → Type 0) (Made : V → Type 0) (result : Result V (GetWithRefused K V)) → KeepsKeys hash_of (λ (old new : Segmented K V S X L P W). Steps (segment_of old.routing.count (hash_of old.routing.hasher key)) (GetsWith m hash_of key now clock clock_after is_clone Made result) old new)
     get_with_keeps is_clone Made result = keeps_at (GetsWith m hash_of key now clock clock_after is_clone Made result)
-        (λ Is x y here (made, own, is, hands, makes, counted) held. kept _ Is x.engine y.engine clock clock_after (λ calls replies fits. gets_or_inserts_only Is key _ now made own calls replies here fits) makes held)
+        (λ Is x y here (made, own, (is, hands, makes, counted, given, back)) held. kept _ Is x.engine y.engine clock clock_after (λ calls replies fits. gets_or_inserts_only Is key _ now made own calls replies here fits) makes held)
 
 module _ {K V S X L P W C : Type 0} (hash_of : S → K → ℕ) (m : Meaning K V X L P W C (Unit {0})) (key : K) (now : Instant) (clock clock_after : C) where
   pub remove_keeps : (is_key_clone : K → K → Type 0) (is_clone : V → V → Type 0) (Answers : Option (V × Result (Unit {0}) OutOfMemory) → Type 0)

@@ -223,7 +223,7 @@ module _ {K V S X L P W C : Type 0} (hash_of : S → K → ℕ) (m : Meaning K V
       moves_one among (segment_of old.routing.count (hash_of old.routing.hasher key)) (GetsWith m hash_of key now clock clock_after is_clone (makes init) result)
       (λ hasher calls replies. (made : Option V) × (own : Result V (Option (InsertRefused K V))) × ((value : V) → made ≡ Some value → makes init value) × HandsOutMade is_clone key own result × GetsOrInserts key (hash_of hasher key) now made own calls replies) clock clock_after old new
       (λ x y step. (
-      let (made, own, is, hands, calls, counted) = step in
+      let (made, own, (is, hands, calls, counted, given, back)) = step in
       makes_wide m is_key_clone is_clone (GetsOrInserts key (hash_of x.engine.hasher key) now made own) _ (λ calls replies fit. (made, own, is, hands, fit)) x.engine y.engine clock clock_after calls
       ))
       steps

@@ -1,5 +1,5 @@
 //! A synchronous cache that owns its clock.
-ghost use Rattle.std.specs.Prelude.{◌≡◌, ◌≤◌, true, false, Option, Some, None, Result, IfOk, IfErr, OnErr, is_some, option_copied, unwrap_or};
+ghost use Rattle.std.specs.Prelude.{◌≡◌, ◌≤◌, true, false, Option, Some, None, Result, IfOk, IfErr, OnErr, is_some, option_copied, unwrap_or, IfSome, option_map};
 ghost use Rattle.std.specs.List.{fold};
 ghost use Rattle.moka_parts.specs.Calls.{CapacityStep, ContainsStep, InvalidateStep, no_events, only_ids};
 ghost use Rattle.moka_parts.specs.Copies.{IsCopiedAnswer};
@@ -12,10 +12,11 @@ ghost use Rattle.moka_parts.specs.declared.calls.Reply.TheVariants as reply;
 ghost use Rattle.moka_parts.specs.declared.error.InsertRefused.{InsertRefused};
 ghost use Rattle.moka_parts.specs.declared.error.OutOfMemory.{OutOfMemory};
 ghost use Rattle.moka_parts.specs.declared.policy.Instant.{Instant};
+ghost use Rattle.moka_parts.specs.declared.records.Record.{Record};
 ghost use Rattle.moka_engine.specs.Config.{new_engine};
 ghost use Rattle.moka_drive.specs.Counters.{after_look_up};
 ghost use Rattle.moka_drive.specs.Unsent.{IsThere, ShowsWrites};
-ghost use Rattle.moka_drive.specs.Synchronous.{fresh, Makes, meaning_of, hears_clones, Just, own_run, InsertsEntry, GetsValue, RemovesEntry, removed, invalidated, GetsWith, GetsWithIfMade, GetsWithIfNoError};
+ghost use Rattle.moka_drive.specs.Synchronous.{fresh, Makes, meaning_of, hears_clones, Just, own_run, InsertsEntry, GetsValue, RemovesEntry, removed, invalidated, taken_out, GetsWith, GetsWithIfMade, GetsWithIfNoError};
 
 use moka_drive::cache::Cache;
 use moka_drive::error::{GetWithRefused, NotTold};
@@ -176,6 +177,8 @@ impl<
             (GetsValue key.now (S.Hasher.finish (fold S.Hasher.write (S.build_hasher self.old.cache.engine.hasher) (K.hash_input key.now))) now own)
             self.old.cache.engine read self.new.cache.engine self.new.clock)
             × IfOk result (λ found. ContainsStep P.says K.eq self.old.cache.engine.state key.now now.0 (is_some found)) }
+        ensures value { IfOk result (λ found. IfSome found (λ v. (r : Record K V)
+            × (record_of_key K.eq self.old.cache.engine.state.records key.now ≡ Some r) × V.is_clone r.value v)) }
         ensures unchanged { OnErr result (self.new.cache.engine.state ≡ self.old.cache.engine.state) }
         ensures counted { self.new.cache.stats ≡ after_look_up result self.old.cache.stats }
     {
@@ -198,6 +201,8 @@ impl<
             (RemovesEntry key.now (S.Hasher.finish (fold S.Hasher.write (S.build_hasher self.old.cache.engine.hasher) (K.hash_input key.now))) now taken)
             self.old.cache.engine read self.new.cache.engine self.new.clock) }
         ensures gone { record_of_key K.eq self.new.cache.engine.state.records key.now ≡ None }
+        ensures value { taken_out result
+            ≡ option_map (λ r. r.value) (record_of_key K.eq self.old.cache.engine.state.records key.now) }
         ensures counted { self.new.cache.stats ≡ self.old.cache.stats }
     {
         let now = self.clock.now();

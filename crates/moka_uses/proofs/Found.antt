@@ -2,6 +2,7 @@
 use Rattle.std.proofs.Common.{◌≡◌, refl, ℕ, Bool, true, false, List, [], Option, Some, None, Result, Ok, Err, option_map, ap, sym, subst, ◌∙◌, inl, inr, true≢false}
 use Rattle.std.specs.Cmp.{IsEquivalence}
 use Rattle.std.specs.FinMap.{get, insert, empty}
+use Rattle.std.proofs.lemmas.Option.{same_Some}
 use Rattle.moka_engine.specs.parts.Entry.{Entry}
 use Rattle.moka_engine.specs.parts.Ticket.{Ticket}
 use Rattle.moka_engine.specs.parts.OutOfMemory.{OutOfMemory}
@@ -30,9 +31,6 @@ one_record {K} {V} eq laws key n r same = present_key eq one key laws (λ a b p 
 
     only : (a : ℕ) (p : Record K V) → get one a ≡ Some p → a ≡ n
     only a p at = elim (same_or_apart a n) [ inl e ↦ e | inr apart ↦ absurd (nothing_at a p (sym (get_past_insert empty n r a apart) ∙ at)) ]
-
-same_some : {A : Type 0} (x y : A) → Some x ≡ Some y → x ≡ y
-same_some x y e = cc
 
 -- a send changes neither records, nor predicates, nor what hides them
 pub record HidesAlike {K V X P W : Type 0} (s t : State K V X P W) : Type 0 where
@@ -99,7 +97,7 @@ module _ {K V X P W : Type 0} (eq : K → K → Bool) (says : P → K → V → 
         new = new_state settings capacity 0 first_ticket
 
         copied : (r : Record K V) (own given : Option (Entry K V)) → option_map (λ x. x.value) own ≡ Some r.value → IsCopy (IsEntryCopy is_key_clone is_value_clone) own given → IsCopy is_value_clone (Some r.value) (option_map (λ x. x.value) given)
-        copied r (Some x) (Some y) same copy = subst (λ v. is_value_clone v y.value) (same_some x.value r.value same) copy.value
+        copied r (Some x) (Some y) same copy = subst (λ v. is_value_clone v y.value) (same_Some x.value r.value same) copy.value
         copied r (Some x) None same copy = absurd copy
         copied r None given same copy = (let impossible : None ≡ Some r.value = same in absurd (cc))
 

@@ -4,14 +4,10 @@ pub mod Told
 pub mod Ended
 pub mod Covered
 pub mod Followed
-pub mod Replied
-pub mod GotOrMade
 pub mod Idle
 pub mod Named
 pub mod Among
 pub mod Bound
 pub mod LoggedOut
-pub mod Seen
 pub mod Batched
-pub mod TakenOut
 pub mod Visited

@@ -1,7 +1,6 @@
 pub mod Hidden
 pub mod Ordered
 pub mod Driven
-pub mod Handled
 pub mod ReadThrough
 pub mod Sessions
 pub mod Borrowed

@@ -1,16 +1,9 @@
 -- A cache in front of a source.
-use Rattle.std.specs.Prelude.{◌≡◌, ℕ, None, Ok}
+use Rattle.std.specs.Prelude.{ℕ, None, Ok}
 use Rattle.moka_engine.specs.parts.Instant.{Instant}
 use Rattle.moka_engine.specs.Runs.{Engine}
 use Rattle.moka_engine.specs.State.{Meaning}
-use Rattle.moka_drive.specs.declared.error.GetWithRefused.{GetWithRefused}
-use Rattle.moka_drive.specs.declared.error.GetWithRefused.TheVariants.{Lookup, Insert}
 use Rattle.moka_drive.specs.Synchronous.{Makes, GetsValue}
-
--- the key comes back, and a value only if it is the source's
-abbrev pub ComesBack : {K V : Type 0} → (V → Type 0) → K → GetWithRefused K V → Type 0
-ComesBack IsGiven key (Lookup k) = k ≡ key
-ComesBack IsGiven key (Insert refused) = (refused.key ≡ key) × IsGiven refused.value
 
 -- the cache made a look-up of the key that found nothing, and no other call
 abbrev pub FindsNothing : {K V S X L P W C : Type 0} → Meaning K V X L P W C (Unit {0}) → K → Instant → Engine K V S X L P W → C → Engine K V S X L P W → C → Type 0

@@ -3,8 +3,8 @@ ghost use Rattle.std.specs.Prelude.{◌≡◌, ◌==◌, ◌⊎◌, ◌++◌, �
 ghost use Rattle.moka_engine.specs.Calls.{ContainsStep};
 ghost use Rattle.moka_engine.specs.Records.{record_of_key};
 ghost use Rattle.moka_engine.specs.State.{is_disabled};
+ghost use Rattle.moka_drive.specs.Given.{IsHandedOut};
 ghost use Rattle.moka_drive.specs.Unsent.{IsThere};
-ghost use Rattle.moka_uses.specs.Handled.{IsCloneOfKept};
 
 use moka_drive::{Cache, GetWithRefused};
 use moka_engine::{
@@ -67,8 +67,9 @@ pub fn value_or_made<V: Clone + Drop, F: FnOnce() -> V, C: Clock>(
     clock: &mut C,
 ) -> Result<V, OutOfMemory>
     requires callable { ContainsStep (λ _ _ _ answer. answer ≡ false) (λ a b. a == b) cache.old.engine.state key now.0 false → F.pre make }
-    ensures { IfOk result (λ value. IsCloneOfKept (λ a b. a == b) V.is_clone cache.old.engine.state key value
-        ⊎ ((made : V) × F.post make made × ((value ≡ made) ⊎ V.is_clone made value))) }
+    ensures { IfOk result (λ value. F.post make value
+        ⊎ IsHandedOut (λ a b. a == b) (λ _ _ _ answer. answer ≡ false) V.is_clone cache.old.engine.state key now.0
+        (F.post make) value) }
 {
     match cache.get_with(key, make, now, clock) {
         Ok(value) => Ok(value),

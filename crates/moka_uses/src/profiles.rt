@@ -4,11 +4,8 @@ ghost use Rattle.std.specs.Duration.{as_nanos};
 ghost use Rattle.moka_engine.specs.parts.Instant.{Instant};
 ghost use Rattle.moka_drive.specs.Given.{IsHandedOut};
 
-use moka_drive::laws::get_with_hands_out;
 use moka_drive::{CountingListener, GetWithRefused};
-use moka_engine::{
-    CacheConfig, Clock, DefaultHasher, NoExpiry, NoListener, NoPredicate, NoWeigher, OutOfMemory,
-};
+use moka_engine::{CacheConfig, Clock, NoExpiry, NoListener, OutOfMemory};
 use moka_timed::TimedCache;
 use std::alloc::Global;
 use std::time::Duration;
@@ -47,16 +44,5 @@ pub fn profile<V: Clone + Drop, C: Clock, F: FnOnce() -> V>(
     ensures { (now : Instant) × (read_clock : C) × C.reads profiles.old.clock now read_clock
         × IfOk result (λ profile. IsHandedOut (λ a b. a == b) (λ _ _ _ answer. answer ≡ false) V.is_clone profiles.old.cache.engine.state user now.0 (F.post read) profile) }
 {
-    get_with_hands_out::<
-        u64,
-        V,
-        DefaultHasher,
-        NoExpiry,
-        CountingListener<NoListener>,
-        NoPredicate,
-        NoWeigher,
-        C,
-        F,
-    >();
     profiles.get_with(user, read)
 }

@@ -1,9 +1,9 @@
 //! A read-through cache over a source that can fail.
-ghost use Rattle.std.specs.Prelude.{◌≡◌, ◌⊎◌, false, Ok, Err, IfOk, IfErr};
+ghost use Rattle.std.specs.Prelude.{false, Ok, Err, IfOk, IfErr};
 ghost use Rattle.moka_engine.specs.Calls.{ContainsStep};
+ghost use Rattle.moka_drive.specs.Given.{ComesBack, IsHandedOut};
 ghost use Rattle.moka_drive.specs.Synchronous.{meaning_of};
-ghost use Rattle.moka_uses.specs.Handled.{IsCloneOfKept};
-ghost use Rattle.moka_uses.specs.ReadThrough.{ComesBack, FindsNothing};
+ghost use Rattle.moka_uses.specs.ReadThrough.{FindsNothing};
 
 use moka_drive::{Cache, GetWithRefused};
 use moka_engine::{Clock, Expiry, Instant, Listener, PredicateFn, Weigher};
@@ -33,10 +33,12 @@ pub fn look_up<
     clock: &mut C,
 ) -> Result<Result<V, E>, GetWithRefused<K, V>>
     requires callable { ContainsStep P.says K.eq cache.old.engine.state key now.0 false → F.pre ask }
-    ensures given { IfOk result (λ answer. IfOk answer (λ value. IsCloneOfKept K.eq V.is_clone cache.old.engine.state key value ⊎ ((own : V) × F.post ask (Ok own) × V.is_clone own value))) }
+    ensures given { IfOk result (λ answer. IfOk answer
+        (IsHandedOut K.eq P.says V.is_clone cache.old.engine.state key now.0 (λ value. F.post ask (Ok value)))) }
     ensures failed { IfOk result (λ answer. IfErr answer (λ error. F.post ask (Err error)
         × FindsNothing (meaning_of K.eq L.tells P.says W.weighs C.reads X.created X.read X.updated) key now cache.old.engine clock.old cache.new.engine clock.new)) }
-    ensures back { IfErr result (λ refused. ComesBack (λ value. F.post ask (Ok value)) key refused) }
+    ensures back { IfErr result
+        (ComesBack cache.old.engine.state cache.new.engine.state key (λ value. F.post ask (Ok value))) }
 {
     cache.try_get_with(key, ask, now, clock)
 }

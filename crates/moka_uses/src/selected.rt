@@ -1,9 +1,9 @@
 //! Entry calls by moka's names: a value that is put only if its key is not there.
-ghost use Rattle.std.specs.Prelude.{◌≡◌, ◌⊎◌, ◌==◌, IfOk, Option, Result};
+ghost use Rattle.std.specs.Prelude.{◌≡◌, IfOk, Option, Result};
 ghost use Rattle.std.specs.List.{fold};
 ghost use Rattle.moka_engine.specs.parts.InsertRefused.{InsertRefused};
+ghost use Rattle.moka_drive.specs.Given.{IsHandedOut};
 ghost use Rattle.moka_drive.specs.Synchronous.{GetsOrInserts, Makes, meaning_of};
-ghost use Rattle.moka_uses.specs.Handled.{IsCloneOfKept};
 
 use moka_drive::{Cache, CacheEntry};
 use moka_engine::{Clock, Expiry, InsertRefused, Instant, Listener, PredicateFn, Weigher};
@@ -33,7 +33,8 @@ pub fn put_if_absent<
         × Makes (meaning_of K.eq L.tells P.says W.weighs C.reads X.created X.read X.updated)
         (GetsOrInserts key (S.Hasher.finish (fold S.Hasher.write (S.build_hasher cache.old.engine.hasher) (K.hash_input key))) now put own)
         cache.old.engine clock.old cache.new.engine clock.new }
-    ensures given { IfOk result (λ entry. IsCloneOfKept K.eq V.is_clone cache.old.engine.state key entry.value ⊎ V.is_clone value entry.value) }
+    ensures given { IfOk result (λ entry.
+        IsHandedOut K.eq P.says V.is_clone cache.old.engine.state key now.0 (λ v. v ≡ value) entry.value) }
 {
     cache.entry(key).or_insert(value, now, clock)
 }

@@ -1,6 +1,6 @@
 //! Visits, counted by page.
 ghost use Rattle.std.specs.Prelude.{◌≡◌, IfErr, IfOk, IfSome, option_copied};
-ghost use Rattle.moka_uses.specs.ReadThrough.{ComesBack};
+ghost use Rattle.moka_drive.specs.Given.{ComesBack};
 ghost use Rattle.moka_uses.specs.Visits.{HasLeft, IsFull, LooksUp, PutsCount, RemovesCount, meaning, next_count, op_for, page_of};
 
 use moka_drive::laws::hears_themselves;
@@ -20,9 +20,9 @@ pub fn count<C: Clock>(
 ) -> Result<u64, GetWithRefused<u64, u64>>
     ensures counted { IfOk result (λ count. count ≡ next_count visits.old.engine.state page now.0) }
     ensures put { IfOk result (PutsCount (meaning C.reads) page now visits.old.engine clock.old visits.new.engine clock.new) }
-    ensures back { IfErr result (ComesBack (λ count. count ≡ next_count visits.old.engine.state page now.0) page) }
+    ensures back { IfErr result (ComesBack visits.old.engine.state visits.new.engine.state page
+        (λ count. count ≡ next_count visits.old.engine.state page now.0)) }
 {
-    visits.engine().invariant_holds();
     let one_more = |seen: Option<u64>| seen.unwrap_or(0).saturating_add(1);
     let entry = visits.entry(page).and_upsert_with(one_more, now, clock)?;
     Ok(entry.value)
@@ -50,7 +50,6 @@ pub fn take_full<C: Clock>(
     ensures back { IfErr result (λ refused. page_of refused ≡ page) }
 {
     hears_themselves::<u64, u64, DefaultHasher, NoExpiry, NoListener, NoPredicate, NoWeigher, C>();
-    visits.engine().invariant_holds();
     let remove_full = move |seen: Option<&u64>| -> Op<u64>
         ensures { result ≡ op_for limit (option_copied seen.entry) }
     {

@@ -134,57 +134,14 @@ pub fn answers_as_before<K, V, X, P: PredicateFn<K, V>, W>()
 
 /// A cache made again of what `save` lists of another, put back by `restore` into an empty one with the same times and
 /// room for all, answers each look-up as the first does at the same moment, if neither saving nor putting back was
-/// later: what one finds the other finds, with a clone of the value. Clones of keys have to be equal.
+/// later, until an entry of either is read or written: what one finds the other finds, with a clone of the value.
+/// Clones of keys have to be equal.
 pub fn made_again_answers_alike<
     K: Eq + Clone,
     V: Clone,
     X,
     P: PredicateFn<K, V>,
     W: Weigher<K, V>,
->()
-{}
-
-/// What `get_with` hands out is a clone of a value that is visible at the moment of the call, or of one that the maker
-/// made since none was.
-pub fn get_with_hands_out<
-    K: Eq,
-    V: Clone,
-    S,
-    X: Expiry<K, V>,
-    L: Listener<K, V>,
-    P: PredicateFn<K, V>,
-    W: Weigher<K, V>,
-    C: Clock,
-    F: FnOnce() -> V,
->()
-{}
-
-/// So is what `optionally_get_with` hands out; and nothing is handed out only if the maker declined.
-pub fn optionally_get_with_hands_out<
-    K: Eq,
-    V: Clone,
-    S,
-    X: Expiry<K, V>,
-    L: Listener<K, V>,
-    P: PredicateFn<K, V>,
-    W: Weigher<K, V>,
-    C: Clock,
-    F: FnOnce() -> Option<V>,
->()
-{}
-
-/// So is what `try_get_with` hands out; and an error within `Ok` is the maker's.
-pub fn try_get_with_hands_out<
-    K: Eq,
-    V: Clone,
-    S,
-    X: Expiry<K, V>,
-    L: Listener<K, V>,
-    P: PredicateFn<K, V>,
-    W: Weigher<K, V>,
-    C: Clock,
-    E,
-    F: FnOnce() -> Result<V, E>,
 >()
 {}
 

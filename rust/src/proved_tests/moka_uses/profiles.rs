@@ -2,11 +2,8 @@
 //! A read-through cache of profiles, each of which lasts a while, with a listener that counts what leaves.
 use crate::support::prelude::*;
 
-use crate::engine::moka_drive::laws::get_with_hands_out;
 use crate::engine::moka_drive::{CountingListener, GetWithRefused};
-use crate::engine::moka_engine::{
-    CacheConfig, Clock, DefaultHasher, NoExpiry, NoListener, NoPredicate, NoWeigher, OutOfMemory,
-};
+use crate::engine::moka_engine::{CacheConfig, Clock, NoExpiry, NoListener, OutOfMemory};
 use crate::proved_tests::moka_timed::TimedCache;
 use crate::support::alloc::Global;
 use crate::support::time::Duration;
@@ -41,16 +38,5 @@ pub fn profile<V: Clone, C: Clock, F: FnOnce() -> V>(
     read: F,
 ) -> Result<V, GetWithRefused<u64, V>>
 {
-    get_with_hands_out::<
-        u64,
-        V,
-        DefaultHasher,
-        NoExpiry,
-        CountingListener<NoListener>,
-        NoPredicate,
-        NoWeigher,
-        C,
-        F,
-    >();
     profiles.get_with(user, read)
 }

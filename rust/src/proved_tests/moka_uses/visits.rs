@@ -18,7 +18,6 @@ pub fn count<C: Clock>(
     clock: &mut C,
 ) -> Result<u64, GetWithRefused<u64, u64>>
 {
-    visits.engine().invariant_holds();
     let one_more = |seen: Option<u64>| seen.unwrap_or(0).saturating_add(1);
     let entry = visits.entry(page).and_upsert_with(one_more, now, clock)?;
     Ok(entry.value)
@@ -39,7 +38,6 @@ pub fn take_full<C: Clock>(
 ) -> Result<Option<u64>, ComputeRefused<u64, u64>>
 {
     hears_themselves::<u64, u64, DefaultHasher, NoExpiry, NoListener, NoPredicate, NoWeigher, C>();
-    visits.engine().invariant_holds();
     let remove_full = move |seen: Option<&u64>| -> Op<u64>
     {
         match seen {

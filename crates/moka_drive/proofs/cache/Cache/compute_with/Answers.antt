@@ -1,22 +1,24 @@
-use Rattle.std.proofs.Common.{◌≡◌, false, ◌∙◌, refl, sym, subst, ℕ, Option, Some, None, Ok, Err, is_some}
+use Rattle.std.proofs.Common.{◌≡◌, false, ◌∙◌, refl, sym, subst, ℕ, Option, Some, None, Ok, Err}
 use Rattle.std.specs.List.{fold}
+use Rattle.std.specs.Prelude.{IfSome, Result}
 use Rattle.moka_parts.specs.State.{Meaning}
+use Rattle.moka_parts.specs.declared.error.OutOfMemory.{OutOfMemory}
 use Rattle.moka_drive.specs.declared.compute.CompResult.TheVariants.{StillNone, Unchanged}
-use Rattle.moka_drive.specs.Computing.{HandsOutComputedPut, HandsOutLeft, Left, LeftNone, Puts, Takes}
+use Rattle.moka_drive.specs.Computing.{Computed, HandsOutComputedPut, HandsOutLeft, Left, LeftNone, Puts, Takes}
 use Rattle.moka_drive.specs.Synchronous.{GetsValue, meaning_of}
-use Rattle.moka_drive.proofs.Computing.{computed_put, computed_take, heard}
+use Rattle.moka_drive.proofs.Computing.{computed_put, computed_take, heard, was_seen}
+use Rattle.moka_drive.proofs.Quiet.{none_of}
 use Rattle.moka_drive.proofs.cache.Cache.compute_with.Goals as goal
 
-none_there : {A : Type 0} (seen : Option A) → is_some seen ≡ false → seen ≡ None
-none_there None is = refl
-none_there (Some x) is = absurd (cc)
+same_takes : {K V : Type 0} (a b : Option (V × Result (Unit {0}) OutOfMemory)) → ◌≡◌ {A = Option (Computed K V)} (Some (Takes a)) (Some (Takes b)) → a ≡ b
+same_takes a b e = cc
 
 pub returns-in-Err : goal.returns-in-Err
 returns-in-Err g c =
     let m : Meaning g.row.K.Denot g.row.V.Denot g.row.X.Denot g.row.L.Denot g.row.P.Denot g.row.W.Denot g.row.C.Denot (Unit {0}) = meaning_of g.K.PartialEq.eq g.L.Listener.tells g.P.PredicateFn.says g.W.Weigher.weighs g.C.Clock.reads g.X.Expiry.created g.X.Expiry.read g.X.Expiry.updated in
     let hash_by : g.row.S.Denot → ℕ = λ h. g.S.Hasher.Hasher.finish (fold g.S.Hasher.Hasher.write (g.S.BuildHasher.build_hasher h) (g.K.Hash.hash_input c.args.key)) in
     let got = c.in-Err.ensures.made in
-    (got.0, Err c.in-Err.field-0, got.1, None, tt, refl, heard g.K.Clone.is_clone g.V.Clone.is_clone m (GetsValue c.args.key (hash_by c.args.self.now.engine.hasher) c.args.now got.0) c.args.self.now.engine c.get_hashed.new.self.engine c.args.clock.now c.get_hashed.new.clock got.2, c.in-Err.ensures.counted)
+    (got.0, Err c.in-Err.field-0, got.1, None, tt, refl, heard g.K.Clone.is_clone g.V.Clone.is_clone m (GetsValue c.args.key (hash_by c.args.self.now.engine.hasher) c.args.now got.0) c.args.self.now.engine c.get_hashed.new.self.engine c.args.clock.now c.get_hashed.new.clock got.2, c.in-Err.ensures.counted, tt, (λ taken e. absurd (cc)))
 
 pub returns-in-Put : goal.returns-in-Put
 returns-in-Put g c =
@@ -32,6 +34,8 @@ returns-in-Put g c =
       subst (λ b. HandsOutComputedPut g.K.Clone.is_clone g.V.Clone.is_clone c.args.key b put.0 c.put_computed.result) c.is_some-is_there.ensures put.1,
       computed_put g.K.Clone.is_clone g.V.Clone.is_clone m c.args.key hash_by c.args.now c.args.self.now.engine c.get_hashed.new.self.engine c.put_computed.new.self.engine c.args.clock.now c.get_hashed.new.clock c.put_computed.new.clock got.0 got.2 c.in-Put.value put.0 put.2,
       c.put_computed.ensures.counted ∙ c.in-Ok.ensures.counted,
+      c.in-Ok.ensures.sees,
+      (λ taken e. absurd (cc)),
     )
 
 pub returns-in-Some : goal.returns-in-Some
@@ -39,14 +43,14 @@ returns-in-Some g c =
     let m : Meaning g.row.K.Denot g.row.V.Denot g.row.X.Denot g.row.L.Denot g.row.P.Denot g.row.W.Denot g.row.C.Denot (Unit {0}) = meaning_of g.K.PartialEq.eq g.L.Listener.tells g.P.PredicateFn.says g.W.Weigher.weighs g.C.Clock.reads g.X.Expiry.created g.X.Expiry.read g.X.Expiry.updated in
     let hash_by : g.row.S.Denot → ℕ = λ h. g.S.Hasher.Hasher.finish (fold g.S.Hasher.Hasher.write (g.S.BuildHasher.build_hasher h) (g.K.Hash.hash_input c.args.key)) in
     let got = c.in-Ok.ensures.made in
-    rw c.found.ensures (got.0, Ok c.in-Ok.seen, got.1, Some Left, (c.as_ref.result, c.as_ref.ensures.value, c.in-Nop.ensures), subst (λ o. HandsOutLeft g.K.Clone.is_clone g.V.Clone.is_clone c.args.key o (Ok (Unchanged (record { key = c.args.key; value = c.in-Some.value; is_fresh = false; is_old_value_replaced = false })))) (sym c.in-Some.is) (refl, (refl, refl, refl)), heard g.K.Clone.is_clone g.V.Clone.is_clone m (GetsValue c.args.key (hash_by c.args.self.now.engine.hasher) c.args.now got.0) c.args.self.now.engine c.get_hashed.new.self.engine c.args.clock.now c.get_hashed.new.clock got.2, c.in-Ok.ensures.counted)
+    rw c.found.ensures (got.0, Ok c.in-Ok.seen, got.1, Some Left, (c.as_ref.result, c.as_ref.ensures.value, c.in-Nop.ensures), subst (λ o. HandsOutLeft g.K.Clone.is_clone g.V.Clone.is_clone c.args.key o (Ok (Unchanged (record { key = c.args.key; value = c.in-Some.value; is_fresh = false; is_old_value_replaced = false })))) (sym c.in-Some.is) (refl, (refl, refl, refl)), heard g.K.Clone.is_clone g.V.Clone.is_clone m (GetsValue c.args.key (hash_by c.args.self.now.engine.hasher) c.args.now got.0) c.args.self.now.engine c.get_hashed.new.self.engine c.args.clock.now c.get_hashed.new.clock got.2, c.in-Ok.ensures.counted, c.in-Ok.ensures.sees, (λ taken e. absurd (cc)))
 
 pub returns-in-Nop : goal.returns-in-Nop
 returns-in-Nop g c =
     let m : Meaning g.row.K.Denot g.row.V.Denot g.row.X.Denot g.row.L.Denot g.row.P.Denot g.row.W.Denot g.row.C.Denot (Unit {0}) = meaning_of g.K.PartialEq.eq g.L.Listener.tells g.P.PredicateFn.says g.W.Weigher.weighs g.C.Clock.reads g.X.Expiry.created g.X.Expiry.read g.X.Expiry.updated in
     let hash_by : g.row.S.Denot → ℕ = λ h. g.S.Hasher.Hasher.finish (fold g.S.Hasher.Hasher.write (g.S.BuildHasher.build_hasher h) (g.K.Hash.hash_input c.args.key)) in
     let got = c.in-Ok.ensures.made in
-    (got.0, Ok c.in-Ok.seen, got.1, Some Left, (c.as_ref.result, c.as_ref.ensures.value, c.in-Nop.ensures), subst (λ o. HandsOutLeft g.K.Clone.is_clone g.V.Clone.is_clone c.args.key o (Ok (StillNone c.args.key))) (sym c.in-None.is) refl, heard g.K.Clone.is_clone g.V.Clone.is_clone m (GetsValue c.args.key (hash_by c.args.self.now.engine.hasher) c.args.now got.0) c.args.self.now.engine c.get_hashed.new.self.engine c.args.clock.now c.get_hashed.new.clock got.2, c.in-Ok.ensures.counted)
+    (got.0, Ok c.in-Ok.seen, got.1, Some Left, (c.as_ref.result, c.as_ref.ensures.value, c.in-Nop.ensures), subst (λ o. HandsOutLeft g.K.Clone.is_clone g.V.Clone.is_clone c.args.key o (Ok (StillNone c.args.key))) (sym c.in-None.is) refl, heard g.K.Clone.is_clone g.V.Clone.is_clone m (GetsValue c.args.key (hash_by c.args.self.now.engine.hasher) c.args.now got.0) c.args.self.now.engine c.get_hashed.new.self.engine c.args.clock.now c.get_hashed.new.clock got.2, c.in-Ok.ensures.counted, c.in-Ok.ensures.sees, (λ taken e. absurd (cc)))
 
 pub returns-then-is_there : goal.returns-then-is_there
 returns-then-is_there g c =
@@ -62,6 +66,12 @@ returns-then-is_there g c =
       (sym c.is_some-is_there.ensures ∙ c.if-is_there.true, took.1),
       computed_take g.K.Clone.is_clone g.V.Clone.is_clone m c.args.key hash_by c.args.now c.args.self.now.engine c.get_hashed.new.self.engine c.remove_computed.new.self.engine c.args.clock.now c.get_hashed.new.clock c.remove_computed.new.clock got.0 got.2 took.0 took.2,
       c.remove_computed.ensures.counted ∙ c.in-Ok.ensures.counted,
+      c.in-Ok.ensures.sees,
+      (λ taken is. (
+        c.remove_computed.ensures.gone,
+        subst (λ t. IfSome t (λ t. IfSome c.in-Ok.seen (g.V.Clone.is_clone t.0))) (same_takes took.0 taken is)
+            (was_seen g.K.PartialEq.eq g.P.PredicateFn.says g.V.Clone.is_clone c.args.self.now.engine.state c.get_hashed.new.self.engine.state.records c.args.key c.args.now.0 c.in-Ok.seen took.0 c.in-Ok.ensures.sees c.in-Ok.ensures.stays took.3),
+      )),
     )
 
 pub returns : goal.returns
@@ -69,7 +79,7 @@ returns g c =
     let m : Meaning g.row.K.Denot g.row.V.Denot g.row.X.Denot g.row.L.Denot g.row.P.Denot g.row.W.Denot g.row.C.Denot (Unit {0}) = meaning_of g.K.PartialEq.eq g.L.Listener.tells g.P.PredicateFn.says g.W.Weigher.weighs g.C.Clock.reads g.X.Expiry.created g.X.Expiry.read g.X.Expiry.updated in
     let hash_by : g.row.S.Denot → ℕ = λ h. g.S.Hasher.Hasher.finish (fold g.S.Hasher.Hasher.write (g.S.BuildHasher.build_hasher h) (g.K.Hash.hash_input c.args.key)) in
     let got = c.in-Ok.ensures.made in
-    (got.0, Ok c.in-Ok.seen, got.1, Some LeftNone, (c.as_ref.result, c.as_ref.ensures.value, c.in-Remove.ensures), (none_there c.in-Ok.seen (sym c.is_some-is_there.ensures ∙ c.if-is_there.false), refl), heard g.K.Clone.is_clone g.V.Clone.is_clone m (GetsValue c.args.key (hash_by c.args.self.now.engine.hasher) c.args.now got.0) c.args.self.now.engine c.get_hashed.new.self.engine c.args.clock.now c.get_hashed.new.clock got.2, c.in-Ok.ensures.counted)
+    (got.0, Ok c.in-Ok.seen, got.1, Some LeftNone, (c.as_ref.result, c.as_ref.ensures.value, c.in-Remove.ensures), (none_of c.in-Ok.seen (sym c.is_some-is_there.ensures ∙ c.if-is_there.false), refl), heard g.K.Clone.is_clone g.V.Clone.is_clone m (GetsValue c.args.key (hash_by c.args.self.now.engine.hasher) c.args.now got.0) c.args.self.now.engine c.get_hashed.new.self.engine c.args.clock.now c.get_hashed.new.clock got.2, c.in-Ok.ensures.counted, c.in-Ok.ensures.sees, (λ taken e. absurd (cc)))
 
 pub f-requires : goal.f-requires
 f-requires g c = c.requires.callable c.as_ref.result (rw c.as_ref.ensures.value c.in-Ok.ensures.shown)

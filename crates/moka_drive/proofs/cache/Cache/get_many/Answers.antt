@@ -1,11 +1,12 @@
 use Rattle.std.proofs.Common.{◌∙◌, ap, arith, rules, sym, refl, ℕ, [], ◌∷◌, ◌++◌, append_assoc, append-nil, length, map, inl, inr, Option, Ok, Err}
 use Rattle.std.specs.List.{fold}
+use Rattle.std.proofs.lemmas.List.{map-append}
 use Rattle.moka_parts.specs.State.{Meaning}
 use Rattle.moka_parts.specs.declared.error.OutOfMemory.{OutOfMemory}
 use Rattle.moka_drive.specs.Counters.{after_look_up, after_look_ups}
 use Rattle.moka_drive.specs.Many.{GetsItem}
 use Rattle.moka_drive.specs.Synchronous.{GetsValue, meaning_of}
-use Rattle.moka_drive.proofs.Gotten.{counts_one_more, mapped_one_more, got_item, refused_get}
+use Rattle.moka_drive.proofs.Gotten.{counts_one_more, got_item, refused_get}
 use Rattle.moka_drive.proofs.InOrder.{made_none, made_next, made_last}
 use Rattle.moka_drive.proofs.Made.{made_nothing}
 use Rattle.moka_drive.proofs.Quiet.{empty_of_length}
@@ -40,8 +41,8 @@ loop-key-preserved g c =
     record {
       made = (
         h.0 ++ item ∷ [],
-        h.1 ∙ (ap (λ xs. map (λ g. g.0) h.0 ++ xs) c.in-Some.ensures.cases.0 ∙ (sym (append_assoc (map (λ g. g.0) h.0) (c.in-Some.key.now ∷ []) c.in-Some.after.now) ∙ ap (λ xs. xs ++ c.in-Some.after.now) (sym (mapped_one_more (λ g. g.0) h.0 item)))),
-        c.push_reserved.ensures.items ∙ (ap (λ xs. xs ++ c.in-Ok-get.value ∷ []) h.2 ∙ sym (mapped_one_more (λ g. g.1) h.0 item)),
+        h.1 ∙ (ap (λ xs. map (λ g. g.0) h.0 ++ xs) c.in-Some.ensures.cases.0 ∙ (sym (append_assoc (map (λ g. g.0) h.0) (c.in-Some.key.now ∷ []) c.in-Some.after.now) ∙ ap (λ xs. xs ++ c.in-Some.after.now) (sym (map-append (λ g. g.0) h.0 (item ∷ []))))),
+        c.push_reserved.ensures.items ∙ (ap (λ xs. xs ++ c.in-Ok-get.value ∷ []) h.2 ∙ sym (map-append (λ g. g.1) h.0 (item ∷ []))),
         made_next m hash_by (λ f. GetsItem g.V.Clone.is_clone f c.args.now) c.args.self.now.engine c.loop-key.self.engine c.get.new.self.engine c.args.clock.now c.loop-key.clock c.get.new.clock h.0 h.3 item got,
       );
       counted = c.in-Ok-get.ensures.counted ∙ (ap (after_look_up {E = OutOfMemory} (Ok c.in-Ok-get.value)) c.loop-key.invariant.counted ∙ (sym (counts_one_more c.loop-key.found.items c.in-Ok-get.value c.args.self.now.stats) ∙ ap (λ xs. after_look_ups xs c.args.self.now.stats) (sym c.push_reserved.ensures.items)));

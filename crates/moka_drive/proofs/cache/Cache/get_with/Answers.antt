@@ -1,52 +1,28 @@
-use Rattle.std.proofs.Common.{◌≡◌, ℕ, subst, Some, None, Ok, Err}
+use Rattle.std.proofs.Common.{ℕ, Some, None, Ok, Err}
 use Rattle.std.specs.List.{fold}
-use Rattle.moka_parts.specs.State.{Meaning}
-use Rattle.moka_parts.specs.Copies.{IsCopiedAnswer}
-use Rattle.moka_parts.specs.declared.error.OutOfMemory.{OutOfMemory}
-use Rattle.moka_drive.specs.Synchronous.{meaning_of}
-use Rattle.moka_drive.specs.Counters.{after_look_up}
-use Rattle.moka_drive.proofs.Getting.{got_nothing, got_value, got_refused, made_and_handed_out}
+use Rattle.moka_drive.proofs.Getting.{got_refused, got_value, made_and_handed_out}
 use Rattle.moka_drive.proofs.cache.Cache.get_with.Goals as goal
-
-same_some : {A : Type 0} (x y : A) → Some x ≡ Some y → x ≡ y
-same_some x y e = cc
 
 pub returns-in-Ok-Some : goal.returns-in-Ok-Some
 returns-in-Ok-Some g c =
-    let m : Meaning g.row.K.Denot g.row.V.Denot g.row.X.Denot g.row.L.Denot g.row.P.Denot g.row.W.Denot g.row.C.Denot (Unit {0}) = meaning_of g.K.PartialEq.eq g.L.Listener.tells g.P.PredicateFn.says g.W.Weigher.weighs g.C.Clock.reads g.X.Expiry.created g.X.Expiry.read g.X.Expiry.updated in
     let hash_by : g.row.S.Denot → ℕ = λ h. g.S.Hasher.Hasher.finish (fold g.S.Hasher.Hasher.write (g.S.BuildHasher.build_hasher h) (g.K.Hash.hash_input c.args.key)) in
-    let got = c.in-Ok-Some.ensures.made in
-    let copied = subst (λ o. IsCopiedAnswer g.V.Clone.is_clone got.0 (Ok o)) c.in-Ok-Some.field-0-is got.1 in
-    let counted = subst (λ o. c.get_hashed.new.self.stats ≡ after_look_up {E = OutOfMemory} (Ok o) c.args.self.now.stats) c.in-Ok-Some.field-0-is c.in-Ok-Some.ensures.counted in
-    let found = got_value g.V.Clone.is_clone m c.args.key hash_by c.args.now c.args.self.now c.get_hashed.new.self c.args.clock.now c.get_hashed.new.clock got.0 c.in-Ok-Some.value copied got.2 counted in
-    (None, found.0, (λ value e. absurd (cc)), found.1, found.2, found.3)
+    let came = got_value g.V.Clone.is_clone _ c.args.key hash_by c.args.now c.args.self.now c.get_hashed.new.self c.args.clock.now c.get_hashed.new.clock (λ v. g.F.FnOnce.post c.args.init tt v) _ c.in-Ok-Some.value c.in-Ok-Some.field-0-is c.in-Ok-Some.ensures.made c.in-Ok-Some.ensures.counted c.in-Ok-Some.ensures.sees in
+    (None, came.0, came.1)
 
 pub returns-in-Err : goal.returns-in-Err
 returns-in-Err g c =
-    let m : Meaning g.row.K.Denot g.row.V.Denot g.row.X.Denot g.row.L.Denot g.row.P.Denot g.row.W.Denot g.row.C.Denot (Unit {0}) = meaning_of g.K.PartialEq.eq g.L.Listener.tells g.P.PredicateFn.says g.W.Weigher.weighs g.C.Clock.reads g.X.Expiry.created g.X.Expiry.read g.X.Expiry.updated in
     let hash_by : g.row.S.Denot → ℕ = λ h. g.S.Hasher.Hasher.finish (fold g.S.Hasher.Hasher.write (g.S.BuildHasher.build_hasher h) (g.K.Hash.hash_input c.args.key)) in
-    let got = c.in-Err.ensures.made in
-    let refused = got_refused g.V.Clone.is_clone m c.args.key hash_by c.args.now c.args.self.now c.get_hashed.new.self c.args.clock.now c.get_hashed.new.clock got.0 c.in-Err.field-0 got.1 got.2 c.in-Err.ensures.counted in
-    (None, refused.0, (λ value e. absurd (cc)), refused.1, refused.2, refused.3)
+    let came = got_refused g.V.Clone.is_clone _ c.args.key hash_by c.args.now c.args.self.now c.get_hashed.new.self c.args.clock.now c.get_hashed.new.clock (λ v. g.F.FnOnce.post c.args.init tt v) c.in-Err.field-0 c.in-Err.ensures.made c.in-Err.ensures.counted c.in-Err.ensures.unchanged.0 in
+    (None, came.0, came.1)
 
 pub returns-in-Ok : goal.returns-in-Ok
 returns-in-Ok g c =
-    let m : Meaning g.row.K.Denot g.row.V.Denot g.row.X.Denot g.row.L.Denot g.row.P.Denot g.row.W.Denot g.row.C.Denot (Unit {0}) = meaning_of g.K.PartialEq.eq g.L.Listener.tells g.P.PredicateFn.says g.W.Weigher.weighs g.C.Clock.reads g.X.Expiry.created g.X.Expiry.read g.X.Expiry.updated in
     let hash_by : g.row.S.Denot → ℕ = λ h. g.S.Hasher.Hasher.finish (fold g.S.Hasher.Hasher.write (g.S.BuildHasher.build_hasher h) (g.K.Hash.hash_input c.args.key)) in
-    let got = c.in-Ok-None.ensures.made in
-    let copied = subst (λ o. IsCopiedAnswer g.V.Clone.is_clone got.0 (Ok o)) c.in-Ok-None.field-0-is got.1 in
-    let missed = got_nothing g.V.Clone.is_clone m c.args.key hash_by c.args.now c.args.self.now c.get_hashed.new.self c.args.clock.now c.get_hashed.new.clock got.0 copied got.2 in
-    let counted = subst (λ o. c.get_hashed.new.self.stats ≡ after_look_up {E = OutOfMemory} (Ok o) c.args.self.now.stats) c.in-Ok-None.field-0-is c.in-Ok-None.ensures.counted in
-    let made = made_and_handed_out g.V.Clone.is_clone m c.args.key hash_by c.args.now c.args.self.now c.get_hashed.new.self c.args.clock.now c.get_hashed.new.clock missed counted c.count_load.new.self c.count_load.ensures c.init-value.result c.insert_made_hashed.new.self c.insert_made_hashed.new.clock c.insert_made_hashed.ensures.counted (Ok c.in-Ok.copy) c.in-Ok.ensures.made in
-    (Some c.init-value.result, made.0, (λ answer e. subst (λ v. g.F.FnOnce.post c.args.init tt v) (same_some _ answer e) c.init-value.ensures), made.1, made.2, made.3)
+    let came = made_and_handed_out g.V.Clone.is_clone _ c.args.key hash_by c.args.now c.args.self.now c.get_hashed.new.self c.args.clock.now c.get_hashed.new.clock _ c.in-Ok-None.field-0-is c.in-Ok-None.ensures.made c.in-Ok-None.ensures.counted c.count_load.new.self c.count_load.ensures c.in-Ok-None.ensures.sees (λ v. g.F.FnOnce.post c.args.init tt v) c.init-value.result c.init-value.ensures c.insert_made_hashed.new.self c.insert_made_hashed.new.clock c.insert_made_hashed.ensures.counted (Ok c.in-Ok.copy) c.in-Ok.ensures.made tt in
+    (Some c.init-value.result, came.0, came.1)
 
 pub returns-in-Err-insert_made_hashed : goal.returns-in-Err-insert_made_hashed
 returns-in-Err-insert_made_hashed g c =
-    let m : Meaning g.row.K.Denot g.row.V.Denot g.row.X.Denot g.row.L.Denot g.row.P.Denot g.row.W.Denot g.row.C.Denot (Unit {0}) = meaning_of g.K.PartialEq.eq g.L.Listener.tells g.P.PredicateFn.says g.W.Weigher.weighs g.C.Clock.reads g.X.Expiry.created g.X.Expiry.read g.X.Expiry.updated in
     let hash_by : g.row.S.Denot → ℕ = λ h. g.S.Hasher.Hasher.finish (fold g.S.Hasher.Hasher.write (g.S.BuildHasher.build_hasher h) (g.K.Hash.hash_input c.args.key)) in
-    let got = c.in-Ok-None.ensures.made in
-    let copied = subst (λ o. IsCopiedAnswer g.V.Clone.is_clone got.0 (Ok o)) c.in-Ok-None.field-0-is got.1 in
-    let missed = got_nothing g.V.Clone.is_clone m c.args.key hash_by c.args.now c.args.self.now c.get_hashed.new.self c.args.clock.now c.get_hashed.new.clock got.0 copied got.2 in
-    let counted = subst (λ o. c.get_hashed.new.self.stats ≡ after_look_up {E = OutOfMemory} (Ok o) c.args.self.now.stats) c.in-Ok-None.field-0-is c.in-Ok-None.ensures.counted in
-    let made = made_and_handed_out g.V.Clone.is_clone m c.args.key hash_by c.args.now c.args.self.now c.get_hashed.new.self c.args.clock.now c.get_hashed.new.clock missed counted c.count_load.new.self c.count_load.ensures c.init-value.result c.insert_made_hashed.new.self c.insert_made_hashed.new.clock c.insert_made_hashed.ensures.counted (Err c.in-Err-insert_made_hashed.refused) c.in-Err-insert_made_hashed.ensures.made in
-    (Some c.init-value.result, made.0, (λ answer e. subst (λ v. g.F.FnOnce.post c.args.init tt v) (same_some _ answer e) c.init-value.ensures), made.1, made.2, made.3)
+    let came = made_and_handed_out g.V.Clone.is_clone _ c.args.key hash_by c.args.now c.args.self.now c.get_hashed.new.self c.args.clock.now c.get_hashed.new.clock _ c.in-Ok-None.field-0-is c.in-Ok-None.ensures.made c.in-Ok-None.ensures.counted c.count_load.new.self c.count_load.ensures c.in-Ok-None.ensures.sees (λ v. g.F.FnOnce.post c.args.init tt v) c.init-value.result c.init-value.ensures c.insert_made_hashed.new.self c.insert_made_hashed.new.clock c.insert_made_hashed.ensures.counted (Err c.in-Err-insert_made_hashed.refused) c.in-Err-insert_made_hashed.ensures.made c.in-Err-insert_made_hashed.ensures.back in
+    (Some c.init-value.result, came.0, came.1)

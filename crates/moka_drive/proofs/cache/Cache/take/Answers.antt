@@ -3,7 +3,7 @@ use Rattle.moka_parts.specs.State.{Meaning, is_disabled}
 use Rattle.moka_drive.specs.Synchronous.{meaning_of}
 use Rattle.moka_drive.proofs.Waiting.{remove_hands_out}
 use Rattle.moka_drive.proofs.Asking.{took_none, took}
-use Rattle.moka_drive.proofs.Gone.{has_left}
+use Rattle.moka_drive.proofs.Gone.{has_left, value_taken}
 use Rattle.moka_drive.proofs.cache.Cache.take.Goals as goal
 
 pub returns-in_default-clause-made : goal.returns-in_default-clause-made
@@ -40,3 +40,9 @@ returns-clause-gone g c =
     (took g.K.Clone.is_clone g.V.Clone.is_clone m c.args.key.now c.args.hash c.args.now c.self.inside.engine c.remove_entry_with_own_hash.new.self c.args.clock.now
     c.in-Some.entry c.in-Some.ticket c.in-Some.ensures.step c.in-Some.ensures.events
     c.notify_invalidate-told.result told.0 told.1 c.notify_invalidate-told.new.self told.2 told.3 c.post.new.engine c.post.new.clock c.post.ensures.made)
+
+pub returns-in_default-clause-value : goal.returns-in_default-clause-value
+returns-in_default-clause-value g c = rw (← c.self.view_is) (value_taken g.K.PartialEq.eq c.args.key.now c.self.inside.engine.state c.remove_entry_with_own_hash.new.self.state None c.in_default.ensures.step)
+
+pub returns-clause-value : goal.returns-clause-value
+returns-clause-value g c = rw (← c.self.view_is) (value_taken g.K.PartialEq.eq c.args.key.now c.self.inside.engine.state c.remove_entry_with_own_hash.new.self.state (Some (c.in-Some.entry, c.in-Some.ticket)) c.in-Some.ensures.step)

@@ -1,4 +1,4 @@
-use Rattle.std.proofs.Common.{ℕ, ◌∙◌, Some, Ok, Err}
+use Rattle.std.proofs.Common.{ℕ, ◌∙◌, refl, sym, subst, Some, Ok, Err}
 use Rattle.std.specs.List.{fold}
 use Rattle.moka_parts.specs.State.{Meaning}
 use Rattle.moka_drive.specs.Synchronous.{meaning_of}
@@ -11,7 +11,7 @@ returns-in-Ok-insert_entry g c =
     let hash_by : g.row.S.Denot → ℕ = λ h. g.S.Hasher.Hasher.finish (fold g.S.Hasher.Hasher.write (g.S.BuildHasher.build_hasher h) (g.K.Hash.hash_input c.args.key)) in
     let got = c.in-Ok.ensures.made in
     let put = upserted g.K.Clone.is_clone g.V.Clone.is_clone m c.args.key hash_by c.args.now c.args.self.now.engine c.get_hashed.new.self.engine c.insert_entry.new.self.engine c.args.clock.now c.get_hashed.new.clock c.insert_entry.new.clock got.0 c.in-Ok.seen c.is_some-is_there.result c.f-value.result (Ok c.in-Ok-insert_entry.entry) got.2 c.is_some-is_there.ensures c.in-Ok-insert_entry.ensures.made c.in-Ok-insert_entry.ensures.entry in
-    (got.0, Ok c.in-Ok.seen, got.1, Some (c.f-value.result, put.0), c.f-value.ensures, put.1, put.2, c.in-Ok-insert_entry.ensures.counted ∙ c.in-Ok.ensures.counted)
+    (got.0, Ok c.in-Ok.seen, got.1, Some (c.f-value.result, put.0), c.f-value.ensures, put.1, put.2, c.in-Ok-insert_entry.ensures.counted ∙ c.in-Ok.ensures.counted, c.in-Ok.ensures.sees, tt)
 
 pub returns-in-Err-insert_entry : goal.returns-in-Err-insert_entry
 returns-in-Err-insert_entry g c =
@@ -19,7 +19,8 @@ returns-in-Err-insert_entry g c =
     let hash_by : g.row.S.Denot → ℕ = λ h. g.S.Hasher.Hasher.finish (fold g.S.Hasher.Hasher.write (g.S.BuildHasher.build_hasher h) (g.K.Hash.hash_input c.args.key)) in
     let got = c.in-Ok.ensures.made in
     let put = upserted g.K.Clone.is_clone g.V.Clone.is_clone m c.args.key hash_by c.args.now c.args.self.now.engine c.get_hashed.new.self.engine c.insert_entry.new.self.engine c.args.clock.now c.get_hashed.new.clock c.insert_entry.new.clock got.0 c.in-Ok.seen c.is_some-is_there.result c.f-value.result (Err c.in-Err-insert_entry.refused) got.2 c.is_some-is_there.ensures c.in-Err-insert_entry.ensures.made c.in-Err-insert_entry.ensures.entry in
-    (got.0, Ok c.in-Ok.seen, got.1, Some (c.f-value.result, put.0), c.f-value.ensures, put.1, put.2, c.in-Err-insert_entry.ensures.counted ∙ c.in-Ok.ensures.counted)
+    let back = c.in-Err-insert_entry.ensures.back in
+    (got.0, Ok c.in-Ok.seen, got.1, Some (c.f-value.result, put.0), c.f-value.ensures, put.1, put.2, c.in-Err-insert_entry.ensures.counted ∙ c.in-Ok.ensures.counted, c.in-Ok.ensures.sees, (back.0, (c.in-Ok.seen, refl, subst (g.F.FnOnce.post c.args.f (c.in-Ok.seen, tt)) (sym back.1) c.f-value.ensures)))
 
 pub f-value-requires : goal.f-value-requires
 f-value-requires g c = c.requires.callable c.in-Ok.seen c.in-Ok.ensures.shown
