@@ -24,11 +24,19 @@ entry_in g lane = cond (nat_lt lane g.count) (Some (lane_place g lane, lane_hash
 
 -- the group with one more place, in the first lane that is free
 abbrev pub with_entry : Group → ℕ → ℕ → Group
-with_entry g hash place = record g { hashes = slice_set g.hashes g.count hash; places = slice_set g.places g.count place; count = g.count + 1 }
+with_entry g hash place = record g {
+  hashes = slice_set g.hashes g.count hash;
+  places = slice_set g.places g.count place;
+  count = g.count + 1;
+}
 
 -- the group without the place in a lane, into which the last one has moved
 abbrev pub without_lane : Group → ℕ → Group
-without_lane g lane = record g { hashes = slice_set g.hashes lane (lane_hash g (g.count - 1)); places = slice_set g.places lane (lane_place g (g.count - 1)); count = g.count - 1 }
+without_lane g lane = record g {
+  hashes = slice_set g.hashes lane (lane_hash g (g.count - 1));
+  places = slice_set g.places lane (lane_place g (g.count - 1));
+  count = g.count - 1;
+}
 
 -- the group with a reach of at least this
 abbrev pub raised : Group → ℕ → Group

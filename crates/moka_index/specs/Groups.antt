@@ -67,7 +67,8 @@ pub record IsReached (n : ℕ) (at : ℕ → Option (ℕ × ℕ)) (reach : ℕ �
 
 -- a group's reach, of n groups, is 0, or a place whose home it is lies that far behind it
 abbrev pub IsExactAt : ℕ → (ℕ → Option (ℕ × ℕ)) → (reach i : ℕ) → Type 0
-IsExactAt n at reach i = (reach ≡ 0) ⊎ ((q : ℕ) × (e : ℕ × ℕ) × (at q ≡ Some e) × (home n e.1 ≡ i) × (distance n i (q / 7) ≡ reach))
+IsExactAt n at reach i = (reach ≡ 0)
+    ⊎ ((q : ℕ) × (e : ℕ × ℕ) × (at q ≡ Some e) × (home n e.1 ≡ i) × (distance n i (q / 7) ≡ reach))
 
 -- no reach is longer than the places ask for
 pub record IsTight (groups : List Group) : Type 0 where
@@ -80,8 +81,10 @@ AreExactBut groups first = (i : ℕ) → i ≢ first → IsExactAt (length group
 -- a reach stays exact if the place that leaves a lane has another home, or was not the farthest
 abbrev pub StaysExact : (old new : List Group) → (group lane : ℕ) → Type 0
 StaysExact old new group lane = (i : ℕ) →
-    (((e : ℕ × ℕ) → entry_at old (7 * group + lane) ≡ Some e → home (length old) e.1 ≢ i) ⊎ (distance (length old) i group ≢ (group_at new i).reach)) →
-    IsExactAt (length old) (entry_at old) (group_at old i).reach i → IsExactAt (length new) (entry_at new) (group_at new i).reach i
+    (((e : ℕ × ℕ) → entry_at old (7 * group + lane) ≡ Some e → home (length old) e.1 ≢ i)
+    ⊎ (distance (length old) i group ≢ (group_at new i).reach)) →
+    IsExactAt (length old) (entry_at old) (group_at old i).reach i
+    → IsExactAt (length new) (entry_at new) (group_at new i).reach i
 
 -- what holds of the groups of every index
 pub record IsGroups (groups : List Group) : Type 0 where

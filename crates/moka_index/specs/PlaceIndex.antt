@@ -12,4 +12,5 @@ pub record Index : Type 0 where
 
 -- an index is stored as the pair of its fields
 abbrev pub index_code : Coded Index
-index_code = code_by (FinMap nat_cmp ℕ × ℕ) (coded× (finite.code coded_ℕ coded_ℕ) coded_ℕ) (λ i. (i.entries, i.room)) (λ p. record { entries = p.0; room = p.1 }) (λ _. refl)
+index_code = code_by (FinMap nat_cmp ℕ × ℕ) (coded× (finite.code coded_ℕ coded_ℕ) coded_ℕ) (λ i. (i.entries, i.room))
+    (λ p. record { entries = p.0; room = p.1 }) (λ _. refl)

@@ -94,8 +94,10 @@ impl Group {
     pub(crate) fn has_home(&self, first: usize, count: usize) -> bool
         requires lanes { self.now.count ≤ 7 }
         requires count { count ≤ 2 ^ 32 }
-        ensures none { result ≡ false → (lane : ℕ) → lane < self.now.count → home count (lane_hash self.now lane) ≢ first }
-        ensures one { result ≡ true → (lane : ℕ) × (lane < self.now.count) × (home count (lane_hash self.now lane) ≡ first) }
+        ensures none { result ≡ false → (lane : ℕ) → lane < self.now.count
+            → home count (lane_hash self.now lane) ≢ first }
+        ensures one { result ≡ true → (lane : ℕ) × (lane < self.now.count)
+            × (home count (lane_hash self.now lane) ≡ first) }
     {
         for lane in 0..self.count as usize {
             if home(self.hashes[lane], count) == first {

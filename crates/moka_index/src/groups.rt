@@ -69,7 +69,8 @@ fn find_in_group<F: Fn(usize) -> bool>(
     requires callable { (lane p : ℕ) → entry_in group.now lane ≡ Some (p, hash) → F.pre is_match.now p }
     ensures found { IfSome result (λ f. entry_in group.now f.0 ≡ Some (f.1, hash)) }
     ensures passes { IfSome result (λ f. F.post is_match.now f.1 true) }
-    ensures absent { IfNone result ((lane p : ℕ) → entry_in group.now lane ≡ Some (p, hash) → F.post is_match.now p false) }
+    ensures absent { IfNone result ((lane p : ℕ) → entry_in group.now lane ≡ Some (p, hash)
+        → F.post is_match.now p false) }
 {
     let mut matches = group.matches(hash);
     'matches: while matches != 0 {
@@ -169,7 +170,8 @@ fn remove_found(groups: &mut Vec<Group>, found: Found)
     requires groups { IsGroups groups.old.items }
     requires group { found.group < length groups.old.items }
     requires lane { found.lane < 7 }
-    requires there { (hash : ℕ) × (entry_at groups.old.items (7 * found.group + found.lane) ≡ Some (found.place, hash)) }
+    requires there { (hash : ℕ)
+        × (entry_at groups.old.items (7 * found.group + found.lane) ≡ Some (found.place, hash)) }
     ensures groups { IsGroups groups.new.items }
     ensures entries { entries_of groups.new.items ≡ finite.remove (entries_of groups.old.items) found.place }
     ensures len { length groups.new.items ≡ length groups.old.items }

@@ -85,7 +85,8 @@ impl PlaceIndex {
         ensures entries { self.new.entries ≡ self.old.entries }
         ensures kept { self.old.room ≤ self.new.room }
         ensures doubles { OnOk result (self.old.room < additional
-            → min (2 * (finite.len self.old.entries + self.old.room)) (2 ^ 34) ≤ finite.len self.new.entries + self.new.room) }
+            → min (2 * (finite.len self.old.entries + self.old.room))
+            (2 ^ 34) ≤ finite.len self.new.entries + self.new.room) }
     {
         let room = PLACES_PER_GROUP * self.groups.len() - self.len;
         if additional <= room {
@@ -101,7 +102,8 @@ impl PlaceIndex {
         ensures room { OnOk result (additional ≤ self.new.room) }
         ensures entries { self.new.entries ≡ self.old.entries }
         ensures kept { self.old.room ≤ self.new.room }
-        ensures doubles { OnOk result (min (2 * (finite.len self.old.entries + self.old.room)) (2 ^ 34) ≤ finite.len self.new.entries + self.new.room) }
+        ensures doubles { OnOk result (min (2 * (finite.len self.old.entries + self.old.room))
+            (2 ^ 34) ≤ finite.len self.new.entries + self.new.room) }
     {
         if additional > PLACES_PER_GROUP * MOST_GROUPS - self.len {
             return Err(AllocError);

@@ -46,7 +46,18 @@ module _ {K V : Type 0} where
   -- second
   abbrev pub nothing_inside : {S : Type 0} → Bool → Bool → ℕ → Interior K V S → Interior K V S
   nothing_inside ordered timed first_ticket i = record {
-    kept = record { records = empty; access = []; written = []; timers = empty; cursor = None; places = empty; room = i.kept.room; ordered = ordered; timed = timed; hasher = i.kept.hasher };
+    kept = record {
+      records = empty;
+      access = [];
+      written = [];
+      timers = empty;
+      cursor = None;
+      places = empty;
+      room = i.kept.room;
+      ordered = ordered;
+      timed = timed;
+      hasher = i.kept.hasher;
+    };
     sketch = None;
     outstanding = empty;
     writes = [];
@@ -58,10 +69,22 @@ module _ {K V : Type 0} where
 
   -- the first record of a key
   abbrev pub first_record : ℕ → K → ℕ → Update V → Record K V
-  first_record number key hash update = record { number = number; key = key; hash = hash; value = update.value; written = update.now; read = update.now; expires = update.expires; weight = update.weight; generation = 1; applied = 0 }
+  first_record number key hash update = record {
+    number = number;
+    key = key;
+    hash = hash;
+    value = update.value;
+    written = update.now;
+    read = update.now;
+    expires = update.expires;
+    weight = update.weight;
+    generation = 1;
+    applied = 0;
+  }
 
   -- with these records, and with the operation under the next ticket; the places and rooms are those of the last
-  abbrev pub handing_out_inside : {S : Type 0} → Interior K V S → Records K V → Operation → Interior K V S → Interior K V S
+  abbrev pub handing_out_inside : {S : Type 0} → Interior K V S → Records K V → Operation → Interior K V S →
+      Interior K V S
   handing_out_inside i records o j = record i {
     kept = record i.kept { records = records; places = j.kept.places; room = j.kept.room };
     outstanding = insert i.outstanding i.next_ticket o;

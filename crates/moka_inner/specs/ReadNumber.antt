@@ -8,7 +8,8 @@ use Rattle.moka_parts.specs.Records.{Records, Operations, record_of_key}
 use Rattle.moka_parts.specs.Settling.{IsWaitingIn}
 
 -- the number is that of the key's record, which a caller's removal did not take out
-pub record IsReadNumber {K V : Type 0} (eq : K → K → Bool) (records : Records K V) (outstanding : Operations) (writes : List Ticketed) (next_number : ℕ) (key : K) (number : ℕ) : Type 0 where
+pub record IsReadNumber {K V : Type 0} (eq : K → K → Bool) (records : Records K V) (outstanding : Operations)
+    (writes : List Ticketed) (next_number : ℕ) (key : K) (number : ℕ) : Type 0 where
   pub given : number < next_number
   -- its record is the key's, or neither is there
   pub own : get records number ≡ record_of_key eq records key

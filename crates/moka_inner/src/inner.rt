@@ -170,7 +170,8 @@ impl<K: Eq + Hash, V, S: BuildHasher> Inner<K, V, S> {
     /// The hash of a key by the store's hasher.
     #[inline(always)]
     pub fn hash(&self, key: &K) -> u64
-        ensures { result ≡ S.Hasher.finish (fold S.Hasher.write (S.build_hasher self.now.kept.hasher) (K.hash_input key.now)) }
+        ensures { result
+            ≡ S.Hasher.finish (fold S.Hasher.write (S.build_hasher self.now.kept.hasher) (K.hash_input key.now)) }
     {
         self.store.hash(key)
     }
@@ -178,7 +179,8 @@ impl<K: Eq + Hash, V, S: BuildHasher> Inner<K, V, S> {
     /// The hash under which the store has a key, or would have it.
     #[inline(always)]
     pub fn key_hash(&self, key: &K) -> KeyHash
-        ensures { IsKeyHash S.build_hasher S.Hasher.finish S.Hasher.write self.now.kept.hasher (K.hash_input key.now) result }
+        ensures { IsKeyHash S.build_hasher S.Hasher.finish S.Hasher.write self.now.kept.hasher
+            (K.hash_input key.now) result }
     {
         KeyHash::of(self.store.hash(key))
     }
@@ -186,11 +188,13 @@ impl<K: Eq + Hash, V, S: BuildHasher> Inner<K, V, S> {
     /// The record whose key is equal, with its handle, under the key's hash.
     #[inline(always)]
     pub fn find(&self, key: &K, hash: KeyHash) -> Option<(Handle, RecordRef<'_, K, V>)>
-        requires hashed { IsKeyHash S.build_hasher S.Hasher.finish S.Hasher.write self.now.kept.hasher (K.hash_input key.now) hash }
+        requires hashed { IsKeyHash S.build_hasher S.Hasher.finish S.Hasher.write self.now.kept.hasher
+            (K.hash_input key.now) hash }
         ensures handle { IfSome result (λ f. IsHandle self.now.kept f.0) }
         ensures numbered { IfSome result (λ f. finite.get self.now.kept.records f.0.number ≡ Some f.1) }
         ensures found { option_map (λ f. f.1) result ≡ record_of_key K.eq self.now.kept.records key.now }
-        ensures hashed { IfSome result (λ f. IsKeyHash S.build_hasher S.Hasher.finish S.Hasher.write self.now.kept.hasher (K.hash_input f.1.key) hash) }
+        ensures hashed { IfSome result (λ f. IsKeyHash S.build_hasher S.Hasher.finish S.Hasher.write
+            self.now.kept.hasher (K.hash_input f.1.key) hash) }
     {
         self.store.find_by_key(key, hash)
     }
@@ -198,10 +202,14 @@ impl<K: Eq + Hash, V, S: BuildHasher> Inner<K, V, S> {
     /// Makes room for one more record with its operation and its removal.
     #[inline(always)]
     pub fn reserve_record(&mut self) -> Result<(), InsertError>
-        ensures used_up { (result ≡ Err NumbersUsedUp) ↔ (2 ^ 64 ≤ self.old.next_ticket + finite.len self.old.kept.records + 1) }
+        ensures used_up { (result ≡ Err NumbersUsedUp) ↔
+            (2 ^ 64 ≤ self.old.next_ticket + finite.len self.old.kept.records + 1) }
         ensures rows { OnOk result (0 < self.new.kept.room) }
         ensures operations { OnOk result (1 < self.new.operation_room) }
-        ensures rest { self.new ≡ record self.old { kept = record self.old.kept { room = self.new.kept.room }; operation_room = self.new.operation_room } }
+        ensures rest { self.new ≡ record self.old {
+          kept = record self.old.kept { room = self.new.kept.room };
+          operation_room = self.new.operation_room;
+        } }
     {
         if !self.has_tickets(1) {
             return Err(InsertError::NumbersUsedUp);
@@ -216,7 +224,8 @@ impl<K: Eq + Hash, V, S: BuildHasher> Inner<K, V, S> {
     /// Makes room for one more operation.
     #[inline(always)]
     pub fn reserve_operation(&mut self) -> Result<(), InsertError>
-        ensures used_up { (result ≡ Err NumbersUsedUp) ↔ (2 ^ 64 ≤ self.old.next_ticket + finite.len self.old.kept.records) }
+        ensures used_up { (result ≡ Err NumbersUsedUp) ↔
+            (2 ^ 64 ≤ self.old.next_ticket + finite.len self.old.kept.records) }
         ensures operations { OnOk result (0 < self.new.operation_room) }
         ensures rest { self.new ≡ record self.old { operation_room = self.new.operation_room } }
     {
@@ -246,11 +255,14 @@ impl<K: Eq + Hash, V, S: BuildHasher> Inner<K, V, S> {
         requires operations { 1 < self.old.operation_room }
         requires tickets { self.old.next_ticket + finite.len self.old.kept.records + 1 < 2 ^ 64 }
         requires fresh { record_of_key K.eq self.old.kept.records key ≡ None }
-        requires hashed { IsKeyHash S.build_hasher S.Hasher.finish S.Hasher.write self.old.kept.hasher (K.hash_input key) hashes.own }
+        requires hashed { IsKeyHash S.build_hasher S.Hasher.finish S.Hasher.write self.old.kept.hasher
+            (K.hash_input key) hashes.own }
         ensures ticket { result.0 ≡ self.old.next_ticket }
         ensures step { self.new ≡ record (handing_out_inside self.old
             (with_record self.old.kept.records (first_record self.old.next_number key hashes.hash update))
-            (Upsert self.old.next_number 1 update.weight hashes.hash) self.new) { next_number = self.old.next_number + 1 } }
+            (Upsert self.old.next_number 1 update.weight hashes.hash) self.new) {
+              next_number = self.old.next_number + 1;
+            } }
     {
         let read = update.now;
         self.restore(key, hashes, update, read)
@@ -264,8 +276,10 @@ impl<K: Eq + Hash, V, S: BuildHasher> Inner<K, V, S> {
         requires tickets { self.old.next_ticket + finite.len self.old.kept.records < 2 ^ 64 }
         requires handle { IsHandle self.old.kept handle }
         ensures ticket { result.1.0 ≡ self.old.next_ticket }
-        ensures value { (r : Record K V) → finite.get self.old.kept.records handle.number ≡ Some r → result.0 ≡ r.value }
-        ensures step { (r : Record K V) → finite.get self.old.kept.records handle.number ≡ Some r → self.new ≡ handing_out_inside self.old
+        ensures value { (r : Record K V) → finite.get self.old.kept.records handle.number ≡ Some r
+            → result.0 ≡ r.value }
+        ensures step { (r : Record K V) → finite.get self.old.kept.records handle.number ≡ Some r
+            → self.new ≡ handing_out_inside self.old
             (finite.insert self.old.kept.records handle.number (updated update r))
             (Upsert handle.number (r.generation + 1) update.weight hash) self.new }
     {
@@ -293,7 +307,8 @@ impl<K: Eq + Hash, V, S: BuildHasher> Inner<K, V, S> {
     where
         K: Drop,
         requires handle { IsHandle self.old.kept handle }
-        requires hashed { (r : Record K V) → finite.get self.old.kept.records handle.number ≡ Some r → IsKeyHash S.build_hasher S.Hasher.finish S.Hasher.write self.old.kept.hasher (K.hash_input r.key) hash }
+        requires hashed { (r : Record K V) → finite.get self.old.kept.records handle.number ≡ Some r
+            → IsKeyHash S.build_hasher S.Hasher.finish S.Hasher.write self.old.kept.hasher (K.hash_input r.key) hash }
         ensures ticket { result.1.0 ≡ self.old.next_ticket }
         ensures taken { finite.get self.old.kept.records handle.number ≡ Some result.0 }
         ensures step { self.new ≡ handing_out_inside self.old
@@ -319,11 +334,12 @@ impl<K: Eq + Hash, V, S: BuildHasher> Inner<K, V, S> {
         ensures unknown { (result ≡ Err SendError.UnknownTicket) ↔ (finite.get self.old.outstanding ticket.0 ≡ None) }
         ensures full { result ≡ Err SendError.QueueFull → queue_length ≤ length self.old.writes }
         ensures room { OnOk result (length self.old.writes < queue_length) }
-        ensures ok { OnOk result ((o : Operation) × (finite.get self.old.outstanding ticket.0 ≡ Some o) × (self.new ≡ record self.old {
-          outstanding = finite.remove self.old.outstanding ticket.0;
-          writes = self.old.writes ++ record { ticket = ticket.0; operation = o } ∷ [];
-          operation_room = self.new.operation_room;
-        })) }
+        ensures ok { OnOk result ((o : Operation) × (finite.get self.old.outstanding ticket.0 ≡ Some o)
+            × (self.new ≡ record self.old {
+              outstanding = finite.remove self.old.outstanding ticket.0;
+              writes = self.old.writes ++ record { ticket = ticket.0; operation = o } ∷ [];
+              operation_room = self.new.operation_room;
+            })) }
         ensures err { OnErr result (self.new ≡ record self.old { operation_room = self.new.operation_room }) }
     {
         let ticket = ticket.0;
@@ -354,7 +370,8 @@ impl<K: Eq + Hash, V, S: BuildHasher> Inner<K, V, S> {
     )
         requires handle { IsHandle self.old.kept handle }
         requires kept { ExpiresAsBefore self.old.kept handle.number expires is_renewed }
-        ensures step { ChangesRecord handle.number (λ r. record r { read = read; expires = expires }) self.old.kept self.new.kept }
+        ensures step { ChangesRecord handle.number (λ r. record r { read = read; expires = expires })
+            self.old.kept self.new.kept }
         ensures rest { self.new ≡ record self.old { kept = self.new.kept } }
     {
         self.store.touch(handle, read, expires, is_renewed);
@@ -364,7 +381,10 @@ impl<K: Eq + Hash, V, S: BuildHasher> Inner<K, V, S> {
     #[inline(always)]
     pub fn queue_read(&mut self, place: usize, read: ReadOperation)
         requires { IsReadLocated self.old.kept.places self.old.next_number place read }
-        ensures { self.new ≡ record self.old { reads = if nat_lt (length self.old.reads) queue_length then self.old.reads ++ read ∷ [] else self.old.reads } }
+        ensures { self.new ≡ record self.old {
+          reads = if nat_lt (length self.old.reads) queue_length
+              then self.old.reads ++ read ∷ [] else self.old.reads;
+        } }
     {
         self.store.invariant_holds();
         let place = (place % MOST_ROWS) as u32;
@@ -375,8 +395,12 @@ impl<K: Eq + Hash, V, S: BuildHasher> Inner<K, V, S> {
     /// looked up by the key.
     #[cold]
     pub fn queue_hit(&mut self, key: &K, number: u64, hash: u64, renewed: bool)
-        requires { IsReadNumber K.eq self.old.kept.records self.old.outstanding self.old.writes self.old.next_number key.now number }
-        ensures { self.new ≡ record self.old { reads = if nat_lt (length self.old.reads) queue_length then self.old.reads ++ Hit number hash renewed ∷ [] else self.old.reads } }
+        requires { IsReadNumber K.eq self.old.kept.records self.old.outstanding self.old.writes
+            self.old.next_number key.now number }
+        ensures { self.new ≡ record self.old {
+          reads = if nat_lt (length self.old.reads) queue_length
+              then self.old.reads ++ Hit number hash renewed ∷ [] else self.old.reads;
+        } }
     {
         let read = ReadOperation::Hit {
             number,
@@ -400,10 +424,17 @@ impl<K: Eq + Hash, V, S: BuildHasher> Inner<K, V, S> {
         K: Drop,
         V: Drop,
         ensures prepared { ArePrepared L.tells bounds.capacity bounds.policy self.old.kept.ordered bounds.has_weigher
-            (after_reads (contents_with self.old.sketch self.old.kept) self.old.reads) (contents_with self.new.sketch self.new.kept)
+            (after_reads (contents_with self.old.sketch self.old.kept) self.old.reads)
+            (contents_with self.new.sketch self.new.kept)
             self.old.kept.written self.new.kept.written self.old.writes notifier.old notifier.new }
         ensures timers { KeepsTimers self.old.kept self.new.kept }
-        ensures rest { self.new ≡ record self.old { kept = self.new.kept; sketch = self.new.sketch; writes = []; reads = []; operation_room = self.new.operation_room } }
+        ensures rest { self.new ≡ record self.old {
+          kept = self.new.kept;
+          sketch = self.new.sketch;
+          writes = [];
+          reads = [];
+          operation_room = self.new.operation_room;
+        } }
     {
         let (store, sketch) = (&mut self.store, &mut self.sketch);
         apply_reads(store, sketch, &mut self.reads);
@@ -425,7 +456,8 @@ impl<K: Eq + Hash, V, S: BuildHasher> Inner<K, V, S> {
         K: Drop,
         V: Drop,
         P: Drop,
-        ensures ran { IsRan L.tells P.says terms.tests C.reads (option_map as_nanos terms.limit) terms.batch self.old.kept.ordered
+        ensures ran { IsRan L.tells P.says terms.tests C.reads (option_map as_nanos terms.limit)
+            terms.batch self.old.kept.ordered
             invalidator.old invalidator.new (stock_in self.old.kept) (stock_in self.new.kept) notifier.old notifier.new
             clock.old clock.new result.passes result.is_left }
         ensures none { HasNoneDue terms.tests.now.0 self.new.kept }

@@ -14,10 +14,12 @@ module _ {K V : Type 0} where
 
   -- a candidate of this weight and hash was compared: some unsettled members went to the back, and then so many victims
   -- stand in front
-  pub record Chooses (c : Contents K V) (weight hash : ℕ) (access : List Member) (victims : ℕ) (preferred : Bool) : Type 0 where
+  pub record Chooses (c : Contents K V) (weight hash : ℕ) (access : List Member) (victims : ℕ)
+      (preferred : Bool) : Type 0 where
     pub moved : List ℕ
     pub unsettled : are_unsettled c.records moved ≡ true
     pub order : access ≡ all_to_back moved c.access
     pub settled : AreSettled c (take victims access)
     -- they are those of the definition where the candidate is preferred
-    pub fate : fate_by_frequency c hash (victims_for c weight) ≡ (if preferred then Preferred (take victims access) else Refused)
+    pub fate : fate_by_frequency c hash (victims_for c weight)
+        ≡ (if preferred then Preferred (take victims access) else Refused)

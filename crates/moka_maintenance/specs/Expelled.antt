@@ -23,7 +23,8 @@ without_record n room k = record k {
 
 -- the record of the number leaves with this cause: it is that step, the store is without the number, and the listener
 -- is told
-pub record Expels {K V L S : Type 0} (tells : L → K → V → RemovalCause → L → Type 0) (n : ℕ) (cause : RemovalCause) (old new : Kept K V S) (l m : Option L) : Type 0 where
+pub record Expels {K V L S : Type 0} (tells : L → K → V → RemovalCause → L → Type 0) (n : ℕ) (cause : RemovalCause)
+    (old new : Kept K V S) (l m : Option L) : Type 0 where
   pub step : stock_in new ≡ after_step (stock_in old) (Removes n cause)
   pub told : Told tells l (left_by_step (stock_in old) (Removes n cause)) m
   pub whole : new ≡ without_record n new.room old

@@ -44,10 +44,12 @@ is_taken q Written access = sweeps_writes q
 is_taken q Read access = sweeps_reads q
 is_taken q Surplus access = is_over q.capacity access
 
-module _ {K V L P : Type 0} (tells : L → K → V → RemovalCause → L → Type 0) (says : P → K → V → Bool → Type 0) (q : Tests) where
+module _ {K V L P : Type 0} (tells : L → K → V → RemovalCause → L → Type 0)
+    (says : P → K → V → Bool → Type 0) (q : Tests) where
   -- one pass, from some predicates to others: what it removed beside the scan, and whether the sweeps and the scan left
   -- more
-  pub record IsPass (batch : ℕ) (ordered : Bool) (ps qs : List (Registered P)) (before after : Stock K V) (l m : Option L) (removed : ℕ) (left scan : Bool) : Type 0 where
+  pub record IsPass (batch : ℕ) (ordered : Bool) (ps qs : List (Registered P)) (before after : Stock K V)
+      (l m : Option L) (removed : ℕ) (left scan : Bool) : Type 0 where
     pub by : IsStepped tells (MayRun says ps (tests_in q)) before after l m
     pub dropped : AreDropped says (contents_of after) ps qs
     -- timers, the sweep by the last write, the one by the last read, the scan and the sweep of the surplus, each with
@@ -66,9 +68,12 @@ module _ {K V L P : Type 0} (tells : L → K → V → RemovalCause → L → Ty
     pub turned : left ≡ true → batch ≤ length by.steps
     pub used : IsDone q Surplus batch (length by.steps) after
     -- after the first of its steps, the sweep by the last write is done, and came to rest where nothing is left
-    pub writes_swept : (first second : List Choice) × (by.steps ≡ first ++ second) × IsDone q Written batch (length first) (after_steps before first) × (left ≡ false → HasUnsettled (after_steps before first) ⊎ IsAtRest q Written (after_steps before first))
+    pub writes_swept : (first second : List Choice) × (by.steps ≡ first ++ second)
+        × IsDone q Written batch (length first) (after_steps before first)
+        × (left ≡ false → HasUnsettled (after_steps before first) ⊎ IsAtRest q Written (after_steps before first))
     -- after more of its steps, the sweep by the last read is done
-    pub reads_swept : (first second : List Choice) × (by.steps ≡ first ++ second) × IsDone q Read batch (length first) (after_steps before first)
+    pub reads_swept : (first second : List Choice) × (by.steps ≡ first ++ second)
+        × IsDone q Read batch (length first) (after_steps before first)
     -- with a batch of 0 more is left wherever a sweep is made
     pub idle : batch ≡ 0 → left ≡ (sweeps_writes q || is_over q.capacity after.access)
     -- without predicates, or with a batch of 0, the scan leaves nothing
@@ -82,7 +87,8 @@ module _ {K V L P : Type 0} (tells : L → K → V → RemovalCause → L → Ty
 
   module _ {C : Type 0} (reads : C → Instant → C → Type 0) (limit : Option ℕ) where
     -- passes one after the other, each but the last of which removed a record beside the scan and left more
-    pub record IsRan (batch : ℕ) (ordered : Bool) (ps qs : List (Registered P)) (before after : Stock K V) (l m : Option L) (c d : C) (passes : ℕ) (left : Bool) : Type 0 where
+    pub record IsRan (batch : ℕ) (ordered : Bool) (ps qs : List (Registered P)) (before after : Stock K V)
+        (l m : Option L) (c d : C) (passes : ℕ) (left : Bool) : Type 0 where
       pub by : IsStepped tells (MayRun says ps (tests_in q)) before after l m
       pub dropped : AreDropped says (contents_of after) ps qs
       -- the steps of each pass have their order and their causes
@@ -98,7 +104,8 @@ module _ {K V L P : Type 0} (tells : L → K → V → RemovalCause → L → Ty
       pub ends : is_late limit (take (length readings - 1) readings) ≡ false
       -- a whole run leaves more only where a predicate is left, and wherever one is beside a settled member
       pub whole : is_late limit readings ≡ false → 1 ≤ batch → left ≡ true → 0 < length qs
-      pub unfinished : ordered ≡ true → is_late limit readings ≡ false → 1 ≤ batch → 0 < length qs → (left ≡ true) ⊎ HasNoSettled after
+      pub unfinished : ordered ≡ true → is_late limit readings ≡ false → 1 ≤ batch → 0 < length qs → (left ≡ true)
+          ⊎ HasNoSettled after
       pub cut : is_late limit readings ≡ true → left ≡ true
       -- each pass of a run that was cut removed a record
       pub removing : is_late limit readings ≡ true → passes ≤ length (removed_by by.steps)
@@ -106,14 +113,20 @@ module _ {K V L P : Type 0} (tells : L → K → V → RemovalCause → L → Ty
       -- without predicates, unsettled members are passed over up to the last turn of each pass
       pub used : ps ≡ [] → IsDone q Surplus (passes * batch) (length by.steps) after
       -- after some of its steps, the last sweep by the last write is done, and came to rest in a whole run
-      pub writes_swept : (first second : List Choice) × (by.steps ≡ first ++ second) × (ps ≡ [] → IsDone q Written (passes * batch) (length first) (after_steps before first)) × (is_late limit readings ≡ false → 1 ≤ batch → HasUnsettled (after_steps before first) ⊎ IsAtRest q Written (after_steps before first))
+      pub writes_swept : (first second : List Choice) × (by.steps ≡ first ++ second)
+          × (ps ≡ [] → IsDone q Written (passes * batch) (length first) (after_steps before first))
+          × (is_late limit readings ≡ false → 1 ≤ batch → HasUnsettled (after_steps before first)
+          ⊎ IsAtRest q Written (after_steps before first))
       -- after more of its steps, the last sweep by the last read is done
-      pub reads_swept : (first second : List Choice) × (by.steps ≡ first ++ second) × (ps ≡ [] → IsDone q Read (passes * batch) (length first) (after_steps before first))
+      pub reads_swept : (first second : List Choice) × (by.steps ≡ first ++ second)
+          × (ps ≡ [] → IsDone q Read (passes * batch) (length first) (after_steps before first))
       -- with a batch of 0 more is left wherever a sweep is made
       pub idle : batch ≡ 0 → left ≡ (sweeps_writes q || is_over q.capacity after.access)
       -- where all its steps make room, each pass but the last of a whole run removed a batch
-      pub exact : is_late limit readings ≡ false → 1 ≤ batch → ps ≡ [] → list_all makes_room by.steps ≡ true → passes ≡ length (removed_by by.steps) / batch + 1
+      pub exact : is_late limit readings ≡ false → 1 ≤ batch → ps ≡ [] → list_all makes_room by.steps ≡ true →
+          passes ≡ length (removed_by by.steps) / batch + 1
       -- one that was cut after its first pass, all of whose steps make room, removed a batch
-      pub batch_used : is_late limit readings ≡ true → passes ≡ 1 → ps ≡ [] → list_all makes_room by.steps ≡ true → length (removed_by by.steps) ≡ batch
+      pub batch_used : is_late limit readings ≡ true → passes ≡ 1 → ps ≡ [] → list_all makes_room by.steps ≡ true →
+          length (removed_by by.steps) ≡ batch
       -- with a batch for all members, no predicate is left where each record is a settled one
       pub predicates : ordered ≡ true → length before.access ≤ batch → AreAllMembers before → qs ≡ []

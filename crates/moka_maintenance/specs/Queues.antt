@@ -31,14 +31,19 @@ pub record AppliesReads {K V S : Type 0} (reads : List QueuedRead) (old new : Ke
 module _ {K V L : Type 0} (tells : L → K → V → RemovalCause → L → Type 0) (ordered : Bool) where
   -- a candidate of this number was compared, as one for which there is no room, and has the fate that its frequency
   -- decides
-  pub record IsCompared (before after : Contents K V) (ns ms : List ℕ) (number generation weight hash : ℕ) (r : Record K V) (l m : Option L) : Type 0 where
+  pub record IsCompared (before after : Contents K V) (ns ms : List ℕ) (number generation weight hash : ℕ)
+      (r : Record K V) (l m : Option L) : Type 0 where
     pub moved : List ℕ
     pub unsettled : are_unsettled before.records moved ≡ true
-    pub led : after ≡ after_fate before number generation weight moved r (fate_by_frequency before hash (victims_for before weight))
-    pub listed : ordered ≡ true → ms ≡ written_after_fate true number ns (fate_by_frequency before hash (victims_for before weight))
-    pub told : Told tells l (left_by_fate before generation r (fate_by_frequency before hash (victims_for before weight))) m
+    pub led : after
+        ≡ after_fate before number generation weight moved r (fate_by_frequency before hash (victims_for before weight))
+    pub listed : ordered ≡ true →
+        ms ≡ written_after_fate true number ns (fate_by_frequency before hash (victims_for before weight))
+    pub told : Told tells l
+        (left_by_fate before generation r (fate_by_frequency before hash (victims_for before weight))) m
 
-module _ {K V L : Type 0} (tells : L → K → V → RemovalCause → L → Type 0) (capacity : Option ℕ) (policy : EvictionPolicy) (ordered : Bool) where
+module _ {K V L : Type 0} (tells : L → K → V → RemovalCause → L → Type 0) (capacity : Option ℕ)
+    (policy : EvictionPolicy) (ordered : Bool) where
   -- one operation is applied; the order of writing goes from one list to the other, where it is kept
   pub record IsApplied (before after : Contents K V) (ns ms : List ℕ) (o : Operation) (l m : Option L) : Type 0 where
     pub moved : List ℕ
@@ -48,16 +53,19 @@ module _ {K V L : Type 0} (tells : L → K → V → RemovalCause → L → Type
     pub told : Told tells l (left_by_write capacity policy before o) m
 
   -- the operations are applied in order, with a list of moves for each
-  pub record AreApplied (before after : Contents K V) (ns ms : List ℕ) (os : List Ticketed) (l m : Option L) : Type 0 where
+  pub record AreApplied (before after : Contents K V) (ns ms : List ℕ) (os : List Ticketed)
+      (l m : Option L) : Type 0 where
     pub moves : List (List ℕ)
     pub may : AreAllMoves capacity policy before os moves
     pub led : after ≡ after_writes capacity policy before os moves
     pub listed : ordered ≡ true → ms ≡ written_after_writes true capacity policy before ns os moves
     pub told : Told tells l (left_by_writes capacity policy before os moves) m
 
-module _ {K V L : Type 0} (tells : L → K → V → RemovalCause → L → Type 0) (capacity : Option ℕ) (policy : EvictionPolicy) (ordered has_weigher : Bool) where
+module _ {K V L : Type 0} (tells : L → K → V → RemovalCause → L → Type 0) (capacity : Option ℕ)
+    (policy : EvictionPolicy) (ordered has_weigher : Bool) where
   -- the operations are applied in order, and then the sketch is enabled where it is due
-  pub record ArePrepared (before after : Contents K V) (ns ms : List ℕ) (os : List Ticketed) (l m : Option L) : Type 0 where
+  pub record ArePrepared (before after : Contents K V) (ns ms : List ℕ) (os : List Ticketed)
+      (l m : Option L) : Type 0 where
     pub moves : List (List ℕ)
     -- memory for a longer table of the sketch was refused
     pub is_short : Bool
@@ -68,16 +76,20 @@ module _ {K V L : Type 0} (tells : L → K → V → RemovalCause → L → Type
 
 -- a number that has kept its row without a record had no record before, and the operation is no removal of it
 abbrev pub LeavesNoRowAfter : {K V S : Type 0} → Operation → Kept K V S → Kept K V S → Type 0
-LeavesNoRowAfter o old new = (n p : ℕ) → get new.places n ≡ Some p → get new.records n ≡ None → (get old.records n ≡ None) × ((generation : ℕ) → o ≢ Removal n generation)
+LeavesNoRowAfter o old new = (n p : ℕ) → get new.places n ≡ Some p → get new.records n ≡ None
+    → (get old.records n ≡ None) × ((generation : ℕ) → o ≢ Removal n generation)
 
 -- a number that has kept its row without a record had no record before, and no removal of it was among the operations
 abbrev pub LeavesNoRowBy : {K V S : Type 0} → List Ticketed → Kept K V S → Kept K V S → Type 0
-LeavesNoRowBy os old new = (n p : ℕ) → get new.places n ≡ Some p → get new.records n ≡ None → (get old.records n ≡ None) × ((ticket generation : ℕ) → Contains os (record { ticket = ticket; operation = Removal n generation }) → ⊥)
+LeavesNoRowBy os old new = (n p : ℕ) → get new.places n ≡ Some p → get new.records n ≡ None → (get old.records n ≡ None)
+    × ((ticket generation : ℕ) → Contains os (record { ticket = ticket; operation = Removal n generation }) → ⊥)
 
-module _ {K V S L : Type 0} (tells : L → K → V → RemovalCause → L → Type 0) (bounds : Bounds) (sketch : Option Table) (old new : Kept K V S) where
+module _ {K V S L : Type 0} (tells : L → K → V → RemovalCause → L → Type 0) (bounds : Bounds) (sketch : Option Table)
+    (old new : Kept K V S) where
   -- one operation is applied to a store, whose row is given back where it was a removal
   pub record AppliesWrite (o : Operation) (l m : Option L) : Type 0 where
-    pub applied : IsApplied tells bounds.capacity bounds.policy old.ordered (contents_with sketch old) (contents_with sketch new) old.written new.written o l m
+    pub applied : IsApplied tells bounds.capacity bounds.policy old.ordered (contents_with sketch old)
+        (contents_with sketch new) old.written new.written o l m
     pub upkeep : Upkeep old new
     pub rows : LeavesNoRowAfter o old new
 
@@ -87,6 +99,7 @@ module _ {K V S L : Type 0} (tells : L → K → V → RemovalCause → L → Ty
 
   -- operations are, in order
   pub record AppliesWrites (os : List Ticketed) (l m : Option L) : Type 0 where
-    pub applied : AreApplied tells bounds.capacity bounds.policy old.ordered (contents_with sketch old) (contents_with sketch new) old.written new.written os l m
+    pub applied : AreApplied tells bounds.capacity bounds.policy old.ordered (contents_with sketch old)
+        (contents_with sketch new) old.written new.written os l m
     pub upkeep : Upkeep old new
     pub rows : LeavesNoRowBy os old new

@@ -68,12 +68,14 @@ module _ {K V P : Type 0} (says : P → K → V → Bool → Type 0) where
 
   -- a scan may remove a settled member that one of the predicates covers
   abbrev pub MayScan : List (Registered P) → Stock K V → Choice → Type 0
-  MayScan ps c (Removes n cause) = (r : Record K V) × (get c.records n ≡ Some r) × (is_member n c.access && is_settled c.records n ≡ true) × SomeCovers says ps r × (cause ≡ Explicit)
+  MayScan ps c (Removes n cause) = (r : Record K V) × (get c.records n ≡ Some r)
+      × (is_member n c.access && is_settled c.records n ≡ true) × SomeCovers says ps r × (cause ≡ Explicit)
   MayScan ps c (MovesToBack n) = ⊥
   MayScan ps c (Drops i) = ⊥
 
   -- once round at most: the members passed, how many of them were looked at, and where the next round begins
-  pub record GoesRound {S : Type 0} (ps : List (Registered P)) (batch : ℕ) (old new : Kept K V S) (looked : ℕ) : Type 0 where
+  pub record GoesRound {S : Type 0} (ps : List (Registered P)) (batch : ℕ) (old new : Kept K V S)
+      (looked : ℕ) : Type 0 where
     -- those passed are the first of the round, and none of them twice
     pub walked : List ℕ
     pub ahead : List ℕ
@@ -92,7 +94,8 @@ module _ {K V P : Type 0} (says : P → K → V → Bool → Type 0) where
 
 -- how far a walk went that passes `most` members at most and looks at `batch` of them: to the end, unless one of these
 -- was reached
-pub record IsStretch {K V S : Type 0} (most batch : ℕ) (old new : Kept K V S) (looked passed : ℕ) (end : Bool) : Type 0 where
+pub record IsStretch {K V S : Type 0} (most batch : ℕ) (old new : Kept K V S) (looked passed : ℕ)
+    (end : Bool) : Type 0 where
   pub ended : end ≡ is_none new.cursor
   pub stopped : end ≡ false → (most ≤ passed) ⊎ (batch ≤ looked)
   pub few : passed ≤ most
@@ -100,7 +103,8 @@ pub record IsStretch {K V S : Type 0} (most batch : ℕ) (old new : Kept K V S) 
   pub once : IsDistinct (◌==◌) new.written
   pub upkeep : SetsNoTimer old new
 
-module _ {K V L P : Type 0} (tells : L → K → V → RemovalCause → L → Type 0) (says : P → K → V → Bool → Type 0) (ps : List (Registered P)) where
+module _ {K V L P : Type 0} (tells : L → K → V → RemovalCause → L → Type 0) (says : P → K → V → Bool → Type 0)
+    (ps : List (Registered P)) where
   -- a member is looked at: one that is not settled stays; a settled one stays where no predicate covers it, and else
   -- leaves
   abbrev pub LooksAt : {S : Type 0} → Kept K V S → Kept K V S → Option L → Option L → ℕ → Bool → Type 0
@@ -110,7 +114,8 @@ module _ {K V L P : Type 0} (tells : L → K → V → RemovalCause → L → Ty
       ⊎ (MayScan says ps (stock_in old) (Removes n Explicit) × Expels tells n Explicit old new l m))
 
   -- a walk along the members of `rest`, which stand behind `before`, up to the one before the next
-  pub record IsWalked {S : Type 0} (old new : Kept K V S) (l m : Option L) (before rest : List ℕ) (next : Option ℕ) (looked passed : ℕ) : Type 0 where
+  pub record IsWalked {S : Type 0} (old new : Kept K V S) (l m : Option L) (before rest : List ℕ) (next : Option ℕ)
+      (looked passed : ℕ) : Type 0 where
     pub walked : List ℕ
     pub kept : List ℕ
     pub ahead : List ℕ
@@ -127,17 +132,20 @@ module _ {K V L P : Type 0} (tells : L → K → V → RemovalCause → L → Ty
     pub uncovered : AreUncovered says ps new.records walked
 
   -- a walk from the cursor, at most once round: the members looked at, and whether it came to the end
-  pub record IsRound {S : Type 0} (batch : ℕ) (old new : Kept K V S) (l m : Option L) (looked : ℕ) (end : Bool) : Type 0 where
+  pub record IsRound {S : Type 0} (batch : ℕ) (old new : Kept K V S) (l m : Option L) (looked : ℕ)
+      (end : Bool) : Type 0 where
     pub by : IsStepped tells (MayScan says ps) (stock_in old) (stock_in new) l m
     pub goes : GoesRound says ps batch old new looked
     pub few : length by.steps ≤ looked
     pub unlooked : old.ordered ≡ true → 1 ≤ batch → looked ≡ 0 → HasNoSettled (stock_in old)
     -- with a batch for all members it is a whole one
-    pub whole : old.ordered ≡ true → length old.access ≤ batch → AreUncovered says ps new.records old.written × (end ≡ true)
+    pub whole : old.ordered ≡ true → length old.access ≤ batch → AreUncovered says ps new.records old.written
+        × (end ≡ true)
     pub upkeep : SetsNoTimer old new
 
   -- a scan with the drop behind it, and whether it leaves more
-  pub record IsScanned {S : Type 0} (batch : ℕ) (old new : Kept K V S) (qs : List (Registered P)) (l m : Option L) (left : Bool) : Type 0 where
+  pub record IsScanned {S : Type 0} (batch : ℕ) (old new : Kept K V S) (qs : List (Registered P)) (l m : Option L)
+      (left : Bool) : Type 0 where
     pub by : IsStepped tells (MayScan says ps) (stock_in old) (stock_in new) l m
     pub dropped : AreDropped says (contents_in new) ps qs
     pub looked : ℕ

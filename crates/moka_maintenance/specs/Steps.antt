@@ -53,7 +53,11 @@ module _ {K V : Type 0} where
 
   -- what a step leaves: a removed record leaves the map and both orders, another goes to the back of both
   abbrev pub after_step : Stock K V → Choice → Stock K V
-  after_step c (Removes n cause) = record c { records = remove c.records n; access = without_member n c.access; written = without_number n c.written }
+  after_step c (Removes n cause) = record c {
+    records = remove c.records n;
+    access = without_member n c.access;
+    written = without_number n c.written;
+  }
   after_step c (MovesToBack n) = record c { access = to_back n c.access; written = number_to_back n c.written }
   after_step c (Drops i) = c
 
@@ -73,14 +77,17 @@ module _ {K V : Type 0} where
 
   -- a settled member leaves, or an unsettled one goes to the back
   abbrev pub MayLeave : Stock K V → Choice → Type 0
-  MayLeave c (Removes n cause) = (r : Record K V) × (get c.records n ≡ Some r) × (is_member n c.access && is_settled c.records n ≡ true)
+  MayLeave c (Removes n cause) = (r : Record K V) × (get c.records n ≡ Some r)
+      × (is_member n c.access && is_settled c.records n ≡ true)
   MayLeave c (MovesToBack n) = (is_member n c.access ≡ true) × (is_settled c.records n ≡ false)
   MayLeave c (Drops i) = ⊥
 
   -- a step may be taken by the tests or by the predicates: a settled member leaves on a ground of its own, an unsettled
   -- one goes to the back
-  abbrev pub MayRun : {P : Type 0} → (P → K → V → Bool → Type 0) → List (Registered P) → Tests → Stock K V → Choice → Type 0
-  MayRun says ps q c (Removes n cause) = (r : Record K V) × (get c.records n ≡ Some r) × (is_member n c.access && is_settled c.records n ≡ true) × HasCause says q (contents_of c) ps n r cause
+  abbrev pub MayRun : {P : Type 0} → (P → K → V → Bool → Type 0) → List (Registered P) → Tests → Stock K V → Choice →
+      Type 0
+  MayRun says ps q c (Removes n cause) = (r : Record K V) × (get c.records n ≡ Some r)
+      × (is_member n c.access && is_settled c.records n ≡ true) × HasCause says q (contents_of c) ps n r cause
   MayRun says ps q c (MovesToBack n) = (is_member n c.access ≡ true) × (is_settled c.records n ≡ false)
   MayRun says ps q c (Drops i) = ⊥
 
@@ -99,7 +106,8 @@ module _ {K V : Type 0} where
 
   -- each record is a settled member
   abbrev pub AreAllMembers : Stock K V → Type 0
-  AreAllMembers c = (n : ℕ) (r : Record K V) → get c.records n ≡ Some r → (is_applied r ≡ true) × (is_member n c.access ≡ true)
+  AreAllMembers c = (n : ℕ) (r : Record K V) → get c.records n ≡ Some r → (is_applied r ≡ true)
+      × (is_member n c.access ≡ true)
 
   -- no member is settled
   abbrev pub HasNoSettled : Stock K V → Type 0

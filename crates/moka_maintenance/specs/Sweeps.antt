@@ -20,7 +20,13 @@ use Rattle.moka_maintenance.specs.Steps.{Stock, MayLeave, HasUnsettled, HasNoSet
 
 -- the reference cache's tests of these
 abbrev pub tests_in : Tests → parts.Tests
-tests_in q = record { now = q.now.0; time_to_live = option_map as_nanos q.time_to_live; time_to_idle = option_map as_nanos q.time_to_idle; invalid_before = q.valid_after; capacity = q.capacity }
+tests_in q = record {
+  now = q.now.0;
+  time_to_live = option_map as_nanos q.time_to_live;
+  time_to_idle = option_map as_nanos q.time_to_idle;
+  invalid_before = q.valid_after;
+  capacity = q.capacity;
+}
 
 -- the ground on which the sweep removes records
 abbrev pub ground_of : Sweep → Ground
@@ -38,7 +44,8 @@ module _ {K V : Type 0} (q : Tests) where
   -- the front is none that the sweep removes
   abbrev pub IsAtRest : Sweep → Stock K V → Type 0
   IsAtRest Written c = IsAtRestByWrite (tests_in q) c.records c.written
-  IsAtRest Read c = (n : ℕ) (r : Record K V) → is_front n c.access ≡ true → get c.records n ≡ Some r → (is_past_read (tests_in q) r ≡ false) × (is_read_before q.valid_after r ≡ false)
+  IsAtRest Read c = (n : ℕ) (r : Record K V) → is_front n c.access ≡ true → get c.records n ≡ Some r
+      → (is_past_read (tests_in q) r ≡ false) × (is_read_before q.valid_after r ≡ false)
   IsAtRest Surplus c = IsWithin q.capacity c.access
 
   -- the sweep removes the record, to which it has come, and tells this cause
@@ -47,7 +54,8 @@ module _ {K V : Type 0} (q : Tests) where
 
   -- the step may be a turn of the sweep
   abbrev pub MayTurn : Sweep → Stock K V → Choice → Type 0
-  MayTurn sweep c (Removes n cause) = IsNext sweep c n × MayTake (λ _. ⊥) (tests_in q) (ground_of sweep) (contents_of c) (Removes n cause)
+  MayTurn sweep c (Removes n cause) = IsNext sweep c n
+      × MayTake (λ _. ⊥) (tests_in q) (ground_of sweep) (contents_of c) (Removes n cause)
   MayTurn sweep c (MovesToBack n) = IsNext sweep c n × MayLeave c (MovesToBack n)
   MayTurn sweep c (Drops i) = ⊥
 
@@ -59,7 +67,8 @@ module _ {K V : Type 0} (q : Tests) where
 
   -- so many turns are all of the batch, but for whole rounds over members none of which is settled
   abbrev pub AreAllTurns : ℕ → ℕ → Stock K V → Type 0
-  AreAllTurns batch turns c = (rounds : ℕ) × (turns + rounds * length c.access ≡ batch) × ((rounds ≡ 0) ⊎ HasNoSettled c)
+  AreAllTurns batch turns c = (rounds : ℕ) × (turns + rounds * length c.access ≡ batch)
+      × ((rounds ≡ 0) ⊎ HasNoSettled c)
 
   -- the sweep came to rest, or no member is settled, or all turns of the batch were made
   abbrev pub IsDone : Sweep → ℕ → ℕ → Stock K V → Type 0
@@ -68,12 +77,15 @@ module _ {K V : Type 0} (q : Tests) where
 module _ {K V L : Type 0} (tells : L → K → V → RemovalCause → L → Type 0) (q : Tests) where
   -- one turn of a sweep
   abbrev pub TakesTurn : Sweep → Stock K V → Stock K V → Option L → Option L → Turn → Type 0
-  TakesTurn sweep before after l m Removed = (n : ℕ) × (cause : RemovalCause) × MayTurn q sweep before (Removes n cause) × (after ≡ after_step before (Removes n cause)) × Told tells l (left_by_step before (Removes n cause)) m
-  TakesTurn sweep before after l m Passed = (n : ℕ) × MayTurn q sweep before (MovesToBack n) × (after ≡ after_step before (MovesToBack n)) × (m ≡ l)
+  TakesTurn sweep before after l m Removed = (n : ℕ) × (cause : RemovalCause) × MayTurn q sweep before (Removes n cause)
+      × (after ≡ after_step before (Removes n cause)) × Told tells l (left_by_step before (Removes n cause)) m
+  TakesTurn sweep before after l m Passed = (n : ℕ) × MayTurn q sweep before (MovesToBack n)
+      × (after ≡ after_step before (MovesToBack n)) × (m ≡ l)
   TakesTurn sweep before after l m Ended = IsAtRest q sweep before × (after ≡ before) × (m ≡ l)
 
   -- a sweep of so many turns: what it removed, and whether it left more
-  pub record IsSwept (sweep : Sweep) (batch : ℕ) (before after : Stock K V) (l m : Option L) (removed : ℕ) (left : Bool) : Type 0 where
+  pub record IsSwept (sweep : Sweep) (batch : ℕ) (before after : Stock K V) (l m : Option L) (removed : ℕ)
+      (left : Bool) : Type 0 where
     pub by : IsStepped tells (MayTurn q sweep) before after l m
     pub few : length by.steps ≤ batch
     -- it makes all its turns, or comes to rest

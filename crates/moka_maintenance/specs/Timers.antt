@@ -10,11 +10,13 @@ use Rattle.moka_maintenance.specs.Steps.{AddsNoPlace, LeavesNoRow}
 module _ {K V : Type 0} where
   -- the timer of each settled member stands at its record's expiry
   abbrev pub AreTimed : {S : Type 0} → Kept K V S → Type 0
-  AreTimed k = (n : ℕ) (r : Record K V) → get k.records n ≡ Some r → is_member n k.access ≡ true → is_applied r ≡ true → get k.timers n ≡ moment_of r.expires
+  AreTimed k = (n : ℕ) (r : Record K V) → get k.records n ≡ Some r → is_member n k.access ≡ true → is_applied r ≡ true
+      → get k.timers n ≡ moment_of r.expires
 
   -- where timers are kept, the timer of the number, if it is a member with a record, stands at the record's expiry
   abbrev pub StandsAtExpiry : {S : Type 0} → ℕ → Kept K V S → Type 0
-  StandsAtExpiry n k = k.timed ≡ true → (r : Record K V) → get k.records n ≡ Some r → is_member n k.access ≡ true → get k.timers n ≡ moment_of r.expires
+  StandsAtExpiry n k = k.timed ≡ true → (r : Record K V) → get k.records n ≡ Some r → is_member n k.access ≡ true
+      → get k.timers n ≡ moment_of r.expires
 
   -- no timer stands at or before the moment
   abbrev pub HasNoneDue : {S : Type 0} → ℕ → Kept K V S → Type 0
@@ -22,8 +24,10 @@ module _ {K V : Type 0} where
 
   -- a settled member had this record and this timer before, or its timer stands at its record's expiry
   abbrev pub SetsTimers : {S : Type 0} → Kept K V S → Kept K V S → Type 0
-  SetsTimers old new = (n : ℕ) (r : Record K V) → get new.records n ≡ Some r → is_member n new.access ≡ true → is_applied r ≡ true
-      → ((get old.records n ≡ Some r) × (is_member n old.access ≡ true) × (get new.timers n ≡ get old.timers n)) ⊎ (get new.timers n ≡ moment_of r.expires)
+  SetsTimers old new = (n : ℕ) (r : Record K V) → get new.records n ≡ Some r → is_member n new.access ≡ true
+      → is_applied r ≡ true
+      → ((get old.records n ≡ Some r) × (is_member n old.access ≡ true) × (get new.timers n ≡ get old.timers n))
+      ⊎ (get new.timers n ≡ moment_of r.expires)
 
   -- what orders and timers a store keeps never changes, nor does its hasher; where timers are kept they stand as
   -- before, or anew at their records' expiries
@@ -48,7 +52,8 @@ module _ {K V : Type 0} where
     pub timed : new.timed ≡ old.timed
     pub hasher : new.hasher ≡ old.hasher
     pub timers : (new.timers ≡ old.timers) ⊎ ((t : ℕ) × (now < t) × (new.timers ≡ insert old.timers n t))
-    pub own : old.timed ≡ true → (r : Record K V) → get new.records n ≡ Some r → is_applied r ≡ true → get new.timers n ≡ moment_of r.expires
+    pub own : old.timed ≡ true → (r : Record K V) → get new.records n ≡ Some r → is_applied r ≡ true →
+        get new.timers n ≡ moment_of r.expires
     pub places : AddsNoPlace old new
     pub rows : LeavesNoRow old new
     pub room : old.room ≤ new.room

@@ -51,7 +51,8 @@ pub fn apply_reads<K: Eq + Hash, V, S: BuildHasher>(
     reads: &mut HeapCircularBuffer<QueuedRead>,
 )
     requires { (q : QueuedRead) → Contains reads.old.items q → IsReadAt store.old.places q.place (read_of q) }
-    ensures applied { contents_with sketch.new store.new ≡ after_reads (contents_with sketch.old store.old) (reads_of reads.old.items) }
+    ensures applied { contents_with sketch.new store.new ≡ after_reads (contents_with sketch.old store.old)
+        (reads_of reads.old.items) }
     ensures served { Serves (IsRenewedBy reads.old.items) store.old store.new }
     ensures reads { reads.new ≡ buffer [] reads.old.capacity }
 {
@@ -261,7 +262,8 @@ fn admit_or_reject<K: Eq + Hash + Drop, V: Drop, S: BuildHasher, L: Listener<K, 
     upsert: PlacedUpsert,
 )
     requires outside { IsOutside store.old upsert.handle }
-    requires newer { (r : Record K V) → finite.get store.old.records upsert.handle.number ≡ Some r → r.applied < upsert.generation }
+    requires newer { (r : Record K V) → finite.get store.old.records upsert.handle.number ≡ Some r
+        → r.applied < upsert.generation }
     ensures { AppliesUpsert L.tells bounds sketch.now store.old store.new upsert notifier.old notifier.new }
 {
     if bounds.has_room(store.total_weight(), upsert.weight) {
@@ -287,7 +289,8 @@ fn compare<K: Eq + Hash + Drop, V: Drop, S: BuildHasher, L: Listener<K, V>>(
     requires { IsOutside store.old candidate.handle }
     ensures compared { (r : Record K V) → finite.get store.old.records candidate.handle.number ≡ Some r →
         IsCompared L.tells store.old.ordered (contents_with sketch.now store.old) (contents_with sketch.now store.new)
-        store.old.written store.new.written candidate.handle.number candidate.generation candidate.weight candidate.hash r
+        store.old.written store.new.written candidate.handle.number candidate.generation
+        candidate.weight candidate.hash r
         notifier.old notifier.new }
     ensures upkeep { Upkeep store.old store.new }
 {
@@ -323,8 +326,10 @@ fn reject<K: Eq + Hash + Drop, V: Drop, S: BuildHasher, L: Listener<K, V>>(
     generation: u64,
 )
     requires { IsOutside store.old handle }
-    ensures step { (r : Record K V) → finite.get store.old.records handle.number ≡ Some r → contents_in store.new ≡ rejected handle.number generation r (contents_in store.old) }
-    ensures told { (r : Record K V) → finite.get store.old.records handle.number ≡ Some r → Told L.tells notifier.old (left_by_rejection generation r) notifier.new }
+    ensures step { (r : Record K V) → finite.get store.old.records handle.number ≡ Some r
+        → contents_in store.new ≡ rejected handle.number generation r (contents_in store.old) }
+    ensures told { (r : Record K V) → finite.get store.old.records handle.number ≡ Some r
+        → Told L.tells notifier.old (left_by_rejection generation r) notifier.new }
     ensures written { store.old.ordered ≡ true → store.new.written ≡ store.old.written }
     ensures upkeep { Upkeep store.old store.new }
 {
@@ -381,7 +386,8 @@ fn apply_removal<K: Eq + Hash + Drop, V: Drop, S: BuildHasher>(
     handle: Handle,
 )
     requires { IsAt store.old.places handle.number handle.place }
-    ensures step { contents_in store.new ≡ record (contents_in store.old) { access = without_member handle.number store.old.access } }
+    ensures step { contents_in store.new ≡ record (contents_in store.old)
+        { access = without_member handle.number store.old.access } }
     ensures written { store.old.ordered ≡ true → store.new.written ≡ without_number handle.number store.old.written }
     ensures upkeep { Upkeep store.old store.new }
     ensures rows { (generation : ℕ) → LeavesNoRowAfter (Removal handle.number generation) store.old store.new }

@@ -39,7 +39,8 @@ pub(crate) fn choose<K: Eq + Hash, V, S: BuildHasher>(
     weight: u32,
     hash: u64,
 ) -> Chosen
-    ensures chosen { Chooses (contents_with sketch.now store.old) weight hash store.new.access result.victims result.is_preferred }
+    ensures chosen { Chooses (contents_with sketch.now store.old) weight hash store.new.access
+        result.victims result.is_preferred }
     ensures rest { store.new ≡ record store.old { access = store.new.access } }
 {
     let weight = u64::from(weight);
@@ -111,9 +112,11 @@ pub(crate) fn expel_front<K: Eq + Hash + Drop, V: Drop, S: BuildHasher, L: Liste
     requires { AreSettled (contents_in store.old) (take how_many store.old.access) }
     ensures step { contents_in store.new ≡ without_victims (take how_many store.old.access) (contents_in store.old) }
     ensures written { store.new.written ≡ without_numbers (take how_many store.old.access) store.old.written }
-    ensures told { Told L.tells notifier.old (left_with (take how_many store.old.access) store.old.records) notifier.new }
+    ensures told { Told L.tells notifier.old
+        (left_with (take how_many store.old.access) store.old.records) notifier.new }
     ensures others { (n : ℕ) → counted_of n store.old.access ≡ None → (counted_of n store.new.access ≡ None)
-        × (finite.get store.new.records n ≡ finite.get store.old.records n) × (finite.get store.new.places n ≡ finite.get store.old.places n) }
+        × (finite.get store.new.records n ≡ finite.get store.old.records n)
+        × (finite.get store.new.places n ≡ finite.get store.old.places n) }
     ensures upkeep { SetsNoTimer store.old store.new }
 {
     store.invariant_holds();

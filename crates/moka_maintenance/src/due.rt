@@ -22,7 +22,8 @@ pub(crate) fn expire_due<K: Eq + Hash + Drop, V: Drop, S: BuildHasher, L: Listen
     notifier: &mut RemovalNotifier<L>,
     tests: Tests,
 ) -> u32
-    ensures expired { ExpiresDue L.tells tests (stock_in store.old) (stock_in store.new) notifier.old notifier.new result }
+    ensures expired { ExpiresDue L.tells tests (stock_in store.old)
+        (stock_in store.new) notifier.old notifier.new result }
     ensures kept { UpkeepAt tests.now.0 store.old store.new }
 {
     // No more leave than there are members.
@@ -47,7 +48,8 @@ fn expire<K: Eq + Hash + Drop, V: Drop, S: BuildHasher, L: Listener<K, V>>(
 ) -> bool
     requires member { IsMemberAt store.old handle }
     requires untimed { finite.get store.old.timers handle.number ≡ None }
-    ensures expired { ExpiresDue L.tells tests (stock_in store.old) (stock_in store.new) notifier.old notifier.new (if result then 1 else 0) }
+    ensures expired { ExpiresDue L.tells tests (stock_in store.old)
+        (stock_in store.new) notifier.old notifier.new (if result then 1 else 0) }
     ensures reset { IsReset tests.now.0 handle.number store.old store.new }
 {
     let Some(found) = store.find(handle) else {

@@ -101,7 +101,8 @@ pub fn make_passes<
     terms: Terms,
 ) -> Ran
     ensures ran { IsRan L.tells P.says terms.tests C.reads (option_map as_nanos terms.limit) terms.batch
-        store.old.ordered invalidator.old invalidator.new (stock_in store.old) (stock_in store.new) notifier.old notifier.new clock.old clock.new
+        store.old.ordered invalidator.old invalidator.new (stock_in store.old)
+        (stock_in store.new) notifier.old notifier.new clock.old clock.new
         result.passes result.is_left }
     ensures kept { UpkeepAt terms.tests.now.0 store.old store.new }
 {
@@ -152,7 +153,8 @@ fn take_step<K: Eq + Hash + Drop, V: Drop, S: BuildHasher, L: Listener<K, V>>(
     terms: Terms,
     sweep: Sweep,
 ) -> Swept
-    ensures swept { IsSwept L.tells terms.tests sweep terms.batch (stock_in store.old) (stock_in store.new) notifier.old notifier.new
+    ensures swept { IsSwept L.tells terms.tests sweep terms.batch (stock_in store.old)
+        (stock_in store.new) notifier.old notifier.new
         result.removed result.is_left }
     ensures idle { terms.batch ≡ 0 → result.is_left ≡ is_taken terms.tests sweep store.old.access }
     ensures upkeep { SetsNoTimer store.old store.new }

@@ -124,8 +124,10 @@ where
     P: PredicateFn<K, V>,
     requires ordered { IfSome reach.start (IsOrdered store.old) }
     requires once { IsDistinct (◌==◌) store.old.written }
-    ensures walked { (before rest : List ℕ) → store.old.written ≡ before ++ rest → option_map (λ h. h.number) reach.start ≡ slice_get rest 0
-        → IsWalked L.tells P.says invalidator.now store.old store.new notifier.old notifier.new before rest store.new.cursor result.looked result.passed }
+    ensures walked { (before rest : List ℕ) → store.old.written ≡ before ++ rest
+        → option_map (λ h. h.number) reach.start ≡ slice_get rest 0
+        → IsWalked L.tells P.says invalidator.now store.old store.new notifier.old notifier.new before rest
+        store.new.cursor result.looked result.passed }
     ensures stretch { IsStretch reach.most reach.batch store.old store.new result.looked result.passed result.is_end }
 {
     let mut next = reach.start;
@@ -160,7 +162,8 @@ fn look_at<K: Eq + Hash + Drop, V: Drop, S: BuildHasher, L: Listener<K, V>, P>(
 where
     P: PredicateFn<K, V>,
     requires { IsMemberAt store.old handle }
-    ensures { LooksAt L.tells P.says invalidator.now store.old store.new notifier.old notifier.new handle.number result }
+    ensures { LooksAt L.tells P.says invalidator.now store.old store.new notifier.old
+        notifier.new handle.number result }
 {
     let Some(found) = store.find(handle) else {
         return false;
@@ -202,7 +205,8 @@ where
     P: PredicateFn<K, V>,
     requires { index < length invalidator.now }
     ensures { (p : Registered P) → slice_get invalidator.now index ≡ Some p →
-        MatchBool result (CoversSome P.says (contents_in store.now) p) (CoversNothing P.says (contents_in store.now) p) }
+        MatchBool result (CoversSome P.says (contents_in store.now) p)
+        (CoversNothing P.says (contents_in store.now) p) }
 {
     for place in 0..store.place_count() {
         if let Some(found) = store.record_at(place) {

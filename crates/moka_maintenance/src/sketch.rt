@@ -20,7 +20,9 @@ pub fn enable_frequency_sketch<K: Eq + Hash, V, S: BuildHasher>(
     sketch: &mut FrequencySketch,
     bounds: Bounds,
 )
-    ensures { (is_short : Bool) × (contents_with sketch.new store.now ≡ with_sketch bounds.capacity bounds.policy bounds.has_weigher is_short (contents_with sketch.old store.now)) }
+    ensures { (is_short : Bool)
+        × (contents_with sketch.new store.now ≡ with_sketch bounds.capacity bounds.policy bounds.has_weigher is_short
+        (contents_with sketch.old store.now)) }
 {
     let Some(capacity) = bounds.capacity else {
         return;

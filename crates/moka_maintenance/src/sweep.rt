@@ -40,7 +40,8 @@ impl Tests {
     // Why a sweep removes a settled record that it has come to, if it does.
     fn cause_of<K, V>(self, sweep: Sweep, found: &RecordRef<'_, K, V>) -> Option<RemovalCause>
         ensures { MatchOption result
-            ((c : Stock K V) (n : ℕ) → finite.get c.records n ≡ Some found.now → IsNext self sweep c n → IsAtRest self sweep c)
+            ((c : Stock K V) (n : ℕ) → finite.get c.records n ≡ Some found.now → IsNext self sweep c n
+            → IsAtRest self sweep c)
             (λ cause. (c : Stock K V) (n : ℕ) → IsNext self sweep c n → LeavesIn self sweep c n found.now cause) }
     {
         match sweep {
@@ -53,7 +54,8 @@ impl Tests {
     // Why a record leaves by the moment of its last write, if it does.
     fn cause_by_write<K, V>(self, found: &RecordRef<'_, K, V>) -> Option<RemovalCause>
         ensures cause { result ≡ cause_by_write (tests_in self) found.now }
-        ensures none { IfNone result ((is_past_write (tests_in self) found.now ≡ false) × (is_written_before self.valid_after found.now ≡ false)) }
+        ensures none { IfNone result ((is_past_write (tests_in self) found.now ≡ false)
+            × (is_written_before self.valid_after found.now ≡ false)) }
     {
         if is_expired_by_ttl(self.time_to_live, found.written(), self.now) {
             return Some(RemovalCause::Expired);
@@ -67,7 +69,8 @@ impl Tests {
     // Why a record leaves by the moment of its last read, if it does.
     fn cause_by_read<K, V>(self, found: &RecordRef<'_, K, V>) -> Option<RemovalCause>
         ensures cause { result ≡ cause_by_read (tests_in self) found.now }
-        ensures none { IfNone result ((is_past_read (tests_in self) found.now ≡ false) × (is_read_before self.valid_after found.now ≡ false)) }
+        ensures none { IfNone result ((is_past_read (tests_in self) found.now ≡ false)
+            × (is_read_before self.valid_after found.now ≡ false)) }
     {
         if is_expired_by_tti(self.time_to_idle, found.read(), self.now) {
             return Some(RemovalCause::Expired);
@@ -118,7 +121,8 @@ pub(crate) fn sweep_along<K: Eq + Hash + Drop, V: Drop, S: BuildHasher, L: Liste
     sweep: Sweep,
     batch: u32,
 ) -> Swept
-    ensures swept { IsSwept L.tells tests sweep batch (stock_in store.old) (stock_in store.new) notifier.old notifier.new result.removed result.is_left }
+    ensures swept { IsSwept L.tells tests sweep batch (stock_in store.old)
+        (stock_in store.new) notifier.old notifier.new result.removed result.is_left }
     ensures left { result.removed ≡ batch → result.is_left ≡ true }
     ensures upkeep { SetsNoTimer store.old store.new }
 {
@@ -160,7 +164,8 @@ fn take_turn<K: Eq + Hash + Drop, V: Drop, S: BuildHasher, L: Listener<K, V>>(
     tests: Tests,
     sweep: Sweep,
 ) -> Turn
-    ensures turn { TakesTurn L.tells tests sweep (stock_in store.old) (stock_in store.new) notifier.old notifier.new result }
+    ensures turn { TakesTurn L.tells tests sweep (stock_in store.old)
+        (stock_in store.new) notifier.old notifier.new result }
     ensures upkeep { SetsNoTimer store.old store.new }
 {
     let Some(handle) = next_of(store, tests, sweep) else {
@@ -213,7 +218,8 @@ fn first_over<K: Eq + Hash, V, S: BuildHasher>(
     capacity: Option<u64>,
 ) -> Option<Handle>
     ensures { MatchOption result (IsWithin capacity store.now.access)
-        (λ h. IsMemberAt store.now h × ((is_front h.number store.now.access && is_over capacity store.now.access) ≡ true)) }
+        (λ h. IsMemberAt store.now h
+        × ((is_front h.number store.now.access && is_over capacity store.now.access) ≡ true)) }
 {
     if !is_over(capacity, store.total_weight()) {
         return None;

@@ -19,7 +19,8 @@ removed_by (MovesToBack n ∷ xs) = removed_by xs
 removed_by (Drops i ∷ xs) = removed_by xs
 
 -- once the queues are applied, weight is the only ground for a removal
-pub record IsPlainSurplus {K V X P W : Type 0} (s : State K V X P W) (now capacity : ℕ) (c : Contents K V) : Type 0 where
+pub record IsPlainSurplus {K V X P W : Type 0} (s : State K V X P W) (now capacity : ℕ)
+    (c : Contents K V) : Type 0 where
   pub limited : s.capacity ≡ Some capacity
   pub over : capacity < total_weight c.access
   pub settled : list_all (λ a. is_settled c.records a.number) c.access ≡ true
@@ -27,7 +28,8 @@ pub record IsPlainSurplus {K V X P W : Type 0} (s : State K V X P W) (now capaci
   pub no_predicate : s.predicates ≡ []
 
 -- what a run costs and removes
-pub record IsBounded {K V X P W : Type 0} (s : State K V X P W) (terms : Terms) (ch : Freedom) (course : Course) : Type 0 where
+pub record IsBounded {K V X P W : Type 0} (s : State K V X P W) (terms : Terms) (ch : Freedom)
+    (course : Course) : Type 0 where
   -- the steps are gone through at least once
   pub made : 1 ≤ course.passes
   -- at most one pass more than the records that the steps remove
@@ -35,11 +37,16 @@ pub record IsBounded {K V X P W : Type 0} (s : State K V X P W) (terms : Terms) 
   -- each pass of a cut run removed a record
   pub removing : is_cut s.settings terms course ≡ true → course.passes ≤ length (removed_by ch.steps)
   -- a reading a pass, and one more where the run is cut
-  pub timed : is_timed s.settings terms ≡ true → length course.readings ≡ course.passes + (if is_cut s.settings terms course then 1 else 0)
+  pub timed : is_timed s.settings terms ≡ true →
+      length course.readings ≡ course.passes + (if is_cut s.settings terms course then 1 else 0)
   pub untimed : is_timed s.settings terms ≡ false → course.readings ≡ []
   -- it ends with the first reading that is late
   pub ends : is_late terms.limit (take (length course.readings - 1) course.readings) ≡ false
   -- a whole run removes just enough from the front
-  pub surplus : (capacity : ℕ) → IsPlainSurplus s terms.now capacity (before_steps s ch) → IsWhole s terms course → (front : List Member) × (prefix (before_steps s ch).access (total_weight (before_steps s ch).access - capacity) ≡ Some front) × (removed_by ch.steps ≡ numbers_of front)
+  pub surplus : (capacity : ℕ) → IsPlainSurplus s terms.now capacity (before_steps s ch) → IsWhole s terms course →
+      (front : List Member) × (prefix (before_steps s ch).access (total_weight (before_steps s ch).access - capacity)
+      ≡ Some front) × (removed_by ch.steps ≡ numbers_of front)
   -- one that is cut after its first pass removes a batch from the front
-  pub cut_surplus : (capacity : ℕ) → IsPlainSurplus s terms.now capacity (before_steps s ch) → is_cut s.settings terms course ≡ true → course.passes ≡ 1 → removed_by ch.steps ≡ numbers_of (take terms.batch (before_steps s ch).access)
+  pub cut_surplus : (capacity : ℕ) → IsPlainSurplus s terms.now capacity (before_steps s ch) →
+      is_cut s.settings terms course ≡ true → course.passes ≡ 1 →
+      removed_by ch.steps ≡ numbers_of (take terms.batch (before_steps s ch).access)

@@ -45,7 +45,8 @@ only_ids ids = record no_events { ids = ids }
 
 -- those of a run
 abbrev pub run_events : {K V : Type 0} → List (Notice K V) → Course → Events K V
-run_events notices course = record { notices = notices; readings = course.readings; ids = []; passes = Some course.passes }
+run_events notices course =
+    record { notices = notices; readings = course.readings; ids = []; passes = Some course.passes }
 
 -- nothing changed, and there were no events
 abbrev pub Unchanged : {K V X P W : Type 0} → State K V X P W → Events K V → State K V X P W → Type 0
@@ -69,39 +70,74 @@ HasInsertError s more insert_error.OutOfMemory = are_numbers_used_up s more ≡ 
 
 -- key and value come back
 abbrev pub RefusesInsert : {K V X P W : Type 0} → State K V X P W → ℕ → K → V → InsertRefused K V → Type 0
-RefusesInsert s more key value refused = (refused.key ≡ key) × (refused.value ≡ value) × HasInsertError s more refused.error
+RefusesInsert s more key value refused = (refused.key ≡ key) × (refused.value ≡ value)
+    × HasInsertError s more refused.error
 
 -- one more operation under the next ticket
 abbrev pub handing_out : {K V X P W : Type 0} → State K V X P W → Operation → State K V X P W
-handing_out s o = record s { outstanding = finite.insert s.outstanding s.next_ticket o; next_ticket = s.next_ticket + 1 }
+handing_out s o =
+    record s { outstanding = finite.insert s.outstanding s.next_ticket o; next_ticket = s.next_ticket + 1 }
 
 module _ {K V X P W : Type 0} (created : X → K → V → ℕ → Option ℕ) (updated : X → K → V → ℕ → Option ℕ → Option ℕ) where
   -- the record that an insert of a new key makes
   abbrev pub new_record : State K V X P W → K → ℕ → V → Instant → ℕ → Record K V
-  new_record s key hash value now w = record { number = s.next_number; key = key; hash = hash; value = value; written = now; read = now; expires = expires_at_first created s.settings.expiry key value now.0; weight = w; generation = 1; applied = 0 }
+  new_record s key hash value now w = record {
+    number = s.next_number;
+    key = key;
+    hash = hash;
+    value = value;
+    written = now;
+    read = now;
+    expires = expires_at_first created s.settings.expiry key value now.0;
+    weight = w;
+    generation = 1;
+    applied = 0;
+  }
 
   -- a new record of the key
   abbrev pub inserted : State K V X P W → K → ℕ → V → Instant → ℕ → State K V X P W
-  inserted s key hash value now w = handing_out (record s { records = with_record s.records (new_record s key hash value now w); next_number = s.next_number + 1 }) (Upsert s.next_number 1 w hash)
+  inserted s key hash value now w = handing_out
+      (record s {
+        records = with_record s.records (new_record s key hash value now w);
+        next_number = s.next_number + 1;
+      }) (Upsert s.next_number 1 w hash)
 
   -- the record after an insert of its key: number, first key and first hash stay
   abbrev pub updated_record : State K V X P W → Record K V → K → V → Instant → ℕ → Record K V
-  updated_record s r key value now w = record r { value = value; written = now; read = now; weight = w; generation = r.generation + 1; expires = expires_updated created updated s.settings s.settings.expiry key value (record r { written = now; read = now }) now.0 }
+  updated_record s r key value now w = record r {
+    value = value;
+    written = now;
+    read = now;
+    weight = w;
+    generation = r.generation + 1;
+    expires = expires_updated created updated s.settings s.settings.expiry key
+        value (record r { written = now; read = now }) now.0;
+  }
 
   -- a new value for the record
   abbrev pub replaced : State K V X P W → Record K V → K → ℕ → V → Instant → ℕ → State K V X P W
-  replaced s r key hash value now w = handing_out (record s { records = with_record s.records (updated_record s r key value now w) }) (Upsert r.number (r.generation + 1) w hash)
+  replaced s r key hash value now w = handing_out
+      (record s { records = with_record s.records (updated_record s r key value now w) })
+      (Upsert r.number (r.generation + 1) w hash)
 
   module _ (weighs : W → K → V → ℕ → Type 0) where
     -- an insert, where the key has that record or none
-    abbrev pub InsertsAt : State K V X P W → Option (Record K V) → K → ℕ → V → Instant → Result (Ticket × Instant) (InsertRefused K V) → Events K V → State K V X P W → Type 0
-    InsertsAt s None key hash value now (Ok a) e t = (w : ℕ) × Weighs weighs s.settings.weigher key value w × (are_numbers_used_up s 1 ≡ false) × (a.0.0 ≡ s.next_ticket) × (a.1 ≡ now) × (t ≡ inserted s key hash value now w) × (e ≡ no_events)
-    InsertsAt s (Some r) key hash value now (Ok a) e t = (w : ℕ) × Weighs weighs s.settings.weigher key value w × (are_numbers_used_up s 0 ≡ false) × (a.0.0 ≡ s.next_ticket) × (a.1 ≡ now) × (t ≡ replaced s r key hash value now w) × (e ≡ only_notices (when_listening s.settings.listening ((key, r.value, cause_of_replacement s.settings s.invalid_before r now.0) ∷ [])))
+    abbrev pub InsertsAt : State K V X P W → Option (Record K V) → K → ℕ → V → Instant →
+        Result (Ticket × Instant) (InsertRefused K V) → Events K V → State K V X P W → Type 0
+    InsertsAt s None key hash value now (Ok a) e t = (w : ℕ) × Weighs weighs s.settings.weigher key value w
+        × (are_numbers_used_up s 1 ≡ false) × (a.0.0 ≡ s.next_ticket) × (a.1 ≡ now)
+        × (t ≡ inserted s key hash value now w) × (e ≡ no_events)
+    InsertsAt s (Some r) key hash value now (Ok a) e t = (w : ℕ) × Weighs weighs s.settings.weigher key value w
+        × (are_numbers_used_up s 0 ≡ false) × (a.0.0 ≡ s.next_ticket) × (a.1 ≡ now)
+        × (t ≡ replaced s r key hash value now w)
+        × (e ≡ only_notices (when_listening s.settings.listening
+        ((key, r.value, cause_of_replacement s.settings s.invalid_before r now.0) ∷ [])))
     InsertsAt s None key hash value now (Err refused) e t = RefusesInsert s 1 key value refused × Unchanged s e t
     InsertsAt s (Some r) key hash value now (Err refused) e t = RefusesInsert s 0 key value refused × Unchanged s e t
 
     -- an insert into a map that is not disabled
-    abbrev pub InsertStep : (K → K → Bool) → State K V X P W → K → ℕ → V → Instant → Result (Ticket × Instant) (InsertRefused K V) → Events K V → State K V X P W → Type 0
+    abbrev pub InsertStep : (K → K → Bool) → State K V X P W → K → ℕ → V → Instant →
+        Result (Ticket × Instant) (InsertRefused K V) → Events K V → State K V X P W → Type 0
     InsertStep eq s key hash value now a e t = InsertsAt s (record_of_key eq s.records key) key hash value now a e t
 
 -- ---- sends and removals
@@ -112,12 +148,16 @@ entry_of r = record { key = r.key; value = r.value; last_modified = r.written; l
 
 module _ {K V X W : Type 0} where
   -- the listener, where one is set, is notified of a clone of the entry; only then can memory be refused
-  abbrev pub NotifyStep : Settings X W → KvEntry K V → Instant → Result (Unit {0}) OutOfMemory → List (Notice K V) → Type 0
-  NotifyStep settings entry now (Ok _) notices = notices ≡ when_listening settings.listening ((entry.key, entry.value, cause_of_removal settings entry.last_modified.0 entry.last_accessed.0 now.0) ∷ [])
+  abbrev pub NotifyStep : Settings X W → KvEntry K V → Instant → Result (Unit {0}) OutOfMemory → List (Notice K V) →
+      Type 0
+  NotifyStep settings entry now (Ok _) notices = notices
+      ≡ when_listening settings.listening
+      ((entry.key, entry.value, cause_of_removal settings entry.last_modified.0 entry.last_accessed.0 now.0) ∷ [])
   NotifyStep settings entry now (Err _) notices = (settings.listening ≡ true) × (notices ≡ [])
 
   -- the notice that follows a removal that carries a moment and found its key
-  abbrev pub NotifiesAfter : Settings X W → Option (KvEntry K V × Ticket) → Option Instant → Option (Result (Unit {0}) OutOfMemory) → List (Notice K V) → Type 0
+  abbrev pub NotifiesAfter : Settings X W → Option (KvEntry K V × Ticket) → Option Instant →
+      Option (Result (Unit {0}) OutOfMemory) → List (Notice K V) → Type 0
   NotifiesAfter settings (Some removed) (Some now) (Some a) notices = NotifyStep settings removed.0 now a notices
   NotifiesAfter settings (Some removed) (Some now) None notices = ⊥
   NotifiesAfter settings (Some removed) None a notices = (a ≡ None) × (notices ≡ [])
@@ -130,7 +170,11 @@ queue_length = 384
 module _ {K V X P W : Type 0} where
   -- the operation moves to the back of the write queue
   abbrev pub SendsAt : State K V X P W → ℕ → Option Operation → Result (Unit {0}) SendError → State K V X P W → Type 0
-  SendsAt s ticket (Some o) (Ok _) t = (length s.writes < queue_length) × (t ≡ record s { outstanding = finite.remove s.outstanding ticket; writes = s.writes ++ record { ticket = ticket; operation = o } ∷ [] })
+  SendsAt s ticket (Some o) (Ok _) t = (length s.writes < queue_length)
+      × (t ≡ record s {
+        outstanding = finite.remove s.outstanding ticket;
+        writes = s.writes ++ record { ticket = ticket; operation = o } ∷ [];
+      })
   SendsAt s ticket (Some o) (Err QueueFull) t = (queue_length ≤ length s.writes) × (t ≡ s)
   SendsAt s ticket None (Err UnknownTicket) t = t ≡ s
   SendsAt s ticket o a t = ⊥
@@ -140,12 +184,16 @@ module _ {K V X P W : Type 0} where
   SendStep s ticket a t = SendsAt s ticket (finite.get s.outstanding ticket) a t
 
   -- the record leaves, and its removal is handed out
-  abbrev pub RemovesAt : State K V X P W → Option (Record K V) → Option (KvEntry K V × Ticket) → State K V X P W → Type 0
+  abbrev pub RemovesAt : State K V X P W → Option (Record K V) → Option (KvEntry K V × Ticket) → State K V X P W →
+      Type 0
   RemovesAt s None a t = (a ≡ None) × (t ≡ s)
-  RemovesAt s (Some r) a t = (a ≡ Some (entry_of r, record { 0 = s.next_ticket })) × (t ≡ handing_out (record s { records = finite.remove s.records r.number }) (Removal r.number (r.generation + 1)))
+  RemovesAt s (Some r) a t = (a ≡ Some (entry_of r, record { 0 = s.next_ticket }))
+      × (t ≡ handing_out (record s { records = finite.remove s.records r.number })
+      (Removal r.number (r.generation + 1)))
 
   -- a removal of the key
-  abbrev pub RemoveStep : (K → K → Bool) → State K V X P W → K → Option (KvEntry K V × Ticket) → State K V X P W → Type 0
+  abbrev pub RemoveStep : (K → K → Bool) → State K V X P W → K → Option (KvEntry K V × Ticket) → State K V X P W →
+      Type 0
   RemoveStep eq s key a t = RemovesAt s (record_of_key eq s.records key) a t
 
 -- ---- invalidation
@@ -155,16 +203,22 @@ module _ {K V X P W : Type 0} where
   abbrev pub PredicateRefusal : State K V X P W → PredicateError → List Uuid → Type 0
   PredicateRefusal s predicate_error.InvalidationClosuresDisabled ids = (s.settings.invalidator ≡ false) × (ids ≡ [])
   PredicateRefusal s predicate_error.OutOfMemory ids = (s.settings.invalidator ≡ true) × (ids ≡ [])
-  PredicateRefusal s predicate_error.NoFreeId ids = (s.settings.invalidator ≡ true) × (length ids ≡ most_ids) × AllByRecursion (IsTaken s.predicates) ids
+  PredicateRefusal s predicate_error.NoFreeId ids = (s.settings.invalidator ≡ true) × (length ids ≡ most_ids)
+      × AllByRecursion (IsTaken s.predicates) ids
 
   -- the predicate is registered under the first free identifier
-  abbrev pub InvalidateStep : State K V X P W → P → Instant → Result Uuid (PredicateRefused P) → List Uuid → State K V X P W → Type 0
-  InvalidateStep s predicate now (Ok id) ids t = (s.settings.invalidator ≡ true) × (length ids ≤ most_ids) × FirstFree s.predicates ids id × (t ≡ record s { predicates = s.predicates ++ record { id = id; predicate = predicate; registered = now } ∷ [] })
-  InvalidateStep s predicate now (Err refused) ids t = (refused.predicate ≡ predicate) × PredicateRefusal s refused.error ids × (t ≡ s)
+  abbrev pub InvalidateStep : State K V X P W → P → Instant → Result Uuid (PredicateRefused P) → List Uuid →
+      State K V X P W → Type 0
+  InvalidateStep s predicate now (Ok id) ids t = (s.settings.invalidator ≡ true) × (length ids ≤ most_ids)
+      × FirstFree s.predicates ids id
+      × (t ≡ record s { predicates = s.predicates ++ record { id = id; predicate = predicate; registered = now } ∷ [] })
+  InvalidateStep s predicate now (Err refused) ids t = (refused.predicate ≡ predicate)
+      × PredicateRefusal s refused.error ids × (t ≡ s)
 
   -- the capacity changes and nothing else; capacity 0 neither comes nor goes
   abbrev pub CapacityStep : State K V X P W → Option ℕ → Result (Unit {0}) CapacityError → State K V X P W → Type 0
-  CapacityStep s capacity (Ok _) t = (is_disabled s.capacity || is_disabled capacity ≡ false) × (t ≡ record s { capacity = capacity })
+  CapacityStep s capacity (Ok _) t = (is_disabled s.capacity || is_disabled capacity ≡ false)
+      × (t ≡ record s { capacity = capacity })
   CapacityStep s capacity (Err _) t = (is_disabled s.capacity || is_disabled capacity ≡ true) × (t ≡ s)
 
 -- ---- runs
@@ -175,16 +229,20 @@ queueing s r = record s { reads = if nat_lt (length s.reads) queue_length then s
 
 -- what the housekeeper gives to a run
 abbrev pub keeper_terms : {X W : Type 0} → Settings X W → ℕ → Terms
-keeper_terms settings now = record { now = now; limit = limit_of_run settings.listening settings.run_limit; batch = settings.run_batch }
+keeper_terms settings now =
+    record { now = now; limit = limit_of_run settings.listening settings.run_limit; batch = settings.run_batch }
 
-module _ {K V X P W : Type 0} (Runs : State K V X P W → Terms → Course → List (Notice K V) → State K V X P W → Type 0) where
+module _ {K V X P W : Type 0}
+    (Runs : State K V X P W → Terms → Course → List (Notice K V) → State K V X P W → Type 0) where
   -- a run that a caller asks for; the housekeeper is not touched
   abbrev pub RunStep : State K V X P W → Terms → Bool → Events K V → State K V X P W → Type 0
-  RunStep s terms answer e t = (course : Course) × Runs s terms course e.notices t × (answer ≡ course.answer) × (e ≡ run_events e.notices course)
+  RunStep s terms answer e t = (course : Course) × Runs s terms course e.notices t × (answer ≡ course.answer)
+      × (e ≡ run_events e.notices course)
 
   -- a run that the housekeeper starts
   abbrev pub KeeperRun : State K V X P W → ℕ → Events K V → State K V X P W → Type 0
-  KeeperRun s now e t = (answer : Bool) × (mid : State K V X P W) × RunStep s (keeper_terms s.settings now) answer e mid × (t ≡ record mid { housekeeping = after_run_due s.housekeeping s.settings.listening now answer })
+  KeeperRun s now e t = (answer : Bool) × (mid : State K V X P W) × RunStep s (keeper_terms s.settings now) answer e mid
+      × (t ≡ record mid { housekeeping = after_run_due s.housekeeping s.settings.listening now answer })
 
   -- the housekeeper's run, where so many queued operations make one due
   abbrev pub RunsIfDue : State K V X P W → ℕ → ℕ → Events K V → State K V X P W → Type 0
@@ -220,7 +278,8 @@ module _ {K V X P W : Type 0} (says : P → K → V → Bool → Type 0) where
   abbrev pub ScanStep : (K → K → Bool) → State K V X P W → K → ℕ → Result (Option V) OutOfMemory → Type 0
   ScanStep eq s key now a = ScansAt s (record_of_key eq s.records key) now a
 
-module _ {K V X P W : Type 0} (read : X → K → V → ℕ → Option ℕ → ℕ → Option ℕ) (s : State K V X P W) (r : Record K V) (now : ℕ) where
+module _ {K V X P W : Type 0} (read : X → K → V → ℕ → Option ℕ → ℕ → Option ℕ) (s : State K V X P W)
+    (r : Record K V) (now : ℕ) where
   -- the moment that a hit at now counts as
   abbrev pub hit_at : ℕ
   hit_at = moment_of_hit s.settings.expiry r now
@@ -243,27 +302,37 @@ module _ {K V X P W : Type 0} (read : X → K → V → ℕ → Option ℕ → �
 
 module _ {K V X P W : Type 0} (says : P → K → V → Bool → Type 0) (read : X → K → V → ℕ → Option ℕ → ℕ → Option ℕ) where
   -- a get that queues no read and starts no run
-  abbrev pub PeeksAt : State K V X P W → Option (Record K V) → Bool → ℕ → Result (Option V) OutOfMemory → State K V X P W → Type 0
+  abbrev pub PeeksAt : State K V X P W → Option (Record K V) → Bool → ℕ → Result (Option V) OutOfMemory →
+      State K V X P W → Type 0
   PeeksAt s None ignored now a t = (a ≡ Ok None) × (t ≡ s)
   PeeksAt s (Some r) ignored now (Ok None) t = IsMissed says s ignored r now × (t ≡ s)
-  PeeksAt s (Some r) ignored now (Ok (Some value)) t = IsHit says s ignored r now × (value ≡ r.value) × (t ≡ after_hit read s r now)
+  PeeksAt s (Some r) ignored now (Ok (Some value)) t = IsHit says s ignored r now × (value ≡ r.value)
+      × (t ≡ after_hit read s r now)
   PeeksAt s (Some r) ignored now (Err _) t = IsHit says s ignored r now × (t ≡ s)
 
   -- the same of a key
-  abbrev pub PeekStep : (K → K → Bool) → State K V X P W → K → Bool → ℕ → Result (Option V) OutOfMemory → State K V X P W → Type 0
-  PeekStep eq s key ignored now a t = MatchBool (is_disabled s.capacity) ((a ≡ Ok None) × (t ≡ s)) (PeeksAt s (record_of_key eq s.records key) ignored now a t)
+  abbrev pub PeekStep : (K → K → Bool) → State K V X P W → K → Bool → ℕ → Result (Option V) OutOfMemory →
+      State K V X P W → Type 0
+  PeekStep eq s key ignored now a t = MatchBool (is_disabled s.capacity) ((a ≡ Ok None) × (t ≡ s))
+      (PeeksAt s (record_of_key eq s.records key) ignored now a t)
 
   module _ (Runs : State K V X P W → Terms → Course → List (Notice K V) → State K V X P W → Type 0) where
     -- a get of a map that is not disabled, where the key has that record or none
-    abbrev pub GetsAt : State K V X P W → Option (Record K V) → ℕ → Bool → Bool → ℕ → Result (Option (Entry K V)) OutOfMemory → Events K V → State K V X P W → Type 0
+    abbrev pub GetsAt : State K V X P W → Option (Record K V) → ℕ → Bool → Bool → ℕ →
+        Result (Option (Entry K V)) OutOfMemory → Events K V → State K V X P W → Type 0
     GetsAt s None hash need_key ignored now a e t = (a ≡ Ok None) × RecordsRead Runs s now (Miss hash) e t
-    GetsAt s (Some r) hash need_key ignored now (Ok None) e t = IsMissed says s ignored r now × RecordsRead Runs s now (Miss hash) e t
-    GetsAt s (Some r) hash need_key ignored now (Ok (Some entry)) e t = IsHit says s ignored r now × (entry.value ≡ r.value) × (entry.key ≡ (if need_key then Some r.key else None)) × RecordsRead Runs (after_hit read s r now) (hit_at read s r now) (hit_operation read s r now) e t
+    GetsAt s (Some r) hash need_key ignored now (Ok None) e t = IsMissed says s ignored r now
+        × RecordsRead Runs s now (Miss hash) e t
+    GetsAt s (Some r) hash need_key ignored now (Ok (Some entry)) e t = IsHit says s ignored r now
+        × (entry.value ≡ r.value) × (entry.key ≡ (if need_key then Some r.key else None))
+        × RecordsRead Runs (after_hit read s r now) (hit_at read s r now) (hit_operation read s r now) e t
     GetsAt s (Some r) hash need_key ignored now (Err _) e t = IsHit says s ignored r now × Unchanged s e t
 
     -- a get that records
-    abbrev pub GetStep : (K → K → Bool) → State K V X P W → K → ℕ → Bool → Bool → ℕ → Result (Option (Entry K V)) OutOfMemory → Events K V → State K V X P W → Type 0
-    GetStep eq s key hash need_key ignored now a e t = MatchBool (is_disabled s.capacity) ((a ≡ Ok None) × Unchanged s e t) (GetsAt s (record_of_key eq s.records key) hash need_key ignored now a e t)
+    abbrev pub GetStep : (K → K → Bool) → State K V X P W → K → ℕ → Bool → Bool → ℕ →
+        Result (Option (Entry K V)) OutOfMemory → Events K V → State K V X P W → Type 0
+    GetStep eq s key hash need_key ignored now a e t = MatchBool (is_disabled s.capacity)
+        ((a ≡ Ok None) × Unchanged s e t) (GetsAt s (record_of_key eq s.records key) hash need_key ignored now a e t)
 
 -- ---- what needs no moment
 
@@ -281,7 +350,8 @@ module _ {K V X P W : Type 0} where
   -- the keys of all records in some order; there is one segment
   abbrev pub KeysStep : State K V X P W → ℕ → Result (Option (List K)) OutOfMemory → Type 0
   KeysStep s segment (Ok None) = (segment == 0) ≡ false
-  KeysStep s segment (Ok (Some keys)) = ((segment == 0) ≡ true) × IsPermutation (map (λ r. r.key) (finite.values s.records)) keys
+  KeysStep s segment (Ok (Some keys)) = ((segment == 0) ≡ true)
+      × IsPermutation (map (λ r. r.key) (finite.values s.records)) keys
   KeysStep s segment (Err _) = (segment == 0) ≡ true
 
   -- the least ticket that was not sent

@@ -11,17 +11,20 @@ use Rattle.moka_sketch.specs.Frequency.{frequency}
 -- the shortest front whose counted weights sum to at least the weight, if there is one
 abbrev pub prefix : List Member → ℕ → Option (List Member)
 prefix [] weight = if weight == 0 then Some [] else None
-prefix (a ∷ members) weight = if weight == 0 then Some [] else option_map (λ front. a ∷ front) (prefix members (weight - a.counted))
+prefix (a ∷ members) weight = if weight == 0 then Some []
+    else option_map (λ front. a ∷ front) (prefix members (weight - a.counted))
 
 -- the members in front of the last of the victims
 abbrev pub before_last_of : List Member → List Member → List Member
-before_last_of victims members = option_map_or (λ (last : Member). before_first (λ a. a.number == last.number) members) (last_or None victims) []
+before_last_of victims members =
+    option_map_or (λ (last : Member). before_first (λ a. a.number == last.number) members) (last_or None victims) []
 
 module _ {K V : Type 0} (records : Records K V) where
   -- six members side by side are unsettled, where so many unsettled ones stand right before the list
   abbrev pub has_six_unsettled : ℕ → List Member → Bool
   has_six_unsettled before [] = false
-  has_six_unsettled before (a ∷ members) = if is_settled records a.number then has_six_unsettled 0 members else (nat_le 5 before || has_six_unsettled (before + 1) members)
+  has_six_unsettled before (a ∷ members) = if is_settled records a.number then has_six_unsettled 0 members
+      else (nat_le 5 before || has_six_unsettled (before + 1) members)
 
   -- none of the numbers is a settled record's
   abbrev pub are_unsettled : List ℕ → Bool
@@ -43,4 +46,5 @@ module _ {K V : Type 0} (c : Contents K V) where
   -- the candidate was seen more often than the victims together, and no six unsettled members stand in a row before the
   -- last of them
   abbrev pub is_preferred : ℕ → List Member → Bool
-  is_preferred hash victims = nat_lt (frequency_of_all victims) (frequency c.sketch hash) && not (has_six_unsettled c.records 0 (before_last_of victims c.access))
+  is_preferred hash victims = nat_lt (frequency_of_all victims)
+      (frequency c.sketch hash) && not (has_six_unsettled c.records 0 (before_last_of victims c.access))

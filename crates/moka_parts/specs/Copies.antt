@@ -44,5 +44,7 @@ module _ {K V : Type 0} (is_key_clone : K → K → Type 0) (is_value_clone : V 
     pub last_accessed : f.last_accessed ≡ e.last_accessed
 
   -- the listener, where one is set, is notified of such clones
-  abbrev pub NotifiesOfCopy : {X W : Type 0} → Settings X W → KvEntry K V → Instant → Result (Unit {0}) OutOfMemory → List (Notice K V) → Type 0
-  NotifiesOfCopy settings entry now a notices = (copy : KvEntry K V) × NotifyStep settings copy now a notices × ((notices ≡ []) ⊎ IsKvEntryCopy entry copy)
+  abbrev pub NotifiesOfCopy : {X W : Type 0} → Settings X W → KvEntry K V → Instant → Result (Unit {0}) OutOfMemory →
+      List (Notice K V) → Type 0
+  NotifiesOfCopy settings entry now a notices = (copy : KvEntry K V) × NotifyStep settings copy now a notices
+      × ((notices ≡ []) ⊎ IsKvEntryCopy entry copy)

@@ -8,7 +8,9 @@ use Rattle.moka_parts.specs.Listed.{AreListedSteps}
 use Rattle.moka_parts.specs.Laws.{AllConserveValues}
 
 -- what `drive` promises: a run of the reference cache in which each run of maintenance keeps its promises
-pub record Drives {K V S X L P W C I : Type 0} (m : Meaning K V X L P W C I) (calls : List (Call K V P)) (replies : List (Reply K V P)) (old : Engine K V S X L P W) (clock : C) (ids : I) (new : Engine K V S X L P W) (clock_after : C) (ids_after : I) : Type 0 where
+pub record Drives {K V S X L P W C I : Type 0} (m : Meaning K V X L P W C I) (calls : List (Call K V P))
+    (replies : List (Reply K V P)) (old : Engine K V S X L P W) (clock : C) (ids : I) (new : Engine K V S X L P W)
+    (clock_after : C) (ids_after : I) : Type 0 where
   pub steps : List (Step K V X P W)
   pub is_run : MakesCalls m (PromisedRun m.says m.read) calls replies steps old clock ids new clock_after ids_after
   -- each call leads from one write list to the next

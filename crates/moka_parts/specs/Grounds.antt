@@ -43,12 +43,14 @@ module _ {K V : Type 0} (q : Tests) where
   -- why a record leaves by its last write, if it does: that it is past its time to live is told before that it is
   -- invalidated
   abbrev pub cause_by_write : Record K V → Option RemovalCause
-  cause_by_write r = if is_past_write q r then Some Expired else (if is_written_before q.invalid_before r then Some Explicit else None)
+  cause_by_write r = if is_past_write q r then Some Expired
+      else (if is_written_before q.invalid_before r then Some Explicit else None)
 
   -- why a record leaves by its last read, if it does: that it is past its time to idle is told before that it is
   -- invalidated
   abbrev pub cause_by_read : Record K V → Option RemovalCause
-  cause_by_read r = if is_past_read q r then Some Expired else (if is_read_before q.invalid_before r then Some Explicit else None)
+  cause_by_read r = if is_past_read q r then Some Expired
+      else (if is_read_before q.invalid_before r then Some Explicit else None)
 
 -- `Covered` says which records are covered by a predicate
 module _ {K V : Type 0} (Covered : Record K V → Type 0) (q : Tests) where
@@ -62,7 +64,8 @@ module _ {K V : Type 0} (Covered : Record K V → Type 0) (q : Tests) where
 
   -- a choice that the step may make: a settled member leaves on its ground, or an unsettled one goes to the back
   abbrev pub MayTake : Ground → Contents K V → Choice → Type 0
-  MayTake g c (Removes n cause) = (r : Record K V) × (get c.records n ≡ Some r) × (is_member n c.access && is_settled c.records n ≡ true) × LeavesBy g c n r cause
+  MayTake g c (Removes n cause) = (r : Record K V) × (get c.records n ≡ Some r)
+      × (is_member n c.access && is_settled c.records n ≡ true) × LeavesBy g c n r cause
   MayTake g c (MovesToBack n) = (is_sweep g ≡ true) × (is_member n c.access ≡ true) × (is_settled c.records n ≡ false)
   MayTake g c (Drops i) = ⊥
 
@@ -74,4 +77,5 @@ module _ {K V : Type 0} (Covered : Record K V → Type 0) (q : Tests) where
   -- the choices are those of these steps, one step after the other
   abbrev pub FollowsGrounds : List Ground → Contents K V → List Choice → Type 0
   FollowsGrounds [] c xs = xs ≡ []
-  FollowsGrounds (g ∷ gs) c xs = (first later : List Choice) × (xs ≡ first ++ later) × AreTaken g c first × FollowsGrounds gs (after_choices c first) later
+  FollowsGrounds (g ∷ gs) c xs = (first later : List Choice) × (xs ≡ first ++ later) × AreTaken g c first
+      × FollowsGrounds gs (after_choices c first) later

@@ -25,9 +25,12 @@ new_keeper listening config now = record {
   run_batch = config.eviction_batch_size;
 }
 
-module _ {T C : Type 0} (runs : T → ℕ → Option ℕ → ℕ → ℕ → List Instant → Bool → T → Type 0) (reads : C → Instant → C → Type 0) where
+module _ {T C : Type 0} (runs : T → ℕ → Option ℕ → ℕ → ℕ → List Instant → Bool → T → Type 0)
+    (reads : C → Instant → C → Type 0) where
   -- one run at now, with the housekeeper's limit, repeats and batch; what runs goes from `s` to `t`, and the clock from
   -- `c` to `d`
   abbrev pub MakesRun : Keeper → T → ℕ → C → Keeper → T → C → Type 0
   MakesRun h s now c k t d =
-      (readings : List Instant) × (answer : Bool) × Leads reads c readings d × runs s now (limit_of_run h.listening h.run_limit) h.run_repeats h.run_batch readings answer t × (k ≡ record h { housekeeping = after_run_due h.housekeeping h.listening now answer })
+      (readings : List Instant) × (answer : Bool) × Leads reads c readings d
+      × runs s now (limit_of_run h.listening h.run_limit) h.run_repeats h.run_batch readings answer t
+      × (k ≡ record h { housekeeping = after_run_due h.housekeeping h.listening now answer })

@@ -42,7 +42,8 @@ is_front n (a ∷ members) = a.number == n
 module _ {K V : Type 0} where
   -- the contents after one step: a removed record leaves map and access list
   abbrev pub after_choice : Contents K V → Choice → Contents K V
-  after_choice c (Removes n cause) = record c { records = finite.remove c.records n; access = without_member n c.access }
+  after_choice c (Removes n cause) =
+      record c { records = finite.remove c.records n; access = without_member n c.access }
   after_choice c (MovesToBack n) = record c { access = to_back n c.access }
   after_choice c (Drops i) = c
 
@@ -53,7 +54,8 @@ module _ {K V : Type 0} where
 
   -- what a step takes out of the map
   abbrev pub left_by_choice : Contents K V → Choice → List (Notice K V)
-  left_by_choice c (Removes n cause) = option_to_list (option_map (λ (r : Record K V). (r.key, r.value, cause)) (finite.get c.records n))
+  left_by_choice c (Removes n cause) =
+      option_to_list (option_map (λ (r : Record K V). (r.key, r.value, cause)) (finite.get c.records n))
   left_by_choice c (MovesToBack n) = []
   left_by_choice c (Drops i) = []
 
@@ -82,13 +84,15 @@ is_over capacity members = not (has_room capacity (total_weight members) 0)
 -- is taken
 abbrev pub is_sketch_due : Option ℕ → EvictionPolicy → Option Table → ℕ → Bool
 is_sketch_due None policy sketch total = false
-is_sketch_due (Some capacity) policy sketch total = is_tiny_lfu policy && is_none sketch && not (capacity == 0) && nat_le (capacity / 2) total
+is_sketch_due (Some capacity) policy sketch total =
+    is_tiny_lfu policy && is_none sketch && not (capacity == 0) && nat_le (capacity / 2) total
 
 -- the length of its table: 128 where a longer one was refused
 abbrev pub length_of_new_table : Bool → Option ℕ → Bool → List Member → ℕ
 length_of_new_table true capacity has_weigher members = 128
 length_of_new_table false None has_weigher members = 128
-length_of_new_table false (Some capacity) has_weigher members = table_length_for (size_asked has_weigher capacity (length members) (total_weight members))
+length_of_new_table false (Some capacity) has_weigher members =
+    table_length_for (size_asked has_weigher capacity (length members) (total_weight members))
 
 module _ {K V : Type 0} where
   -- the sketch is enabled where it is due
@@ -122,7 +126,8 @@ module _ {K V X P W : Type 0} (s : State K V X P W) where
 
   -- what leaves the map in the run, in order
   abbrev pub left_in_run : Freedom → List (Notice K V)
-  left_in_run ch = left_by_writes s.capacity s.settings.policy after_queued_reads s.writes ch.moves ++ left_by_choices (before_steps ch) ch.steps
+  left_in_run ch = left_by_writes s.capacity s.settings.policy after_queued_reads s.writes ch.moves
+      ++ left_by_choices (before_steps ch) ch.steps
 
   -- the state after the run
   abbrev pub after_run : Freedom → State K V X P W
@@ -139,7 +144,13 @@ pub record Tests : Type 0 where
 
 -- those of a state at a moment
 abbrev pub tests_of : {K V X P W : Type 0} → State K V X P W → ℕ → Tests
-tests_of s now = record { now = now; time_to_live = s.settings.time_to_live; time_to_idle = s.settings.time_to_idle; invalid_before = s.invalid_before; capacity = s.capacity }
+tests_of s now = record {
+  now = now;
+  time_to_live = s.settings.time_to_live;
+  time_to_idle = s.settings.time_to_idle;
+  invalid_before = s.invalid_before;
+  capacity = s.capacity;
+}
 
 module _ {K V : Type 0} (q : Tests) where
   -- its time to live has passed
@@ -153,7 +164,8 @@ module _ {K V : Type 0} (q : Tests) where
   -- the cause fits the record by its moments, or by its place at the front of what exceeds the capacity
   abbrev pub HasGround : Contents K V → ℕ → Record K V → RemovalCause → Type 0
   HasGround c n r Expired = (is_expired r q.now || is_past_write r || is_past_read r) ≡ true
-  HasGround c n r Explicit = ((is_written_before q.invalid_before r && not (is_past_write r)) || (is_read_before q.invalid_before r && not (is_past_read r))) ≡ true
+  HasGround c n r Explicit = ((is_written_before q.invalid_before r && not (is_past_write r))
+      || (is_read_before q.invalid_before r && not (is_past_read r))) ≡ true
   HasGround c n r Size = (is_front n c.access && is_over q.capacity c.access) ≡ true
   HasGround c n r Replaced = ⊥
 
@@ -173,7 +185,8 @@ module _ {K V P : Type 0} (says : P → K → V → Bool → Type 0) (q : Tests)
   -- a step that a run may take: a settled member leaves for a cause that fits, an unsettled one goes to the back, or a
   -- predicate that covers nothing leaves
   abbrev pub IsJustified : Contents K V → List (Registered P) → Choice → Type 0
-  IsJustified c ps (Removes n cause) = (r : Record K V) × (finite.get c.records n ≡ Some r) × (is_member n c.access && is_settled c.records n ≡ true) × HasCause c ps n r cause
+  IsJustified c ps (Removes n cause) = (r : Record K V) × (finite.get c.records n ≡ Some r)
+      × (is_member n c.access && is_settled c.records n ≡ true) × HasCause c ps n r cause
   IsJustified c ps (MovesToBack n) = (is_member n c.access ≡ true) × (is_settled c.records n ≡ false)
   IsJustified c ps (Drops i) = (p : Registered P) × (slice_get ps i ≡ Some p) × CoversNothing says c p
 
@@ -185,7 +198,8 @@ module _ {K V P : Type 0} (says : P → K → V → Bool → Type 0) (q : Tests)
 module _ {K V X P W : Type 0} (says : P → K → V → Bool → Type 0) (s : State K V X P W) (now : ℕ) where
   -- a run may make these choices
   abbrev pub AreFree : Freedom → Type 0
-  AreFree ch = AreAllMoves s.capacity s.settings.policy (after_queued_reads s) s.writes ch.moves × AreJustified says (tests_of s now) (before_steps s ch) s.predicates ch.steps
+  AreFree ch = AreAllMoves s.capacity s.settings.policy (after_queued_reads s) s.writes ch.moves
+      × AreJustified says (tests_of s now) (before_steps s ch) s.predicates ch.steps
 
 -- how a run went
 pub record Course : Type 0 where
@@ -221,17 +235,23 @@ is_cut settings terms course = settings.listening && is_late terms.limit course.
 
 -- a run on a disabled map does nothing
 abbrev pub DoesNothing : {K V X P W : Type 0} → State K V X P W → Course → List (Notice K V) → State K V X P W → Type 0
-DoesNothing s course notices t = (t ≡ s) × (notices ≡ []) × (course ≡ record { answer = false; readings = []; passes = 0 })
+DoesNothing s course notices t = (t ≡ s) × (notices ≡ [])
+    × (course ≡ record { answer = false; readings = []; passes = 0 })
 
 module _ {K V X P W : Type 0} (says : P → K → V → Bool → Type 0) where
   -- a run by these choices
   abbrev pub RunsBy : State K V X P W → Terms → Freedom → Course → List (Notice K V) → State K V X P W → Type 0
-  RunsBy s terms ch course notices t = AreFree says s terms.now ch × (t ≡ after_run s ch) × (notices ≡ when_listening s.settings.listening (left_in_run s ch))
+  RunsBy s terms ch course notices t = AreFree says s terms.now ch × (t ≡ after_run s ch)
+      × (notices ≡ when_listening s.settings.listening (left_in_run s ch))
 
   -- a maintenance run, with a promise about its outcome and one about its choices
-  abbrev pub RunsWith : (State K V X P W → Terms → Course → State K V X P W → Type 0) → (State K V X P W → Terms → Freedom → Course → Type 0) → State K V X P W → Terms → Course → List (Notice K V) → State K V X P W → Type 0
-  RunsWith Outcome Detail s terms course notices t = MatchBool (is_disabled s.capacity) (DoesNothing s course notices t) ((ch : Freedom) × RunsBy s terms ch course notices t × Detail s terms ch course) × Outcome s terms course t
+  abbrev pub RunsWith : (State K V X P W → Terms → Course → State K V X P W → Type 0) →
+      (State K V X P W → Terms → Freedom → Course → Type 0) → State K V X P W → Terms → Course → List (Notice K V) →
+      State K V X P W → Type 0
+  RunsWith Outcome Detail s terms course notices t = MatchBool (is_disabled s.capacity) (DoesNothing s course notices t)
+      ((ch : Freedom) × RunsBy s terms ch course notices t × Detail s terms ch course) × Outcome s terms course t
 
   -- a maintenance run, with no more promised
   abbrev pub MaintenanceRun : State K V X P W → Terms → Course → List (Notice K V) → State K V X P W → Type 0
-  MaintenanceRun s terms course notices t = RunsWith (λ _ _ _ _. Unit {0}) (λ _ _ _ _. Unit {0}) s terms course notices t
+  MaintenanceRun s terms course notices t =
+      RunsWith (λ _ _ _ _. Unit {0}) (λ _ _ _ _. Unit {0}) s terms course notices t

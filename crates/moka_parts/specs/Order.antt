@@ -21,7 +21,8 @@ use Rattle.moka_parts.specs.Settling.{IsWhole, IsAllSent}
 
 -- the operations handed out, by ticket, behind those queued
 abbrev pub waiting_by_ticket : {K V X P W : Type 0} → State K V X P W → List Ticketed
-waiting_by_ticket s = s.writes ++ map (λ (e : ℕ × Operation). record { ticket = e.0; operation = e.1 }) (entries s.outstanding)
+waiting_by_ticket s =
+    s.writes ++ map (λ (e : ℕ × Operation). record { ticket = e.0; operation = e.1 }) (entries s.outstanding)
 
 module _ {K V : Type 0} (records : Records K V) where
   -- when the record of the number was written
@@ -40,7 +41,8 @@ module _ {K V : Type 0} (records : Records K V) where
   -- an upsert of a record in the map was not applied, nor overtaken
   abbrev pub IsNewer : Operation → Type 0
   IsNewer (Removal number generation) = ⊤
-  IsNewer (Upsert number generation weight hash) = (r : Record K V) → get records number ≡ Some r → r.applied < generation
+  IsNewer (Upsert number generation weight hash) = (r : Record K V) → get records number ≡ Some r
+      → r.applied < generation
 
 -- the list has just the members' numbers, each once
 abbrev pub IsListOf : List Member → List ℕ → Type 0
@@ -56,30 +58,38 @@ pub record IsInOrder {K V X P W : Type 0} (s : State K V X P W) (write_list : Li
   -- the queued tickets rise
   pub rising : IsStrictlyIncreasing (map (λ h. h.ticket) s.writes)
   -- below those not sent
-  pub below : (h : Ticketed) (ticket : ℕ) → Contains s.writes h → contains_key s.outstanding ticket ≡ true → h.ticket < ticket
+  pub below : (h : Ticketed) (ticket : ℕ) → Contains s.writes h → contains_key s.outstanding ticket ≡ true →
+      h.ticket < ticket
   -- none of them was applied or overtaken
   pub newer : (h : Ticketed) → Contains (waiting_by_ticket s) h → IsNewer s.records h.operation
   -- the settled members were written in the list's order, and then the waiting records in that of their tickets
-  pub written : IsNonDecreasing (filter_map (written_at s.records) (filter (is_settled s.records) write_list) ++ filter_map (λ h. written_by s.records h.operation) (waiting_by_ticket s))
+  pub written : IsNonDecreasing (filter_map (written_at s.records)
+      (filter (is_settled s.records) write_list) ++ filter_map (λ h. written_by s.records h.operation)
+      (waiting_by_ticket s))
 
 -- a call in the order of time: an insert no earlier than any write, or, where a send moves an operation, the oldest one
 -- sent
 abbrev pub IsOrderly : {K V X P W : Type 0} → State K V X P W → Call K V P → Type 0
 IsOrderly s (call.Insert key hash value now) = (n : ℕ) (r : Record _ _) → get s.records n ≡ Some r → r.written.0 ≤ now.0
-IsOrderly s (call.Send ticket) = contains_key s.outstanding ticket.0 ≡ true → length s.writes < queue_length → (n : ℕ) → contains_key s.outstanding n ≡ true → ticket.0 ≤ n
+IsOrderly s (call.Send ticket) = contains_key s.outstanding ticket.0 ≡ true → length s.writes < queue_length → (n : ℕ)
+    → contains_key s.outstanding n ≡ true → ticket.0 ≤ n
 IsOrderly s c = ⊤
 
 -- a whole run left no record past its time to live, and none written before the invalidation of all
-pub record AgesOut {K V X P W : Type 0} (s : State K V X P W) (terms : Terms) (course : Course) (t : State K V X P W) : Type 0 where
+pub record AgesOut {K V X P W : Type 0} (s : State K V X P W) (terms : Terms) (course : Course)
+    (t : State K V X P W) : Type 0 where
   -- by the time to live
-  pub live : IsWhole s terms course → IsAllSent s → keeps_write_list s.settings ≡ true → (n : ℕ) (r : Record K V) → get t.records n ≡ Some r → is_past_live t.settings r terms.now ≡ false
+  pub live : IsWhole s terms course → IsAllSent s → keeps_write_list s.settings ≡ true → (n : ℕ) (r : Record K V) →
+      get t.records n ≡ Some r → is_past_live t.settings r terms.now ≡ false
   -- by the invalidation of all
-  pub invalid : IsWhole s terms course → IsAllSent s → keeps_write_list s.settings ≡ true → (n : ℕ) (r : Record K V) → get t.records n ≡ Some r → is_written_before t.invalid_before r ≡ false
+  pub invalid : IsWhole s terms course → IsAllSent s → keeps_write_list s.settings ≡ true → (n : ℕ) (r : Record K V) →
+      get t.records n ≡ Some r → is_written_before t.invalid_before r ≡ false
 
 module _ {K V X P W : Type 0} where
   -- where the write list is kept, a call in the order of time keeps a state in order
   abbrev pub KeepsOrder : State K V X P W → List ℕ → Call K V P → State K V X P W → List ℕ → Type 0
-  KeepsOrder s before c t after = keeps_write_list s.settings ≡ true → IsOrderly s c → IsInOrder s before → IsInOrder t after
+  KeepsOrder s before c t after = keeps_write_list s.settings ≡ true → IsOrderly s c → IsInOrder s before
+      → IsInOrder t after
 
   -- from a state in order a run removes what is past its time
   abbrev pub AgesOutInOrder : State K V X P W → List ℕ → Terms → Course → State K V X P W → Type 0
@@ -102,13 +112,16 @@ module _ {K V : Type 0} (kept : Bool) (capacity : Option ℕ) (policy : Eviction
   -- the list after a write; what TinyLFU's comparison moves stays where it is
   abbrev pub written_after_write : Contents K V → List ℕ → Operation → List ℕ
   written_after_write c ns (Removal number generation) = without_number number ns
-  written_after_write c ns (Upsert number generation weight hash) = written_after_fate kept number ns (fate capacity policy c (Upsert number generation weight hash))
+  written_after_write c ns (Upsert number generation weight hash) =
+      written_after_fate kept number ns (fate capacity policy c (Upsert number generation weight hash))
 
   -- the list after all writes, with a list of moves for each
   abbrev pub written_after_writes : Contents K V → List ℕ → List Ticketed → List (List ℕ) → List ℕ
   written_after_writes c ns [] ms = ns
-  written_after_writes c ns (h ∷ hs) [] = written_after_writes (after_write capacity policy c h.operation []) (written_after_write c ns h.operation) hs []
-  written_after_writes c ns (h ∷ hs) (moved ∷ ms) = written_after_writes (after_write capacity policy c h.operation moved) (written_after_write c ns h.operation) hs ms
+  written_after_writes c ns (h ∷ hs) [] =
+      written_after_writes (after_write capacity policy c h.operation []) (written_after_write c ns h.operation) hs []
+  written_after_writes c ns (h ∷ hs) (moved ∷ ms) = written_after_writes
+      (after_write capacity policy c h.operation moved) (written_after_write c ns h.operation) hs ms
 
 -- the list after one step of a run
 abbrev pub written_after_choice : List ℕ → Choice → List ℕ
@@ -124,7 +137,8 @@ written_after_choices ns (x ∷ xs) = written_after_choices (written_after_choic
 module _ {K V X P W : Type 0} (s : State K V X P W) (ns : List ℕ) where
   -- the list after the queues of a run
   abbrev pub write_list_before_steps : Freedom → List ℕ
-  write_list_before_steps ch = written_after_writes (keeps_write_list s.settings) s.capacity s.settings.policy (after_queued_reads s) ns s.writes ch.moves
+  write_list_before_steps ch = written_after_writes (keeps_write_list s.settings) s.capacity s.settings.policy
+      (after_queued_reads s) ns s.writes ch.moves
 
   -- and after a run by these choices
   abbrev pub write_list_at_end : Freedom → List ℕ
@@ -132,9 +146,11 @@ module _ {K V X P W : Type 0} (s : State K V X P W) (ns : List ℕ) where
 
 -- the record at the front of the write list is not past its time to live, nor written before the invalidation of all
 abbrev pub IsAtRestByWrite : {K V : Type 0} → Tests → Records K V → List ℕ → Type 0
-IsAtRestByWrite {K} {V} q records write_list = (n : ℕ) (r : Record K V) → slice_get write_list 0 ≡ Some n → get records n ≡ Some r → (is_past_write q r ≡ false) × (is_written_before q.invalid_before r ≡ false)
+IsAtRestByWrite {K} {V} q records write_list = (n : ℕ) (r : Record K V) → slice_get write_list 0 ≡ Some n
+    → get records n ≡ Some r → (is_past_write q r ≡ false) × (is_written_before q.invalid_before r ≡ false)
 
 -- it is so after some of the run's steps
 abbrev pub ComesToRest : {K V X P W : Type 0} → State K V X P W → List ℕ → Freedom → ℕ → Type 0
 ComesToRest s write_list ch now = (first second : List Choice) × (ch.steps ≡ first ++ second)
-    × IsAtRestByWrite (tests_of s now) (after_choices (before_steps s ch) first).records (written_after_choices (write_list_before_steps s write_list ch) first)
+    × IsAtRestByWrite (tests_of s now) (after_choices (before_steps s ch) first).records
+    (written_after_choices (write_list_before_steps s write_list ch) first)

@@ -10,7 +10,10 @@ use Rattle.moka_sketch.specs.Frequency.{counted_once}
 module _ {K V : Type 0} where
   -- a read counts its hash; a hit of a record in the map moves its member, if it has one, to the back
   abbrev pub after_read : Contents K V → ReadOperation → Contents K V
-  after_read c (Hit number hash renewed) = record c { sketch = counted_once c.sketch hash; access = if is_some (get c.records number) then to_back number c.access else c.access }
+  after_read c (Hit number hash renewed) = record c {
+    sketch = counted_once c.sketch hash;
+    access = if is_some (get c.records number) then to_back number c.access else c.access;
+  }
   after_read c (Miss hash) = record c { sketch = counted_once c.sketch hash }
 
   -- all reads, in order

@@ -36,9 +36,26 @@ abbrev pub record_code : {K V : Type 0} → Coded K → Coded V → Coded (Recor
 record_code {K} {V} k v =
     code_by
     (ℕ × (K × (ℕ × (V × (Instant × (Instant × (Option Instant × (ℕ × (ℕ × ℕ)))))))))
-    (coded× coded_ℕ (coded× k (coded× coded_ℕ (coded× v (coded× instant_code (coded× instant_code (coded× (coded_option instant_code) (coded× coded_ℕ (coded× coded_ℕ coded_ℕ)))))))))
-    (λ r. (r.number, (r.key, (r.hash, (r.value, (r.written, (r.read, (r.expires, (r.weight, (r.generation, r.applied))))))))))
-    (λ p. record { number = p.0; key = p.1.0; hash = p.1.1.0; value = p.1.1.1.0; written = p.1.1.1.1.0; read = p.1.1.1.1.1.0; expires = p.1.1.1.1.1.1.0; weight = p.1.1.1.1.1.1.1.0; generation = p.1.1.1.1.1.1.1.1.0; applied = p.1.1.1.1.1.1.1.1.1 })
+    (coded× coded_ℕ
+    (coded× k
+    (coded× coded_ℕ (coded× v (coded× instant_code
+    (coded× instant_code (coded× (coded_option instant_code) (coded× coded_ℕ (coded× coded_ℕ coded_ℕ)))))))))
+    (λ r. (
+      r.number,
+      (r.key, (r.hash, (r.value, (r.written, (r.read, (r.expires, (r.weight, (r.generation, r.applied)))))))),
+    ))
+    (λ p. record {
+      number = p.0;
+      key = p.1.0;
+      hash = p.1.1.0;
+      value = p.1.1.1.0;
+      written = p.1.1.1.1.0;
+      read = p.1.1.1.1.1.0;
+      expires = p.1.1.1.1.1.1.0;
+      weight = p.1.1.1.1.1.1.1.0;
+      generation = p.1.1.1.1.1.1.1.1.0;
+      applied = p.1.1.1.1.1.1.1.1.1;
+    })
     (λ _. refl)
 
 -- the moment at which a record expires, if it does

@@ -36,9 +36,12 @@ module _ {P : Type 0} where
   RegistrationRefusal ps NoFreeId ids = FindsFree ps ids None
 
   -- a registration under the first free identifier; a refused predicate comes back, and nothing changes
-  abbrev pub RegistrationStep : List (Registered P) → P → Instant → Result Uuid (PredicateRefused P) → List Uuid → List (Registered P) → Type 0
-  RegistrationStep ps predicate now (Ok id) ids qs = FindsFree ps ids (Some id) × (qs ≡ ps ++ record { id = id; predicate = predicate; registered = now } ∷ [])
-  RegistrationStep ps predicate now (Err refused) ids qs = (refused.predicate ≡ predicate) × RegistrationRefusal ps refused.error ids × (qs ≡ ps)
+  abbrev pub RegistrationStep : List (Registered P) → P → Instant → Result Uuid (PredicateRefused P) → List Uuid →
+      List (Registered P) → Type 0
+  RegistrationStep ps predicate now (Ok id) ids qs = FindsFree ps ids (Some id)
+      × (qs ≡ ps ++ record { id = id; predicate = predicate; registered = now } ∷ [])
+  RegistrationStep ps predicate now (Err refused) ids qs = (refused.predicate ≡ predicate)
+      × RegistrationRefusal ps refused.error ids × (qs ≡ ps)
 
 module _ {P I : Type 0} (gives : I → Uuid → I → Type 0) where
   -- the source gives identifiers until a free one is found or no more may be asked for
@@ -46,5 +49,7 @@ module _ {P I : Type 0} (gives : I → Uuid → I → Type 0) where
   AsksForFree ps source id after = (ids : List Uuid) × Leads gives source ids after × FindsFree ps ids id
 
   -- a registration with the identifiers that the source gives
-  abbrev pub Registers : List (Registered P) → P → Instant → I → Result Uuid (PredicateRefused P) → List (Registered P) → I → Type 0
-  Registers ps predicate now source a qs after = (ids : List Uuid) × Leads gives source ids after × RegistrationStep ps predicate now a ids qs
+  abbrev pub Registers : List (Registered P) → P → Instant → I → Result Uuid (PredicateRefused P) →
+      List (Registered P) → I → Type 0
+  Registers ps predicate now source a qs after = (ids : List Uuid) × Leads gives source ids after
+      × RegistrationStep ps predicate now a ids qs

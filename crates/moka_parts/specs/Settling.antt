@@ -18,7 +18,8 @@ use Rattle.moka_parts.specs.Exact.{IsExact, IsWithin}
 
 -- the operation was handed out and not sent, or is queued
 abbrev pub IsWaitingIn : Operations → List Ticketed → Operation → Type 0
-IsWaitingIn outstanding writes o = ((ticket : ℕ) × (get outstanding ticket ≡ Some o)) ⊎ ((ticket : ℕ) × Contains writes (record { ticket = ticket; operation = o }))
+IsWaitingIn outstanding writes o = ((ticket : ℕ) × (get outstanding ticket ≡ Some o))
+    ⊎ ((ticket : ℕ) × Contains writes (record { ticket = ticket; operation = o }))
 
 -- the same of a state
 abbrev pub IsWaiting : {K V X P W : Type 0} → State K V X P W → Operation → Type 0
@@ -31,7 +32,8 @@ number_of (Removal number generation) = number
 
 -- what holds of a record in the map, given the weight that is counted for it, if it is a member, and the operations
 -- that wait
-pub record IsTracked {K V : Type 0} (Waits : Operation → Type 0) (n : ℕ) (r : Record K V) (counted : Option ℕ) : Type 0 where
+pub record IsTracked {K V : Type 0} (Waits : Operation → Type 0) (n : ℕ) (r : Record K V)
+    (counted : Option ℕ) : Type 0 where
   -- no operation was applied that is newer than the record
   pub applied : r.applied ≤ r.generation
   -- and outside the access list the present one was not
@@ -41,7 +43,8 @@ pub record IsTracked {K V : Type 0} (Waits : Operation → Type 0) (n : ℕ) (r 
   -- where it was not, it waits
   pub pending : r.applied < r.generation → (hash : ℕ) × Waits (Upsert n r.generation r.weight hash)
   -- no upsert that waits is newer than the record, and the present one carries its weight
-  pub carried : (generation weight hash : ℕ) → Waits (Upsert n generation weight hash) → (generation ≤ r.generation) × (generation ≡ r.generation → weight ≡ r.weight)
+  pub carried : (generation weight hash : ℕ) → Waits (Upsert n generation weight hash) → (generation ≤ r.generation)
+      × (generation ≡ r.generation → weight ≡ r.weight)
   -- no removal of it waits
   pub stays : (generation : ℕ) → Waits (Removal n generation) → ⊥
 
@@ -52,7 +55,8 @@ IsSound Waits n None (Some w) = (generation : ℕ) × Waits (Removal n generatio
 IsSound Waits n None None = ⊤
 
 -- what holds of records and access list at every moment, whatever was sent
-pub record IsConsistent {K V : Type 0} (Waits : Operation → Type 0) (records : Records K V) (access : List Member) : Type 0 where
+pub record IsConsistent {K V : Type 0} (Waits : Operation → Type 0) (records : Records K V)
+    (access : List Member) : Type 0 where
   -- no number stands twice in the access list
   pub once : IsDistinct (◌==◌) (numbers_of access)
   pub sound : (n : ℕ) → IsSound Waits n (get records n) (counted_of n access)
@@ -63,10 +67,12 @@ IsConsistentState s = IsConsistent (IsWaiting s) s.records s.access
 
 -- each record stands at its own number, which was given out, as was that of each operation that waits; and a key has
 -- one record
-pub record AreNumbered {K V : Type 0} (eq : K → K → Bool) (records : Records K V) (Waits : Operation → Type 0) (next_number : ℕ) : Type 0 where
+pub record AreNumbered {K V : Type 0} (eq : K → K → Bool) (records : Records K V) (Waits : Operation → Type 0)
+    (next_number : ℕ) : Type 0 where
   pub numbered : (n : ℕ) (r : Record K V) → get records n ≡ Some r → (r.number ≡ n) × (n < next_number)
   pub known : (o : Operation) → Waits o → number_of o < next_number
-  pub one_each : (n m : ℕ) (p q : Record K V) → get records n ≡ Some p → get records m ≡ Some q → eq p.key q.key ≡ true → n ≡ m
+  pub one_each : (n m : ℕ) (p q : Record K V) → get records n ≡ Some p → get records m ≡ Some q →
+      eq p.key q.key ≡ true → n ≡ m
 
 -- each operation that waits has a ticket that was given out
 pub record AreTicketed (outstanding : Operations) (writes : List Ticketed) (next_ticket : ℕ) : Type 0 where
@@ -75,11 +81,13 @@ pub record AreTicketed (outstanding : Operations) (writes : List Ticketed) (next
 
 -- the operation waits under the ticket
 abbrev pub WaitsAt : Operations → List Ticketed → ℕ → Operation → Type 0
-WaitsAt outstanding writes ticket o = (get outstanding ticket ≡ Some o) ⊎ Contains writes (record { ticket = ticket; operation = o })
+WaitsAt outstanding writes ticket o = (get outstanding ticket ≡ Some o)
+    ⊎ Contains writes (record { ticket = ticket; operation = o })
 
 -- of a record's upserts that wait, the one under the later ticket has the later generation
 pub record AreRising (outstanding : Operations) (writes : List Ticketed) : Type 0 where
-  pub rising : (t u n g h w v x y : ℕ) → WaitsAt outstanding writes t (Upsert n g w x) → WaitsAt outstanding writes u (Upsert n h v y) → t < u → g < h
+  pub rising : (t u n g h w v x y : ℕ) → WaitsAt outstanding writes t (Upsert n g w x) →
+      WaitsAt outstanding writes u (Upsert n h v y) → t < u → g < h
 
 -- nothing is kept, and nothing reported
 pub record IsBare {K V : Type 0} (records : Records K V) (access : List Member) (count weight : ℕ) : Type 0 where
@@ -113,7 +121,8 @@ module _ {K V X P W : Type 0} where
 
   -- a hit never changes an expiry, also where none is set
   abbrev pub NeverRenewsOnRead : (X → K → V → ℕ → Option ℕ → ℕ → Option ℕ) → State K V X P W → Type 0
-  NeverRenewsOnRead read s = (x : X) (k : K) (v : V) (now : ℕ) (told : Option ℕ) (written : ℕ) → s.settings.expiry ≡ Some x → read x k v now told written ≡ told
+  NeverRenewsOnRead read s = (x : X) (k : K) (v : V) (now : ℕ) (told : Option ℕ) (written : ℕ)
+      → s.settings.expiry ≡ Some x → read x k v now told written ≡ told
 
   -- a member is not settled
   abbrev pub has_unsettled_member : State K V X P W → Bool
@@ -125,10 +134,12 @@ module _ {K V X P W : Type 0} where
 
   -- what a run of batch 0 leaves more: a time or an invalidation of all to test records by, or an exceeded capacity
   abbrev pub leaves_more_idle : State K V X P W → Bool
-  leaves_more_idle s = is_some s.settings.time_to_live || is_some s.settings.time_to_idle || is_some s.invalid_before || is_over s.capacity s.access
+  leaves_more_idle s = is_some s.settings.time_to_live || is_some s.settings.time_to_idle || is_some s.invalid_before
+      || is_over s.capacity s.access
 
 -- what every run leaves, whatever was sent
-pub record LeavesBehind {K V X P W : Type 0} (s : State K V X P W) (terms : Terms) (course : Course) (t : State K V X P W) : Type 0 where
+pub record LeavesBehind {K V X P W : Type 0} (s : State K V X P W) (terms : Terms) (course : Course)
+    (t : State K V X P W) : Type 0 where
   -- a whole run ends within the capacity, or with an unsettled member
   pub within : IsWhole s terms course → IsWithin t.capacity t.access ⊎ (has_unsettled_member t ≡ true)
   -- a cut run leaves more
@@ -138,20 +149,27 @@ pub record LeavesBehind {K V X P W : Type 0} (s : State K V X P W) (terms : Term
   -- and does so where one is left beside a settled member
   pub unfinished : IsWhole s terms course → 0 < length t.predicates → has_settled_member t ≡ true → course.answer ≡ true
   -- with a batch of 0 it leaves more where there is anything to test records by
-  pub idle : is_disabled s.capacity ≡ false → is_cut s.settings terms course ≡ false → terms.batch ≡ 0 → course.answer ≡ leaves_more_idle t
+  pub idle : is_disabled s.capacity ≡ false → is_cut s.settings terms course ≡ false → terms.batch ≡ 0 →
+      course.answer ≡ leaves_more_idle t
   -- the reported count is off by no more than the operations not sent
   pub count_high : t.count ≤ len t.records + len t.outstanding
   pub count_low : len t.records ≤ t.count + len t.outstanding
 
 -- what a whole run settles once every operation was sent
-pub record Settles {K V X P W : Type 0} (says : P → K → V → Bool → Type 0) (read : X → K → V → ℕ → Option ℕ → ℕ → Option ℕ) (s : State K V X P W) (terms : Terms) (course : Course) (t : State K V X P W) : Type 0 where
+pub record Settles {K V X P W : Type 0} (says : P → K → V → Bool → Type 0)
+    (read : X → K → V → ℕ → Option ℕ → ℕ → Option ℕ) (s : State K V X P W) (terms : Terms) (course : Course)
+    (t : State K V X P W) : Type 0 where
   -- counts and weights are exactly the records'
   pub exact : IsWhole s terms course → IsAllSent s → IsExact t
   -- and within the capacity
   pub within : IsWhole s terms course → IsAllSent s → IsWithin t.capacity t.access
   -- no record is left whose own expiry has come
-  pub expired : IsWhole s terms course → IsAllSent s → NeverRenewsOnRead read s → (n : ℕ) (r : Record K V) → get t.records n ≡ Some r → is_expired r terms.now ≡ false
+  pub expired : IsWhole s terms course → IsAllSent s → NeverRenewsOnRead read s → (n : ℕ) (r : Record K V) →
+      get t.records n ≡ Some r → is_expired r terms.now ≡ false
   -- with a batch for all records no predicate is left
-  pub predicates : IsWhole s terms course → IsAllSent s → is_disabled s.capacity ≡ false → s.settings.invalidator ≡ true → len s.records ≤ terms.batch → t.predicates ≡ []
+  pub predicates : IsWhole s terms course → IsAllSent s → is_disabled s.capacity ≡ false →
+      s.settings.invalidator ≡ true → len s.records ≤ terms.batch → t.predicates ≡ []
   -- and none of the records that one covered
-  pub covered : IsWhole s terms course → IsAllSent s → is_disabled s.capacity ≡ false → s.settings.invalidator ≡ true → len s.records ≤ terms.batch → (p : Registered P) (n : ℕ) (r : Record K V) → Contains s.predicates p → get t.records n ≡ Some r → Covers says p r → ⊥
+  pub covered : IsWhole s terms course → IsAllSent s → is_disabled s.capacity ≡ false → s.settings.invalidator ≡ true →
+      len s.records ≤ terms.batch → (p : Registered P) (n : ℕ) (r : Record K V) → Contains s.predicates p →
+      get t.records n ≡ Some r → Covers says p r → ⊥

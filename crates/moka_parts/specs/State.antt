@@ -113,7 +113,11 @@ keeps_write_list settings = is_some settings.time_to_live || settings.invalidato
 module _ {K V X P W : Type 0} where
   -- what the cache tells of its policy
   abbrev pub limits_of : State K V X P W → Limits
-  limits_of s = record { max_capacity = s.capacity; time_to_live = s.settings.time_to_live; time_to_idle = s.settings.time_to_idle }
+  limits_of s = record {
+    max_capacity = s.capacity;
+    time_to_live = s.settings.time_to_live;
+    time_to_idle = s.settings.time_to_idle;
+  }
 
   -- what a run begins with
   abbrev pub contents : State K V X P W → Contents K V

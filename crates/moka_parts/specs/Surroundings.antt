@@ -14,7 +14,8 @@ abbrev pub NoticeStep : {K V L : Type 0} → (L → K → V → RemovalCause →
 NoticeStep tells before n after = tells before n.0 n.1 n.2 after
 
 -- the listener's own steps, one a notice; without one there is nothing to hear
-abbrev pub Heard : {K V L : Type 0} → (L → K → V → RemovalCause → L → Type 0) → Option L → List (Notice K V) → Option L → Type 0
+abbrev pub Heard : {K V L : Type 0} → (L → K → V → RemovalCause → L → Type 0) → Option L → List (Notice K V) →
+    Option L → Type 0
 Heard tells None notices None = notices ≡ []
 Heard tells (Some before) notices (Some after) = Leads (NoticeStep tells) before notices after
 Heard tells None notices (Some after) = ⊥

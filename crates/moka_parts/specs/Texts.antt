@@ -27,7 +27,8 @@ insert_text insert_error.NumbersUsedUp = codes "All tickets are used up"
 
 -- of a refused predicate
 abbrev pub predicate_text : PredicateError → List ℕ
-predicate_text predicate_error.InvalidationClosuresDisabled = codes "Support for invalidation closures is disabled in this cache. Please enable it by calling the support_invalidation_closures method of the builder at the cache creation time"
+predicate_text predicate_error.InvalidationClosuresDisabled = codes
+    "Support for invalidation closures is disabled in this cache. Please enable it by calling the support_invalidation_closures method of the builder at the cache creation time"
 predicate_text predicate_error.NoFreeId = codes "Cannot assign a new PredicateId to a predicate"
 predicate_text predicate_error.OutOfMemory = codes "Out of memory"
 

@@ -30,7 +30,8 @@ is_read_before bound r = is_before r.read.0 (moment_of bound)
 
 -- one of the four tests by moments hides it
 abbrev pub has_lapsed : {K V X W : Type 0} → Settings X W → Option Instant → Record K V → ℕ → Bool
-has_lapsed settings bound r now = is_expired r now || is_past_live settings r now || is_past_idle settings r now || is_written_before bound r || is_read_before bound r
+has_lapsed settings bound r now = is_expired r now || is_past_live settings r now || is_past_idle settings r now
+    || is_written_before bound r || is_read_before bound r
 
 module _ {K V P : Type 0} (says : P → K → V → Bool → Type 0) where
   -- the predicate was registered no earlier than the record was written, and says yes to it

@@ -62,7 +62,8 @@ leaves_for_size r = (r.key, r.value, Size)
 -- what leaves the map with the members' records, in order
 abbrev pub left_with : {K V : Type 0} → List Member → Records K V → List (Notice K V)
 left_with [] records = []
-left_with (a ∷ gone) records = option_to_list (option_map leaves_for_size (get records a.number)) ++ left_with gone (remove records a.number)
+left_with (a ∷ gone) records =
+    option_to_list (option_map leaves_for_size (get records a.number)) ++ left_with gone (remove records a.number)
 
 -- what a rejection takes out of the map
 abbrev pub left_by_rejection : {K V : Type 0} → ℕ → Record K V → List (Notice K V)
@@ -97,7 +98,8 @@ module _ {K V : Type 0} where
   -- the fate of an operation
   abbrev pub fate : Option ℕ → EvictionPolicy → Contents K V → Operation → Fate
   fate capacity policy c (Removal number generation) = Ignored
-  fate capacity policy c (Upsert number generation weight hash) = option_map_or (fate_of_record capacity policy c number generation weight hash) (get c.records number) Ignored
+  fate capacity policy c (Upsert number generation weight hash) =
+      option_map_or (fate_of_record capacity policy c number generation weight hash) (get c.records number) Ignored
 
 -- ---- what a fate does
 
@@ -108,7 +110,8 @@ module _ {K V : Type 0} where
 
   -- the victims leave map and access list
   abbrev pub without_victims : List Member → Contents K V → Contents K V
-  without_victims victims c = record c { records = without_records victims c.records; access = without_members victims c.access }
+  without_victims victims c =
+      record c { records = without_records victims c.records; access = without_members victims c.access }
 
   -- a member behind all others with the operation's weight, and the record has seen the operation
   abbrev pub entered : ℕ → ℕ → ℕ → Record K V → Contents K V → Contents K V
@@ -119,16 +122,21 @@ module _ {K V : Type 0} where
 
   -- the record leaves, unless it was updated since
   abbrev pub rejected : ℕ → ℕ → Record K V → Contents K V → Contents K V
-  rejected number generation r c = record c { records = if r.generation == generation then remove c.records number else with_applied c.records number r generation }
+  rejected number generation r c = record c {
+    records = if r.generation == generation then remove c.records number
+        else with_applied c.records number r generation;
+  }
 
   -- the contents after an upsert of the record r with that fate, where those members were moved to the back
   abbrev pub after_fate : Contents K V → ℕ → ℕ → ℕ → List ℕ → Record K V → Fate → Contents K V
   after_fate c number generation weight moved r Ignored = c
   after_fate c number generation weight moved r Overtaken = record c { access = to_back number c.access }
-  after_fate c number generation weight moved r Counted = entered number generation weight r (record c { access = without_member number c.access })
+  after_fate c number generation weight moved r Counted =
+      entered number generation weight r (record c { access = without_member number c.access })
   after_fate c number generation weight moved r Admitted = entered number generation weight r c
   after_fate c number generation weight moved r TooHeavy = rejected number generation r c
-  after_fate c number generation weight moved r (Preferred victims) = entered number generation weight r (without_victims victims (with_moved moved c))
+  after_fate c number generation weight moved r (Preferred victims) =
+      entered number generation weight r (without_victims victims (with_moved moved c))
   after_fate c number generation weight moved r Refused = rejected number generation r (with_moved moved c)
 
   -- what leaves the map by that fate, in order
@@ -148,17 +156,22 @@ module _ {K V : Type 0} (capacity : Option ℕ) (policy : EvictionPolicy) where
   -- access list
   abbrev pub after_write : Contents K V → Operation → List ℕ → Contents K V
   after_write c (Removal number generation) moved = record c { access = without_member number c.access }
-  after_write c (Upsert number generation weight hash) moved = option_map_or (λ r. after_fate c number generation weight moved r (fate capacity policy c (Upsert number generation weight hash))) (get c.records number) c
+  after_write c (Upsert number generation weight hash) moved = option_map_or
+      (λ r. after_fate c number generation weight moved r
+      (fate capacity policy c (Upsert number generation weight hash))) (get c.records number) c
 
   -- what a write takes out of the map, in order
   abbrev pub left_by_write : Contents K V → Operation → List (Notice K V)
   left_by_write c (Removal number generation) = []
-  left_by_write c (Upsert number generation weight hash) = option_map_or (λ r. left_by_fate c generation r (fate capacity policy c (Upsert number generation weight hash))) (get c.records number) []
+  left_by_write c (Upsert number generation weight hash) = option_map_or
+      (λ r. left_by_fate c generation r (fate capacity policy c (Upsert number generation weight hash)))
+      (get c.records number) []
 
   -- members are moved only by TinyLFU's comparison, and only unsettled ones
   abbrev pub AreMoves : Contents K V → Operation → List ℕ → Type 0
   AreMoves c o [] = Unit {0}
-  AreMoves c o (n ∷ moved) = (is_compared (fate capacity policy c o) ≡ true) × (are_unsettled c.records (n ∷ moved) ≡ true)
+  AreMoves c o (n ∷ moved) = (is_compared (fate capacity policy c o) ≡ true)
+      × (are_unsettled c.records (n ∷ moved) ≡ true)
 
   -- the contents after all writes, with a list of moves for each
   abbrev pub after_writes : Contents K V → List Ticketed → List (List ℕ) → Contents K V
@@ -170,11 +183,13 @@ module _ {K V : Type 0} (capacity : Option ℕ) (policy : EvictionPolicy) where
   abbrev pub left_by_writes : Contents K V → List Ticketed → List (List ℕ) → List (Notice K V)
   left_by_writes c [] ms = []
   left_by_writes c (h ∷ hs) [] = left_by_write c h.operation ++ left_by_writes (after_write c h.operation []) hs []
-  left_by_writes c (h ∷ hs) (moved ∷ ms) = left_by_write c h.operation ++ left_by_writes (after_write c h.operation moved) hs ms
+  left_by_writes c (h ∷ hs) (moved ∷ ms) =
+      left_by_write c h.operation ++ left_by_writes (after_write c h.operation moved) hs ms
 
   -- there is one list of allowed moves for each write
   abbrev pub AreAllMoves : Contents K V → List Ticketed → List (List ℕ) → Type 0
   AreAllMoves c [] [] = Unit {0}
   AreAllMoves c [] (moved ∷ ms) = ⊥
   AreAllMoves c (h ∷ hs) [] = ⊥
-  AreAllMoves c (h ∷ hs) (moved ∷ ms) = AreMoves c h.operation moved × AreAllMoves (after_write c h.operation moved) hs ms
+  AreAllMoves c (h ∷ hs) (moved ∷ ms) = AreMoves c h.operation moved
+      × AreAllMoves (after_write c h.operation moved) hs ms

@@ -18,7 +18,8 @@ use crate::policy::Expiry;
 /// one of `BaseCache` from one write list to another.
 pub fn gets_what_is_contained<K: Eq, V, X: Expiry<K, V>, P: PredicateFn<K, V>, W>()
     ensures promised { GetsWhatIsContained {W = W} K.eq P.says X.read (PromisedRun P.says X.read) }
-    ensures listed { (before after : List ℕ) → GetsWhatIsContained {W = W} K.eq P.says X.read (ListedRun P.says X.read before after) }
+    ensures listed { (before after : List ℕ)
+        → GetsWhatIsContained {W = W} K.eq P.says X.read (ListedRun P.says X.read before after) }
 {}
 
 /// A key that is hidden stays so until it is inserted again, where moments never go back.
@@ -32,7 +33,17 @@ pub fn stays_hidden<
     C: Clock,
     I: IdSource,
 >()
-    ensures { StaysHidden (record { eq = K.eq; tells = L.tells; says = P.says; weighs = W.weighs; observes = C.reads; gives = I.gives; created = X.created; read = X.read; updated = X.updated }) }
+    ensures { StaysHidden (record {
+      eq = K.eq;
+      tells = L.tells;
+      says = P.says;
+      weighs = W.weighs;
+      observes = C.reads;
+      gives = I.gives;
+      created = X.created;
+      read = X.read;
+      updated = X.updated;
+    }) }
 {}
 
 /// A run drops a predicate only when it covers no record of the map.
@@ -52,7 +63,17 @@ pub fn predicates_leave_idle<
     C: Clock,
     I: IdSource,
 >()
-    ensures { PredicatesLeaveIdle (record { eq = K.eq; tells = L.tells; says = P.says; weighs = W.weighs; observes = C.reads; gives = I.gives; created = X.created; read = X.read; updated = X.updated }) }
+    ensures { PredicatesLeaveIdle (record {
+      eq = K.eq;
+      tells = L.tells;
+      says = P.says;
+      weighs = W.weighs;
+      observes = C.reads;
+      gives = I.gives;
+      created = X.created;
+      read = X.read;
+      updated = X.updated;
+    }) }
 {}
 
 /// A removal hands out the entry of its key, visible or hidden, and every other key's record stays.
@@ -81,7 +102,17 @@ pub fn tells_each_once<
     C: Clock,
     I: IdSource,
 >()
-    ensures { TellsEachOnce (record { eq = K.eq; tells = L.tells; says = P.says; weighs = W.weighs; observes = C.reads; gives = I.gives; created = X.created; read = X.read; updated = X.updated }) }
+    ensures { TellsEachOnce (record {
+      eq = K.eq;
+      tells = L.tells;
+      says = P.says;
+      weighs = W.weighs;
+      observes = C.reads;
+      gives = I.gives;
+      created = X.created;
+      read = X.read;
+      updated = X.updated;
+    }) }
 {}
 
 /// What holds of a state at every moment holds of a new cache.
@@ -100,7 +131,17 @@ pub fn stays_valid<
     C: Clock,
     I: IdSource,
 >()
-    ensures { StaysValid (record { eq = K.eq; tells = L.tells; says = P.says; weighs = W.weighs; observes = C.reads; gives = I.gives; created = X.created; read = X.read; updated = X.updated }) }
+    ensures { StaysValid (record {
+      eq = K.eq;
+      tells = L.tells;
+      says = P.says;
+      weighs = W.weighs;
+      observes = C.reads;
+      gives = I.gives;
+      created = X.created;
+      read = X.read;
+      updated = X.updated;
+    }) }
 {}
 
 /// Where the write list is kept, calls in the order of time keep a state in the order of writing.
@@ -114,7 +155,17 @@ pub fn stays_in_order<
     C: Clock,
     I: IdSource,
 >()
-    ensures { StaysInOrder (record { eq = K.eq; tells = L.tells; says = P.says; weighs = W.weighs; observes = C.reads; gives = I.gives; created = X.created; read = X.read; updated = X.updated }) }
+    ensures { StaysInOrder (record {
+      eq = K.eq;
+      tells = L.tells;
+      says = P.says;
+      weighs = W.weighs;
+      observes = C.reads;
+      gives = I.gives;
+      created = X.created;
+      read = X.read;
+      updated = X.updated;
+    }) }
 {}
 
 /// A run that begins with every operation sent ends with count and weight exactly the records'.
@@ -150,7 +201,17 @@ pub fn is_of_reference<
     C: Clock,
     I: IdSource,
 >()
-    ensures { IsOfReference S (record { eq = K.eq; tells = L.tells; says = P.says; weighs = W.weighs; observes = C.reads; gives = I.gives; created = X.created; read = X.read; updated = X.updated }) }
+    ensures { IsOfReference S (record {
+      eq = K.eq;
+      tells = L.tells;
+      says = P.says;
+      weighs = W.weighs;
+      observes = C.reads;
+      gives = I.gives;
+      created = X.created;
+      read = X.read;
+      updated = X.updated;
+    }) }
 {}
 
 /// A run that `BaseCache` promises is one of the reference cache.
@@ -169,7 +230,17 @@ pub fn steps_are_of_reference<
     C: Clock,
     I: IdSource,
 >()
-    ensures { StepsAreOfReference (record { eq = K.eq; tells = L.tells; says = P.says; weighs = W.weighs; observes = C.reads; gives = I.gives; created = X.created; read = X.read; updated = X.updated }) }
+    ensures { StepsAreOfReference (record {
+      eq = K.eq;
+      tells = L.tells;
+      says = P.says;
+      weighs = W.weighs;
+      observes = C.reads;
+      gives = I.gives;
+      created = X.created;
+      read = X.read;
+      updated = X.updated;
+    }) }
 {}
 
 /// Calls that lead from one write list to the next are steps of the reference cache, so every law holds of them.
@@ -183,7 +254,17 @@ pub fn lists_are_of_reference<
     C: Clock,
     I: IdSource,
 >()
-    ensures { ListsAreOfReference (record { eq = K.eq; tells = L.tells; says = P.says; weighs = W.weighs; observes = C.reads; gives = I.gives; created = X.created; read = X.read; updated = X.updated }) }
+    ensures { ListsAreOfReference (record {
+      eq = K.eq;
+      tells = L.tells;
+      says = P.says;
+      weighs = W.weighs;
+      observes = C.reads;
+      gives = I.gives;
+      created = X.created;
+      read = X.read;
+      updated = X.updated;
+    }) }
 {}
 
 /// From a state in the order of writing, a whole run with every operation sent leaves no record past its time to live,
@@ -209,7 +290,17 @@ pub fn calls_keep_order<
     C: Clock,
     I: IdSource,
 >()
-    ensures { CallsKeepOrder (record { eq = K.eq; tells = L.tells; says = P.says; weighs = W.weighs; observes = C.reads; gives = I.gives; created = X.created; read = X.read; updated = X.updated }) }
+    ensures { CallsKeepOrder (record {
+      eq = K.eq;
+      tells = L.tells;
+      says = P.says;
+      weighs = W.weighs;
+      observes = C.reads;
+      gives = I.gives;
+      created = X.created;
+      read = X.read;
+      updated = X.updated;
+    }) }
 {}
 
 /// The same of a list of calls, with the write list that the last of them leaves.
@@ -223,5 +314,15 @@ pub fn lists_keep_order<
     C: Clock,
     I: IdSource,
 >()
-    ensures { ListsKeepOrder (record { eq = K.eq; tells = L.tells; says = P.says; weighs = W.weighs; observes = C.reads; gives = I.gives; created = X.created; read = X.read; updated = X.updated }) }
+    ensures { ListsKeepOrder (record {
+      eq = K.eq;
+      tells = L.tells;
+      says = P.says;
+      weighs = W.weighs;
+      observes = C.reads;
+      gives = I.gives;
+      created = X.created;
+      read = X.read;
+      updated = X.updated;
+    }) }
 {}

@@ -22,7 +22,8 @@ status_of OutOfMemory = 3
 
 -- the line is taken and the status is the one given, or it is refused and the status is 3
 abbrev pub IsWritten : {S : Type 0} → (S → List ℕ → Bool → S → Type 0) → List ℕ → ℕ → ℕ → S → S → Type 0
-IsWritten takes line good status old new = (taken : Bool) × takes old line taken new × (status ≡ (if taken then good else 3))
+IsWritten takes line good status old new = (taken : Bool) × takes old line taken new
+    × (status ≡ (if taken then good else 3))
 
 -- why reading stops: for memory exactly where the system says so
 abbrev pub IsReadFailure : Error → Failure → Type 0

@@ -24,7 +24,8 @@ is_numeral word = not (length word == 0) && (nat_le (length word) 20 && list_all
 
 -- the number that a word says, if it is below a power of two
 abbrev pub number_of : ℕ → List ℕ → Option ℕ
-number_of bits word = if is_numeral word && nat_lt (digits_value 10 word) (2 ^ bits) then Some (digits_value 10 word) else None
+number_of bits word = if is_numeral word && nat_lt (digits_value 10 word) (2 ^ bits)
+    then Some (digits_value 10 word) else None
 
 -- the number that a word says, or none if it is `none`
 abbrev pub number_or_none : List ℕ → Option (Option ℕ)

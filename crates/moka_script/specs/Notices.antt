@@ -18,7 +18,8 @@ pub record Kept : Type 0 where
 
 -- a notice is kept where there is room
 abbrev pub Keeps : Kept → ℕ → List ℕ → RemovalCause → Kept → Type 0
-Keeps before key value cause after = after ≡ (if nat_lt (length before.told) before.room then record before { told = before.told ++ (key, value, cause) ∷ [] } else before)
+Keeps before key value cause after = after ≡ (if nat_lt (length before.told) before.room
+    then record before { told = before.told ++ (key, value, cause) ∷ [] } else before)
 
 -- what is told, if a listener is set
 abbrev pub told_of : Option Kept → List ScriptNotice
@@ -48,7 +49,8 @@ cause_text Size = codes "Size"
 
 -- a notice, without its line feed
 abbrev pub notice_text : ScriptNotice → List ℕ
-notice_text notice = codes "notice " ++ (decimal notice.0 ++ (codes " " ++ (notice.1 ++ (codes " " ++ cause_text notice.2))))
+notice_text notice =
+    codes "notice " ++ (decimal notice.0 ++ (codes " " ++ (notice.1 ++ (codes " " ++ cause_text notice.2))))
 
 -- a line for each notice
 abbrev pub notice_lines : List ScriptNotice → List ℕ

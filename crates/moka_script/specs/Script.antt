@@ -34,7 +34,8 @@ is_comment word = slice_index word 0 == 35
 
 -- the setting, or else the rule, or else the call
 abbrev pub asked_by_name : List ℕ → List (List ℕ) → Option LineText
-asked_by_name name arguments = option_or (option_map line.Setting (setting_of name arguments)) (option_or (option_map line.Rule (rule_line name arguments)) (option_map line.Call (call_of name arguments)))
+asked_by_name name arguments = option_or (option_map line.Setting (setting_of name arguments))
+    (option_or (option_map line.Rule (rule_line name arguments)) (option_map line.Call (call_of name arguments)))
 
 -- what words ask for that set no clock; a comment asks for nothing
 abbrev pub asked_by_few : List (List ℕ) → Option LineText
@@ -61,14 +62,22 @@ no_text = (record { settings = no_settings; rules = [] }, [], [])
 
 -- what a script sets, what its clock tells, and its calls
 abbrev pub text_of : Script → ScriptText
-text_of script = (record { settings = script.settings; rules = script.rules.items }, script.clock.items, map told_call script.calls.items)
+text_of script = (
+  record { settings = script.settings; rules = script.rules.items },
+  script.clock.items,
+  map told_call script.calls.items,
+)
 
 -- settings, rules and the clock come before the first call, and the clock once
 abbrev pub joined : ScriptText → LineText → Option ScriptText
 joined script line.Nothing = Some script
-joined script (line.Setting setting) = if length script.2 == 0 then option_map (λ settings. (record script.0 { settings = settings }, script.1, script.2)) (put_in script.0.settings setting) else None
-joined script (line.Rule rule) = if length script.2 == 0 then Some (record script.0 { rules = script.0.rules ++ rule ∷ [] }, script.1, script.2) else None
-joined script (line.Clock readings) = if length script.2 == 0 && length script.1 == 0 then Some (script.0, readings, script.2) else None
+joined script (line.Setting setting) = if length script.2 == 0
+    then option_map (λ settings. (record script.0 { settings = settings }, script.1, script.2))
+    (put_in script.0.settings setting) else None
+joined script (line.Rule rule) = if length script.2 == 0
+    then Some (record script.0 { rules = script.0.rules ++ rule ∷ [] }, script.1, script.2) else None
+joined script (line.Clock readings) = if length script.2 == 0 && length script.1 == 0
+    then Some (script.0, readings, script.2) else None
 joined script (line.Call call) = Some (script.0, script.1, script.2 ++ told_call call ∷ [])
 
 -- the script, and what one more line asks for
@@ -78,7 +87,8 @@ with_line script text = asked_in text >>= joined script
 -- the script that lines from that number on lead to, or the number of the first faulty one
 abbrev pub lines_read : ℕ → ScriptText → List (List ℕ) → Result ScriptText ℕ
 lines_read number script [] = Ok script
-lines_read number script (text ∷ lines) = option_map_or (λ more. lines_read (number + 1) more lines) (with_line script text) (Err number)
+lines_read number script (text ∷ lines) =
+    option_map_or (λ more. lines_read (number + 1) more lines) (with_line script text) (Err number)
 
 -- the lines of a text
 abbrev pub lines_of : List ℕ → List (List ℕ)
@@ -98,7 +108,8 @@ is_kept asked = false
 -- whether a rule, a clock or a call stands in front of the first faulty line
 abbrev pub keeps_some : ScriptText → List (List ℕ) → Bool
 keeps_some script [] = false
-keeps_some script (text ∷ lines) = is_kept (asked_in text) || option_map_or (λ more. keeps_some more lines) (with_line script text) false
+keeps_some script (text ∷ lines) =
+    is_kept (asked_in text) || option_map_or (λ more. keeps_some more lines) (with_line script text) false
 
 -- whether the text asks for memory: only a rule, a clock and a call do
 abbrev pub asks_for_memory : List ℕ → Bool

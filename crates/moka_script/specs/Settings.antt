@@ -93,7 +93,20 @@ pub record Chosen : Type 0 where
 
 -- nothing is set
 abbrev pub no_settings : Settings
-no_settings = record { first = None; capacity = None; policy = None; time_to_live = None; time_to_idle = None; weigher = None; listener = false; invalidator = false; repeats_ids = false; start = None; keeper = None; automatic = false }
+no_settings = record {
+  first = None;
+  capacity = None;
+  policy = None;
+  time_to_live = None;
+  time_to_idle = None;
+  weigher = None;
+  listener = false;
+  invalidator = false;
+  repeats_ids = false;
+  start = None;
+  keeper = None;
+  automatic = false;
+}
 
 -- a place is filled at most once
 abbrev pub filled : {A : Type 0} → Option A → A → Option (Option A)
@@ -107,14 +120,20 @@ raised flag = if flag then None else Some true
 -- a setting stands at most once
 abbrev pub put_in : Settings → Setting → Option Settings
 put_in settings (First first) = option_map (λ place. record settings { first = place }) (filled settings.first first)
-put_in settings (Capacity capacity) = option_map (λ place. record settings { capacity = place }) (filled settings.capacity capacity)
-put_in settings (Policy policy) = option_map (λ place. record settings { policy = place }) (filled settings.policy policy)
-put_in settings (TimeToLive nanos) = option_map (λ place. record settings { time_to_live = place }) (filled settings.time_to_live nanos)
-put_in settings (TimeToIdle nanos) = option_map (λ place. record settings { time_to_idle = place }) (filled settings.time_to_idle nanos)
-put_in settings (Weigh weigher) = option_map (λ place. record settings { weigher = place }) (filled settings.weigher weigher)
+put_in settings (Capacity capacity) =
+    option_map (λ place. record settings { capacity = place }) (filled settings.capacity capacity)
+put_in settings (Policy policy) =
+    option_map (λ place. record settings { policy = place }) (filled settings.policy policy)
+put_in settings (TimeToLive nanos) =
+    option_map (λ place. record settings { time_to_live = place }) (filled settings.time_to_live nanos)
+put_in settings (TimeToIdle nanos) =
+    option_map (λ place. record settings { time_to_idle = place }) (filled settings.time_to_idle nanos)
+put_in settings (Weigh weigher) =
+    option_map (λ place. record settings { weigher = place }) (filled settings.weigher weigher)
 put_in settings Listener = option_map (λ flag. record settings { listener = flag }) (raised settings.listener)
 put_in settings Invalidator = option_map (λ flag. record settings { invalidator = flag }) (raised settings.invalidator)
 put_in settings RepeatedIds = option_map (λ flag. record settings { repeats_ids = flag }) (raised settings.repeats_ids)
 put_in settings (Start now) = option_map (λ place. record settings { start = place }) (filled settings.start now)
-put_in settings (Keeper keeper) = option_map (λ place. record settings { keeper = place }) (filled settings.keeper keeper)
+put_in settings (Keeper keeper) =
+    option_map (λ place. record settings { keeper = place }) (filled settings.keeper keeper)
 put_in settings Auto = option_map (λ flag. record settings { automatic = flag }) (raised settings.automatic)

@@ -64,13 +64,15 @@ keys_text (Err _) = codes "refused memory"
 
 -- what was taken out, and on a line of its own whether the listener could not be told
 abbrev pub removal_text : Option (KvEntry ℕ (List ℕ) × Ticket) → Option (Result (Unit {0}) OutOfMemory) → List ℕ
-removal_text (Some removed) (Some (Err _)) = codes "removed " ++ (removed.0.value ++ (codes " ticket " ++ (decimal removed.1.0 ++ (10 ∷ codes "refused memory"))))
+removal_text (Some removed) (Some (Err _)) = codes "removed "
+    ++ (removed.0.value ++ (codes " ticket " ++ (decimal removed.1.0 ++ (10 ∷ codes "refused memory"))))
 removal_text (Some removed) told = codes "removed " ++ (removed.0.value ++ (codes " ticket " ++ decimal removed.1.0))
 removal_text None told = codes "none"
 
 -- the report of the last run
 abbrev pub report_text : ℕ → ℕ → ℕ → List ℕ
-report_text count weight predicates = total_text (record { count = count; weight = weight }) ++ (codes " predicates " ++ decimal predicates)
+report_text count weight predicates =
+    total_text (record { count = count; weight = weight }) ++ (codes " predicates " ++ decimal predicates)
 
 -- a ticket, if there is one
 abbrev pub ticket_text : Option Ticket → List ℕ
@@ -79,7 +81,9 @@ ticket_text None = codes "none"
 
 -- what waits to be sent or applied
 abbrev pub pending_text : ℕ → Option Ticket → ℕ → ℕ → List ℕ
-pending_text handed oldest writes reads = codes "handed " ++ (decimal handed ++ (codes " oldest " ++ (ticket_text oldest ++ (codes " writes " ++ (decimal writes ++ (codes " reads " ++ decimal reads))))))
+pending_text handed oldest writes reads = codes "handed "
+    ++ (decimal handed ++ (codes " oldest "
+    ++ (ticket_text oldest ++ (codes " writes " ++ (decimal writes ++ (codes " reads " ++ decimal reads))))))
 
 -- a reply, without its line feed
 abbrev pub reply_text : Reply ℕ (List ℕ) KeyRange → List ℕ
@@ -118,12 +122,15 @@ replay_text replies notices total = reply_lines replies ++ (notice_lines notices
 
 -- a reply, and the same with its keys, if it has any, in rising order
 abbrev pub IsInOrder : Reply ℕ (List ℕ) KeyRange → Reply ℕ (List ℕ) KeyRange → Type 0
-IsInOrder (Keys (Ok (Some keys))) (Keys (Ok (Some rising))) = IsPermutation keys.items rising.items × IsNonDecreasing rising.items
+IsInOrder (Keys (Ok (Some keys))) (Keys (Ok (Some rising))) = IsPermutation keys.items rising.items
+    × IsNonDecreasing rising.items
 IsInOrder reply printed = printed ≡ reply
 
 -- the same of each reply
 abbrev pub AreInOrder : List (Reply ℕ (List ℕ) KeyRange) → List (Reply ℕ (List ℕ) KeyRange) → Type 0
-AreInOrder replies printed = (length printed ≡ length replies) × ((k : ℕ) (d : Reply ℕ (List ℕ) KeyRange) → k < length replies → IsInOrder (slice_index_or replies k d) (slice_index_or printed k d))
+AreInOrder replies printed = (length printed ≡ length replies)
+    × ((k : ℕ) (d : Reply ℕ (List ℕ) KeyRange) → k < length replies
+    → IsInOrder (slice_index_or replies k d) (slice_index_or printed k d))
 
 abbrev pub is_insert_memory : InsertError → Bool
 is_insert_memory insert_error.OutOfMemory = true

@@ -74,7 +74,8 @@ impl IdSource for CountedIds {
     ghost use Rattle.std.specs.Int.{w128, to_be_bytes};
     ghost use Rattle.moka_script.specs.Ids.{next_given};
 
-    ghost gives = { λ before id after. (after ≡ record before { given = next_given before }) × (id ≡ to_be_bytes w128 after.given) };
+    ghost gives = { λ before id after. (after ≡ record before { given = next_given before })
+        × (id ≡ to_be_bytes w128 after.given) };
 
     fn next_id(&mut self) -> PredicateId {
         self.given = if self.repeats {

@@ -22,7 +22,7 @@ pub trait Source {
 impl<R: Read> Source for R {
     ghost use Rattle.std.specs.Prelude.{◌≡◌, IfOk, IfSome};
 
-    ghost gives = { λ before answer _. IfOk answer (λ text. IfSome (R.remaining before) (λ bytes. text.items ≡ bytes)) };
+    ghost gives = { λ s answer _. IfOk answer (λ text. IfSome (R.remaining s) (λ bytes. text.items ≡ bytes)) };
 
     fn read_all(&mut self, alloc: Global) -> io::Result<Vec<u8>> {
         let mut text = Vec::new(alloc);
@@ -47,7 +47,8 @@ impl<W: Write> Sink for W {
     ghost use Rattle.std.specs.Prelude.{◌≡◌, ◌++◌, codes, true};
     ghost use Rattle.std.specs.Io.KnownBytes.{Appends};
 
-    ghost takes = { λ before line taken after. taken ≡ true → Appends (W.contents before) (W.contents after) (line ++ codes "\n") };
+    ghost takes = { λ before line taken after. taken ≡ true
+        → Appends (W.contents before) (W.contents after) (line ++ codes "\n") };
 
     fn write_line<D: Display + Drop>(&mut self, line: D) -> io::Result<()> {
         writeln!(self, "{line}")?;

@@ -15,7 +15,8 @@ counters_of words = map (λ p. counter_at (slice_index words (p / 16)) (p % 16))
 -- the table that words show, of which there are none while there is no table
 abbrev pub table_of : List ℕ → ℕ → Option Table
 table_of [] size = None
-table_of (word ∷ words) size = Some (record { table_length = length (word ∷ words); counters = counters_of (word ∷ words); size = size })
+table_of (word ∷ words) size =
+    Some (record { table_length = length (word ∷ words); counters = counters_of (word ∷ words); size = size })
 
 -- what is true of the words, the room for them and the size; the length of a table is a power of two
 pub record IsSound (words : List ℕ) (room size : ℕ) : Type 0 where

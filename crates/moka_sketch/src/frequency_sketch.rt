@@ -136,7 +136,8 @@ impl FrequencySketch {
         ensures counted { self.new ≡ counted_once self.old hash }
 
         // The same for a sketch that is seen as the list of hashes that were counted since its table was fresh.
-        ensures history { (n : ℕ) (hashes : List ℕ) → self.old ≡ Some (table_after n hashes) → self.new ≡ Some (table_after n (hashes ++ hash ∷ [])) }
+        ensures history { (n : ℕ) (hashes : List ℕ) → self.old ≡ Some (table_after n hashes)
+            → self.new ≡ Some (table_after n (hashes ++ hash ∷ [])) }
     {
         if !self.words.is_empty() {
             self.size = count_once(self.words.as_mut_slice(), self.size, hash);

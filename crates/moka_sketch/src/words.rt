@@ -86,8 +86,10 @@ pub fn least_count(words: &[u64], hash: u64) -> u8
 fn raise(words: &mut [u64], hash: u64, i: u64, factor: u64) -> bool
     requires power { IsPowerOfTwo (length words.old) }
     requires four { i < 4 }
-    ensures counters { counters_of words.new ≡ raised (counters_of words.old) (place_of (length words.old) hash i factor) }
-    ensures rose { IsTrue result ↔ (slice_index (counters_of words.old) (place_of (length words.old) hash i factor) < 15) }
+    ensures counters { counters_of words.new ≡ raised (counters_of words.old)
+        (place_of (length words.old) hash i factor) }
+    ensures rose { IsTrue result ↔
+        (slice_index (counters_of words.old) (place_of (length words.old) hash i factor) < 15) }
     ensures kept { result ≡ false → words.new ≡ words.old }
 {
     let at = word_index(hash, factor, words.len());

@@ -20,7 +20,12 @@ cold_at colds place = slice_index_or colds place nothing
 module _ {K V : Type 0} where
   -- a row with the cold part of its record and the weight of its membership
   abbrev pub whole : Cold → Row (Front K V) → Row (Record K V)
-  whole cold row = record { number = row.number; stored = option_map (λ f. joined row.number f cold) row.stored; membership = option_map (counted_as cold.counted) row.membership; timer = row.timer }
+  whole cold row = record {
+    number = row.number;
+    stored = option_map (λ f. joined row.number f cold) row.stored;
+    membership = option_map (counted_as cold.counted) row.membership;
+    timer = row.timer;
+  }
 
   -- the rows, each with the cold part beside it
   unfoldable pub whole_rows : List (Option (Row (Front K V))) → List Cold → List (Option (Row (Record K V)))

@@ -14,7 +14,8 @@ pub record Listing : Type 0 where
 -- what is seen of a list and its cursor; a list that is not kept has room for all
 abbrev pub listing_of : Option (Order ℕ) → Option (ℕ × ℕ) → Listing
 listing_of None cursor = record { nodes = []; cursor = cursor; most = 2 ^ 64; ordered = false }
-listing_of (Some order) cursor = record { nodes = order.members; cursor = cursor; most = length order.members + order.room; ordered = true }
+listing_of (Some order) cursor =
+    record { nodes = order.members; cursor = cursor; most = length order.members + order.room; ordered = true }
 
 -- the cursor stands at a node
 abbrev pub IsCursor : List (ℕ × ℕ) → Option (ℕ × ℕ) → Type 0

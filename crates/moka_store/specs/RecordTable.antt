@@ -78,7 +78,8 @@ module _ {R : Type 0} where
 
   -- the rows with this record at a place that has a row
   abbrev pub with_stored : List (Option (Row R)) → ℕ → R → List (Option (Row R))
-  with_stored rows place stored = slice_set rows place (option_map {T = Row R} (λ row. record row { stored = Some stored }) (row_at rows place))
+  with_stored rows place stored =
+      slice_set rows place (option_map {T = Row R} (λ row. record row { stored = Some stored }) (row_at rows place))
 
 -- the place has this row or nothing, and every other place keeps what it had
 pub record ChangesAt {R : Type 0} (old new : ℕ → Option (Row R)) (place : ℕ) (row : Option (Row R)) : Type 0 where
@@ -88,12 +89,15 @@ pub record ChangesAt {R : Type 0} (old new : ℕ → Option (Row R)) (place : �
 module _ {R : Type 0} where
   -- the row at the place becomes what the function makes of it, and every other place keeps what it had
   abbrev pub ChangesRow : (old new : List (Option (Row R))) → ℕ → (Row R → Row R) → Type 0
-  ChangesRow old new place change = (row : Row R) → row_at old place ≡ Some row → ChangesAt (row_at old) (row_at new) place (Some (change row))
+  ChangesRow old new place change = (row : Row R) → row_at old place ≡ Some row
+      → ChangesAt (row_at old) (row_at new) place (Some (change row))
 
   -- the member at the place gets another weight, and every other place keeps what it had
   abbrev pub RecountsRow : (old new : List (Option (Row R))) → ℕ → ℕ → Type 0
-  RecountsRow old new place weight = (row : Row R) (m : Membership) → row_at old place ≡ Some row → row.membership ≡ Some m
-      → ChangesAt (row_at old) (row_at new) place (Some (record row { membership = Some (record m { counted = weight }) }))
+  RecountsRow old new place weight = (row : Row R) (m : Membership) → row_at old place ≡ Some row
+      → row.membership ≡ Some m
+      → ChangesAt (row_at old)
+      (row_at new) place (Some (record row { membership = Some (record m { counted = weight }) }))
 
 -- no two rows have the same number
 pub record IsNumbered {R : Type 0} (at : ℕ → Option (Row R)) : Type 0 where

@@ -12,7 +12,8 @@ slot_of word = cond (nat_eq word 0) None (Some word)
 
 -- a membership by its words, with no weight: one without a slot in the access list is none
 abbrev pub membership_of : (access written : ℕ) → Option Membership
-membership_of access written = cond (nat_eq access 0) None (Some (record { counted = 0; access = access; written = slot_of written }))
+membership_of access written =
+    cond (nat_eq access 0) None (Some (record { counted = 0; access = access; written = slot_of written }))
 
 -- a membership with this weight
 abbrev pub counted_as : ℕ → Membership → Membership

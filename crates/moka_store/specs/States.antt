@@ -15,9 +15,19 @@ module _ {K V : Type 0} where
   -- the row of a place with its record or without, or the next vacant place
   abbrev pub entry_of : State K V → Entry (Row (Front K V))
   entry_of (Live expiring access number hot written timer) =
-      Occupied (record { number = number; stored = Some (record { hot = hot; expiring = expiring }); membership = membership_of access written; timer = slot_of timer })
+      Occupied (record {
+        number = number;
+        stored = Some (record { hot = hot; expiring = expiring });
+        membership = membership_of access written;
+        timer = slot_of timer;
+      })
   entry_of (Gone access number written timer) =
-      Occupied (record { number = number; stored = None; membership = membership_of access written; timer = slot_of timer })
+      Occupied (record {
+        number = number;
+        stored = None;
+        membership = membership_of access written;
+        timer = slot_of timer;
+      })
   entry_of (VacantPlace next) = Vacant next
 
   -- what is lent
@@ -30,4 +40,7 @@ module _ {K V : Type 0} where
 
   -- a front with what an update brings
   abbrev pub rewritten : Update V → Front K V → Front K V
-  rewritten update f = record { hot = record f.hot { value = update.value; read = update.now; written = update.now }; expiring = is_some update.expires }
+  rewritten update f = record {
+    hot = record f.hot { value = update.value; read = update.now; written = update.now };
+    expiring = is_some update.expires;
+  }

@@ -32,16 +32,35 @@ pub record Kept (K V S : Type 0) : Type 0 where
 
 -- a member is stored as the pair of its fields
 abbrev pub member_code : Coded Member
-member_code = code_by (ℕ × ℕ) (coded× coded_ℕ coded_ℕ) (λ m. (m.number, m.counted)) (λ p. record { number = p.0; counted = p.1 }) (λ _. refl)
+member_code = code_by (ℕ × ℕ) (coded× coded_ℕ coded_ℕ) (λ m. (m.number, m.counted))
+    (λ p. record { number = p.0; counted = p.1 }) (λ _. refl)
 
 -- what a store keeps is stored as the tuple of its fields
 abbrev pub kept_code : {K V S : Type 0} → Coded K → Coded V → Coded S → Coded (Kept K V S)
 kept_code {K} {V} {S} k v s =
     code_by
-    (Records K V × (List Member × (List ℕ × (FinMap nat_cmp ℕ × (Option ℕ × (FinMap nat_cmp ℕ × (ℕ × (Bool × (Bool × S)))))))))
-    (coded× (finite.code coded_ℕ (record_code k v)) (coded× (coded_list member_code) (coded× (coded_list coded_ℕ) (coded× (finite.code coded_ℕ coded_ℕ) (coded× (coded_option coded_ℕ) (coded× (finite.code coded_ℕ coded_ℕ) (coded× coded_ℕ (coded× coded_bool (coded× coded_bool s)))))))))
-    (λ k. (k.records, (k.access, (k.written, (k.timers, (k.cursor, (k.places, (k.room, (k.ordered, (k.timed, k.hasher))))))))))
-    (λ p. record { records = p.0; access = p.1.0; written = p.1.1.0; timers = p.1.1.1.0; cursor = p.1.1.1.1.0; places = p.1.1.1.1.1.0; room = p.1.1.1.1.1.1.0; ordered = p.1.1.1.1.1.1.1.0; timed = p.1.1.1.1.1.1.1.1.0; hasher = p.1.1.1.1.1.1.1.1.1 })
+    (Records K V × (List Member
+    × (List ℕ × (FinMap nat_cmp ℕ × (Option ℕ × (FinMap nat_cmp ℕ × (ℕ × (Bool × (Bool × S)))))))))
+    (coded× (finite.code coded_ℕ (record_code k v))
+    (coded× (coded_list member_code) (coded× (coded_list coded_ℕ)
+    (coded× (finite.code coded_ℕ coded_ℕ) (coded× (coded_option coded_ℕ)
+    (coded× (finite.code coded_ℕ coded_ℕ) (coded× coded_ℕ (coded× coded_bool (coded× coded_bool s)))))))))
+    (λ k. (
+      k.records,
+      (k.access, (k.written, (k.timers, (k.cursor, (k.places, (k.room, (k.ordered, (k.timed, k.hasher)))))))),
+    ))
+    (λ p. record {
+      records = p.0;
+      access = p.1.0;
+      written = p.1.1.0;
+      timers = p.1.1.1.0;
+      cursor = p.1.1.1.1.0;
+      places = p.1.1.1.1.1.0;
+      room = p.1.1.1.1.1.1.0;
+      ordered = p.1.1.1.1.1.1.1.0;
+      timed = p.1.1.1.1.1.1.1.1.0;
+      hasher = p.1.1.1.1.1.1.1.1.1;
+    })
     (λ _. refl)
 
 -- the one behind the first that passes a test
@@ -79,7 +98,8 @@ module _ {K V : Type 0} where
 
   -- the record of the number is to expire when it did, unless that was renewed
   abbrev pub ExpiresAsBefore : {S : Type 0} → Kept K V S → ℕ → Option Instant → Bool → Type 0
-  ExpiresAsBefore s n expires is_renewed = is_renewed ≡ false → (r : Record K V) → finite.get s.records n ≡ Some r → expires ≡ r.expires
+  ExpiresAsBefore s n expires is_renewed = is_renewed ≡ false → (r : Record K V) → finite.get s.records n ≡ Some r
+      → expires ≡ r.expires
 
   -- the handle leads to a member that stands in the order of writing
   pub record IsOrdered {S : Type 0} (s : Kept K V S) (handle : Handle) : Type 0 where
@@ -96,12 +116,15 @@ module _ {K V : Type 0} where
   -- each record is under its own number, and a key has one record
   pub record IsOneEach (eq : K → K → Bool) (records : Records K V) : Type 0 where
     pub numbered : (n : ℕ) (r : Record K V) → finite.get records n ≡ Some r → r.number ≡ n
-    pub one_each : (n m : ℕ) (p q : Record K V) → finite.get records n ≡ Some p → finite.get records m ≡ Some q → eq p.key q.key ≡ true → n ≡ m
+    pub one_each : (n m : ℕ) (p q : Record K V) → finite.get records n ≡ Some p → finite.get records m ≡ Some q →
+        eq p.key q.key ≡ true → n ≡ m
 
   -- the record of a number becomes what f makes of it, and all else stays
   abbrev pub ChangesRecord : {S : Type 0} → ℕ → (Record K V → Record K V) → Kept K V S → Kept K V S → Type 0
-  ChangesRecord number f before after = (r : Record K V) → finite.get before.records number ≡ Some r → after ≡ record before { records = finite.insert before.records number (f r) }
+  ChangesRecord number f before after = (r : Record K V) → finite.get before.records number ≡ Some r
+      → after ≡ record before { records = finite.insert before.records number (f r) }
 
   -- clones of the keys of these records, in some order
   abbrev pub AreKeysOf : (K → K → Type 0) → Records K V → List K → Type 0
-  AreKeysOf is_clone records keys = (own : List K) × IsPermutation (map (λ r. r.key) (finite.values records)) own × AllZip is_clone own keys
+  AreKeysOf is_clone records keys = (own : List K) × IsPermutation (map (λ r. r.key) (finite.values records)) own
+      × AllZip is_clone own keys

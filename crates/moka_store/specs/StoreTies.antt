@@ -29,15 +29,18 @@ pub record IsIndex {K : Type 0} (eq : K → K → Bool) (key_at : ℕ → Option
 
 -- each record has the number of its row
 pub record IsNamed {K V : Type 0} (at : ℕ → Option (Row (Record K V))) : Type 0 where
-  pub same : (p : ℕ) (row : Row (Record K V)) (r : Record K V) → at p ≡ Some row → row.stored ≡ Some r → r.number ≡ row.number
+  pub same : (p : ℕ) (row : Row (Record K V)) (r : Record K V) → at p ≡ Some row → row.stored ≡ Some r →
+      r.number ≡ row.number
 
 -- the slots in the rows are those of the nodes, and none stands twice
-pub record IsListed {K V : Type 0} (slot_in : Row (Record K V) → Option ℕ) (rows : List (Option (Row (Record K V)))) (nodes : List (ℕ × ℕ)) : Type 0 where
+pub record IsListed {K V : Type 0} (slot_in : Row (Record K V) → Option ℕ) (rows : List (Option (Row (Record K V))))
+    (nodes : List (ℕ × ℕ)) : Type 0 where
   pub linked : IsLinked (λ place. option_and_then slot_in (row_at rows place)) (λ slot. lookup (nat_eq slot) nodes)
   pub distinct : IsDistinct nat_eq (keys_of nodes)
 
 -- the parts belong together
-pub record IsTied {K V : Type 0} (eq : K → K → Bool) (rows : List (Option (Row (Record K V)))) (index : KeyIndex K) (nodes : List (ℕ × ℕ)) : Type 0 where
+pub record IsTied {K V : Type 0} (eq : K → K → Bool) (rows : List (Option (Row (Record K V)))) (index : KeyIndex K)
+    (nodes : List (ℕ × ℕ)) : Type 0 where
   pub numbered : IsNumbered (row_at rows)
   pub named : IsNamed (row_at rows)
   pub indexed : IsIndex eq (key_at rows) index
@@ -50,7 +53,8 @@ pub record IsWritten {K V : Type 0} (rows : List (Option (Row (Record K V)))) (l
   pub all : list.ordered ≡ true → (place : ℕ) → IsSome (membership_at rows place) → IsSome (written_at rows place)
 
 -- the slots in the rows are those of the timers, and only members have one
-pub record IsTimed {K V : Type 0} (rows : List (Option (Row (Record K V)))) (timers : FinMap nat_cmp Timer) : Type 0 where
+pub record IsTimed {K V : Type 0} (rows : List (Option (Row (Record K V))))
+    (timers : FinMap nat_cmp Timer) : Type 0 where
   pub linked : IsLinked (timer_at rows) (λ slot. option_map (λ t. t.number) (get timers slot))
   pub members : (place : ℕ) → IsSome (timer_at rows place) → IsSome (membership_at rows place)
 
@@ -60,7 +64,8 @@ AreNarrow places = (n place : ℕ) → get places n ≡ Some place → place < 2
 
 -- there is a key for each record, and a node and a timer for each row, the weight is that of all members, and places
 -- are narrow
-pub record IsStore {K V : Type 0} (eq : K → K → Bool) (rows : List (Option (Row (Record K V)))) (index : KeyIndex K) (keys : ℕ) (nodes : List (ℕ × ℕ)) (list : Listing) (timing : Timing) (most weight : ℕ) : Type 0 where
+pub record IsStore {K V : Type 0} (eq : K → K → Bool) (rows : List (Option (Row (Record K V)))) (index : KeyIndex K)
+    (keys : ℕ) (nodes : List (ℕ × ℕ)) (list : Listing) (timing : Timing) (most weight : ℕ) : Type 0 where
   pub tied : IsTied eq rows index nodes
   pub written : IsWritten rows list
   pub timed : IsTimed rows timing.timers
@@ -75,7 +80,8 @@ abbrev pub most_of : Order ℕ → Listing → Timing → ℕ
 most_of access list timing = min (length access.members + access.room) (min list.most timing.most)
 
 -- what a contract sees of the parts, where so many places of the index, rows and nodes fit with no memory
-abbrev pub kept_of : {K V S : Type 0} → S → List (Option (Row (Record K V))) → List (ℕ × ℕ) → Listing → Timing → ℕ → ℕ → ℕ → Kept K V S
+abbrev pub kept_of : {K V S : Type 0} → S → List (Option (Row (Record K V))) → List (ℕ × ℕ) → Listing → Timing → ℕ → ℕ →
+    ℕ → Kept K V S
 kept_of hasher rows nodes list timing spare room most = record {
   records = records_of rows;
   access = map (member_at rows) nodes;

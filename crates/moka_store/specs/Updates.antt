@@ -5,4 +5,11 @@ use Rattle.moka_parts.specs.declared.records.Record.{Record}
 
 -- number, key, hash and applied generation stay, and one more generation is counted
 abbrev pub updated : {K V : Type 0} → Update V → Record K V → Record K V
-updated update r = record r { value = update.value; written = update.now; read = update.now; expires = update.expires; weight = update.weight; generation = r.generation + 1 }
+updated update r = record r {
+  value = update.value;
+  written = update.now;
+  read = update.now;
+  expires = update.expires;
+  weight = update.weight;
+  generation = r.generation + 1;
+}

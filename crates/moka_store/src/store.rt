@@ -94,11 +94,16 @@ impl<K: Eq + Hash, V, S: BuildHasher> Model for Store<K, V, S> {
 
     ghost use Rattle.moka_store.specs.StoreTies.{IsStore, kept_of, most_of};
 
-    ghost view = { λ a. kept_of a.hasher a.table.rows a.access.members a.written a.timers a.index.room a.table.room (most_of a.access a.written a.timers) };
+    ghost view = { λ a. kept_of a.hasher a.table.rows a.access.members a.written a.timers a.index.room a.table.room
+        (most_of a.access a.written a.timers) };
 
     ghost invariant = { λ a. IsStore K.eq a.table.rows
-        (record { hash_of = λ k. hash_by S.Hasher.finish S.Hasher.write (S.build_hasher a.hasher) (K.hash_input k); entries = a.index.entries })
-        (finite.len a.index.entries) a.access.members a.written a.timers (most_of a.access a.written a.timers) a.weight };
+        (record {
+          hash_of = λ k. hash_by S.Hasher.finish S.Hasher.write (S.build_hasher a.hasher) (K.hash_input k);
+          entries = a.index.entries;
+        })
+        (finite.len a.index.entries) a.access.members a.written a.timers
+        (most_of a.access a.written a.timers) a.weight };
 }
 
 impl<K: Eq + Hash, V, S: BuildHasher> Store<K, V, S> {
@@ -157,7 +162,8 @@ impl<K: Eq + Hash, V, S: BuildHasher> Store<K, V, S> {
     /// The hash of a key by the store's hasher.
     #[inline(always)]
     pub fn hash(&self, key: &K) -> u64
-        ensures { result ≡ S.Hasher.finish (fold S.Hasher.write (S.build_hasher self.now.hasher) (K.hash_input key.now)) }
+        ensures { result
+            ≡ S.Hasher.finish (fold S.Hasher.write (S.build_hasher self.now.hasher) (K.hash_input key.now)) }
     {
         self.hasher.hash_one(key)
     }
@@ -165,11 +171,13 @@ impl<K: Eq + Hash, V, S: BuildHasher> Store<K, V, S> {
     /// The record whose key is equal, with its handle, under the key's hash.
     #[inline(always)]
     pub fn find_by_key(&self, key: &K, hash: KeyHash) -> Option<(Handle, RecordRef<'_, K, V>)>
-        requires hashed { IsKeyHash S.build_hasher S.Hasher.finish S.Hasher.write self.now.hasher (K.hash_input key.now) hash }
+        requires hashed { IsKeyHash S.build_hasher S.Hasher.finish S.Hasher.write self.now.hasher
+            (K.hash_input key.now) hash }
         ensures handle { IfSome result (λ f. IsHandle self.now f.0) }
         ensures found { IfSome result (λ f. finite.get self.now.records f.0.number ≡ Some f.1) }
         ensures value { option_map (λ f. f.1) result ≡ record_of_key K.eq self.now.records key.now }
-        ensures hashed { IfSome result (λ f. IsKeyHash S.build_hasher S.Hasher.finish S.Hasher.write self.now.hasher (K.hash_input f.1.key) hash) }
+        ensures hashed { IfSome result
+            (λ f. IsKeyHash S.build_hasher S.Hasher.finish S.Hasher.write self.now.hasher (K.hash_input f.1.key) hash) }
         ensures one_each { IsOneEach K.eq self.now.records }
     {
         let table = &self.table;
@@ -214,9 +222,14 @@ impl<K: Eq + Hash, V, S: BuildHasher> Store<K, V, S> {
         requires room { 0 < self.old.room }
         requires fresh { finite.get self.old.places stored.number ≡ None }
         requires unknown { record_of_key K.eq self.old.records stored.key ≡ None }
-        requires hashed { IsKeyHash S.build_hasher S.Hasher.finish S.Hasher.write self.old.hasher (K.hash_input stored.key) hash }
+        requires hashed { IsKeyHash S.build_hasher S.Hasher.finish S.Hasher.write self.old.hasher
+            (K.hash_input stored.key) hash }
         ensures number { result.number ≡ stored.number }
-        ensures step { self.new ≡ record self.old { records = with_record self.old.records stored; places = finite.insert self.old.places stored.number result.place; room = self.new.room } }
+        ensures step { self.new ≡ record self.old {
+          records = with_record self.old.records stored;
+          places = finite.insert self.old.places stored.number result.place;
+          room = self.new.room;
+        } }
         ensures room { self.old.room ≡ self.new.room + 1 }
         ensures apart { counted_of stored.number self.new.access ≡ None }
         ensures handle { IsHandle self.new result }
@@ -236,7 +249,8 @@ impl<K: Eq + Hash, V, S: BuildHasher> Store<K, V, S> {
     #[inline(always)]
     pub fn update(&mut self, handle: Handle, update: Update<V>) -> V
         requires handle { IsHandle self.old handle }
-        requires generation { (r : Record K V) → finite.get self.old.records handle.number ≡ Some r → r.generation + 1 < 2 ^ 64 }
+        requires generation { (r : Record K V) → finite.get self.old.records handle.number ≡ Some r
+            → r.generation + 1 < 2 ^ 64 }
         ensures value { (r : Record K V) → finite.get self.old.records handle.number ≡ Some r → result ≡ r.value }
         ensures step { ChangesRecord handle.number (updated update) self.old self.new }
         ensures handle { IsHandle self.new handle }
@@ -257,7 +271,8 @@ impl<K: Eq + Hash, V, S: BuildHasher> Store<K, V, S> {
     )
         requires handle { IsHandle self.old handle }
         requires kept { ExpiresAsBefore self.old handle.number expires is_renewed }
-        ensures step { ChangesRecord handle.number (λ r. record r { read = read; expires = expires }) self.old self.new }
+        ensures step { ChangesRecord handle.number
+            (λ r. record r { read = read; expires = expires }) self.old self.new }
         ensures handle { IsHandle self.new handle }
         ensures places { self.new.places ≡ self.old.places }
         ensures access { self.new.access ≡ self.old.access }
@@ -281,7 +296,8 @@ impl<K: Eq + Hash, V, S: BuildHasher> Store<K, V, S> {
     #[inline(always)]
     fn hash_at(&self, handle: Handle) -> KeyHash
         requires { IsHandle self.now handle }
-        ensures { (r : Record K V) → finite.get self.now.records handle.number ≡ Some r → IsKeyHash S.build_hasher S.Hasher.finish S.Hasher.write self.now.hasher (K.hash_input r.key) result }
+        ensures { (r : Record K V) → finite.get self.now.records handle.number ≡ Some r
+            → IsKeyHash S.build_hasher S.Hasher.finish S.Hasher.write self.now.hasher (K.hash_input r.key) result }
     {
         let Some(found) = self.find(handle) else {
             unreachable!()
@@ -293,9 +309,11 @@ impl<K: Eq + Hash, V, S: BuildHasher> Store<K, V, S> {
     #[inline(always)]
     pub fn take_record(&mut self, handle: Handle, hash: KeyHash) -> Record<K, V>
         requires handle { IsHandle self.old handle }
-        requires hashed { (r : Record K V) → finite.get self.old.records handle.number ≡ Some r → IsKeyHash S.build_hasher S.Hasher.finish S.Hasher.write self.old.hasher (K.hash_input r.key) hash }
+        requires hashed { (r : Record K V) → finite.get self.old.records handle.number ≡ Some r
+            → IsKeyHash S.build_hasher S.Hasher.finish S.Hasher.write self.old.hasher (K.hash_input r.key) hash }
         ensures taken { finite.get self.old.records handle.number ≡ Some result }
-        ensures step { self.new ≡ record self.old { records = finite.remove self.old.records handle.number; room = self.new.room } }
+        ensures step { self.new
+            ≡ record self.old { records = finite.remove self.old.records handle.number; room = self.new.room } }
         ensures room { self.old.room ≤ self.new.room }
         ensures gone { finite.get self.new.records handle.number ≡ None }
         ensures places { self.new.places ≡ self.old.places }
@@ -343,8 +361,12 @@ impl<K: Eq + Hash, V, S: BuildHasher> Store<K, V, S> {
     pub fn admit(&mut self, handle: Handle, weight: u32)
         requires placed { IsPlaced self.old handle }
         requires apart { counted_of handle.number self.old.access ≡ None }
-        ensures step { self.new ≡ record self.old { access = self.old.access ++ member handle.number weight ∷ []; written = entered_by self.old.ordered handle.number self.old.written } }
-        ensures counted { (n : ℕ) → counted_of n self.new.access ≡ (if n == handle.number then Some weight else counted_of n self.old.access) }
+        ensures step { self.new ≡ record self.old {
+          access = self.old.access ++ member handle.number weight ∷ [];
+          written = entered_by self.old.ordered handle.number self.old.written;
+        } }
+        ensures counted { (n : ℕ) → counted_of n self.new.access
+            ≡ (if n == handle.number then Some weight else counted_of n self.old.access) }
         ensures places { self.new.places ≡ self.old.places }
         ensures records { self.new.records ≡ self.old.records }
     {
@@ -408,7 +430,8 @@ impl<K: Eq + Hash, V, S: BuildHasher> Store<K, V, S> {
           written = number_to_back handle.number self.old.written;
           cursor = cursor_past handle.number self.old.written self.old.cursor;
         } }
-        ensures counted { (n : ℕ) → counted_of n self.new.access ≡ (if n == handle.number then Some weight else counted_of n self.old.access) }
+        ensures counted { (n : ℕ) → counted_of n self.new.access
+            ≡ (if n == handle.number then Some weight else counted_of n self.old.access) }
         ensures places { self.new.places ≡ self.old.places }
         ensures records { self.new.records ≡ self.old.records }
     {
@@ -432,7 +455,8 @@ impl<K: Eq + Hash, V, S: BuildHasher> Store<K, V, S> {
           timers = finite.remove self.old.timers handle.number;
           cursor = cursor_past handle.number self.old.written self.old.cursor;
         } }
-        ensures counted { (n : ℕ) → counted_of n self.new.access ≡ (if n == handle.number then None else counted_of n self.old.access) }
+        ensures counted { (n : ℕ)
+            → counted_of n self.new.access ≡ (if n == handle.number then None else counted_of n self.old.access) }
         ensures places { self.new.places ≡ self.old.places }
         ensures records { self.new.records ≡ self.old.records }
     {
@@ -462,7 +486,10 @@ impl<K: Eq + Hash, V, S: BuildHasher> Store<K, V, S> {
         requires handle { IsHandle self.old handle }
         requires member { IsSome (counted_of handle.number self.old.access) }
         ensures step { (r : Record K V) → finite.get self.old.records handle.number ≡ Some r →
-            self.new ≡ record self.old { timers = if self.old.timed then with_timer self.old.timers handle.number (moment_of r.expires) else self.old.timers } }
+            self.new ≡ record self.old {
+              timers = if self.old.timed
+                  then with_timer self.old.timers handle.number (moment_of r.expires) else self.old.timers;
+            } }
         ensures rest { self.new ≡ record self.old { timers = self.new.timers } }
     {
         let (before, expires) = changes::timing_at(&self.table, handle.place);
@@ -476,7 +503,8 @@ impl<K: Eq + Hash, V, S: BuildHasher> Store<K, V, S> {
         ensures due { IfSome result (λ h. (t : ℕ) × (finite.get self.old.timers h.number ≡ Some t) × (t ≤ now.0)) }
         ensures placed { IfSome result (λ h. IsPlaced self.new h) }
         ensures member { IfSome result (λ h. IsSome (counted_of h.number self.new.access)) }
-        ensures step { IfSome result (λ h. self.new ≡ record self.old { timers = finite.remove self.old.timers h.number }) }
+        ensures step { IfSome result
+            (λ h. self.new ≡ record self.old { timers = finite.remove self.old.timers h.number }) }
         ensures none { IfNone result ((n t : ℕ) → finite.get self.old.timers n ≡ Some t → now.0 < t) }
         ensures unchanged { IfNone result (self.new ≡ self.old) }
     {
@@ -681,7 +709,8 @@ impl<K: Eq + Hash, V, S: BuildHasher> Store<K, V, S> {
         } }
         ensures room { self.old.room ≤ self.new.room }
         ensures gone { finite.get self.new.records handle.number ≡ None }
-        ensures counted { (n : ℕ) → counted_of n self.new.access ≡ (if n == handle.number then None else counted_of n self.old.access) }
+        ensures counted { (n : ℕ)
+            → counted_of n self.new.access ≡ (if n == handle.number then None else counted_of n self.old.access) }
         ensures places { self.new.places ≡ self.old.places }
     {
         let hash = self.hash_at(handle);
@@ -701,9 +730,11 @@ impl<K: Eq + Hash, V, S: BuildHasher> Store<K, V, S> {
         requires placed { IsPlaced self.old handle }
         requires gone { finite.get self.old.records handle.number ≡ None }
         requires apart { counted_of handle.number self.old.access ≡ None }
-        ensures step { self.new ≡ record self.old { places = finite.remove self.old.places handle.number; room = self.new.room } }
+        ensures step { self.new
+            ≡ record self.old { places = finite.remove self.old.places handle.number; room = self.new.room } }
         ensures room { self.old.room ≤ self.new.room }
-        ensures kept { (other : Handle) → other.number ≢ handle.number → IsPlaced self.old other → IsPlaced self.new other }
+        ensures kept { (other : Handle) → other.number ≢ handle.number → IsPlaced self.old other
+            → IsPlaced self.new other }
         ensures records { self.new.records ≡ self.old.records }
         ensures access { self.new.access ≡ self.old.access }
     {

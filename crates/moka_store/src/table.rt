@@ -122,7 +122,9 @@ impl<K, V> RecordTable<K, V> {
         requires room { 0 < self.old.room }
         requires fresh { map.get (places_of self.old.rows) stored.number ≡ None }
         ensures vacant { row_at self.old.rows result ≡ None }
-        ensures changes { ChangesAt (row_at self.old.rows) (row_at self.new.rows) result (Some (record { number = stored.number; stored = Some stored; membership = None; timer = None })) }
+        ensures changes { ChangesAt (row_at self.old.rows)
+            (row_at self.new.rows) result
+            (Some (record { number = stored.number; stored = Some stored; membership = None; timer = None })) }
         ensures records { records_of self.new.rows ≡ map.insert (records_of self.old.rows) stored.number stored }
         ensures counted { counted_of self.new.rows ≡ counted_of self.old.rows }
         ensures places { places_of self.new.rows ≡ map.insert (places_of self.old.rows) stored.number result }
@@ -182,7 +184,8 @@ impl<K, V> RecordTable<K, V> {
     #[inline(always)]
     pub fn find(&self, place: usize, number: u64) -> Option<RecordRef<'_, K, V>>
         ensures value { result ≡ find_at self.now.rows place number }
-        ensures found { map.get (places_of self.now.rows) number ≡ Some place → result ≡ map.get (records_of self.now.rows) number }
+        ensures found { map.get (places_of self.now.rows) number ≡ Some place
+            → result ≡ map.get (records_of self.now.rows) number }
         ensures elsewhere { map.get (places_of self.now.rows) number ≢ Some place → result ≡ None }
         ensures placed { IsSome result → map.get (places_of self.now.rows) number ≡ Some place }
     {
@@ -194,8 +197,11 @@ impl<K, V> RecordTable<K, V> {
     #[inline(always)]
     pub fn touch(&mut self, place: usize, read: Instant, expires: Option<Instant>, is_renewed: bool)
         requires stored { IsSome (stored_at self.old.rows place) }
-        requires kept { is_renewed ≡ false → (r : Record K V) → stored_at self.old.rows place ≡ Some r → expires ≡ r.expires }
-        ensures { (r : Record K V) → stored_at self.old.rows place ≡ Some r → self.new ≡ record self.old { rows = with_stored self.old.rows place (record r { read = read; expires = expires }) } }
+        requires kept { is_renewed ≡ false → (r : Record K V) → stored_at self.old.rows place ≡ Some r
+            → expires ≡ r.expires }
+        ensures { (r : Record K V) → stored_at self.old.rows place ≡ Some r
+            → self.new ≡ record self.old
+            { rows = with_stored self.old.rows place (record r { read = read; expires = expires }) } }
     {
         self.rows.touch(place, read, expires.is_some(), is_renewed);
         if is_renewed {
@@ -208,7 +214,8 @@ impl<K, V> RecordTable<K, V> {
         requires stored { IsSome (stored_at self.old.rows place) }
         requires generation { (r : Record K V) → stored_at self.old.rows place ≡ Some r → r.generation + 1 < 2 ^ 64 }
         ensures value { (r : Record K V) → stored_at self.old.rows place ≡ Some r → result ≡ r.value }
-        ensures table { (r : Record K V) → stored_at self.old.rows place ≡ Some r → self.new ≡ record self.old { rows = with_stored self.old.rows place (updated update r) } }
+        ensures table { (r : Record K V) → stored_at self.old.rows place ≡ Some r
+            → self.new ≡ record self.old { rows = with_stored self.old.rows place (updated update r) } }
     {
         let cold = &mut self.cold[place];
         cold.weight = update.weight;
@@ -221,7 +228,9 @@ impl<K, V> RecordTable<K, V> {
     #[inline(always)]
     pub fn set_applied(&mut self, place: usize, generation: u64)
         requires { IsSome (stored_at self.old.rows place) }
-        ensures { (r : Record K V) → stored_at self.old.rows place ≡ Some r → self.new ≡ record self.old { rows = with_stored self.old.rows place (record r { applied = generation }) } }
+        ensures { (r : Record K V) → stored_at self.old.rows place ≡ Some r
+            → self.new ≡ record self.old
+            { rows = with_stored self.old.rows place (record r { applied = generation }) } }
     {
         self.cold[place].applied = generation;
     }
@@ -232,7 +241,8 @@ impl<K, V> RecordTable<K, V> {
         requires { IsSome (stored_at self.old.rows place) }
         ensures taken { stored_at self.old.rows place ≡ Some result }
         ensures changes { ChangesRow self.old.rows self.new.rows place (λ row. record row { stored = None }) }
-        ensures records { records_of self.new.rows ≡ map.remove (records_of self.old.rows) (number_at self.old.rows place) }
+        ensures records { records_of self.new.rows ≡ map.remove (records_of self.old.rows)
+            (number_at self.old.rows place) }
         ensures counted { counted_of self.new.rows ≡ counted_of self.old.rows }
         ensures places { places_of self.new.rows ≡ places_of self.old.rows }
         ensures len { count_by is_some self.new.rows ≡ count_by is_some self.old.rows }
@@ -275,7 +285,8 @@ impl<K, V> RecordTable<K, V> {
         requires { IsSome (membership_at self.old.rows place) }
         ensures changes { RecountsRow self.old.rows self.new.rows place weight }
         ensures records { records_of self.new.rows ≡ records_of self.old.rows }
-        ensures counted { counted_of self.new.rows ≡ map.insert (counted_of self.old.rows) (number_at self.old.rows place) weight }
+        ensures counted { counted_of self.new.rows ≡ map.insert (counted_of self.old.rows)
+            (number_at self.old.rows place) weight }
         ensures places { places_of self.new.rows ≡ places_of self.old.rows }
         ensures len { count_by is_some self.new.rows ≡ count_by is_some self.old.rows }
         ensures room { self.new.room ≡ self.old.room }
@@ -289,9 +300,11 @@ impl<K, V> RecordTable<K, V> {
         requires row { IsSome (row_at self.old.rows place) }
         requires slots { HasSlots membership }
         ensures old { result ≡ membership_at self.old.rows place }
-        ensures changes { ChangesRow self.old.rows self.new.rows place (λ row. record row { membership = Some membership }) }
+        ensures changes { ChangesRow self.old.rows self.new.rows place
+            (λ row. record row { membership = Some membership }) }
         ensures records { records_of self.new.rows ≡ records_of self.old.rows }
-        ensures counted { counted_of self.new.rows ≡ map.insert (counted_of self.old.rows) (number_at self.old.rows place) membership.counted }
+        ensures counted { counted_of self.new.rows ≡ map.insert (counted_of self.old.rows)
+            (number_at self.old.rows place) membership.counted }
         ensures places { places_of self.new.rows ≡ places_of self.old.rows }
         ensures len { count_by is_some self.new.rows ≡ count_by is_some self.old.rows }
         ensures room { self.new.room ≡ self.old.room }
@@ -310,7 +323,8 @@ impl<K, V> RecordTable<K, V> {
         ensures old { result ≡ membership_at self.old.rows place }
         ensures changes { ChangesRow self.old.rows self.new.rows place (λ row. record row { membership = None }) }
         ensures records { records_of self.new.rows ≡ records_of self.old.rows }
-        ensures counted { counted_of self.new.rows ≡ map.remove (counted_of self.old.rows) (number_at self.old.rows place) }
+        ensures counted { counted_of self.new.rows ≡ map.remove (counted_of self.old.rows)
+            (number_at self.old.rows place) }
         ensures places { places_of self.new.rows ≡ places_of self.old.rows }
         ensures len { count_by is_some self.new.rows ≡ count_by is_some self.old.rows }
         ensures room { self.new.room ≡ self.old.room }
@@ -343,11 +357,13 @@ impl<K, V> RecordTable<K, V> {
     where
         K: Drop,
         V: Drop,
-        requires { row_at self.old.rows place ≡ Some (record { number = number_at self.old.rows place; stored = None; membership = None; timer = None }) }
+        requires { row_at self.old.rows place
+            ≡ Some (record { number = number_at self.old.rows place; stored = None; membership = None; timer = None }) }
         ensures changes { ChangesAt (row_at self.old.rows) (row_at self.new.rows) place None }
         ensures records { records_of self.new.rows ≡ records_of self.old.rows }
         ensures counted { counted_of self.new.rows ≡ counted_of self.old.rows }
-        ensures places { places_of self.new.rows ≡ map.remove (places_of self.old.rows) (number_at self.old.rows place) }
+        ensures places { places_of self.new.rows ≡ map.remove (places_of self.old.rows)
+            (number_at self.old.rows place) }
         ensures len { count_by is_some self.new.rows + 1 ≡ count_by is_some self.old.rows }
         ensures room { self.new.room ≡ self.old.room + 1 }
     {

@@ -67,13 +67,15 @@ impl Timers {
     /// Gives a place, whose timer is in `before`, a timer at this moment, or none. The answer is its slot.
     #[inline(always)]
     pub fn set(&mut self, before: Option<u32>, place: u64, at: Option<Instant>) -> Option<u32>
-        requires held { IfSome before (λ slot. option_map (λ (t : Timer). t.number) (get self.old.timers slot) ≡ Some place) }
+        requires held { IfSome before
+            (λ slot. option_map (λ (t : Timer). t.number) (get self.old.timers slot) ≡ Some place) }
         requires room { IfNone before (IfSome at (λ _. len self.old.timers < self.old.most)) }
         requires slot { IsSlot before }
         ensures slot { IsSlot result }
         ensures kept { is_some result ≡ (self.old.timed && is_some at) }
         ensures fresh { IfSome result (λ slot. (before ≡ Some slot) ⊎ (get self.old.timers slot ≡ None)) }
-        ensures lookups { (other : ℕ) → get self.new.timers other ≡ timer_after self.old.timers before result place (moment_of at) other }
+        ensures lookups { (other : ℕ)
+            → get self.new.timers other ≡ timer_after self.old.timers before result place (moment_of at) other }
         ensures rest { self.new ≡ record self.old { timers = self.new.timers } }
         ensures untimed { self.old.timed ≡ false → (slot : ℕ) → get self.old.timers slot ≡ None }
     {
@@ -87,9 +89,11 @@ impl Timers {
     pub fn due(&mut self, now: Instant) -> Option<Due>
         ensures due { IfSome result (λ d. get self.old.timers d.slot ≡ Some (record { number = d.number; at = d.at })) }
         ensures late { IfSome result (λ d. d.at ≤ now.0) }
-        ensures lookups { IfSome result (λ d. (other : ℕ) → get self.new.timers other ≡ timer_after self.old.timers (Some d.slot) None d.number None other) }
+        ensures lookups { IfSome result (λ d. (other : ℕ)
+            → get self.new.timers other ≡ timer_after self.old.timers (Some d.slot) None d.number None other) }
         ensures rest { self.new ≡ record self.old { timers = self.new.timers } }
-        ensures none { IfNone result ((slot : ℕ) (timer : Timer) → get self.old.timers slot ≡ Some timer → now.0 < timer.at) }
+        ensures none { IfNone result ((slot : ℕ) (timer : Timer) → get self.old.timers slot ≡ Some timer
+            → now.0 < timer.at) }
         ensures unchanged { IfNone result (self.new ≡ self.old) }
     {
         let Some(wheel) = &mut self.wheel else {
@@ -107,13 +111,15 @@ fn set_in(
     place: u64,
     at: Option<Instant>,
 ) -> Option<u32>
-    requires held { IfSome before (λ slot. option_map (λ (t : Timer). t.number) (get wheel.old.timers slot) ≡ Some place) }
+    requires held { IfSome before
+        (λ slot. option_map (λ (t : Timer). t.number) (get wheel.old.timers slot) ≡ Some place) }
     requires room { IfNone before (IfSome at (λ _. 0 < wheel.old.room)) }
     requires slot { IsSlot before }
     ensures slot { IsSlot result }
     ensures kept { is_some result ≡ is_some at }
     ensures fresh { IfSome result (λ slot. (before ≡ Some slot) ⊎ (get wheel.old.timers slot ≡ None)) }
-    ensures lookups { (other : ℕ) → get wheel.new.timers other ≡ timer_after wheel.old.timers before result place (moment_of at) other }
+    ensures lookups { (other : ℕ)
+        → get wheel.new.timers other ≡ timer_after wheel.old.timers before result place (moment_of at) other }
     ensures most { len wheel.new.timers + wheel.new.room ≡ len wheel.old.timers + wheel.old.room }
 {
     match (before, at) {

@@ -74,7 +74,9 @@ impl WriteList {
         ensures fresh { IfSome result (λ slot. lookup (nat_eq slot) self.old.nodes ≡ None) }
         ensures slot { IsSlot result }
         ensures nodes { IfSome result (λ slot. self.new.nodes ≡ self.old.nodes ++ (slot, place) ∷ []) }
-        ensures lookups { IfSome result (λ slot. (s : ℕ) → lookup (nat_eq s) self.new.nodes ≡ (if nat_eq s slot then Some place else lookup (nat_eq s) self.old.nodes)) }
+        ensures lookups { IfSome result (λ slot. (s : ℕ)
+            → lookup (nat_eq s) self.new.nodes
+            ≡ (if nat_eq s slot then Some place else lookup (nat_eq s) self.old.nodes)) }
         ensures rest { self.new ≡ record self.old { nodes = self.new.nodes } }
         ensures unkept { IfNone result (self.new ≡ self.old) }
         ensures cursor { IsCursor self.new.nodes self.new.cursor }
@@ -87,9 +89,11 @@ impl WriteList {
     #[inline(always)]
     pub fn move_to_back(&mut self, slot: Option<u32>)
         requires { IfSome slot (λ s. IsSome (lookup (nat_eq s) self.old.nodes)) }
-        ensures nodes { IfSome slot (λ s. (place : ℕ) → lookup (nat_eq s) self.old.nodes ≡ Some place → self.new.nodes ≡ remove_entry (nat_eq s) self.old.nodes ++ (s, place) ∷ []) }
+        ensures nodes { IfSome slot (λ s. (place : ℕ) → lookup (nat_eq s) self.old.nodes ≡ Some place
+            → self.new.nodes ≡ remove_entry (nat_eq s) self.old.nodes ++ (s, place) ∷ []) }
         ensures lookups { (s : ℕ) → lookup (nat_eq s) self.new.nodes ≡ lookup (nat_eq s) self.old.nodes }
-        ensures rest { self.new ≡ record self.old { nodes = self.new.nodes; cursor = node_past slot self.old.nodes self.old.cursor } }
+        ensures rest { self.new
+            ≡ record self.old { nodes = self.new.nodes; cursor = node_past slot self.old.nodes self.old.cursor } }
         ensures absent { IfNone slot (self.new ≡ self.old) }
         ensures cursor { IsCursor self.new.nodes self.new.cursor }
     {
@@ -106,8 +110,11 @@ impl WriteList {
     pub fn unlink(&mut self, slot: Option<u32>)
         requires { IfSome slot (λ s. IsSome (lookup (nat_eq s) self.old.nodes)) }
         ensures nodes { IfSome slot (λ s. self.new.nodes ≡ remove_entry (nat_eq s) self.old.nodes) }
-        ensures lookups { IfSome slot (λ s. (other : ℕ) → lookup (nat_eq other) self.new.nodes ≡ (if nat_eq s other then None else lookup (nat_eq other) self.old.nodes)) }
-        ensures rest { self.new ≡ record self.old { nodes = self.new.nodes; cursor = node_past slot self.old.nodes self.old.cursor } }
+        ensures lookups { IfSome slot (λ s. (other : ℕ)
+            → lookup (nat_eq other) self.new.nodes
+            ≡ (if nat_eq s other then None else lookup (nat_eq other) self.old.nodes)) }
+        ensures rest { self.new
+            ≡ record self.old { nodes = self.new.nodes; cursor = node_past slot self.old.nodes self.old.cursor } }
         ensures absent { IfNone slot (self.new ≡ self.old) }
         ensures cursor { IsCursor self.new.nodes self.new.cursor }
     {

@@ -11,7 +11,8 @@ pub record Order (T : Type 0) : Type 0 where
 -- it is stored as the pair of its fields
 abbrev pub order_code : {T : Type 0} → Coded T → Coded (Order T)
 order_code {T} t =
-    code_by (List (ℕ × T) × ℕ) (coded× (coded_list (coded× coded_ℕ t)) coded_ℕ) (λ o. (o.members, o.room)) (λ p. record { members = p.0; room = p.1 }) (λ _. refl)
+    code_by (List (ℕ × T) × ℕ) (coded× (coded_list (coded× coded_ℕ t)) coded_ℕ) (λ o. (o.members, o.room))
+    (λ p. record { members = p.0; room = p.1 }) (λ _. refl)
 
 module _ {T : Type 0} where
   -- the member behind the one in this slot

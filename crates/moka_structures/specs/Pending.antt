@@ -13,4 +13,5 @@ pub record Pending (T : Type 0) : Type 0 where
 -- it is stored as the pair of its fields
 abbrev pub pending_code : {T : Type 0} → Coded T → Coded (Pending T)
 pending_code {T} t =
-    code_by (FinMap nat_cmp T × ℕ) (coded× (map.code coded_ℕ t) coded_ℕ) (λ p. (p.items, p.room)) (λ p. record { items = p.0; room = p.1 }) (λ _. refl)
+    code_by (FinMap nat_cmp T × ℕ) (coded× (map.code coded_ℕ t) coded_ℕ) (λ p. (p.items, p.room))
+    (λ p. record { items = p.0; room = p.1 }) (λ _. refl)

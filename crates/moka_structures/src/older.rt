@@ -42,7 +42,8 @@ impl<T: Copy> Model for Older<T> {
 
     ghost use Rattle.moka_structures.specs.Kept.{with_kept, AreApart};
 
-    ghost view = { λ a. record { items = with_kept a.kept.items a.table.items; room = vec_capacity a.kept - vec_len a.kept } };
+    ghost view = { λ a.
+        record { items = with_kept a.kept.items a.table.items; room = vec_capacity a.kept - vec_len a.kept } };
 
     ghost invariant = { λ a. AreApart a.kept.items a.table.items };
 }
@@ -122,7 +123,8 @@ impl<T: Copy> Older<T> {
 
     /// The least ticket that is out.
     pub fn oldest(&self) -> Option<u64>
-        ensures least { IfSome result (λ t. IsSome (map.get self.now.items t) × ((q : ℕ) → IsSome (map.get self.now.items q) → t ≤ q)) }
+        ensures least { IfSome result (λ t. IsSome (map.get self.now.items t)
+            × ((q : ℕ) → IsSome (map.get self.now.items q) → t ≤ q)) }
         ensures none { IsNone result ↔ (self.now.items ≡ map.empty) }
     {
         oldest_with(self.table.oldest(), self.kept.as_slice())

@@ -109,7 +109,10 @@ impl<T: Copy> Model for OrderList<T> {
 
     ghost use Rattle.moka_structures.specs.Links.{members_of, IsOrder};
 
-    ghost view = { λ a. record { members = members_of a.blank a.nodes.items a.len; room = min (vec_capacity a.nodes) (2 ^ 32) - 1 - a.len } };
+    ghost view = { λ a. record {
+      members = members_of a.blank a.nodes.items a.len;
+      room = min (vec_capacity a.nodes) (2 ^ 32) - 1 - a.len;
+    } };
 
     ghost invariant = { λ a. IsOrder a.blank a.nodes.items a.len a.free };
 }
@@ -184,7 +187,8 @@ impl<T: Copy> OrderList<T> {
         ensures members { self.new.members ≡ self.old.members ++ (result, value) ∷ [] }
         ensures len { length self.new.members ≡ length self.old.members + 1 }
         ensures few { length self.new.members < 2 ^ 32 }
-        ensures lookups { (s : ℕ) → lookup (nat_eq s) self.new.members ≡ (if nat_eq s result then Some value else lookup (nat_eq s) self.old.members) }
+        ensures lookups { (s : ℕ) → lookup (nat_eq s) self.new.members
+            ≡ (if nat_eq s result then Some value else lookup (nat_eq s) self.old.members) }
         ensures distinct { IsDistinct nat_eq (keys_of self.old.members) }
         ensures room { self.new.room + 1 ≡ self.old.room }
     {
@@ -211,7 +215,8 @@ impl<T: Copy> OrderList<T> {
     #[inline(always)]
     pub fn move_to_back(&mut self, slot: u32)
         requires { IsSome (lookup (nat_eq slot) self.old.members) }
-        ensures members { (value : T) → lookup (nat_eq slot) self.old.members ≡ Some value → self.new.members ≡ moved_to_back slot value self.old.members }
+        ensures members { (value : T) → lookup (nat_eq slot) self.old.members ≡ Some value
+            → self.new.members ≡ moved_to_back slot value self.old.members }
         ensures len { length self.new.members ≡ length self.old.members }
         ensures lookups { (s : ℕ) → lookup (nat_eq s) self.new.members ≡ lookup (nat_eq s) self.old.members }
         ensures distinct { IsDistinct nat_eq (keys_of self.old.members) }
@@ -229,7 +234,8 @@ impl<T: Copy> OrderList<T> {
         ensures value { lookup (nat_eq slot) self.old.members ≡ Some result }
         ensures members { self.new.members ≡ remove_entry (nat_eq slot) self.old.members }
         ensures len { length self.new.members + 1 ≡ length self.old.members }
-        ensures lookups { (s : ℕ) → lookup (nat_eq s) self.new.members ≡ (if nat_eq slot s then None else lookup (nat_eq s) self.old.members) }
+        ensures lookups { (s : ℕ) → lookup (nat_eq s) self.new.members
+            ≡ (if nat_eq slot s then None else lookup (nat_eq s) self.old.members) }
         ensures distinct { IsDistinct nat_eq (keys_of self.old.members) }
         ensures room { self.new.room ≡ self.old.room + 1 }
     {

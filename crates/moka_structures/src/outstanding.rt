@@ -92,7 +92,8 @@ impl<T: Copy> Outstanding<T> {
         requires room { 0 < self.old.room }
         requires newest { (q : ℕ) → IsSome (map.get self.old.items q) → q < ticket }
         ensures items { self.new.items ≡ map.insert self.old.items ticket item }
-        ensures gets { (q : ℕ) → map.get self.new.items q ≡ (if nat_eq ticket q then Some item else map.get self.old.items q) }
+        ensures gets { (q : ℕ)
+            → map.get self.new.items q ≡ (if nat_eq ticket q then Some item else map.get self.old.items q) }
         ensures newest { (q : ℕ) → IsSome (map.get self.new.items q) → q ≤ ticket }
         ensures len { map.len self.new.items ≡ map.len self.old.items + 1 }
         ensures room { self.old.room ≤ self.new.room + 1 }
@@ -130,7 +131,8 @@ impl<T: Copy> Outstanding<T> {
     pub fn take(&mut self, ticket: u64) -> Option<T>
         ensures item { result ≡ map.get self.old.items ticket }
         ensures items { self.new.items ≡ map.remove self.old.items ticket }
-        ensures gets { (q : ℕ) → map.get self.new.items q ≡ (if nat_eq ticket q then None else map.get self.old.items q) }
+        ensures gets { (q : ℕ)
+            → map.get self.new.items q ≡ (if nat_eq ticket q then None else map.get self.old.items q) }
         ensures left { (q : ℕ) → IsSome (map.get self.new.items q) → IsSome (map.get self.old.items q) }
         ensures len { map.len self.new.items + (if is_some result then 1 else 0) ≡ map.len self.old.items }
         ensures room { self.old.room ≤ self.new.room }
@@ -147,7 +149,8 @@ impl<T: Copy> Outstanding<T> {
     /// The least ticket that is out.
     pub fn oldest(&self) -> Option<u64>
         ensures first { result ≡ slice_get (map.keys self.now.items) 0 }
-        ensures least { IfSome result (λ t. IsSome (map.get self.now.items t) × ((q : ℕ) → IsSome (map.get self.now.items q) → t ≤ q)) }
+        ensures least { IfSome result (λ t. IsSome (map.get self.now.items t)
+            × ((q : ℕ) → IsSome (map.get self.now.items q) → t ≤ q)) }
         ensures none { IsNone result ↔ (self.now.items ≡ map.empty) }
     {
         if let Some(ticket) = self.older.oldest() {

@@ -125,7 +125,8 @@ impl<T: Copy> TicketTable<T> {
 
     /// The least ticket that is out.
     pub fn oldest(&self) -> Option<u64>
-        ensures least { IfSome result (λ t. IsSome (map.get self.now.items t) × ((q : ℕ) → IsSome (map.get self.now.items q) → t ≤ q)) }
+        ensures least { IfSome result (λ t. IsSome (map.get self.now.items t)
+            × ((q : ℕ) → IsSome (map.get self.now.items q) → t ≤ q)) }
         ensures none { IsNone result ↔ (self.now.items ≡ map.empty) }
     {
         match self.order.front() {

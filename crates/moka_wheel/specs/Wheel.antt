@@ -17,8 +17,10 @@ pub record Timers : Type 0 where
 
 -- a timer is stored as the pair of its fields
 abbrev pub timer_code : Coded Timer
-timer_code = code_by (ℕ × ℕ) (coded× coded_ℕ coded_ℕ) (λ t. (t.number, t.at)) (λ p. record { number = p.0; at = p.1 }) (λ _. refl)
+timer_code = code_by (ℕ × ℕ) (coded× coded_ℕ coded_ℕ) (λ t. (t.number, t.at))
+    (λ p. record { number = p.0; at = p.1 }) (λ _. refl)
 
 -- timers are stored as the pair of their fields
 abbrev pub timers_code : Coded Timers
-timers_code = code_by (FinMap nat_cmp Timer × ℕ) (coded× (map.code coded_ℕ timer_code) coded_ℕ) (λ t. (t.timers, t.room)) (λ p. record { timers = p.0; room = p.1 }) (λ _. refl)
+timers_code = code_by (FinMap nat_cmp Timer × ℕ) (coded× (map.code coded_ℕ timer_code) coded_ℕ)
+    (λ t. (t.timers, t.room)) (λ p. record { timers = p.0; room = p.1 }) (λ _. refl)

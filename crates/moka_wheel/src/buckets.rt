@@ -125,7 +125,8 @@ impl Buckets {
         requires { AreBuckets self.now 2048 }
         ensures some { IfSome result (λ s. IsTimer self.now.nodes.items s) }
         ensures due { IfSome result (λ s. moments self.now.nodes.items s ≤ now) }
-        ensures none { IfNone result ((i : ℕ) → IsTimer self.now.nodes.items i → buckets self.now.nodes.items i ≡ 2048 → now < moments self.now.nodes.items i) }
+        ensures none { IfNone result ((i : ℕ) → IsTimer self.now.nodes.items i → buckets self.now.nodes.items i ≡ 2048
+            → now < moments self.now.nodes.items i) }
     {
         let mut slot = self.nodes[DUE as usize].behind;
         // No list is longer than the table.
@@ -221,7 +222,8 @@ impl Buckets {
         requires placed { AreBuckets self.old 2048 }
         requires timer { IsTimer self.old.nodes.items slot }
         ensures placed { AreBuckets self.new 2048 }
-        ensures puts { Puts self.old.nodes.items self.new.nodes.items slot (record { number = numbers self.old.nodes.items slot; at = at }) }
+        ensures puts { Puts self.old.nodes.items self.new.nodes.items slot
+            (record { number = numbers self.old.nodes.items slot; at = at }) }
         ensures len { vec_len self.new.nodes ≡ vec_len self.old.nodes }
         ensures capacity { KeepsCapacity self.old.nodes self.new.nodes }
     {

@@ -108,7 +108,8 @@ impl TimerWheel {
         ensures fresh { get self.old.timers result ≡ None }
         ensures positive { 0 < result }
         ensures timers { self.new.timers ≡ insert self.old.timers result (record { number = number; at = at }) }
-        ensures lookups { (other : ℕ) → get self.new.timers other ≡ (if nat_eq other result then Some (record { number = number; at = at }) else get self.old.timers other) }
+        ensures lookups { (other : ℕ) → get self.new.timers other
+            ≡ (if nat_eq other result then Some (record { number = number; at = at }) else get self.old.timers other) }
         ensures room { self.new.room + 1 ≡ self.old.room }
     {
         let count = self.len;
@@ -124,7 +125,8 @@ impl TimerWheel {
     /// Gives the timer in `slot` another moment.
     pub fn reschedule(&mut self, slot: u32, at: u64)
         requires { IsSome (get self.old.timers slot) }
-        ensures timers { (timer : Timer) → get self.old.timers slot ≡ Some timer → self.new.timers ≡ insert self.old.timers slot (record timer { at = at }) }
+        ensures timers { (timer : Timer) → get self.old.timers slot ≡ Some timer
+            → self.new.timers ≡ insert self.old.timers slot (record timer { at = at }) }
         ensures lookups { (other : ℕ) →
             get self.new.timers other ≡ (if nat_eq other slot
             then option_map (λ (timer : Timer). record timer { at = at }) (get self.old.timers slot)
@@ -139,7 +141,8 @@ impl TimerWheel {
         requires { IsSome (get self.old.timers slot) }
         ensures number { option_map (λ (timer : Timer). timer.number) (get self.old.timers slot) ≡ Some result }
         ensures timers { self.new.timers ≡ remove self.old.timers slot }
-        ensures lookups { (other : ℕ) → get self.new.timers other ≡ (if nat_eq other slot then None else get self.old.timers other) }
+        ensures lookups { (other : ℕ)
+            → get self.new.timers other ≡ (if nat_eq other slot then None else get self.old.timers other) }
         ensures room { self.new.room ≡ self.old.room + 1 }
     {
         let number = self.buckets.release(slot, self.free);
@@ -155,9 +158,11 @@ impl TimerWheel {
         ensures due { IfSome result (λ d. get self.old.timers d.slot ≡ Some (record { number = d.number; at = d.at })) }
         ensures late { IfSome result (λ d. d.at ≤ now) }
         ensures timers { IfSome result (λ d. self.new.timers ≡ remove self.old.timers d.slot) }
-        ensures lookups { IfSome result (λ d. (other : ℕ) → get self.new.timers other ≡ (if nat_eq other d.slot then None else get self.old.timers other)) }
+        ensures lookups { IfSome result (λ d. (other : ℕ)
+            → get self.new.timers other ≡ (if nat_eq other d.slot then None else get self.old.timers other)) }
         ensures room { IfSome result (λ d. self.new.room ≡ self.old.room + 1) }
-        ensures none { IfNone result ((slot : ℕ) (timer : Timer) → get self.old.timers slot ≡ Some timer → now < timer.at) }
+        ensures none { IfNone result ((slot : ℕ) (timer : Timer) → get self.old.timers slot ≡ Some timer
+            → now < timer.at) }
         ensures unchanged { IfNone result (self.new ≡ self.old) }
     {
         let slot = self.buckets.due(now)?;

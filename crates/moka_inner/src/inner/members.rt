@@ -33,7 +33,8 @@ impl<K: Eq + Hash, V, S: BuildHasher> Inner<K, V, S> {
         requires member { IsSome (counted_of handle.number self.now.kept.access) }
         ensures placed { IfSome result (λ f. IsPlaced self.now.kept f.0) }
         ensures member { IfSome result (λ f. IsSome (counted_of f.0.number self.now.kept.access)) }
-        ensures next { option_map (λ f. member f.0.number f.1) result ≡ member_after handle.number self.now.kept.access }
+        ensures next { option_map (λ f. member f.0.number f.1) result
+            ≡ member_after handle.number self.now.kept.access }
     {
         self.store.next(handle)
     }
@@ -61,11 +62,15 @@ impl<K: Eq + Hash, V, S: BuildHasher> Inner<K, V, S> {
         requires operations { 1 < self.old.operation_room }
         requires tickets { self.old.next_ticket + finite.len self.old.kept.records + 1 < 2 ^ 64 }
         requires fresh { record_of_key K.eq self.old.kept.records key ≡ None }
-        requires hashed { IsKeyHash S.build_hasher S.Hasher.finish S.Hasher.write self.old.kept.hasher (K.hash_input key) hashes.own }
+        requires hashed { IsKeyHash S.build_hasher S.Hasher.finish S.Hasher.write self.old.kept.hasher
+            (K.hash_input key) hashes.own }
         ensures ticket { result.0 ≡ self.old.next_ticket }
         ensures step { self.new ≡ record (handing_out_inside self.old
-            (with_record self.old.kept.records (record (first_record self.old.next_number key hashes.hash update) { read = read }))
-            (Upsert self.old.next_number 1 update.weight hashes.hash) self.new) { next_number = self.old.next_number + 1 } }
+            (with_record self.old.kept.records
+            (record (first_record self.old.next_number key hashes.hash update) { read = read }))
+            (Upsert self.old.next_number 1 update.weight hashes.hash) self.new) {
+              next_number = self.old.next_number + 1;
+            } }
     {
         let Hashes { hash, own } = hashes;
         let number = self.next_number;

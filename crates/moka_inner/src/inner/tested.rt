@@ -20,7 +20,8 @@ impl<K: Eq + Hash, V, S: BuildHasher> Inner<K, V, S> {
     /// The hash of a form of a key by the store's hasher.
     #[inline(always)]
     pub fn hash_of<Q: Hash>(&self, form: &Q) -> u64
-        ensures { result ≡ S.Hasher.finish (fold S.Hasher.write (S.build_hasher self.now.kept.hasher) (Q.hash_input form.now)) }
+        ensures { result
+            ≡ S.Hasher.finish (fold S.Hasher.write (S.build_hasher self.now.kept.hasher) (Q.hash_input form.now)) }
     {
         self.store.hash_of(form)
     }
@@ -32,7 +33,8 @@ impl<K: Eq + Hash, V, S: BuildHasher> Inner<K, V, S> {
         test: &T,
         hash: KeyHash,
     ) -> Option<(Handle, RecordRef<'_, K, V>)>
-        requires hashed { (k : K) → T.passes test.now k ≡ true → IsKeyHash S.build_hasher S.Hasher.finish S.Hasher.write self.now.kept.hasher (K.hash_input k) hash }
+        requires hashed { (k : K) → T.passes test.now k ≡ true
+            → IsKeyHash S.build_hasher S.Hasher.finish S.Hasher.write self.now.kept.hasher (K.hash_input k) hash }
         ensures handle { IfSome result (λ f. IsHandle self.now.kept f.0) }
         ensures numbered { IfSome result (λ f. finite.get self.now.kept.records f.0.number ≡ Some f.1) }
         ensures passes { IfSome result (λ f. T.passes test.now f.1.key ≡ true) }
@@ -51,9 +53,15 @@ impl<K: Eq + Hash, V, S: BuildHasher> Inner<K, V, S> {
         hash: u64,
         renewed: bool,
     )
-        requires hashed { (k : K) → T.passes sought.0.now k ≡ true → IsKeyHash S.build_hasher S.Hasher.finish S.Hasher.write self.old.kept.hasher (K.hash_input k) sought.1 }
-        requires known { (key : K) × (T.passes sought.0.now key ≡ true) × IsReadNumber K.eq self.old.kept.records self.old.outstanding self.old.writes self.old.next_number key number }
-        ensures { self.new ≡ record self.old { reads = if nat_lt (length self.old.reads) queue_length then self.old.reads ++ Hit number hash renewed ∷ [] else self.old.reads } }
+        requires hashed { (k : K) → T.passes sought.0.now k ≡ true
+            → IsKeyHash S.build_hasher S.Hasher.finish S.Hasher.write self.old.kept.hasher (K.hash_input k) sought.1 }
+        requires known { (key : K) × (T.passes sought.0.now key ≡ true)
+            × IsReadNumber K.eq self.old.kept.records self.old.outstanding self.old.writes
+            self.old.next_number key number }
+        ensures { self.new ≡ record self.old {
+          reads = if nat_lt (length self.old.reads) queue_length
+              then self.old.reads ++ Hit number hash renewed ∷ [] else self.old.reads;
+        } }
     {
         let (test, own) = sought;
         let read = ReadOperation::Hit {

@@ -63,7 +63,8 @@ pub(crate) fn has_key<K: Eq, V>(table: &RecordTable<K, V>, place: usize, key: &K
 pub(crate) fn member_at<K, V>(table: &RecordTable<K, V>, place: usize) -> (Handle, u32)
     requires { IsSome (row_at table.now.rows place) }
     ensures place { result.0.place ≡ place }
-    ensures member { (row : Row (Record K V)) → row_at table.now.rows place ≡ Some row → member result.0.number result.1 ≡ member_in row }
+    ensures member { (row : Row (Record K V)) → row_at table.now.rows place ≡ Some row
+        → member result.0.number result.1 ≡ member_in row }
 {
     let handle = handle_at(table, place);
     (handle, table.counted(place).unwrap_or(0))

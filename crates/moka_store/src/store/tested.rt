@@ -33,7 +33,8 @@ impl<K: Eq + Hash, V, S: BuildHasher> Store<K, V, S> {
     /// The hash of a form of a key by the store's hasher.
     #[inline(always)]
     pub fn hash_of<Q: Hash>(&self, form: &Q) -> u64
-        ensures { result ≡ S.Hasher.finish (fold S.Hasher.write (S.build_hasher self.now.hasher) (Q.hash_input form.now)) }
+        ensures { result
+            ≡ S.Hasher.finish (fold S.Hasher.write (S.build_hasher self.now.hasher) (Q.hash_input form.now)) }
     {
         self.hasher.hash_one(form)
     }
@@ -45,7 +46,8 @@ impl<K: Eq + Hash, V, S: BuildHasher> Store<K, V, S> {
         test: &T,
         hash: KeyHash,
     ) -> Option<(Handle, RecordRef<'_, K, V>)>
-        requires hashed { (k : K) → T.passes test.now k ≡ true → IsKeyHash S.build_hasher S.Hasher.finish S.Hasher.write self.now.hasher (K.hash_input k) hash }
+        requires hashed { (k : K) → T.passes test.now k ≡ true
+            → IsKeyHash S.build_hasher S.Hasher.finish S.Hasher.write self.now.hasher (K.hash_input k) hash }
         ensures handle { IfSome result (λ f. IsHandle self.now f.0) }
         ensures found { IfSome result (λ f. finite.get self.now.records f.0.number ≡ Some f.1) }
         ensures passes { IfSome result (λ f. T.passes test.now f.1.key ≡ true) }

@@ -89,9 +89,13 @@ impl<K, V> Rows<K, V> {
     pub(crate) fn insert(&mut self, number: u64, front: Front<K, V>) -> usize
         requires { 0 < self.old.room }
         ensures vacant { row_at self.old.rows result ≡ None }
-        ensures pushed { result ≡ length self.old.rows → (length self.new.rows ≡ length self.old.rows + 1) × (count_by is_some self.old.rows ≡ length self.old.rows) }
-        ensures filled { result ≢ length self.old.rows → (length self.new.rows ≡ length self.old.rows) × (result < length self.old.rows) }
-        ensures changes { ChangesAt (row_at self.old.rows) (row_at self.new.rows) result (Some (record { number = number; stored = Some front; membership = None; timer = None })) }
+        ensures pushed { result ≡ length self.old.rows → (length self.new.rows ≡ length self.old.rows + 1)
+            × (count_by is_some self.old.rows ≡ length self.old.rows) }
+        ensures filled { result ≢ length self.old.rows → (length self.new.rows ≡ length self.old.rows)
+            × (result < length self.old.rows) }
+        ensures changes { ChangesAt (row_at self.old.rows)
+            (row_at self.new.rows) result
+            (Some (record { number = number; stored = Some front; membership = None; timer = None })) }
         ensures len { count_by is_some self.new.rows ≡ count_by is_some self.old.rows + 1 }
         ensures room { self.old.room ≡ self.new.room + 1 }
     {
@@ -160,8 +164,10 @@ impl<K, V> Rows<K, V> {
         is_renewed: bool,
     )
         requires stored { IsSome (stored_at self.old.rows place) }
-        requires kept { is_renewed ≡ false → (f : Front K V) → stored_at self.old.rows place ≡ Some f → is_expiring ≡ f.expiring }
-        ensures rows { (f : Front K V) → stored_at self.old.rows place ≡ Some f → self.new.rows ≡ with_stored self.old.rows place (touched moment is_expiring f) }
+        requires kept { is_renewed ≡ false → (f : Front K V) → stored_at self.old.rows place ≡ Some f
+            → is_expiring ≡ f.expiring }
+        ensures rows { (f : Front K V) → stored_at self.old.rows place ≡ Some f
+            → self.new.rows ≡ with_stored self.old.rows place (touched moment is_expiring f) }
         ensures room { self.new.room ≡ self.old.room }
     {
         self.slots[place].touch(moment, is_expiring, is_renewed);
@@ -172,7 +178,8 @@ impl<K, V> Rows<K, V> {
     pub(crate) fn replace_value(&mut self, place: usize, update: Update<V>) -> V
         requires { IsSome (stored_at self.old.rows place) }
         ensures value { (f : Front K V) → stored_at self.old.rows place ≡ Some f → result ≡ f.hot.value }
-        ensures rows { (f : Front K V) → stored_at self.old.rows place ≡ Some f → self.new.rows ≡ with_stored self.old.rows place (rewritten update f) }
+        ensures rows { (f : Front K V) → stored_at self.old.rows place ≡ Some f
+            → self.new.rows ≡ with_stored self.old.rows place (rewritten update f) }
         ensures room { self.new.room ≡ self.old.room }
     {
         self.slots[place].replace_value(update)
@@ -202,7 +209,8 @@ impl<K, V> Rows<K, V> {
         requires row { IsSome (row_at self.old.rows place) }
         requires slots { IfSome membership HasSlots }
         ensures old { result ≡ membership_at self.old.rows place }
-        ensures changes { ChangesRow self.old.rows self.new.rows place (λ row. record row { membership = option_map (counted_as 0) membership }) }
+        ensures changes { ChangesRow self.old.rows self.new.rows place
+            (λ row. record row { membership = option_map (counted_as 0) membership }) }
         ensures length { length self.new.rows ≡ length self.old.rows }
         ensures len { count_by is_some self.new.rows ≡ count_by is_some self.old.rows }
         ensures room { self.new.room ≡ self.old.room }

@@ -127,7 +127,8 @@ impl<K, V> Slot<K, V> {
     #[inline(always)]
     pub(crate) fn live(&self) -> Option<(u64, FrontRef<'_, K, V>)>
         ensures number { IfSome result (λ f. option_map (λ row. row.number) (value_of self.now) ≡ Some f.0) }
-        ensures stored { option_map (λ f. front_of f.1) result ≡ option_and_then (λ row. row.stored) (value_of self.now) }
+        ensures stored { option_map (λ f. front_of f.1) result
+            ≡ option_and_then (λ row. row.stored) (value_of self.now) }
     {
         match &self.state {
             State::Live {
@@ -150,7 +151,8 @@ impl<K, V> Slot<K, V> {
     /// The key of the record, if it is in the map.
     #[inline(always)]
     pub(crate) fn key(&self) -> Option<&K>
-        ensures { option_copied result ≡ option_map (λ f. f.hot.key) (option_and_then (λ row. row.stored) (value_of self.now)) }
+        ensures { option_copied result ≡ option_map (λ f. f.hot.key)
+            (option_and_then (λ row. row.stored) (value_of self.now)) }
     {
         match &self.state {
             State::Live { hot, .. } => Some(&hot.key),
@@ -198,8 +200,10 @@ impl<K, V> Slot<K, V> {
     #[inline(always)]
     pub(crate) fn touch(&mut self, moment: Instant, is_expiring: bool, is_renewed: bool)
         requires stored { IsSome (option_and_then (λ row. row.stored) (value_of self.old)) }
-        requires kept { is_renewed ≡ false → (row : Row (Front K V)) (f : Front K V) → self.old ≡ Occupied row → row.stored ≡ Some f → is_expiring ≡ f.expiring }
-        ensures { (row : Row (Front K V)) (f : Front K V) → self.old ≡ Occupied row → row.stored ≡ Some f → self.new ≡ Occupied (record row { stored = Some (touched moment is_expiring f) }) }
+        requires kept { is_renewed ≡ false → (row : Row (Front K V)) (f : Front K V) → self.old ≡ Occupied row
+            → row.stored ≡ Some f → is_expiring ≡ f.expiring }
+        ensures { (row : Row (Front K V)) (f : Front K V) → self.old ≡ Occupied row → row.stored ≡ Some f
+            → self.new ≡ Occupied (record row { stored = Some (touched moment is_expiring f) }) }
     {
         let State::Live { hot, expiring, .. } = &mut self.state else {
             unreachable!()
@@ -214,8 +218,10 @@ impl<K, V> Slot<K, V> {
     #[inline(always)]
     pub(crate) fn replace_value(&mut self, update: Update<V>) -> V
         requires { IsSome (option_and_then (λ row. row.stored) (value_of self.old)) }
-        ensures value { (row : Row (Front K V)) (f : Front K V) → self.old ≡ Occupied row → row.stored ≡ Some f → result ≡ f.hot.value }
-        ensures new { (row : Row (Front K V)) (f : Front K V) → self.old ≡ Occupied row → row.stored ≡ Some f → self.new ≡ Occupied (record row { stored = Some (rewritten update f) }) }
+        ensures value { (row : Row (Front K V)) (f : Front K V) → self.old ≡ Occupied row → row.stored ≡ Some f
+            → result ≡ f.hot.value }
+        ensures new { (row : Row (Front K V)) (f : Front K V) → self.old ≡ Occupied row → row.stored ≡ Some f
+            → self.new ≡ Occupied (record row { stored = Some (rewritten update f) }) }
     {
         let State::Live { expiring, hot, .. } = &mut self.state else {
             unreachable!()
@@ -232,7 +238,8 @@ impl<K, V> Slot<K, V> {
         requires { IsSome (option_and_then (λ row. row.stored) (value_of self.old)) }
         ensures number { (row : Row (Front K V)) → self.old ≡ Occupied row → row.number ≡ result.0 }
         ensures taken { option_and_then (λ row. row.stored) (value_of self.old) ≡ Some result.1 }
-        ensures left { (row : Row (Front K V)) → self.old ≡ Occupied row → self.new ≡ Occupied (record row { stored = None }) }
+        ensures left { (row : Row (Front K V)) → self.old ≡ Occupied row
+            → self.new ≡ Occupied (record row { stored = None }) }
     {
         let State::Live {
             access,
@@ -270,7 +277,8 @@ impl<K, V> Slot<K, V> {
     pub(crate) fn set_membership(&mut self, membership: Option<Membership>)
         requires row { IsSome (value_of self.old) }
         requires slots { IfSome membership HasSlots }
-        ensures { (row : Row (Front K V)) → self.old ≡ Occupied row → self.new ≡ Occupied (record row { membership = option_map (counted_as 0) membership }) }
+        ensures { (row : Row (Front K V)) → self.old ≡ Occupied row
+            → self.new ≡ Occupied (record row { membership = option_map (counted_as 0) membership }) }
     {
         match &mut self.state {
             State::Live {
@@ -292,7 +300,8 @@ impl<K, V> Slot<K, V> {
     pub(crate) fn set_timer(&mut self, slot: Option<u32>)
         requires row { IsSome (value_of self.old) }
         requires slot { IsSlot slot }
-        ensures { (row : Row (Front K V)) → self.old ≡ Occupied row → self.new ≡ Occupied (record row { timer = slot }) }
+        ensures { (row : Row (Front K V)) → self.old ≡ Occupied row
+            → self.new ≡ Occupied (record row { timer = slot }) }
     {
         match &mut self.state {
             State::Live { timer, .. } => *timer = word_of(slot),
