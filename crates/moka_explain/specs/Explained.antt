@@ -38,9 +38,9 @@ pub record Tells (s t : ScriptState) (now : ℕ) (before after : List Look) : Ty
   pub before_call : AllByRecursion (IsLook s now) before
   pub after_call : AllByRecursion (IsLook t now) after
 
--- what became of all keys, seen at the moment, and of the queues
+-- what became of all keys, seen at the moment, and of the queues, under this capacity
 abbrev pub AreFates : Instant → ScriptState → ScriptState → Fates → Type 0
-AreFates now s t fates = (fates.now ≡ now) × Tells s t now.0 fates.before.items fates.after.items × (fates.queued_before ≡ queued_in s) × (fates.queued_after ≡ queued_in t)
+AreFates now s t fates = (fates.now ≡ now) × (fates.capacity ≡ s.capacity) × Tells s t now.0 fates.before.items fates.after.items × (fates.queued_before ≡ queued_in s) × (fates.queued_after ≡ queued_in t)
 
 -- what was known of the key before the call
 abbrev pub IsMet : ℕ → Instant → ScriptState → Look → Type 0

@@ -14,7 +14,7 @@ use anyhow::Result;
 use moka_drive::drive;
 use moka_parts::calls::Call;
 use moka_parts::error::OutOfMemory;
-use moka_parts::policy::Instant;
+use moka_parts::policy::{EvictionPolicy, Instant};
 use moka_play::play::{ScriptCache, listener_for, new_cache};
 use moka_script::print::sort_keys_of;
 use moka_script::script::{Script, ScriptCall, ScriptReply};
@@ -53,11 +53,12 @@ pub struct Queued {
     pub reads: usize,
 }
 
-/// The keys of all records before a call, seen at this moment, and the same keys after it, with the queues before and
-/// after.
+/// The keys of all records before a call, seen at this moment, and the same keys after it, with the capacity, and the
+/// queues before and after.
 #[derive(Drop)]
 pub struct Fates {
     pub now: Instant,
+    pub capacity: Option<u64>,
     pub before: Vec<Look>,
     pub after: Vec<Look>,
     pub queued_before: Queued,
@@ -93,6 +94,7 @@ pub fn explain_script<W: Write>(alloc: Global, script: Script, out: &mut W) -> R
         calls,
     } = script;
     let automatic = settings.automatic;
+    let policy = settings.policy.unwrap_or(EvictionPolicy::tiny_lfu());
     let listener = listener_for(alloc, settings.listener, &calls)?;
     let mut outside = Surroundings {
         alloc,
@@ -102,7 +104,7 @@ pub fn explain_script<W: Write>(alloc: Global, script: Script, out: &mut W) -> R
     let mut cache = new_cache(alloc, settings, rules, listener)?;
     for call in calls {
         let explained = explain_call(&mut outside, &mut cache, call, automatic)?;
-        write_explained(out, &explained)?;
+        write_explained(out, &explained, policy)?;
     }
     Ok(())
 }
@@ -187,6 +189,7 @@ fn make_and_compare(
     ensures fates { IfOk result (λ made. AreFates now cache.old.state cache.new.state made.1) }
 {
     let keys = keys_of(cache)?;
+    let capacity = cache.policy().max_capacity();
     let before = look_at_all(outside.alloc, cache, &keys, now)?;
     let queued_before = queues_of(cache);
     let reply = make(outside, cache, call)?;
@@ -194,6 +197,7 @@ fn make_and_compare(
     let queued_after = queues_of(cache);
     let fates = Fates {
         now,
+        capacity,
         before,
         after,
         queued_before,

@@ -17,6 +17,8 @@ pub struct Look {
     pub sight: Sight,
     /// Whether the key's last write was applied, if it has a record.
     pub applied: Option<bool>,
+    /// How much it weighs, if it has one.
+    pub weight: Option<u32>,
 }
 
 /// What is known of one key.
@@ -26,10 +28,12 @@ pub fn look_at(cache: &ScriptCache, key: u32, now: Instant) -> Look
 {
     let sight = cache.sight(&key, now);
     let applied = cache.is_applied(&key);
+    let weight = cache.weight(&key);
     Look {
         key,
         sight,
         applied,
+        weight,
     }
 }
 

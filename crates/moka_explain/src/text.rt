@@ -4,24 +4,32 @@ use crate::look::Look;
 use anyhow::Result;
 use moka_engine::base_cache::Sight;
 use moka_parts::calls::Reply;
-use moka_parts::policy::Instant;
+use moka_parts::policy::{EvictionPolicy, Instant};
 use moka_script::print::ReplyText;
 use moka_script::script::ScriptReply;
 use std::fmt;
 use std::io::Write;
 
-/// Prints a reply, and beneath it, indented, what explains it.
-pub fn write_explained<W: Write>(out: &mut W, explained: &Explained) -> Result<()> {
+/// Prints a reply, and beneath it, indented, what explains it, of a cache with this policy.
+pub fn write_explained<W: Write>(
+    out: &mut W,
+    explained: &Explained,
+    policy: EvictionPolicy,
+) -> Result<()> {
     let reply = &explained.reply;
     writeln!(out, "{}", ReplyText(reply))?;
     match &explained.answer {
         Answer::Met(look) => write_met(out, look)?,
-        Answer::Became(fates) => write_became(out, fates, applied_in(fates, 0), None)?,
+        Answer::Became(fates) => {
+            write_applied(out, fates.now, applied_in(fates, 0))?;
+            write_fates(out, fates, policy, None)?;
+        }
         Answer::MetAndBecame(look, fates) => {
             write_met(out, look)?;
             let applied = applied_in(fates, reads_queued_by(reply));
             if applied.is_any() || has_any_left(&fates.after) {
-                write_became(out, fates, applied, Some(look.key))?;
+                write_applied(out, fates.now, applied)?;
+                write_fates(out, fates, policy, Some(look.key))?;
             }
         }
         Answer::Nothing => {}
@@ -66,17 +74,6 @@ fn write_met<W: Write>(out: &mut W, look: &Look) -> Result<()> {
     Ok(())
 }
 
-/// Says what a call applied, and what became of each key, of which a look-up may have hit one.
-fn write_became<W: Write>(
-    out: &mut W,
-    fates: &Fates,
-    applied: Queued,
-    hit: Option<u32>,
-) -> Result<()> {
-    write_applied(out, fates.now, applied)?;
-    write_fates(out, fates, hit)
-}
-
 /// Says at which moment the call was made, and how many operations it applied, if any.
 fn write_applied<W: Write>(out: &mut W, now: Instant, applied: Queued) -> Result<()> {
     let now = now.0;
@@ -92,17 +89,35 @@ fn write_applied<W: Write>(out: &mut W, now: Instant, applied: Queued) -> Result
     Ok(())
 }
 
-/// Says what became of each key.
-fn write_fates<W: Write>(out: &mut W, fates: &Fates, hit: Option<u32>) -> Result<()> {
+/// Says what became of each key, of which a look-up may have hit one.
+fn write_fates<W: Write>(
+    out: &mut W,
+    fates: &Fates,
+    policy: EvictionPolicy,
+    hit: Option<u32>,
+) -> Result<()> {
+    let has_older = has_any_stayed(fates);
     for (before, after) in fates.before.iter().zip(fates.after.iter()) {
         let fate = FateText {
             before: *before,
             after: *after,
             is_hit: hit == Some(before.key),
+            leaving: Leaving {
+                capacity: fates.capacity,
+                policy,
+                has_older,
+            },
         };
         writeln!(out, "  {}: {fate}", before.key)?;
     }
     Ok(())
+}
+
+/// Whether a key stays whose last write had been applied before the call.
+fn has_any_stayed(fates: &Fates) -> bool {
+    fates.before.iter().zip(fates.after.iter()).any(|(before, after)| {
+        before.applied == Some(true) && !matches!(after.sight, Sight::Absent)
+    })
 }
 
 /// What a look-up meets, in words.
@@ -130,6 +145,38 @@ struct FateText {
     after: Look,
     /// Whether the call looked the key up first, which may have changed its expiry and its moment of reading.
     is_hit: bool,
+    leaving: Leaving,
+}
+
+/// What tells why an entry left to make room whose last write had not been applied before.
+#[derive(Clone, Copy)]
+struct Leaving {
+    capacity: Option<u64>,
+    policy: EvictionPolicy,
+    /// Whether an entry stays that a run would have evicted before any that it let in.
+    has_older: bool,
+}
+
+impl Leaving {
+    /// Why one of this weight left, in words.
+    fn reason(self, weight: Option<u32>) -> &'static str {
+        if is_above(weight, self.capacity) {
+            return "heavier than the capacity";
+        }
+        match self.policy {
+            EvictionPolicy::Lru => "let in, and evicted to make room",
+            EvictionPolicy::TinyLfu if self.has_older => "not admitted by TinyLFU",
+            EvictionPolicy::TinyLfu => "not admitted by TinyLFU, or let in and evicted",
+        }
+    }
+}
+
+/// Whether a weight is greater than a bound, if there is one.
+fn is_above(weight: Option<u32>, bound: Option<u64>) -> bool {
+    match (weight, bound) {
+        (Some(weight), Some(bound)) => u64::from(weight) > bound,
+        _ => false,
+    }
 }
 
 impl fmt::Display for FateText {
@@ -141,7 +188,7 @@ impl fmt::Display for FateText {
             }
             (Sight::Visible, Sight::Absent) => f.write_str(match self.before.applied {
                 Some(true) => "evicted, to make room",
-                _ => "not admitted, or evicted to make room",
+                _ => self.leaving.reason(self.before.weight),
             }),
             (_, Sight::Absent) => write!(f, "removed, {before}"),
             (Sight::Visible, Sight::Visible) => f.write_str(match self.after.applied {

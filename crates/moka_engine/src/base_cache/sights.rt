@@ -68,6 +68,16 @@ impl<
         let (_, found) = self.inner.find(key, own)?;
         Some(found.is_settled())
     }
+
+    /// How much a key's record weighs, whether a run of maintenance has counted it yet or not, and `None` if the key has
+    /// no record.
+    pub fn weight(&self, key: &K) -> Option<u32>
+        ensures { result ≡ option_map (λ r. r.weight) (record_of_key K.eq self.now.state.records key.now) }
+    {
+        let own = self.inner.key_hash(key);
+        let (_, found) = self.inner.find(key, own)?;
+        Some(found.weight())
+    }
 }
 
 // The first test by moments that hides a record, if one does.
