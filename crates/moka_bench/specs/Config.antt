@@ -10,7 +10,8 @@ word_at bytes index = option_map_or (from_le_bytes w64) (slice_get (first_chunks
 
 -- how many additions to the plain engine are asked for: an expiry, the synchronous cache, a listener, a weigher, texts
 abbrev pub additions : List ℕ → ℕ
-additions bytes = min (word_at bytes 4 + word_at bytes 10 + word_at bytes 11 + word_at bytes 12 + min (word_at bytes 8) 1) (2 ^ 64 - 1)
+additions bytes = min
+    (word_at bytes 4 + word_at bytes 10 + word_at bytes 11 + word_at bytes 12 + min (word_at bytes 8) 1) (2 ^ 64 - 1)
 
 -- 16 words for the configuration and 8 for the counts; one of both policies, one of both hashers, and at most one
 -- addition

@@ -16,7 +16,8 @@ abbrev pub is_stream : ℕ → List (List ℕ) → Bool
 is_stream zero words = nat_eq (length words) 0
 is_stream (suc most) words =
     cond (nat_lt (length words) 4) (nat_eq (length words) 0)
-    (nat_le (number_at words 1) (length words - 4) && (is_known (number_at words 0) && is_stream most (drop (number_at words 1) (drop 4 words))))
+    (nat_le (number_at words 1) (length words - 4)
+    && (is_known (number_at words 0) && is_stream most (drop (number_at words 1) (drop 4 words))))
 
 -- the bytes say a stream; what is left of the last word is not read
 abbrev pub is_well_formed : List ℕ → Bool

@@ -17,7 +17,8 @@ use Rattle.moka_explain.specs.Looks.{IsLook}
 
 -- what is worth asking about a call; where runs start by themselves, a get may make one
 abbrev pub question_of : Bool → CallText → Question
-question_of automatic (call.Get key hash need_key now) = if automatic then question.Both key now else question.Key key now
+question_of automatic (call.Get key hash need_key now) = if automatic
+    then question.Both key now else question.Key key now
 question_of automatic (call.GetUnrecorded key hash now) = question.Key key now
 question_of automatic (call.Contains key hash now) = question.Key key now
 question_of automatic (call.Scan key now) = question.Key key now
@@ -40,7 +41,9 @@ pub record Tells (s t : ScriptState) (now : ℕ) (before after : List Look) : Ty
 
 -- what became of all keys, seen at the moment, and of the queues, under this capacity
 abbrev pub AreFates : Instant → ScriptState → ScriptState → Fates → Type 0
-AreFates now s t fates = (fates.now ≡ now) × (fates.capacity ≡ s.capacity) × Tells s t now.0 fates.before.items fates.after.items × (fates.queued_before ≡ queued_in s) × (fates.queued_after ≡ queued_in t)
+AreFates now s t fates = (fates.now ≡ now) × (fates.capacity ≡ s.capacity)
+    × Tells s t now.0 fates.before.items fates.after.items × (fates.queued_before ≡ queued_in s)
+    × (fates.queued_after ≡ queued_in t)
 
 -- what was known of the key before the call
 abbrev pub IsMet : ℕ → Instant → ScriptState → Look → Type 0

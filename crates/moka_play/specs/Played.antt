@@ -39,7 +39,8 @@ script_meaning = record {
   says = λ range key _ answer. answer ≡ (nat_le range.low key && nat_le key range.high);
   weighs = λ _ _ value weight. weight ≡ weight_of value;
   observes = λ before moment after. (moment.0 ≡ next_reading before) × (after ≡ readings_left before);
-  gives = λ before id after. (after ≡ record before { given = next_given before }) × (id ≡ to_be_bytes w128 after.given);
+  gives = λ before id after. (after ≡ record before { given = next_given before })
+      × (id ≡ to_be_bytes w128 after.given);
   created = created_by;
   read = read_by;
   updated = updated_by;
@@ -51,7 +52,8 @@ chosen_policy settings = unwrap_or settings.policy TinyLfu
 
 -- when its entries expire, in nanoseconds
 abbrev pub expirations_of : Option ℕ → Option ℕ → List Rule → Expirations (List Rule)
-expirations_of time_to_live time_to_idle rules = record { time_to_live = time_to_live; time_to_idle = time_to_idle; expiry = expiry_of rules }
+expirations_of time_to_live time_to_idle rules =
+    record { time_to_live = time_to_live; time_to_idle = time_to_idle; expiry = expiry_of rules }
 
 -- the moment at which it is made
 abbrev pub start_of : Settings → ℕ
@@ -74,7 +76,10 @@ first_state chosen = record (new_state (record {
   run_limit = (chosen_terms chosen.settings.keeper).limit;
   run_repeats = (chosen_terms chosen.settings.keeper).repeats;
   run_batch = (chosen_terms chosen.settings.keeper).batch;
-}) chosen.settings.capacity (start_of chosen.settings) (unwrap_or chosen.settings.first 1)) { housekeeping = record (new_housekeeping (start_of chosen.settings)) { automatic = chosen.settings.automatic } }
+}) chosen.settings.capacity (start_of chosen.settings) (unwrap_or chosen.settings.first 1)) {
+  housekeeping =
+      record (new_housekeeping (start_of chosen.settings)) { automatic = chosen.settings.automatic };
+}
 
 -- count and weight of the last run
 abbrev pub total_of : ScriptState → Total
@@ -84,7 +89,8 @@ total_of state = record { count = state.count; weight = state.weight }
 -- tell the notices and leave that total
 abbrev pub AreReplies : ScriptText → List (Reply ℕ (List ℕ) KeyRange) → List ScriptNotice → Total → Type 0
 AreReplies script replies notices total =
-    (steps : List ScriptStep) × (map told_call (calls_of steps) ≡ script.2) × (replies_of steps ≡ replies) × (notices_of steps ≡ notices)
+    (steps : List ScriptStep) × (map told_call (calls_of steps) ≡ script.2) × (replies_of steps ≡ replies)
+    × (notices_of steps ≡ notices)
     × AreSteps script_meaning (PromisedRun script_meaning.says script_meaning.read) (first_state script.0) steps
     × ((left : List ℕ) × Leads script_meaning.observes script.1 (readings_of steps) left)
     × ((left : CountedIds) × Leads script_meaning.gives (first_ids script.0.settings.repeats_ids) (ids_of steps) left)

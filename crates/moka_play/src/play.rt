@@ -47,7 +47,8 @@ pub struct Played {
 /// # Errors
 /// `OutOfMemory` if memory for the cache, for its listener or for the replies is refused.
 pub fn play(alloc: Global, script: Script) -> Result<Played, OutOfMemory>
-    ensures { IfOk result (λ played. AreReplies (text_of script) played.replies.items (told_of played.cache.listener) (total_of played.cache.state)) }
+    ensures { IfOk result (λ played. AreReplies (text_of script) played.replies.items (told_of played.cache.listener)
+        (total_of played.cache.state)) }
 {
     let Script {
         settings,
@@ -99,7 +100,8 @@ pub fn new_cache(
     listener: Option<Notices>,
 ) -> Result<ScriptCache, OutOfMemory>
     requires listens { is_some listener ≡ settings.listener }
-    ensures state { IfOk result (λ cache. cache.state ≡ first_state (record { settings = settings; rules = rules.items })) }
+    ensures state { IfOk result
+        (λ cache. cache.state ≡ first_state (record { settings = settings; rules = rules.items })) }
     ensures listener { IfOk result (λ cache. cache.listener ≡ listener) }
 {
     let first = match settings.first {

@@ -46,7 +46,9 @@ IsScriptRead read (Err failure) = Stops read failure
 
 -- these are the replies to the script's calls, keys in rising order, and the cache that they left
 abbrev pub IsPlayedScript : ScriptText → Played → Type 0
-IsPlayedScript script played = (replies : List (Reply ℕ (List ℕ) KeyRange)) × AreReplies script replies (told_of played.cache.listener) (total_of played.cache.state) × AreInOrder replies played.replies.items
+IsPlayedScript script played = (replies : List (Reply ℕ (List ℕ) KeyRange))
+    × AreReplies script replies (told_of played.cache.listener) (total_of played.cache.state)
+    × AreInOrder replies played.replies.items
 
 -- what is printed of it
 abbrev pub played_text : Played → List ℕ
@@ -63,14 +65,20 @@ status_of_replies replies = if list_any is_refused_memory replies then 3 else 0
 
 -- the input's script was played and all of it printed, nothing said; or the replay stopped with reason, said it and
 -- printed nothing
-abbrev pub Ends : {W E : Type 0} → (W → List ℕ → Bool → W → Type 0) → (E → List ℕ → Bool → E → Type 0) → Reading → ℕ → W → E → W → E → Type 0
+abbrev pub Ends : {W E : Type 0} → (W → List ℕ → Bool → W → Type 0) → (E → List ℕ → Bool → E → Type 0) → Reading → ℕ →
+    W → E → W → E → Type 0
 Ends prints says read status out err out_after err_after =
-    ((played : Played) × IsPlayed read (Ok played) × IsWritten prints (played_text played) (status_of_replies played.replies.items) status out out_after × (err_after ≡ err))
-    ⊎ ((failure : Failure) × Stops read failure × IsWritten says (failure_text failure) (status_of failure) status err err_after × (out_after ≡ out))
+    ((played : Played) × IsPlayed read (Ok played)
+    × IsWritten prints (played_text played) (status_of_replies played.replies.items) status out out_after
+    × (err_after ≡ err))
+    ⊎ ((failure : Failure) × Stops read failure
+    × IsWritten says (failure_text failure) (status_of failure) status err err_after × (out_after ≡ out))
 
 -- the replay ends as the input's answer has it
-abbrev pub IsReplayed : {R W E : Type 0} → (R → Reading → R → Type 0) → (W → List ℕ → Bool → W → Type 0) → (E → List ℕ → Bool → E → Type 0) → ℕ → R → W → E → R → W → E → Type 0
-IsReplayed gives prints says status input out err input_after out_after err_after = (read : Reading) × gives input read input_after × Ends prints says read status out err out_after err_after
+abbrev pub IsReplayed : {R W E : Type 0} → (R → Reading → R → Type 0) → (W → List ℕ → Bool → W → Type 0) →
+    (E → List ℕ → Bool → E → Type 0) → ℕ → R → W → E → R → W → E → Type 0
+IsReplayed gives prints says status input out err input_after out_after err_after = (read : Reading)
+    × gives input read input_after × Ends prints says read status out err out_after err_after
 
 -- an input that could not be opened answers why
 abbrev pub Answers : {R : Type 0} → (R → Reading → R → Type 0) → Result R Error → Reading → Type 0
@@ -79,7 +87,10 @@ Answers {R} gives (Err error) read = read ≡ Err error
 
 -- the replay ends over an empty buffer in front of the output, or memory for that buffer was refused and one line says
 -- so
-abbrev pub IsReplayedBuffered : {R W E : Type 0} → (R → Reading → R → Type 0) → (BufWriter W Global → List ℕ → Bool → BufWriter W Global → Type 0) → (E → List ℕ → Bool → E → Type 0) → ℕ → Result R Error → W → E → E → Type 0
+abbrev pub IsReplayedBuffered : {R W E : Type 0} → (R → Reading → R → Type 0) →
+    (BufWriter W Global → List ℕ → Bool → BufWriter W Global → Type 0) → (E → List ℕ → Bool → E → Type 0) → ℕ →
+    Result R Error → W → E → E → Type 0
 IsReplayedBuffered {R} {W} gives prints says status input out err err_after =
-    ((read : Reading) × Answers gives input read × (buffer after : BufWriter W Global) × (writer_inner buffer ≡ out) × (writer_buffer buffer ≡ []) × Ends prints says read status buffer err after err_after)
+    ((read : Reading) × Answers gives input read × (buffer after : BufWriter W Global) × (writer_inner buffer ≡ out)
+    × (writer_buffer buffer ≡ []) × Ends prints says read status buffer err after err_after)
     ⊎ IsWritten says (failure_text OutOfMemory) (status_of OutOfMemory) status err err_after

@@ -39,7 +39,8 @@ pub fn replay_opened<R: Source + Drop, W: Sink, E: Sink>(
     out: &mut W,
     err: &mut E,
 ) -> u8
-    ensures { (read : Reading) × Answers R.gives input read × Ends W.takes E.takes read result out.old err.old out.new err.new }
+    ensures { (read : Reading) × Answers R.gives input read
+        × Ends W.takes E.takes read result out.old err.old out.new err.new }
 {
     match input {
         Ok(mut input) => replay(alloc, &mut input, out, err),
@@ -59,7 +60,8 @@ fn play_script<R: Source>(alloc: Global, input: &mut R) -> Result<Played, Failur
 
 /// Prints what came of the calls, and answers the status.
 fn print<W: Sink>(out: &mut W, played: &Played) -> u8
-    ensures { IsWritten W.takes (played_text played.now) (status_of_replies played.now.replies.items) result out.old out.new }
+    ensures { IsWritten W.takes (played_text played.now)
+        (status_of_replies played.now.replies.items) result out.old out.new }
 {
     let cache = &played.cache;
     let text = ReplayText {

@@ -5,7 +5,8 @@ use Rattle.moka_sketch.specs.Frequency.{Table}
 -- the table that counters show, of which there are none while there is no table
 abbrev pub plain_table_of : List ℕ → ℕ → Option Table
 plain_table_of [] size = None
-plain_table_of (counter ∷ counters) size = Some (record { table_length = length (counter ∷ counters) / 16; counters = counter ∷ counters; size = size })
+plain_table_of (counter ∷ counters) size =
+    Some (record { table_length = length (counter ∷ counters) / 16; counters = counter ∷ counters; size = size })
 
 -- what is true of the counters and the size
 pub record IsPlainSound (counters : List ℕ) (size : ℕ) : Type 0 where

@@ -24,14 +24,18 @@ trait Ordered {
         ensures fresh { lookup (nat_eq result) (seen self.old).members ≡ None }
         ensures members { (seen self.new).members ≡ (seen self.old).members ++ (result, number) ∷ [] }
         ensures len { length (seen self.new).members ≡ length (seen self.old).members + 1 }
-        ensures lookups { (s : ℕ) → lookup (nat_eq s) (seen self.new).members ≡ (if nat_eq s result then Some number else lookup (nat_eq s) (seen self.old).members) }
+        ensures lookups { (s : ℕ) → lookup (nat_eq s)
+            (seen self.new).members
+            ≡ (if nat_eq s result then Some number else lookup (nat_eq s) (seen self.old).members) }
         ensures room { (seen self.new).room + 1 ≡ (seen self.old).room };
 
     fn move_to_back(&mut self, slot: u32)
         requires { IsSome (lookup (nat_eq slot) (seen self.old).members) }
-        ensures members { (number : ℕ) → lookup (nat_eq slot) (seen self.old).members ≡ Some number → (seen self.new).members ≡ moved_to_back slot number (seen self.old).members }
+        ensures members { (number : ℕ) → lookup (nat_eq slot) (seen self.old).members ≡ Some number
+            → (seen self.new).members ≡ moved_to_back slot number (seen self.old).members }
         ensures len { length (seen self.new).members ≡ length (seen self.old).members }
-        ensures lookups { (s : ℕ) → lookup (nat_eq s) (seen self.new).members ≡ lookup (nat_eq s) (seen self.old).members }
+        ensures lookups { (s : ℕ)
+            → lookup (nat_eq s) (seen self.new).members ≡ lookup (nat_eq s) (seen self.old).members }
         ensures room { (seen self.new).room ≡ (seen self.old).room };
 
     fn unlink(&mut self, slot: u32) -> u64
@@ -39,7 +43,8 @@ trait Ordered {
         ensures number { lookup (nat_eq slot) (seen self.old).members ≡ Some result }
         ensures members { (seen self.new).members ≡ remove_entry (nat_eq slot) (seen self.old).members }
         ensures len { length (seen self.new).members + 1 ≡ length (seen self.old).members }
-        ensures lookups { (s : ℕ) → lookup (nat_eq s) (seen self.new).members ≡ (if nat_eq slot s then None else lookup (nat_eq s) (seen self.old).members) }
+        ensures lookups { (s : ℕ) → lookup (nat_eq s)
+            (seen self.new).members ≡ (if nat_eq slot s then None else lookup (nat_eq s) (seen self.old).members) }
         ensures room { (seen self.old).room ≤ (seen self.new).room };
 
     fn front(&self) -> Option<(u32, u64)>
@@ -111,9 +116,13 @@ impl Model for VectorOrder {
 
     ghost Value = { Order ℕ };
 
-    ghost view = { λ a. record { members = a.members.items; room = min (vec_capacity a.members - length a.members.items) (2 ^ 32 - 1 - a.given) } };
+    ghost view = { λ a. record {
+      members = a.members.items;
+      room = min (vec_capacity a.members - length a.members.items) (2 ^ 32 - 1 - a.given);
+    } };
 
-    ghost invariant = { λ a. IsDistinct nat_eq (keys_of a.members.items) × All (λ s. s < a.given) (keys_of a.members.items) };
+    ghost invariant = { λ a. IsDistinct nat_eq (keys_of a.members.items)
+        × All (λ s. s < a.given) (keys_of a.members.items) };
 }
 
 // The place of the member in a slot.
