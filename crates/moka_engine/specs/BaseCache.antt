@@ -32,7 +32,8 @@ settings_of policy expirations weigher invalidator keeper = record {
 }
 
 -- the state of the reference cache
-abbrev pub state_of : {K V X P W S : Type 0} → Interior K V S → Option Instant → List (Registered P) → (count weight : ℕ) → Keeper → Option ℕ → Settings X W → State K V X P W
+abbrev pub state_of : {K V X P W S : Type 0} → Interior K V S → Option Instant → List (Registered P) →
+    (count weight : ℕ) → Keeper → Option ℕ → Settings X W → State K V X P W
 state_of i invalid_before predicates count weight keeper capacity settings = record {
   records = i.kept.records;
   outstanding = i.outstanding;
@@ -52,7 +53,8 @@ state_of i invalid_before predicates count weight keeper capacity settings = rec
 }
 
 -- a cache without records
-abbrev pub empty_engine : {K V S X L P W : Type 0} → Option (List ℕ) → S → Settings X W → Option ℕ → (now first_ticket : ℕ) → Option L
+abbrev pub empty_engine : {K V S X L P W : Type 0} → Option (List ℕ) → S → Settings X W → Option ℕ →
+    (now first_ticket : ℕ) → Option L
     → (room : ℕ) → Engine K V S X L P W
 empty_engine name hasher settings capacity now first_ticket listener room = record {
   name = name;
@@ -66,7 +68,8 @@ empty_engine name hasher settings capacity now first_ticket listener room = reco
 
 -- which of the settings let records expire
 abbrev pub expirations_of : {X W : Type 0} → Settings X W → Expirations X
-expirations_of settings = record { time_to_live = settings.time_to_live; time_to_idle = settings.time_to_idle; expiry = settings.expiry }
+expirations_of settings =
+    record { time_to_live = settings.time_to_live; time_to_idle = settings.time_to_idle; expiry = settings.expiry }
 
 -- settings of which only these are set
 abbrev pub expiring_by : {X : Type 0} → Expirations X → Settings X (Unit {0})
@@ -94,11 +97,13 @@ pub record IsServed {K V X P W : Type 0} (s : State K V X P W) : Type 0 where
 
 -- a hit never changes an expiry, also where none is set
 abbrev pub NeverRenews : {K V X : Type 0} → (X → K → V → ℕ → Option ℕ → ℕ → Option ℕ) → Option X → Type 0
-NeverRenews {K} {V} {X} read expiry = (x : X) (k : K) (v : V) (now : ℕ) (told : Option ℕ) (written : ℕ) → expiry ≡ Some x → read x k v now told written ≡ told
+NeverRenews {K} {V} {X} read expiry = (x : X) (k : K) (v : V) (now : ℕ) (told : Option ℕ) (written : ℕ)
+    → expiry ≡ Some x → read x k v now told written ≡ told
 
 -- the store keeps the order of writing and timers where the settings ask for them; where no hit renews an expiry, the
 -- timer of each settled member stands at its record's
-pub record IsStocked {K V X W S : Type 0} (read : X → K → V → ℕ → Option ℕ → ℕ → Option ℕ) (settings : Settings X W) (kept : Kept K V S) : Type 0 where
+pub record IsStocked {K V X W S : Type 0} (read : X → K → V → ℕ → Option ℕ → ℕ → Option ℕ) (settings : Settings X W)
+    (kept : Kept K V S) : Type 0 where
   pub ordered : kept.ordered ≡ keeps_write_list settings
   pub timed : kept.timed ≡ is_some settings.expiry
   pub timers : NeverRenews read settings.expiry → kept.timed ≡ true → AreTimed kept
@@ -110,6 +115,7 @@ pub record IsCache {K V X L P W : Type 0} (eq : K → K → Bool) (listener : Op
   pub listens : s.settings.listening ≡ is_some listener
 
 -- both
-pub record IsWhole {K V X L P W S : Type 0} (eq : K → K → Bool) (read : X → K → V → ℕ → Option ℕ → ℕ → Option ℕ) (listener : Option L) (kept : Kept K V S) (s : State K V X P W) : Type 0 where
+pub record IsWhole {K V X L P W S : Type 0} (eq : K → K → Bool) (read : X → K → V → ℕ → Option ℕ → ℕ → Option ℕ)
+    (listener : Option L) (kept : Kept K V S) (s : State K V X P W) : Type 0 where
   pub cache : IsCache eq listener s
   pub store : IsStocked read s.settings kept

@@ -17,7 +17,8 @@ use Rattle.moka_engine.specs.BaseCache.{expiring_by}
 abbrev pub value_of : {K V : Type 0} → Option (Record K V) → Option V
 value_of found = option_map (λ r. r.value) found
 
-module _ {K V X P S : Type 0} (eq : K → K → Bool) (kept : Kept K V S) (expirations : Expirations X) (bound : Option Instant) (says : P → K → V → Bool → Type 0) (predicates : List (Registered P)) (key : K) where
+module _ {K V X P S : Type 0} (eq : K → K → Bool) (kept : Kept K V S) (expirations : Expirations X)
+    (bound : Option Instant) (says : P → K → V → Bool → Type 0) (predicates : List (Registered P)) (key : K) where
   -- this record, at this handle, is the key's; no test of the caller's ignored it, no moment hides it, and no predicate
   -- covers it
   pub record IsFound (ignored : Bool) (now : ℕ) (handle : Handle) (r : Record K V) : Type 0 where
@@ -30,7 +31,8 @@ module _ {K V X P S : Type 0} (eq : K → K → Bool) (kept : Kept K V S) (expir
 
   -- where nothing is found, the key's record, if it has one, was ignored or is hidden
   abbrev pub Finds : Bool → ℕ → Option (Handle × Record K V) → Type 0
-  Finds ignored now None = (r : Record K V) → record_of_key eq kept.records key ≡ Some r → (ignored ≡ true) ⊎ ((has_lapsed (expiring_by expirations) bound r now ≡ true) ⊎ SomeCovers says predicates r)
+  Finds ignored now None = (r : Record K V) → record_of_key eq kept.records key ≡ Some r → (ignored ≡ true)
+      ⊎ ((has_lapsed (expiring_by expirations) bound r now ≡ true) ⊎ SomeCovers says predicates r)
   Finds ignored now (Some found) = IsFound ignored now found.0 found.1
 
 -- the entry that a get answers: the record's value, and its key where that is asked for
@@ -38,7 +40,8 @@ abbrev pub entry_at : {K V : Type 0} → Bool → Record K V → Entry K V
 entry_at need_key r = record { key = if need_key then Some r.key else None; value = r.value }
 
 -- a hit reads the record at this moment and leaves it this expiry, which is a renewal or not
-pub record Touches {K V X : Type 0} (read : X → K → V → ℕ → Option ℕ → ℕ → Option ℕ) (x : Expirations X) (r : Record K V) (now at : ℕ) (expires : Option Instant) (is_renewed : Bool) : Type 0 where
+pub record Touches {K V X : Type 0} (read : X → K → V → ℕ → Option ℕ → ℕ → Option ℕ) (x : Expirations X)
+    (r : Record K V) (now at : ℕ) (expires : Option Instant) (is_renewed : Bool) : Type 0 where
   pub moment : at ≡ moment_of_hit x.expiry r now
   pub expiry : expires ≡ renewed (expiring_by x) r at (answer_to_hit read (expiring_by x) x.expiry r at)
   pub renewal : is_renewed ≡ is_renewal (expiring_by x) r at (answer_to_hit read (expiring_by x) x.expiry r at)

@@ -11,7 +11,8 @@ use Rattle.moka_store.specs.declared.store.Handle.{Handle}
 use Rattle.moka_store.specs.Store.{Kept, IsHandle}
 use Rattle.moka_engine.specs.BaseCache.{expiring_by}
 
-module _ {K V X P S : Type 0} (kept : Kept K V S) (expirations : Expirations X) (bound : Option Instant) (says : P → K → V → Bool → Type 0) (predicates : List (Registered P)) (passes : K → Bool) where
+module _ {K V X P S : Type 0} (kept : Kept K V S) (expirations : Expirations X) (bound : Option Instant)
+    (says : P → K → V → Bool → Type 0) (predicates : List (Registered P)) (passes : K → Bool) where
   -- the key of this record, at this handle, passes; no moment hides it, and no predicate covers it
   pub record IsFoundBy (now : ℕ) (handle : Handle) (r : Record K V) : Type 0 where
     pub placed : IsHandle kept handle
@@ -23,5 +24,6 @@ module _ {K V X P S : Type 0} (kept : Kept K V S) (expirations : Expirations X) 
 
   -- where nothing is found, the record whose key passes, if there is one, is hidden
   abbrev pub FindsBy : ℕ → Option (Handle × Record K V) → Type 0
-  FindsBy now None = (r : Record K V) → record_by passes kept.records ≡ Some r → (has_lapsed (expiring_by expirations) bound r now ≡ true) ⊎ SomeCovers says predicates r
+  FindsBy now None = (r : Record K V) → record_by passes kept.records ≡ Some r
+      → (has_lapsed (expiring_by expirations) bound r now ≡ true) ⊎ SomeCovers says predicates r
   FindsBy now (Some found) = IsFoundBy now found.0 found.1

@@ -9,18 +9,37 @@ use Rattle.moka_parts.specs.Maintenance.{Terms, Course}
 use Rattle.moka_parts.specs.Records.{Notice}
 use Rattle.moka_parts.specs.State.{State, Events, Meaning}
 
-module _ {K V X L P W : Type 0} (eq : K → K → Bool) (tells : L → K → V → RemovalCause → L → Type 0) (says : P → K → V → Bool → Type 0) (weighs : W → K → V → ℕ → Type 0)
-    (created : X → K → V → ℕ → Option ℕ) (read : X → K → V → ℕ → Option ℕ → ℕ → Option ℕ) (updated : X → K → V → ℕ → Option ℕ → Option ℕ) where
+module _ {K V X L P W : Type 0} (eq : K → K → Bool) (tells : L → K → V → RemovalCause → L → Type 0)
+    (says : P → K → V → Bool → Type 0) (weighs : W → K → V → ℕ → Type 0)
+    (created : X → K → V → ℕ → Option ℕ) (read : X → K → V → ℕ → Option ℕ → ℕ → Option ℕ)
+    (updated : X → K → V → ℕ → Option ℕ → Option ℕ) where
   -- what the parts of a cache mean; clock and source of identifiers are not the cache's
   abbrev pub meaning : Meaning K V X L P W (Unit {0}) (Unit {0})
-  meaning = record { eq = eq; tells = tells; says = says; weighs = weighs; observes = λ _ _ _. ⊥; gives = λ _ _ _. ⊥; created = created; read = read; updated = updated }
+  meaning = record {
+    eq = eq;
+    tells = tells;
+    says = says;
+    weighs = weighs;
+    observes = λ _ _ _. ⊥;
+    gives = λ _ _ _. ⊥;
+    created = created;
+    read = read;
+    updated = updated;
+  }
 
-module _ {K V S X L P W : Type 0} (says : P → K → V → Bool → Type 0) (read : X → K → V → ℕ → Option ℕ → ℕ → Option ℕ) (tells : L → K → V → RemovalCause → L → Type 0) where
+module _ {K V S X L P W : Type 0} (says : P → K → V → Bool → Type 0) (read : X → K → V → ℕ → Option ℕ → ℕ → Option ℕ)
+    (tells : L → K → V → RemovalCause → L → Type 0) where
   -- the step leads from the first cache to the second, with events of which this holds
-  abbrev pub Takes : ((State K V X P W → Terms → Course → List (Notice K V) → State K V X P W → Type 0) → State K V X P W → Events K V → State K V X P W → Type 0) → Engine K V S X L P W → Engine K V S X L P W → (Events K V → Type 0) → Type 0
-  Takes Step old new Sees = (e : Events K V) × Step (ListedRun says read old.write_list new.write_list) old.state e new.state × Befalls tells e old new × Sees e
+  abbrev pub Takes : ((State K V X P W → Terms → Course → List (Notice K V) → State K V X P W → Type 0) →
+      State K V X P W → Events K V → State K V X P W → Type 0) → Engine K V S X L P W → Engine K V S X L P W →
+      (Events K V → Type 0) → Type 0
+  Takes Step old new Sees = (e : Events K V)
+      × Step (ListedRun says read old.write_list new.write_list) old.state e new.state × Befalls tells e old new
+      × Sees e
 
 module _ {K V S X L P W C I : Type 0} (m : Meaning K V X L P W C I) where
   -- the call gives the reply and leads from the first cache to the second, with events of which this holds
-  abbrev pub Makes : Call K V P → Reply K V P → Engine K V S X L P W → Engine K V S X L P W → (Events K V → Type 0) → Type 0
-  Makes call reply old new Sees = Takes m.says m.read m.tells (λ Runs s e t. CallStep m Runs s call reply e t) old new Sees
+  abbrev pub Makes : Call K V P → Reply K V P → Engine K V S X L P W → Engine K V S X L P W → (Events K V → Type 0) →
+      Type 0
+  Makes call reply old new Sees =
+      Takes m.says m.read m.tells (λ Runs s e t. CallStep m Runs s call reply e t) old new Sees

@@ -47,7 +47,10 @@ module _ {K V X P W : Type 0} where
 
   -- the state with it, and its operation to be sent
   abbrev pub restored : State K V X P W → Restored K V → ℕ → ℕ → State K V X P W
-  restored s item hash w = handing_out (record s { records = with_record s.records (restored_record s item hash w); next_number = s.next_number + 1 }) (Upsert s.next_number 1 w hash)
+  restored s item hash w = handing_out (record s {
+    records = with_record s.records (restored_record s item hash w);
+    next_number = s.next_number + 1;
+  }) (Upsert s.next_number 1 w hash)
 
   module _ (weighs : W → K → V → ℕ → Type 0) (eq : K → K → Bool) (s : State K V X P W) (item : Restored K V) where
     -- why an entry is not put back
@@ -59,5 +62,7 @@ module _ {K V X P W : Type 0} where
 
     -- the entry is put back under the hash of its key, or comes back
     abbrev pub RestoreStep : ℕ → Result Ticket (RestoreRefused K V) → State K V X P W → Type 0
-    RestoreStep hash (Ok ticket) t = (w : ℕ) × Weighs weighs s.settings.weigher item.key item.value w × (record_of_key eq s.records item.key ≡ None) × (is_unsupported s item ≡ false) × (are_numbers_used_up s 1 ≡ false) × (ticket.0 ≡ s.next_ticket) × (t ≡ restored s item hash w)
+    RestoreStep hash (Ok ticket) t = (w : ℕ) × Weighs weighs s.settings.weigher item.key item.value w
+        × (record_of_key eq s.records item.key ≡ None) × (is_unsupported s item ≡ false)
+        × (are_numbers_used_up s 1 ≡ false) × (ticket.0 ≡ s.next_ticket) × (t ≡ restored s item hash w)
     RestoreStep hash (Err refused) t = (refused.item ≡ item) × HasRestoreError refused.error × (t ≡ s)

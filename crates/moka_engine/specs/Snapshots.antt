@@ -43,11 +43,26 @@ pub record Seen (K V : Type 0) : Type 0 where
 
 -- the scene of a cache at the moment
 abbrev pub scene_of : {K V X P W : Type 0} → State K V X P W → ℕ → Scene K V X P
-scene_of s now = record { records = s.records; members = s.access; expirations = expirations_of s.settings; bound = s.invalid_before; predicates = s.predicates; now = now }
+scene_of s now = record {
+  records = s.records;
+  members = s.access;
+  expirations = expirations_of s.settings;
+  bound = s.invalid_before;
+  predicates = s.predicates;
+  now = now;
+}
 
 -- the same of what a store keeps, from the member at a handle on
-abbrev pub scene_at : {K V S X P : Type 0} → Kept K V S → Expirations X → Option Instant → List (Registered P) → ℕ → Option Handle → Scene K V X P
-scene_at kept expirations bound predicates now at = record { records = kept.records; members = members_from (option_map (λ h. h.number) at) kept.access; expirations = expirations; bound = bound; predicates = predicates; now = now }
+abbrev pub scene_at : {K V S X P : Type 0} → Kept K V S → Expirations X → Option Instant → List (Registered P) → ℕ →
+    Option Handle → Scene K V X P
+scene_at kept expirations bound predicates now at = record {
+  records = kept.records;
+  members = members_from (option_map (λ h. h.number) at) kept.access;
+  expirations = expirations;
+  bound = bound;
+  predicates = predicates;
+  now = now;
+}
 
 -- the handle leads to a member
 abbrev pub StandsIn : {K V S : Type 0} → Kept K V S → Handle → Type 0
@@ -74,11 +89,19 @@ module _ {K V X P : Type 0} (says : P → K → V → Bool → Type 0) (c : Scen
   -- the first of the members whose record is visible, and the scene behind it
   abbrev pub FindsNext : Option (Record K V) → Scene K V X P → Type 0
   FindsNext None d = ArePassed c.members × (d ≡ record c { members = [] })
-  FindsNext (Some r) d = (hidden : List Member) × (a : Member) × (c.members ≡ hidden ++ a ∷ d.members) × (d ≡ record c { members = d.members }) × ArePassed hidden × (get c.records a.number ≡ Some r) × IsShownIn r
+  FindsNext (Some r) d = (hidden : List Member) × (a : Member) × (c.members ≡ hidden ++ a ∷ d.members)
+      × (d ≡ record c { members = d.members }) × ArePassed hidden × (get c.records a.number ≡ Some r) × IsShownIn r
 
   -- the entry of a record, as it is listed
   abbrev pub seen : Record K V → Seen K V
-  seen r = record { key = r.key; value = r.value; written = r.written; read = r.read; expires = r.expires; left = remaining (expiring_by c.expirations) r c.now }
+  seen r = record {
+    key = r.key;
+    value = r.value;
+    written = r.written;
+    read = r.read;
+    expires = r.expires;
+    left = remaining (expiring_by c.expirations) r c.now;
+  }
 
   -- the member's record is visible, and listed so
   pub record IsListed (a : Member) (item : Seen K V) : Type 0 where
@@ -90,9 +113,11 @@ module _ {K V X P : Type 0} (says : P → K → V → Bool → Type 0) (c : Scen
   -- the next entry that is listed: that of the first member whose record is visible
   abbrev pub ListsNext : Option (Seen K V) → Scene K V X P → Type 0
   ListsNext None d = ArePassed c.members × (d ≡ record c { members = [] })
-  ListsNext (Some item) d = (hidden : List Member) × (a : Member) × (c.members ≡ hidden ++ a ∷ d.members) × (d ≡ record c { members = d.members }) × ArePassed hidden × IsListed a item
+  ListsNext (Some item) d = (hidden : List Member) × (a : Member) × (c.members ≡ hidden ++ a ∷ d.members)
+      × (d ≡ record c { members = d.members }) × ArePassed hidden × IsListed a item
 
   -- all entries that are listed of these members: those of the visible records, in order
   abbrev pub ListsAll : List Member → List (Seen K V) → Type 0
   ListsAll [] items = items ≡ []
-  ListsAll (a ∷ members) items = (IsPassed a × ListsAll members items) ⊎ ((item : Seen K V) × (rest : List (Seen K V)) × (items ≡ item ∷ rest) × IsListed a item × ListsAll members rest)
+  ListsAll (a ∷ members) items = (IsPassed a × ListsAll members items)
+      ⊎ ((item : Seen K V) × (rest : List (Seen K V)) × (items ≡ item ∷ rest) × IsListed a item × ListsAll members rest)

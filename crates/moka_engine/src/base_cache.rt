@@ -287,7 +287,8 @@ impl<
     pub fn invariant_holds(&self)
         ensures valid { IsValid K.eq self.now.state }
         ensures listening { self.now.state.settings.listening ≡ is_some self.now.listener }
-        ensures listed { keeps_write_list self.now.state.settings ≡ true → IsWriteList self.now.state self.now.write_list }
+        ensures listed { keeps_write_list self.now.state.settings ≡ true
+            → IsWriteList self.now.state self.now.write_list }
         ensures served { IsServed self.now.state }
     {
         self.inner.invariant_holds();
@@ -315,7 +316,8 @@ impl<
     /// The hash of a key by the cache's own hasher.
     #[inline(always)]
     pub fn hash(&self, key: &K) -> u64
-        ensures { result ≡ S.Hasher.finish (fold S.Hasher.write (S.build_hasher self.now.hasher) (K.hash_input key.now)) }
+        ensures { result
+            ≡ S.Hasher.finish (fold S.Hasher.write (S.build_hasher self.now.hasher) (K.hash_input key.now)) }
     {
         self.inner.hash(key)
     }
@@ -423,7 +425,8 @@ impl<
         K: Drop,
         V: Drop,
         requires enabled { is_disabled self.old.state.capacity ≡ false }
-        requires own { hash ≡ S.Hasher.finish (fold S.Hasher.write (S.build_hasher self.old.hasher) (K.hash_input key)) }
+        requires own { hash
+            ≡ S.Hasher.finish (fold S.Hasher.write (S.build_hasher self.old.hasher) (K.hash_input key)) }
         ensures { Makes (meaning K.eq L.tells P.says W.weighs X.created X.read X.updated)
             (call.Insert key hash value now) (reply.Insert result) self.old self.new (λ e. e ≡ only_notices e.notices) }
     {
@@ -444,8 +447,10 @@ impl<
         K: Drop,
         V: Drop,
         requires enabled { is_disabled self.old.state.capacity ≡ false }
-        requires own { IsKeyHash S.build_hasher S.Hasher.finish S.Hasher.write self.old.hasher (K.hash_input key) hashes.own }
-        ensures { (e : Events K V) × InsertStep X.created X.updated W.weighs K.eq self.old.state key hashes.hash value now result e self.new.state × Befalls L.tells e self.old self.new }
+        requires own { IsKeyHash S.build_hasher S.Hasher.finish S.Hasher.write self.old.hasher
+            (K.hash_input key) hashes.own }
+        ensures { (e : Events K V) × InsertStep X.created X.updated W.weighs K.eq self.old.state key hashes.hash value
+            now result e self.new.state × Befalls L.tells e self.old self.new }
     {
         let weight = inserts::weigh(&self.weigher, &key, &value);
         let Some((handle, found)) = self.inner.find(&key, hashes.own) else {
@@ -512,7 +517,8 @@ impl<
     ) -> Option<(KvEntry<K, V>, Ticket)>
     where
         K: Drop,
-        requires own { hash ≡ S.Hasher.finish (fold S.Hasher.write (S.build_hasher self.old.hasher) (K.hash_input key.now)) }
+        requires own { hash
+            ≡ S.Hasher.finish (fold S.Hasher.write (S.build_hasher self.old.hasher) (K.hash_input key.now)) }
         ensures step { RemoveStep K.eq self.old.state key.now result self.new.state }
         ensures events { Befalls L.tells no_events self.old self.new }
     {
@@ -523,7 +529,8 @@ impl<
     fn remove_hashed(&mut self, key: &K, own: KeyHash) -> Option<(KvEntry<K, V>, Ticket)>
     where
         K: Drop,
-        requires own { IsKeyHash S.build_hasher S.Hasher.finish S.Hasher.write self.old.hasher (K.hash_input key.now) own }
+        requires own { IsKeyHash S.build_hasher S.Hasher.finish S.Hasher.write self.old.hasher
+            (K.hash_input key.now) own }
         ensures step { RemoveStep K.eq self.old.state key.now result self.new.state }
         ensures events { Befalls L.tells no_events self.old self.new }
     {
@@ -551,7 +558,9 @@ impl<
     where
         K: Clone + Drop,
         V: Clone + Drop,
-        ensures { (notices : List (Notice K V)) × NotifiesOfCopy K.is_clone V.is_clone self.old.state.settings entry.now now result notices × (self.new.state ≡ self.old.state)
+        ensures { (notices : List (Notice K V))
+            × NotifiesOfCopy K.is_clone V.is_clone self.old.state.settings entry.now now result notices
+            × (self.new.state ≡ self.old.state)
             × Befalls L.tells (only_notices notices) self.old self.new }
     {
         if !self.is_removal_notifier_enabled() {
@@ -589,7 +598,8 @@ impl<
     /// As `contains_key_with_hash` with the key's hash by the cache's own hasher, as `hash` tells it, which is not made
     /// again.
     pub fn contains_key_with_own_hash(&self, key: &K, hash: u64, now: Instant) -> bool
-        requires own { hash ≡ S.Hasher.finish (fold S.Hasher.write (S.build_hasher self.now.hasher) (K.hash_input key.now)) }
+        requires own { hash
+            ≡ S.Hasher.finish (fold S.Hasher.write (S.build_hasher self.now.hasher) (K.hash_input key.now)) }
         ensures { ContainsStep P.says K.eq self.now.state key.now now.0 result }
     {
         self.contains_hashed(key, KeyHash::of(hash), now)
@@ -597,7 +607,8 @@ impl<
 
     // The same with the key's hash in the map.
     fn contains_hashed(&self, key: &K, own: KeyHash, now: Instant) -> bool
-        requires own { IsKeyHash S.build_hasher S.Hasher.finish S.Hasher.write self.now.hasher (K.hash_input key.now) own }
+        requires own { IsKeyHash S.build_hasher S.Hasher.finish S.Hasher.write self.now.hasher
+            (K.hash_input key.now) own }
         ensures { ContainsStep P.says K.eq self.now.state key.now now.0 result }
     {
         let moments = Moments {
@@ -632,7 +643,8 @@ impl<
     pub fn keys(&self, segment: usize) -> Result<Option<Vec<K>>, OutOfMemory>
     where
         K: Clone + Drop,
-        ensures ok { IfOk result (λ keys. (own : Option (List K)) × KeysStep self.now.state segment (Ok own) × IsCopy (AllZip K.is_clone) own (option_map (λ v. v.items) keys)) }
+        ensures ok { IfOk result (λ keys. (own : Option (List K)) × KeysStep self.now.state segment (Ok own)
+            × IsCopy (AllZip K.is_clone) own (option_map (λ v. v.items) keys)) }
         ensures err { IfErr result (λ e. KeysStep self.now.state segment (Err e)) }
     {
         if segment >= SEGMENTS {
@@ -665,7 +677,8 @@ impl<
         V: Clone + Drop,
         P: Drop,
         ensures { HandsOut (IsEntryCopy K.is_clone V.is_clone)
-            (λ own. Makes (meaning K.eq L.tells P.says W.weighs X.created X.read X.updated) (call.Get key.now hash need_key now)
+            (λ own. Makes (meaning K.eq L.tells P.says W.weighs X.created X.read X.updated)
+            (call.Get key.now hash need_key now)
             (reply.Get own) self.old self.new (λ e. Leads C.reads clock.old e.readings clock.new)) result }
     {
         let own = self.inner.key_hash(key);
@@ -695,9 +708,11 @@ impl<
         K: Clone + Drop,
         V: Clone + Drop,
         P: Drop,
-        requires own { hash ≡ S.Hasher.finish (fold S.Hasher.write (S.build_hasher self.old.hasher) (K.hash_input key.now)) }
+        requires own { hash
+            ≡ S.Hasher.finish (fold S.Hasher.write (S.build_hasher self.old.hasher) (K.hash_input key.now)) }
         ensures { HandsOut (IsEntryCopy K.is_clone V.is_clone)
-            (λ own. Makes (meaning K.eq L.tells P.says W.weighs X.created X.read X.updated) (call.Get key.now hash need_key now)
+            (λ own. Makes (meaning K.eq L.tells P.says W.weighs X.created X.read X.updated)
+            (call.Get key.now hash need_key now)
             (reply.Get own) self.old self.new (λ e. Leads C.reads clock.old e.readings clock.new)) result }
     {
         let own = KeyHash::of(hash);

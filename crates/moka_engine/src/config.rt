@@ -149,7 +149,8 @@ impl<X, L, P, W> CacheConfig<X, L, P, W> {
     }
 
     /// How long an entry stays after it was inserted, exact to the nanosecond. With zero, entries expire at once; there
-    /// is no upper limit: the sum of a moment and a duration saturates at 2^64 - 1 nanoseconds. By default entries stay.
+    /// is no upper limit: the sum of a moment and a duration saturates at 2^64 - 1 nanoseconds. By default entries
+    /// stay.
     pub fn time_to_live(mut self, duration: Duration) -> Self
         ensures { result ≡ record self { time_to_live = Some (as_nanos duration) } }
     {
@@ -157,9 +158,9 @@ impl<X, L, P, W> CacheConfig<X, L, P, W> {
         self
     }
 
-    /// How long an entry stays after it was inserted or read, exact to the nanosecond. With zero, entries expire at once;
-    /// there is no upper limit: the sum of a moment and a duration saturates at 2^64 - 1 nanoseconds. By default entries
-    /// stay.
+    /// How long an entry stays after it was inserted or read, exact to the nanosecond. With zero, entries expire at
+    /// once; there is no upper limit: the sum of a moment and a duration saturates at 2^64 - 1 nanoseconds. By default
+    /// entries stay.
     pub fn time_to_idle(mut self, duration: Duration) -> Self
         ensures { result ≡ record self { time_to_idle = Some (as_nanos duration) } }
     {

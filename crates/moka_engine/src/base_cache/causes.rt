@@ -39,7 +39,8 @@ pub(super) fn cause_of_removal<X>(
     read: Instant,
     now: Instant,
 ) -> RemovalCause
-    ensures { result ≡ (if (has_passed (deadline policy.now.time_to_live written.0) now.0 || has_passed (deadline policy.now.time_to_idle read.0) now.0) then Expired else Explicit) }
+    ensures { result ≡ (if (has_passed (deadline policy.now.time_to_live written.0) now.0
+        || has_passed (deadline policy.now.time_to_idle read.0) now.0) then Expired else Explicit) }
 {
     if is_expired_by_ttl(policy.time_to_live(), written, now)
         || is_expired_by_tti(policy.time_to_idle(), read, now)

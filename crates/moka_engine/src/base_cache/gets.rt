@@ -37,7 +37,8 @@ impl<'a, X> Moments<'a, X> {
     #[inline(always)]
     pub(super) fn hide<K, V>(&self, found: &RecordRef<'_, K, V>) -> bool
         requires lasting { self.now.policy.now.expiry ≡ None → found.now.expires ≡ None }
-        ensures { result ≡ lapsed (expiring_by self.entry.now.policy.now) self.entry.now.valid_after.now found.now self.entry.now.now.0 }
+        ensures { result ≡ lapsed (expiring_by self.entry.now.policy.now) self.entry.now.valid_after.now
+            found.now self.entry.now.now.0 }
     {
         let (policy, valid_after) = (self.policy, *self.valid_after);
         let may_hide = policy.is_set() | valid_after.is_some();
@@ -57,12 +58,15 @@ pub(super) fn find_unless<'a, K: Eq + Hash, V, S: BuildHasher, X, P, I: ValueTes
 ) -> Option<(Handle, RecordRef<'a, K, V>)>
 where
     P: PredicateFn<K, V>,
-    requires own { IsKeyHash S.build_hasher S.Hasher.finish S.Hasher.write inner.now.kept.hasher (K.hash_input sought.0.now) sought.1 }
+    requires own { IsKeyHash S.build_hasher S.Hasher.finish S.Hasher.write inner.now.kept.hasher
+        (K.hash_input sought.0.now) sought.1 }
     requires lasting { moments.now.policy.now.expiry ≡ None → NoneExpires inner.now.kept.records }
     requires askable { (v : V) → I.can_ask test.old v }
     ensures { (ignored : Bool)
-        × IsAskedOnce I.asks (Some test.old) (value_of (record_of_key K.eq inner.now.kept.records sought.entry.0.now)) ignored (Some test.new)
-        × Finds K.eq inner.now.kept moments.entry.now.policy.now moments.entry.now.valid_after.now P.says invalidator.now sought.entry.0.now ignored moments.entry.now.now.0 result }
+        × IsAskedOnce I.asks (Some test.old)
+        (value_of (record_of_key K.eq inner.now.kept.records sought.entry.0.now)) ignored (Some test.new)
+        × Finds K.eq inner.now.kept moments.entry.now.policy.now moments.entry.now.valid_after.now P.says
+        invalidator.now sought.entry.0.now ignored moments.entry.now.now.0 result }
 {
     let (key, own) = sought;
     let (handle, found) = inner.find(key, own)?;
@@ -82,9 +86,11 @@ pub(super) fn find_shown<'a, K: Eq + Hash, V, S: BuildHasher, X, P>(
 ) -> Option<(Handle, RecordRef<'a, K, V>)>
 where
     P: PredicateFn<K, V>,
-    requires own { IsKeyHash S.build_hasher S.Hasher.finish S.Hasher.write inner.now.kept.hasher (K.hash_input sought.0.now) sought.1 }
+    requires own { IsKeyHash S.build_hasher S.Hasher.finish S.Hasher.write inner.now.kept.hasher
+        (K.hash_input sought.0.now) sought.1 }
     requires lasting { moments.now.policy.now.expiry ≡ None → NoneExpires inner.now.kept.records }
-    ensures { Finds K.eq inner.now.kept moments.entry.now.policy.now moments.entry.now.valid_after.now P.says invalidator.now sought.entry.0.now false moments.entry.now.now.0 result }
+    ensures { Finds K.eq inner.now.kept moments.entry.now.policy.now moments.entry.now.valid_after.now P.says
+        invalidator.now sought.entry.0.now false moments.entry.now.now.0 result }
 {
     find_unless(inner, moments, invalidator, sought, &mut NoTest)
 }

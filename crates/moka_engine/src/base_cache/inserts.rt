@@ -50,7 +50,8 @@ pub(super) fn expires_at_update<K, V, X: Expiry<K, V>>(
     value: &V,
     now: Instant,
 ) -> Option<Instant>
-    ensures { result ≡ expires_updated X.created X.updated (expiring_by policy.now) policy.now.expiry key.now value.now (record found.now { written = now; read = now }) now.0 }
+    ensures { result ≡ expires_updated X.created X.updated (expiring_by policy.now) policy.now.expiry key.now value.now
+        (record found.now { written = now; read = now }) now.0 }
 {
     let expires = found.expires();
     let Some(expiry) = policy.expiry() else {

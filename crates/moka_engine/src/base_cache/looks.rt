@@ -52,7 +52,8 @@ impl<
         P: Drop,
         requires askable { CanAskIfGiven I.can_ask (test_given ignore_if) }
         ensures { (ignored : Bool)
-            × IsAskedOnce I.asks (test_given ignore_if.entry) (value_of (record_of_key K.eq self.old.state.records key.now)) ignored (test_left ignore_if.exit)
+            × IsAskedOnce I.asks (test_given ignore_if.entry)
+            (value_of (record_of_key K.eq self.old.state.records key.now)) ignored (test_left ignore_if.exit)
             × HandsOut (IsEntryCopy K.is_clone V.is_clone)
             (λ own. Takes P.says X.read L.tells
             (λ Runs s. GetStep P.says X.read Runs K.eq s key.now hash need_key ignored now.0 own)
@@ -85,13 +86,16 @@ impl<
         K: Clone + Drop,
         V: Clone + Drop,
         P: Drop,
-        requires own { IsKeyHash S.build_hasher S.Hasher.finish S.Hasher.write self.old.hasher (K.hash_input look.key.now) look.hashes.own }
+        requires own { IsKeyHash S.build_hasher S.Hasher.finish S.Hasher.write self.old.hasher
+            (K.hash_input look.key.now) look.hashes.own }
         requires askable { (v : V) → I.can_ask test.old v }
         ensures { (ignored : Bool)
-            × IsAskedOnce I.asks (Some test.old) (value_of (record_of_key K.eq self.old.state.records look.entry.key.now)) ignored (Some test.new)
+            × IsAskedOnce I.asks (Some test.old)
+            (value_of (record_of_key K.eq self.old.state.records look.entry.key.now)) ignored (Some test.new)
             × HandsOut (IsEntryCopy K.is_clone V.is_clone)
             (λ own. Takes P.says X.read L.tells
-            (λ Runs s. GetStep P.says X.read Runs K.eq s look.entry.key.now look.entry.hashes.hash look.entry.need_key ignored look.entry.now.0 own)
+            (λ Runs s. GetStep P.says X.read Runs K.eq s look.entry.key.now look.entry.hashes.hash look.entry.need_key
+            ignored look.entry.now.0 own)
             self.old self.new (λ e. Leads C.reads clock.old e.readings clock.new)) result }
     {
         let Look {
@@ -153,8 +157,10 @@ impl<
         V: Clone,
         requires askable { CanAskIfGiven I.can_ask (test_given ignore_if) }
         ensures { (ignored : Bool)
-            × IsAskedOnce I.asks (test_given ignore_if.entry) (value_of (record_of_key K.eq self.old.state.records key.now)) ignored (test_left ignore_if.exit)
-            × HandsOut V.is_clone (λ a. PeekStep P.says X.read K.eq self.old.state key.now ignored now.0 a self.new.state) result
+            × IsAskedOnce I.asks (test_given ignore_if.entry)
+            (value_of (record_of_key K.eq self.old.state.records key.now)) ignored (test_left ignore_if.exit)
+            × HandsOut V.is_clone
+            (λ a. PeekStep P.says X.read K.eq self.old.state key.now ignored now.0 a self.new.state) result
             × Befalls L.tells no_events self.old self.new }
     {
         match ignore_if {
@@ -174,8 +180,10 @@ impl<
         V: Clone,
         requires askable { (v : V) → I.can_ask test.old v }
         ensures { (ignored : Bool)
-            × IsAskedOnce I.asks (Some test.old) (value_of (record_of_key K.eq self.old.state.records key.now)) ignored (Some test.new)
-            × HandsOut V.is_clone (λ a. PeekStep P.says X.read K.eq self.old.state key.now ignored now.0 a self.new.state) result
+            × IsAskedOnce I.asks (Some test.old)
+            (value_of (record_of_key K.eq self.old.state.records key.now)) ignored (Some test.new)
+            × HandsOut V.is_clone
+            (λ a. PeekStep P.says X.read K.eq self.old.state key.now ignored now.0 a self.new.state) result
             × Befalls L.tells no_events self.old self.new }
     {
         let own = self.inner.key_hash(key);

@@ -143,7 +143,8 @@ impl<
 
 // Whether a key has a record.
 fn has_key<K: Eq + Hash, V, S: BuildHasher>(inner: &Inner<K, V, S>, key: &K, own: KeyHash) -> bool
-    requires own { IsKeyHash S.build_hasher S.Hasher.finish S.Hasher.write inner.now.kept.hasher (K.hash_input key.now) own }
+    requires own { IsKeyHash S.build_hasher S.Hasher.finish S.Hasher.write inner.now.kept.hasher
+        (K.hash_input key.now) own }
     ensures { result ≡ is_some (record_of_key K.eq inner.now.kept.records key.now) }
 {
     inner.find(key, own).is_some()

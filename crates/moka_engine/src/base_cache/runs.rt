@@ -72,7 +72,8 @@ impl<
             (call.Run now limit repeats batch) (reply.Run result) self.old self.new
             (λ e. Leads C.reads clock.old e.readings clock.new) }
         ensures exact { self.old.state.outstanding ≡ finite.empty → IsExact self.new.state }
-        ensures idle { is_disabled self.old.state.capacity ≡ false → batch ≡ 0 → result ≡ leaves_more_idle self.new.state }
+        ensures idle { is_disabled self.old.state.capacity ≡ false → batch ≡ 0
+            → result ≡ leaves_more_idle self.new.state }
     {
         if self.is_map_disabled() {
             self.passes = 0;
@@ -170,8 +171,10 @@ impl<
         V: Drop,
         P: Drop,
         requires due { is_due self.old.state.housekeeping (length self.old.state.reads) now.0 ≡ true }
-        requires found { option_map (λ r. r.number) (record_of_key K.eq self.old.state.records key.now) ≡ Some hit.number }
-        ensures { Takes P.says X.read L.tells (λ Runs s. RecordsRead Runs s now.0 (Hit hit.number hit.hash hit.renewed)) self.old self.new
+        requires found { option_map (λ r. r.number)
+            (record_of_key K.eq self.old.state.records key.now) ≡ Some hit.number }
+        ensures { Takes P.says X.read L.tells
+            (λ Runs s. RecordsRead Runs s now.0 (Hit hit.number hit.hash hit.renewed)) self.old self.new
             (λ e. Leads C.reads clock.old e.readings clock.new) }
     {
         self.run_by_housekeeper(now, clock);
@@ -197,7 +200,8 @@ impl<
     /// From now on runs start only where the last one left more, or by `run_pending_tasks`.
     /// moka: `common::concurrent::housekeeper::Housekeeper::disable_auto_run`.
     pub fn disable_auto_run(&mut self)
-        ensures step { self.new.state ≡ record self.old.state { housekeeping = without_automatic self.old.state.housekeeping } }
+        ensures step { self.new.state
+            ≡ record self.old.state { housekeeping = without_automatic self.old.state.housekeeping } }
         ensures events { Befalls L.tells no_events self.old self.new }
     {
         self.housekeeper.disable_auto_run();

@@ -36,7 +36,8 @@ impl<'a, K: Eq + Hash, V, S: BuildHasher, X, P> Model for Snapshot<'a, K, V, S, 
 
     ghost coded = { Prim.hlevel (codes, finite.code, coded_ℕ, K.code, V.code, X.code, P.code) };
 
-    ghost view = { λ a. scene_at a.inner.now.kept a.moments.policy.now a.moments.valid_after.now a.invalidator.now a.moments.now.0 a.at };
+    ghost view = { λ a. scene_at a.inner.now.kept a.moments.policy.now a.moments.valid_after.now
+        a.invalidator.now a.moments.now.0 a.at };
 
     ghost invariant = { λ a. IfSome a.at (StandsIn a.inner.now.kept) };
 }
@@ -131,8 +132,10 @@ fn next_shown<'a, K: Eq + Hash, V, S: BuildHasher, X, P: PredicateFn<K, V>>(
 ) -> (Option<RecordRef<'a, K, V>>, Option<Handle>)
     requires stands { IfSome at (StandsIn inner.now.kept) }
     ensures stands { IfSome result.1 (StandsIn inner.now.kept) }
-    ensures listed { FindsNext P.says (scene_at inner.now.kept moments.entry.now.policy.now moments.entry.now.valid_after.now invalidator.now moments.entry.now.now.0 at) result.0
-        (scene_at inner.now.kept moments.entry.now.policy.now moments.entry.now.valid_after.now invalidator.now moments.entry.now.now.0 result.1) }
+    ensures listed { FindsNext P.says (scene_at inner.now.kept moments.entry.now.policy.now
+        moments.entry.now.valid_after.now invalidator.now moments.entry.now.now.0 at) result.0
+        (scene_at inner.now.kept moments.entry.now.policy.now moments.entry.now.valid_after.now invalidator.now
+        moments.entry.now.now.0 result.1) }
 {
     inner.members_stand_once();
     let (policy, valid_after, now) = (moments.policy, *moments.valid_after, moments.now);

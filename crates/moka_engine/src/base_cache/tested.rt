@@ -40,8 +40,10 @@ fn find_by<'a, K: Eq + Hash, V, S: BuildHasher, X, P, T: KeyTest<K>>(
 where
     P: PredicateFn<K, V>,
     requires lasting { moments.now.policy.now.expiry ≡ None → NoneExpires inner.now.kept.records }
-    requires own { (k : K) → T.passes sought.0.now k ≡ true → IsKeyHash S.build_hasher S.Hasher.finish S.Hasher.write inner.now.kept.hasher (K.hash_input k) sought.1 }
-    ensures { FindsBy inner.now.kept moments.entry.now.policy.now moments.entry.now.valid_after.now P.says invalidator.now (T.passes sought.entry.0.now) moments.entry.now.now.0 result }
+    requires own { (k : K) → T.passes sought.0.now k ≡ true
+        → IsKeyHash S.build_hasher S.Hasher.finish S.Hasher.write inner.now.kept.hasher (K.hash_input k) sought.1 }
+    ensures { FindsBy inner.now.kept moments.entry.now.policy.now moments.entry.now.valid_after.now P.says
+        invalidator.now (T.passes sought.entry.0.now) moments.entry.now.now.0 result }
 {
     let (test, own) = sought;
     let (handle, found) = inner.find_by(test, own)?;
@@ -64,7 +66,8 @@ impl<
     /// `&str` and a `String` of the same text do.
     #[inline(always)]
     pub fn hash_of<Q: Hash>(&self, form: &Q) -> u64
-        ensures { result ≡ S.Hasher.finish (fold S.Hasher.write (S.build_hasher self.now.hasher) (Q.hash_input form.now)) }
+        ensures { result
+            ≡ S.Hasher.finish (fold S.Hasher.write (S.build_hasher self.now.hasher) (Q.hash_input form.now)) }
     {
         self.inner.hash_of(form)
     }
@@ -72,7 +75,8 @@ impl<
     /// As `contains_key_with_own_hash` of the key that passes. `hash` is that of the keys that do, by the cache's own
     /// hasher.
     pub fn contains_by<T: KeyTest<K>>(&self, test: &T, hash: u64, now: Instant) -> bool
-        requires own { (k : K) → T.passes test.now k ≡ true → hash ≡ S.Hasher.finish (fold S.Hasher.write (S.build_hasher self.now.hasher) (K.hash_input k)) }
+        requires own { (k : K) → T.passes test.now k ≡ true
+            → hash ≡ S.Hasher.finish (fold S.Hasher.write (S.build_hasher self.now.hasher) (K.hash_input k)) }
         ensures { ContainsByStep P.says (T.passes test.now) self.now.state now.0 result }
     {
         let moments = Moments {
@@ -93,7 +97,8 @@ impl<
     ) -> Option<(KvEntry<K, V>, Ticket)>
     where
         K: Drop,
-        requires own { (k : K) → T.passes test.now k ≡ true → hash ≡ S.Hasher.finish (fold S.Hasher.write (S.build_hasher self.old.hasher) (K.hash_input k)) }
+        requires own { (k : K) → T.passes test.now k ≡ true
+            → hash ≡ S.Hasher.finish (fold S.Hasher.write (S.build_hasher self.old.hasher) (K.hash_input k)) }
         ensures step { RemoveByStep (T.passes test.now) self.old.state result self.new.state }
         ensures events { Befalls L.tells no_events self.old self.new }
     {
@@ -126,7 +131,8 @@ impl<
         K: Clone + Drop,
         V: Clone + Drop,
         P: Drop,
-        requires own { (k : K) → T.passes test.now k ≡ true → hash ≡ S.Hasher.finish (fold S.Hasher.write (S.build_hasher self.old.hasher) (K.hash_input k)) }
+        requires own { (k : K) → T.passes test.now k ≡ true
+            → hash ≡ S.Hasher.finish (fold S.Hasher.write (S.build_hasher self.old.hasher) (K.hash_input k)) }
         ensures { HandsOut (IsEntryCopy K.is_clone V.is_clone)
             (λ own. Takes P.says X.read L.tells
             (λ Runs s. GetByStep P.says (T.passes test.now) s X.read Runs hash need_key now.0 own)
@@ -182,10 +188,13 @@ impl<
         K: Drop,
         V: Drop,
         P: Drop,
-        requires own { (k : K) → T.passes sought.0.now k ≡ true → IsKeyHash S.build_hasher S.Hasher.finish S.Hasher.write self.old.hasher (K.hash_input k) sought.1 }
+        requires own { (k : K) → T.passes sought.0.now k ≡ true
+            → IsKeyHash S.build_hasher S.Hasher.finish S.Hasher.write self.old.hasher (K.hash_input k) sought.1 }
         requires due { is_due self.old.state.housekeeping (length self.old.state.reads) now.0 ≡ true }
-        requires found { option_map (λ r. r.number) (record_by (T.passes sought.0.now) self.old.state.records) ≡ Some hit.number }
-        ensures { Takes P.says X.read L.tells (λ Runs s. RecordsRead Runs s now.0 (Hit hit.number hit.hash hit.renewed)) self.old self.new
+        requires found { option_map (λ r. r.number)
+            (record_by (T.passes sought.0.now) self.old.state.records) ≡ Some hit.number }
+        ensures { Takes P.says X.read L.tells
+            (λ Runs s. RecordsRead Runs s now.0 (Hit hit.number hit.hash hit.renewed)) self.old self.new
             (λ e. Leads C.reads clock.old e.readings clock.new) }
     {
         self.run_by_housekeeper(now, clock);

@@ -65,8 +65,8 @@ impl<
         Some(found.is_settled())
     }
 
-    /// How much a key's record weighs, whether a run of maintenance has counted it yet or not, and `None` if the key has
-    /// no record.
+    /// How much a key's record weighs, whether a run of maintenance has counted it yet or not, and `None` if the key
+    /// has no record.
     pub fn weight(&self, key: &K) -> Option<u32>
     {
         let own = self.inner.key_hash(key);
