@@ -61,12 +61,12 @@ impl IdSource for Chosen {
 
 /// A test of the caller's in the middle of a call. While it runs the mark of the call is taken away: the engine
 /// compares keys only while nothing is half changed.
-struct ByTest<'a, K> {
-    test: Test<'a, K>,
+struct ByTest<'a, F> {
+    test: F,
     is_in_call: &'a AtomicBool,
 }
 
-impl<K: Eq + Hash> KeyTest<Key<'static, K>> for ByTest<'_, K> {
+impl<K: Eq + Hash, F: Fn(&K) -> bool> KeyTest<Key<'static, K>> for ByTest<'_, F> {
     #[inline]
     fn is_key(&self, key: &Key<'static, K>) -> bool {
         self.is_in_call.store(false, Relaxed);
@@ -147,10 +147,10 @@ impl<K: Eq + Hash + 'static, V> Shard<K, V> {
 
     // The same by a test of the caller's, a panic of which leaves no mark.
     #[inline]
-    fn change_by<R>(
+    fn change_by<F, R>(
         &mut self,
-        test: Test<'_, K>,
-        call: impl FnOnce(&mut Cache<K, V>, &ByTest<'_, K>, &mut Elapsed) -> R,
+        test: F,
+        call: impl FnOnce(&mut Cache<K, V>, &ByTest<'_, F>, &mut Elapsed) -> R,
     ) -> R {
         *self.is_in_call.get_mut() = true;
         let by = ByTest {
@@ -211,7 +211,7 @@ impl<K: Eq + Hash + 'static, V> Shard<K, V> {
 
     /// A clone of a key's value, which counts as a read.
     #[inline]
-    pub fn get(&mut self, hash: u64, test: Test<'_, K>) -> Option<V>
+    pub fn get(&mut self, hash: u64, test: impl Fn(&K) -> bool) -> Option<V>
     where
         V: Clone,
     {

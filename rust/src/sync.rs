@@ -255,7 +255,8 @@ where
         K: Borrow<Q>,
         Q: Eq + Hash + Sync + ?Sized,
     {
-        self.with_key(key, |shard, hash, test| shard.get(hash, test))
+        let hash = self.0.router.hasher().hash_one(key);
+        self.with(self.place(hash), |shard| shard.get(hash, |kept| kept.borrow() == key))
     }
 
     /// Whether there is a value under a key. It counts as no read.

@@ -252,7 +252,8 @@ impl<K: Eq + Hash + Sync + 'static, V: Clone + 'static, S: BuildHasher> Cache<K,
         K: Borrow<Q>,
         Q: Eq + Hash + Sync + ?Sized,
     {
-        self.with_key(key, |shard, hash, test| shard.get(hash, test))
+        let hash = self.hasher.hash_one(key);
+        self.with(|shard| shard.get(hash, |kept| kept.borrow() == key))
     }
 
     /// Whether there is a value under a key. It counts as no read.

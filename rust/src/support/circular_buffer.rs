@@ -1,17 +1,16 @@
 //! Queues with a bound.
 
 use super::alloc::{AllocError, Global};
-use std::collections::VecDeque;
 
-/// A queue of at most `capacity` items.
+/// A queue of at most `capacity` items. The engine takes them out all at once, so they never go round the end.
 pub struct HeapCircularBuffer<T> {
-    items: VecDeque<T>,
+    items: Vec<T>,
     capacity: usize,
 }
 
 impl<T> HeapCircularBuffer<T> {
     pub fn with_capacity(_: Global, capacity: usize) -> Result<Self, AllocError> {
-        let mut items = VecDeque::new();
+        let mut items = Vec::new();
         items.try_reserve_exact(capacity).map_err(|_| AllocError)?;
         Ok(HeapCircularBuffer { items, capacity })
     }
@@ -31,13 +30,13 @@ impl<T> HeapCircularBuffer<T> {
         if self.is_full() {
             return Err(item);
         }
-        self.items.push_back(item);
+        self.items.push(item);
         Ok(())
     }
 
     #[inline]
     pub fn as_slices(&self) -> (&[T], &[T]) {
-        self.items.as_slices()
+        (&self.items, &[])
     }
 
     pub fn clear(&mut self) {

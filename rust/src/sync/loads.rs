@@ -106,7 +106,7 @@ where
     // The value of a key that is there, or the outcome of its maker.
     fn get_or_load(&self, key: K, kind: TypeId, make: impl FnOnce() -> Outcome<V>) -> Outcome<V> {
         let hash = self.0.router.hasher().hash_one(&key);
-        let found = self.with(self.place(hash), |shard| shard.get(hash, &|kept| *kept == key));
+        let found = self.with(self.place(hash), |shard| shard.get(hash, |kept| *kept == key));
         match found {
             Some(value) => Outcome::Made { value, is_fresh: false },
             None => self.load(hash, Arc::new(key), kind, |_| false, make),
@@ -120,7 +120,7 @@ where
         Q: Eq + Hash + Sync + ToOwned<Owned = K> + ?Sized,
     {
         let hash = self.0.router.hasher().hash_one(key);
-        let found = self.with(self.place(hash), |shard| shard.get(hash, &|kept| kept.borrow() == key));
+        let found = self.with(self.place(hash), |shard| shard.get(hash, |kept| kept.borrow() == key));
         match found {
             Some(value) => Outcome::Made { value, is_fresh: false },
             None => self.load(hash, Arc::new(key.to_owned()), kind, |_| false, make),
