@@ -15,3 +15,4 @@ pub mod Computing
 pub mod Many
 pub mod Limits
 pub mod Registering
+pub mod Hashing

@@ -1,7 +1,6 @@
 //! The synchronous cache: put, get and remove in one call each. moka: `sync::cache`.
 ghost use Rattle.std.specs.Prelude.{◌≡◌, ◌≤◌, [], true, false, Option, Some, None, Result, Ok, Err, IfOk, IfSome, OnErr, IfErr, is_some, option_copied, unwrap_or, option_map};
 ghost use Rattle.std.specs.FinMap as finite;
-ghost use Rattle.std.specs.List.{fold};
 ghost use Rattle.moka_parts.specs.Calls.{CapacityStep, ContainsStep, InvalidateStep, no_events, only_ids};
 ghost use Rattle.moka_parts.specs.Copies.{IsCopiedAnswer};
 ghost use Rattle.moka_parts.specs.Exact.{IsExact, IsWithin};
@@ -16,6 +15,7 @@ ghost use Rattle.moka_parts.specs.declared.error.InsertRefused.{InsertRefused};
 ghost use Rattle.moka_parts.specs.declared.error.OutOfMemory.{OutOfMemory};
 ghost use Rattle.moka_parts.specs.declared.records.Operation.{Operation};
 ghost use Rattle.moka_parts.specs.declared.records.Record.{Record};
+ghost use Rattle.moka_drive.specs.Hashing.{key_hash};
 ghost use Rattle.moka_drive.specs.Unsent.{HoldsUnsent, HidesNoMore, IsThere, ShowsWrites};
 ghost use Rattle.moka_drive.specs.Counters.{after_look_up, after_load};
 ghost use Rattle.moka_drive.specs.Given.{Sees};
@@ -228,7 +228,7 @@ impl<
         V: Drop,
         P: Drop,
         ensures made { Makes (meaning_of K.eq L.tells P.says W.weighs C.reads X.created X.read X.updated)
-            (InsertsEntry key (S.Hasher.finish (fold S.Hasher.write (S.build_hasher self.old.engine.hasher) (K.hash_input key))) value now result)
+            (InsertsEntry key (key_hash S.BuildHasher S.Hasher.Hasher self.old.engine.hasher (K.hash_input key)) value now result)
             self.old.engine clock.old self.new.engine clock.new }
         ensures back { IfErr result (λ refused. (refused.key ≡ key) × (refused.value ≡ value)) }
         ensures unchanged { OnErr result ((self.new.engine.state ≡ self.old.engine.state) × (clock.new ≡ clock.old)) }
@@ -251,9 +251,9 @@ impl<
         K: Drop,
         V: Drop,
         P: Drop,
-        requires own { put.hash ≡ S.Hasher.finish (fold S.Hasher.write (S.build_hasher self.old.engine.hasher) (K.hash_input put.key)) }
+        requires own { put.hash ≡ key_hash S.BuildHasher S.Hasher.Hasher self.old.engine.hasher (K.hash_input put.key) }
         ensures made { Makes (meaning_of K.eq L.tells P.says W.weighs C.reads X.created X.read X.updated)
-            (InsertsEntry put.key (S.Hasher.finish (fold S.Hasher.write (S.build_hasher self.old.engine.hasher) (K.hash_input put.key))) put.value now result)
+            (InsertsEntry put.key (key_hash S.BuildHasher S.Hasher.Hasher self.old.engine.hasher (K.hash_input put.key)) put.value now result)
             self.old.engine clock.old self.new.engine clock.new }
         ensures back { IfErr result (λ refused. (refused.key ≡ put.key) × (refused.value ≡ put.value)) }
         ensures unchanged { OnErr result ((self.new.engine.state ≡ self.old.engine.state) × (clock.new ≡ clock.old)) }
@@ -292,7 +292,7 @@ impl<
         P: Drop,
         ensures made { (own : Result (Option V) OutOfMemory) × IsCopiedAnswer V.is_clone own result
             × Makes (meaning_of K.eq L.tells P.says W.weighs C.reads X.created X.read X.updated)
-            (GetsValue key.now (S.Hasher.finish (fold S.Hasher.write (S.build_hasher self.old.engine.hasher) (K.hash_input key.now))) now own)
+            (GetsValue key.now (key_hash S.BuildHasher S.Hasher.Hasher self.old.engine.hasher (K.hash_input key.now)) now own)
             self.old.engine clock.old self.new.engine clock.new }
         ensures value { IfOk result (λ found. IfSome found (λ v. (r : Record K V) × (record_of_key K.eq self.old.engine.state.records key.now ≡ Some r) × V.is_clone r.value v)) }
         ensures sees { IfOk result (Sees K.eq P.says V.is_clone self.old.engine.state key.now now.0) }
@@ -318,10 +318,10 @@ impl<
         K: Clone + Drop,
         V: Clone + Drop,
         P: Drop,
-        requires own { hash ≡ S.Hasher.finish (fold S.Hasher.write (S.build_hasher self.old.engine.hasher) (K.hash_input key.now)) }
+        requires own { hash ≡ key_hash S.BuildHasher S.Hasher.Hasher self.old.engine.hasher (K.hash_input key.now) }
         ensures made { (own : Result (Option V) OutOfMemory) × IsCopiedAnswer V.is_clone own result
             × Makes (meaning_of K.eq L.tells P.says W.weighs C.reads X.created X.read X.updated)
-            (GetsValue key.now (S.Hasher.finish (fold S.Hasher.write (S.build_hasher self.old.engine.hasher) (K.hash_input key.now))) now own)
+            (GetsValue key.now (key_hash S.BuildHasher S.Hasher.Hasher self.old.engine.hasher (K.hash_input key.now)) now own)
             self.old.engine clock.old self.new.engine clock.new }
         ensures value { IfOk result (λ found. IfSome found (λ v. (r : Record K V) × (record_of_key K.eq self.old.engine.state.records key.now ≡ Some r) × V.is_clone r.value v)) }
         ensures sees { IfOk result (Sees K.eq P.says V.is_clone self.old.engine.state key.now now.0) }
@@ -358,7 +358,7 @@ impl<
         P: Drop,
         ensures made { (taken : Option (V × Result (Unit {0}) OutOfMemory)) × (result ≡ removed taken)
             × Makes (meaning_of K.eq (hears_clones K.is_clone V.is_clone L.tells) P.says W.weighs C.reads X.created X.read X.updated)
-            (RemovesEntry key.now (S.Hasher.finish (fold S.Hasher.write (S.build_hasher self.old.engine.hasher) (K.hash_input key.now))) now taken)
+            (RemovesEntry key.now (key_hash S.BuildHasher S.Hasher.Hasher self.old.engine.hasher (K.hash_input key.now)) now taken)
             self.old.engine clock.old self.new.engine clock.new }
         ensures gone { record_of_key K.eq self.new.engine.state.records key.now ≡ None }
         ensures value { taken_out result
@@ -391,7 +391,7 @@ impl<
         P: Drop,
         ensures made { (taken : Option (V × Result (Unit {0}) OutOfMemory)) × (result ≡ invalidated taken)
             × Makes (meaning_of K.eq (hears_clones K.is_clone V.is_clone L.tells) P.says W.weighs C.reads X.created X.read X.updated)
-            (RemovesEntry key.now (S.Hasher.finish (fold S.Hasher.write (S.build_hasher self.old.engine.hasher) (K.hash_input key.now))) now taken)
+            (RemovesEntry key.now (key_hash S.BuildHasher S.Hasher.Hasher self.old.engine.hasher (K.hash_input key.now)) now taken)
             self.old.engine clock.old self.new.engine clock.new }
         ensures gone { record_of_key K.eq self.new.engine.state.records key.now ≡ None }
         ensures counted { self.new.stats ≡ self.old.stats }
@@ -418,9 +418,9 @@ impl<
         K: Clone + Drop,
         V: Clone + Drop,
         P: Drop,
-        requires own { hash ≡ S.Hasher.finish (fold S.Hasher.write (S.build_hasher self.old.engine.hasher) (K.hash_input key.now)) }
+        requires own { hash ≡ key_hash S.BuildHasher S.Hasher.Hasher self.old.engine.hasher (K.hash_input key.now) }
         ensures made { Makes (meaning_of K.eq (hears_clones K.is_clone V.is_clone L.tells) P.says W.weighs C.reads X.created X.read X.updated)
-            (RemovesEntry key.now (S.Hasher.finish (fold S.Hasher.write (S.build_hasher self.old.engine.hasher) (K.hash_input key.now))) now result)
+            (RemovesEntry key.now (key_hash S.BuildHasher S.Hasher.Hasher self.old.engine.hasher (K.hash_input key.now)) now result)
             self.old.engine clock.old self.new.engine clock.new }
         ensures gone { record_of_key K.eq self.new.engine.state.records key.now ≡ None }
         ensures value { option_map (λ t. t.0) result
@@ -456,7 +456,7 @@ impl<
         P: Drop,
         requires callable { ContainsStep P.says K.eq self.old.engine.state key now.0 false → F.pre init }
         ensures { GetsWith (meaning_of K.eq L.tells P.says W.weighs C.reads X.created X.read X.updated)
-            V.is_clone key (S.Hasher.finish (fold S.Hasher.write (S.build_hasher self.old.engine.hasher) (K.hash_input key))) now
+            V.is_clone key (key_hash S.BuildHasher S.Hasher.Hasher self.old.engine.hasher (K.hash_input key)) now
             self.old clock.old self.new clock.new (F.post init) result }
     {
         let hash = self.engine.hash(&key);
@@ -490,7 +490,7 @@ impl<
         P: Drop,
         requires callable { ContainsStep P.says K.eq self.old.engine.state key now.0 false → F.pre init }
         ensures { GetsWithIfMade (meaning_of K.eq L.tells P.says W.weighs C.reads X.created X.read X.updated)
-            V.is_clone key (S.Hasher.finish (fold S.Hasher.write (S.build_hasher self.old.engine.hasher) (K.hash_input key))) now
+            V.is_clone key (key_hash S.BuildHasher S.Hasher.Hasher self.old.engine.hasher (K.hash_input key)) now
             self.old clock.old self.new clock.new (F.post init) result }
     {
         let hash = self.engine.hash(&key);
@@ -526,7 +526,7 @@ impl<
         P: Drop,
         requires callable { ContainsStep P.says K.eq self.old.engine.state key now.0 false → F.pre init }
         ensures { GetsWithIfNoError (meaning_of K.eq L.tells P.says W.weighs C.reads X.created X.read X.updated)
-            V.is_clone key (S.Hasher.finish (fold S.Hasher.write (S.build_hasher self.old.engine.hasher) (K.hash_input key))) now
+            V.is_clone key (key_hash S.BuildHasher S.Hasher.Hasher self.old.engine.hasher (K.hash_input key)) now
             self.old clock.old self.new clock.new (F.post init) result }
     {
         let hash = self.engine.hash(&key);
@@ -557,10 +557,10 @@ impl<
         K: Drop,
         V: Clone + Drop,
         P: Drop,
-        requires own { put.hash ≡ S.Hasher.finish (fold S.Hasher.write (S.build_hasher self.old.engine.hasher) (K.hash_input put.key)) }
+        requires own { put.hash ≡ key_hash S.BuildHasher S.Hasher.Hasher self.old.engine.hasher (K.hash_input put.key) }
         ensures made { (own : Result V (InsertRefused K V)) × HandsOutOwn V.is_clone own result
             × Makes (meaning_of K.eq L.tells P.says W.weighs C.reads X.created X.read X.updated)
-            (InsertsMade put.key (S.Hasher.finish (fold S.Hasher.write (S.build_hasher self.old.engine.hasher) (K.hash_input put.key))) now put.value own)
+            (InsertsMade put.key (key_hash S.BuildHasher S.Hasher.Hasher self.old.engine.hasher (K.hash_input put.key)) now put.value own)
             self.old.engine clock.old self.new.engine clock.new }
         ensures back { IfErr result (λ refused. (refused.key ≡ put.key) × (refused.value ≡ put.value)) }
         ensures counted { self.new.stats ≡ self.old.stats }

@@ -1,11 +1,11 @@
 //! Entry calls that compute a key's value from the one that is there. moka: `ops::compute`, `sync::entry_selector`.
 ghost use Rattle.std.specs.Prelude.{◌≡◌, Option, Some, None, Result, Ok, Err, is_some, option_copied, option_map};
-ghost use Rattle.std.specs.List.{fold};
 ghost use Rattle.moka_parts.specs.Calls.{ContainsStep};
 ghost use Rattle.moka_parts.specs.Records.{record_of_key};
 ghost use Rattle.moka_parts.specs.declared.error.InsertRefused.{InsertRefused};
 ghost use Rattle.moka_parts.specs.declared.error.OutOfMemory.{OutOfMemory};
 ghost use Rattle.moka_drive.specs.Computing.{HandsOutComputedPut, HandsOutTaken, AndUpserts, AndComputes};
+ghost use Rattle.moka_drive.specs.Hashing.{key_hash};
 ghost use Rattle.moka_drive.specs.Synchronous.{InsertsMade, Makes, RemovesEntry, hears_clones, meaning_of};
 
 use crate::cache::{Cache, Put};
@@ -104,7 +104,7 @@ impl<
         P: Drop,
         requires callable { (seen : Option V) → ContainsStep P.says K.eq self.old.engine.state key now.0 (is_some seen) → F.pre f seen }
         ensures { AndUpserts (meaning_of K.eq L.tells P.says W.weighs C.reads X.created X.read X.updated)
-            K.is_clone V.is_clone key (S.Hasher.finish (fold S.Hasher.write (S.build_hasher self.old.engine.hasher) (K.hash_input key))) now
+            K.is_clone V.is_clone key (key_hash S.BuildHasher S.Hasher.Hasher self.old.engine.hasher (K.hash_input key)) now
             self.old clock.old self.new clock.new (F.post f) result }
     {
         let hash = self.engine().hash(&key);
@@ -140,7 +140,7 @@ impl<
         P: Drop,
         requires callable { (seen : _) → ContainsStep P.says K.eq self.old.engine.state key now.0 (is_some (option_copied seen)) → F.pre f seen }
         ensures { AndComputes (meaning_of K.eq (hears_clones K.is_clone V.is_clone L.tells) P.says W.weighs C.reads X.created X.read X.updated)
-            K.is_clone V.is_clone key (S.Hasher.finish (fold S.Hasher.write (S.build_hasher self.old.engine.hasher) (K.hash_input key))) now
+            K.is_clone V.is_clone key (key_hash S.BuildHasher S.Hasher.Hasher self.old.engine.hasher (K.hash_input key)) now
             self.old clock.old self.new clock.new (λ seen op. (x : _) × (option_copied x ≡ seen) × F.post f x op) result }
     {
         let hash = self.engine().hash(&key);
@@ -177,11 +177,11 @@ impl<
         K: Clone + Drop,
         V: Clone + Drop,
         P: Drop,
-        requires own { put.hash ≡ S.Hasher.finish (fold S.Hasher.write (S.build_hasher self.old.engine.hasher) (K.hash_input put.key)) }
+        requires own { put.hash ≡ key_hash S.BuildHasher S.Hasher.Hasher self.old.engine.hasher (K.hash_input put.key) }
         ensures made { (own : Result V (InsertRefused K V))
             × HandsOutComputedPut K.is_clone V.is_clone put.key is_there own result
             × Makes (meaning_of K.eq L.tells P.says W.weighs C.reads X.created X.read X.updated)
-            (InsertsMade put.key (S.Hasher.finish (fold S.Hasher.write (S.build_hasher self.old.engine.hasher) (K.hash_input put.key))) now put.value own)
+            (InsertsMade put.key (key_hash S.BuildHasher S.Hasher.Hasher self.old.engine.hasher (K.hash_input put.key)) now put.value own)
             self.old.engine clock.old self.new.engine clock.new }
         ensures counted { self.new.stats ≡ self.old.stats }
     {
@@ -208,11 +208,11 @@ impl<
         K: Clone + Drop,
         V: Clone + Drop,
         P: Drop,
-        requires own { hash ≡ S.Hasher.finish (fold S.Hasher.write (S.build_hasher self.old.engine.hasher) (K.hash_input key)) }
+        requires own { hash ≡ key_hash S.BuildHasher S.Hasher.Hasher self.old.engine.hasher (K.hash_input key) }
         ensures made { (taken : Option (V × Result (Unit {0}) OutOfMemory))
             × HandsOutTaken K.is_clone V.is_clone key taken result
             × Makes (meaning_of K.eq (hears_clones K.is_clone V.is_clone L.tells) P.says W.weighs C.reads X.created X.read X.updated)
-            (RemovesEntry key (S.Hasher.finish (fold S.Hasher.write (S.build_hasher self.old.engine.hasher) (K.hash_input key))) now taken)
+            (RemovesEntry key (key_hash S.BuildHasher S.Hasher.Hasher self.old.engine.hasher (K.hash_input key)) now taken)
             self.old.engine clock.old self.new.engine clock.new
             × (option_map (λ t. t.0) taken
             ≡ option_map (λ r. r.value) (record_of_key K.eq self.old.engine.state.records key)) }

@@ -2,10 +2,10 @@
 //!
 //! `cache.entry(key).or_insert(value, ..)` is `cache.get_or_insert(key, value, ..)`, and so on: each call names moka's.
 ghost use Rattle.std.specs.Prelude.{◌≡◌, true, false, Option, Some, None, Result, Ok, Err, IfOk, IfErr};
-ghost use Rattle.std.specs.List.{fold};
 ghost use Rattle.moka_parts.specs.Calls.{ContainsStep};
 ghost use Rattle.moka_parts.specs.declared.error.InsertRefused.{InsertRefused};
 ghost use Rattle.moka_drive.specs.Entries.{entry_value, IsFresh, OrInserts, OrInsertsMade, OrInsertsIfMade, OrInsertsIfNoError};
+ghost use Rattle.moka_drive.specs.Hashing.{key_hash};
 ghost use Rattle.moka_drive.specs.Synchronous.{Makes, meaning_of, InsertsMade, HandsOutOwn};
 
 use crate::cache::{Cache, Put};
@@ -57,7 +57,7 @@ impl<
         V: Clone + Drop,
         P: Drop,
         ensures { OrInserts (meaning_of K.eq L.tells P.says W.weighs C.reads X.created X.read X.updated)
-            K.is_clone V.is_clone key (S.Hasher.finish (fold S.Hasher.write (S.build_hasher self.old.engine.hasher) (K.hash_input key))) now
+            K.is_clone V.is_clone key (key_hash S.BuildHasher S.Hasher.Hasher self.old.engine.hasher (K.hash_input key)) now
             self.old clock.old self.new clock.new value result }
     {
         let hash = self.engine().hash(&key);
@@ -92,7 +92,7 @@ impl<
         P: Drop,
         requires callable { ContainsStep P.says K.eq self.old.engine.state key now.0 false → F.pre init }
         ensures { OrInsertsMade (meaning_of K.eq L.tells P.says W.weighs C.reads X.created X.read X.updated)
-            K.is_clone V.is_clone key (S.Hasher.finish (fold S.Hasher.write (S.build_hasher self.old.engine.hasher) (K.hash_input key))) now
+            K.is_clone V.is_clone key (key_hash S.BuildHasher S.Hasher.Hasher self.old.engine.hasher (K.hash_input key)) now
             self.old clock.old self.new clock.new (F.post init) result }
     {
         let hash = self.engine().hash(&key);
@@ -127,7 +127,7 @@ impl<
         P: Drop,
         requires callable { ContainsStep P.says K.eq self.old.engine.state key now.0 false → F.pre init }
         ensures { OrInsertsIfMade (meaning_of K.eq L.tells P.says W.weighs C.reads X.created X.read X.updated)
-            K.is_clone V.is_clone key (S.Hasher.finish (fold S.Hasher.write (S.build_hasher self.old.engine.hasher) (K.hash_input key))) now
+            K.is_clone V.is_clone key (key_hash S.BuildHasher S.Hasher.Hasher self.old.engine.hasher (K.hash_input key)) now
             self.old clock.old self.new clock.new (F.post init) result }
     {
         let hash = self.engine().hash(&key);
@@ -164,7 +164,7 @@ impl<
         P: Drop,
         requires callable { ContainsStep P.says K.eq self.old.engine.state key now.0 false → F.pre init }
         ensures { OrInsertsIfNoError (meaning_of K.eq L.tells P.says W.weighs C.reads X.created X.read X.updated)
-            K.is_clone V.is_clone key (S.Hasher.finish (fold S.Hasher.write (S.build_hasher self.old.engine.hasher) (K.hash_input key))) now
+            K.is_clone V.is_clone key (key_hash S.BuildHasher S.Hasher.Hasher self.old.engine.hasher (K.hash_input key)) now
             self.old clock.old self.new clock.new (F.post init) result }
     {
         let hash = self.engine().hash(&key);
@@ -196,10 +196,10 @@ impl<
         K: Clone + Drop,
         V: Clone + Drop,
         P: Drop,
-        requires own { put.hash ≡ S.Hasher.finish (fold S.Hasher.write (S.build_hasher self.old.engine.hasher) (K.hash_input put.key)) }
+        requires own { put.hash ≡ key_hash S.BuildHasher S.Hasher.Hasher self.old.engine.hasher (K.hash_input put.key) }
         ensures made { (own : Result V (InsertRefused K V)) × HandsOutOwn V.is_clone own (entry_value result)
             × Makes (meaning_of K.eq L.tells P.says W.weighs C.reads X.created X.read X.updated)
-            (InsertsMade put.key (S.Hasher.finish (fold S.Hasher.write (S.build_hasher self.old.engine.hasher) (K.hash_input put.key))) now put.value own)
+            (InsertsMade put.key (key_hash S.BuildHasher S.Hasher.Hasher self.old.engine.hasher (K.hash_input put.key)) now put.value own)
             self.old.engine clock.old self.new.engine clock.new }
         ensures back { IfErr result (λ refused. (refused.key ≡ put.key) × (refused.value ≡ put.value)) }
         ensures entry { IfOk result (λ e. IsFresh K.is_clone put.key e × (e.is_old_value_replaced ≡ is_old_value_replaced)) }

@@ -2,11 +2,11 @@
 //! cache.
 //! moka: `sync::entry_selector`.
 ghost use Rattle.std.specs.Prelude.{◌≡◌, false, Option, None, Result, is_some, option_copied};
-ghost use Rattle.std.specs.List.{fold};
 ghost use Rattle.moka_parts.specs.Calls.{ContainsStep};
 ghost use Rattle.moka_parts.specs.declared.error.InsertRefused.{InsertRefused};
 ghost use Rattle.moka_drive.specs.Computing.{AndUpserts, AndComputes};
 ghost use Rattle.moka_drive.specs.Entries.{OrInserts, OrInsertsMade, OrInsertsIfMade, OrInsertsIfNoError};
+ghost use Rattle.moka_drive.specs.Hashing.{key_hash};
 ghost use Rattle.moka_drive.specs.Synchronous.{meaning_of, hears_clones};
 
 use crate::cache::Cache;
@@ -82,7 +82,7 @@ impl<
         V: Clone + Drop,
         P: Drop,
         ensures { OrInserts (meaning_of K.eq L.tells P.says W.weighs C.reads X.created X.read X.updated)
-            K.is_clone V.is_clone self.entry.key (S.Hasher.finish (fold S.Hasher.write (S.build_hasher self.entry.cache.now.engine.hasher) (K.hash_input self.entry.key))) now
+            K.is_clone V.is_clone self.entry.key (key_hash S.BuildHasher S.Hasher.Hasher self.entry.cache.now.engine.hasher (K.hash_input self.entry.key)) now
             self.entry.cache.now clock.old self.exit.0.now clock.new value result }
     {
         let OwnedKeyEntrySelector { cache, key } = self;
@@ -106,7 +106,7 @@ impl<
         P: Drop,
         requires callable { ContainsStep P.says K.eq self.cache.now.engine.state self.key now.0 false → F.pre init }
         ensures { OrInsertsMade (meaning_of K.eq L.tells P.says W.weighs C.reads X.created X.read X.updated)
-            K.is_clone V.is_clone self.entry.key (S.Hasher.finish (fold S.Hasher.write (S.build_hasher self.entry.cache.now.engine.hasher) (K.hash_input self.entry.key))) now
+            K.is_clone V.is_clone self.entry.key (key_hash S.BuildHasher S.Hasher.Hasher self.entry.cache.now.engine.hasher (K.hash_input self.entry.key)) now
             self.entry.cache.now clock.old self.exit.0.now clock.new (F.post init) result }
     {
         let OwnedKeyEntrySelector { cache, key } = self;
@@ -130,7 +130,7 @@ impl<
         P: Drop,
         requires callable { ContainsStep P.says K.eq self.cache.now.engine.state self.key now.0 false → F.pre init }
         ensures { OrInsertsIfMade (meaning_of K.eq L.tells P.says W.weighs C.reads X.created X.read X.updated)
-            K.is_clone V.is_clone self.entry.key (S.Hasher.finish (fold S.Hasher.write (S.build_hasher self.entry.cache.now.engine.hasher) (K.hash_input self.entry.key))) now
+            K.is_clone V.is_clone self.entry.key (key_hash S.BuildHasher S.Hasher.Hasher self.entry.cache.now.engine.hasher (K.hash_input self.entry.key)) now
             self.entry.cache.now clock.old self.exit.0.now clock.new (F.post init) result }
     {
         let OwnedKeyEntrySelector { cache, key } = self;
@@ -154,7 +154,7 @@ impl<
         P: Drop,
         requires callable { ContainsStep P.says K.eq self.cache.now.engine.state self.key now.0 false → F.pre init }
         ensures { OrInsertsIfNoError (meaning_of K.eq L.tells P.says W.weighs C.reads X.created X.read X.updated)
-            K.is_clone V.is_clone self.entry.key (S.Hasher.finish (fold S.Hasher.write (S.build_hasher self.entry.cache.now.engine.hasher) (K.hash_input self.entry.key))) now
+            K.is_clone V.is_clone self.entry.key (key_hash S.BuildHasher S.Hasher.Hasher self.entry.cache.now.engine.hasher (K.hash_input self.entry.key)) now
             self.entry.cache.now clock.old self.exit.0.now clock.new (F.post init) result }
     {
         let OwnedKeyEntrySelector { cache, key } = self;
@@ -178,7 +178,7 @@ impl<
         P: Drop,
         requires callable { (seen : Option V) → ContainsStep P.says K.eq self.cache.now.engine.state self.key now.0 (is_some seen) → F.pre f seen }
         ensures { AndUpserts (meaning_of K.eq L.tells P.says W.weighs C.reads X.created X.read X.updated)
-            K.is_clone V.is_clone self.entry.key (S.Hasher.finish (fold S.Hasher.write (S.build_hasher self.entry.cache.now.engine.hasher) (K.hash_input self.entry.key))) now
+            K.is_clone V.is_clone self.entry.key (key_hash S.BuildHasher S.Hasher.Hasher self.entry.cache.now.engine.hasher (K.hash_input self.entry.key)) now
             self.entry.cache.now clock.old self.exit.0.now clock.new (F.post f) result }
     {
         let OwnedKeyEntrySelector { cache, key } = self;
@@ -202,7 +202,7 @@ impl<
         P: Drop,
         requires callable { (seen : _) → ContainsStep P.says K.eq self.cache.now.engine.state self.key now.0 (is_some (option_copied seen)) → F.pre f seen }
         ensures { AndComputes (meaning_of K.eq (hears_clones K.is_clone V.is_clone L.tells) P.says W.weighs C.reads X.created X.read X.updated)
-            K.is_clone V.is_clone self.entry.key (S.Hasher.finish (fold S.Hasher.write (S.build_hasher self.entry.cache.now.engine.hasher) (K.hash_input self.entry.key))) now
+            K.is_clone V.is_clone self.entry.key (key_hash S.BuildHasher S.Hasher.Hasher self.entry.cache.now.engine.hasher (K.hash_input self.entry.key)) now
             self.entry.cache.now clock.old self.exit.0.now clock.new (λ seen op. (x : _) × (option_copied x ≡ seen) × F.post f x op) result }
     {
         let OwnedKeyEntrySelector { cache, key } = self;

@@ -1,8 +1,8 @@
 //! Calls for many keys at once. Each makes the call for one key after the other, in order, and stops at the first that
 //! is refused.
 ghost use Rattle.std.specs.Prelude.{◌≡◌};
-ghost use Rattle.std.specs.List.{fold};
 ghost use Rattle.moka_drive.specs.Counters.{after_look_ups};
+ghost use Rattle.moka_drive.specs.Hashing.{key_hash};
 ghost use Rattle.moka_drive.specs.Many.{GetsMany, InsertsMany, InvalidatesMany, found_by};
 ghost use Rattle.moka_drive.specs.Synchronous.{Makes, hears_clones, meaning_of};
 
@@ -111,7 +111,7 @@ impl<
         V: Clone + Drop,
         P: Drop,
         ensures made { Makes (meaning_of K.eq L.tells P.says W.weighs C.reads X.created X.read X.updated)
-            (GetsMany V.is_clone (λ key. S.Hasher.finish (fold S.Hasher.write (S.build_hasher self.old.engine.hasher) (K.hash_input key))) now keys.now result)
+            (GetsMany V.is_clone (λ key. key_hash S.BuildHasher S.Hasher.Hasher self.old.engine.hasher (K.hash_input key)) now keys.now result)
             self.old.engine clock.old self.new.engine clock.new }
         ensures counted { self.new.stats ≡ after_look_ups (found_by result) self.old.stats }
     {
@@ -147,7 +147,7 @@ impl<
         V: Drop,
         P: Drop,
         ensures made { Makes (meaning_of K.eq L.tells P.says W.weighs C.reads X.created X.read X.updated)
-            (InsertsMany (λ key. S.Hasher.finish (fold S.Hasher.write (S.build_hasher self.old.engine.hasher) (K.hash_input key))) now items.items result)
+            (InsertsMany (λ key. key_hash S.BuildHasher S.Hasher.Hasher self.old.engine.hasher (K.hash_input key)) now items.items result)
             self.old.engine clock.old self.new.engine clock.new }
         ensures counted { self.new.stats ≡ self.old.stats }
     {
@@ -184,7 +184,7 @@ impl<
         V: Clone + Drop,
         P: Drop,
         ensures made { Makes (meaning_of K.eq (hears_clones K.is_clone V.is_clone L.tells) P.says W.weighs C.reads X.created X.read X.updated)
-            (InvalidatesMany (λ key. S.Hasher.finish (fold S.Hasher.write (S.build_hasher self.old.engine.hasher) (K.hash_input key))) now keys.now result)
+            (InvalidatesMany (λ key. key_hash S.BuildHasher S.Hasher.Hasher self.old.engine.hasher (K.hash_input key)) now keys.now result)
             self.old.engine clock.old self.new.engine clock.new }
         ensures counted { self.new.stats ≡ self.old.stats }
     {

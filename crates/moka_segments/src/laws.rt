@@ -1,5 +1,5 @@
 //! Laws of a cache in segments. The contract of each function is a law, and its body does nothing.
-ghost use Rattle.std.specs.List.{fold};
+ghost use Rattle.moka_drive.specs.Hashing.{key_hash};
 ghost use Rattle.moka_drive.specs.Synchronous.{meaning_of};
 ghost use Rattle.moka_segments.specs.Keys.{HoldNone, KeysBelong};
 ghost use Rattle.moka_segments.specs.Laws.{CallsByKeyKeepKeys, CallsOfAllKeepKeys, EachMovesAlone, EachRuns, GetWithKeepsKeys, KeysStay, OneSegmentEach, RegisteringKeepsKeys};
@@ -42,7 +42,7 @@ pub fn keys_stay<
     W: Weigher<K, V>,
     C: Clock,
 >()
-    ensures { KeysStay S (λ h k. S.Hasher.finish (fold S.Hasher.write (S.build_hasher h) (K.hash_input k)))
+    ensures { KeysStay S (λ h k. key_hash S.BuildHasher S.Hasher.Hasher h (K.hash_input k))
         (meaning_of K.eq L.tells P.says W.weighs C.reads X.created X.read X.updated) }
 {}
 
@@ -57,7 +57,7 @@ pub fn one_segment_each<
     W: Weigher<K, V>,
 >()
     ensures { OneSegmentEach V S X L P W
-        (λ h k. S.Hasher.finish (fold S.Hasher.write (S.build_hasher h) (K.hash_input k))) K.eq }
+        (λ h k. key_hash S.BuildHasher S.Hasher.Hasher h (K.hash_input k)) K.eq }
 {}
 
 /// Each call by key leaves keys in the segments that they belong to; `get_with_keeps_keys` speaks of those with a
@@ -72,7 +72,7 @@ pub fn calls_by_key_keep_keys<
     W: Weigher<K, V>,
     C: Clock,
 >()
-    ensures { CallsByKeyKeepKeys (λ h k. S.Hasher.finish (fold S.Hasher.write (S.build_hasher h) (K.hash_input k)))
+    ensures { CallsByKeyKeepKeys (λ h k. key_hash S.BuildHasher S.Hasher.Hasher h (K.hash_input k))
         (meaning_of K.eq L.tells P.says W.weighs C.reads X.created X.read X.updated)
         K.is_clone V.is_clone }
 {}
@@ -89,7 +89,7 @@ pub fn get_with_keeps_keys<
     C: Clock,
     F: FnOnce() -> V,
 >()
-    ensures { GetWithKeepsKeys (λ h k. S.Hasher.finish (fold S.Hasher.write (S.build_hasher h) (K.hash_input k)))
+    ensures { GetWithKeepsKeys (λ h k. key_hash S.BuildHasher S.Hasher.Hasher h (K.hash_input k))
         (meaning_of K.eq L.tells P.says W.weighs C.reads X.created X.read X.updated)
         V.is_clone F.post }
 {}
@@ -105,7 +105,7 @@ pub fn calls_of_all_keep_keys<
     W: Weigher<K, V>,
     C: Clock,
 >()
-    ensures { CallsOfAllKeepKeys (λ h k. S.Hasher.finish (fold S.Hasher.write (S.build_hasher h) (K.hash_input k)))
+    ensures { CallsOfAllKeepKeys (λ h k. key_hash S.BuildHasher S.Hasher.Hasher h (K.hash_input k))
         (meaning_of K.eq L.tells P.says W.weighs C.reads X.created X.read X.updated) }
 {}
 
@@ -121,7 +121,7 @@ pub fn registering_keeps_keys<
     I: IdSource,
     F: Fn() -> P,
 >()
-    ensures { RegisteringKeepsKeys S X W (λ h k. S.Hasher.finish (fold S.Hasher.write (S.build_hasher h) (K.hash_input k)))
+    ensures { RegisteringKeepsKeys S X W (λ h k. key_hash S.BuildHasher S.Hasher.Hasher h (K.hash_input k))
         L.tells I.gives F.post }
 {}
 
@@ -136,7 +136,7 @@ pub fn none_belong<
     W: Weigher<K, V>,
 >()
     ensures { (c : Segmented K V S X L P W) → HoldNone c →
-        KeysBelong (λ h k. S.Hasher.finish (fold S.Hasher.write (S.build_hasher h) (K.hash_input k))) c }
+        KeysBelong (λ h k. key_hash S.BuildHasher S.Hasher.Hasher h (K.hash_input k)) c }
 {}
 
 /// What is so of moves (`each_runs`) is so of those that the cache's own calls are: where listeners may hear of clones,
@@ -168,7 +168,7 @@ pub fn calls_by_key_are_moves<
     W: Weigher<K, V>,
     C: Clock,
 >()
-    ensures { CallsByKeyAreMoves (λ h k. S.Hasher.finish (fold S.Hasher.write (S.build_hasher h) (K.hash_input k)))
+    ensures { CallsByKeyAreMoves (λ h k. key_hash S.BuildHasher S.Hasher.Hasher h (K.hash_input k))
         (meaning_of K.eq L.tells P.says W.weighs C.reads X.created X.read X.updated) K.is_clone V.is_clone }
 {}
 
@@ -184,7 +184,7 @@ pub fn get_with_is_move<
     C: Clock,
     F: FnOnce() -> V,
 >()
-    ensures { GetWithIsMove (λ h k. S.Hasher.finish (fold S.Hasher.write (S.build_hasher h) (K.hash_input k)))
+    ensures { GetWithIsMove (λ h k. key_hash S.BuildHasher S.Hasher.Hasher h (K.hash_input k))
         (meaning_of K.eq L.tells P.says W.weighs C.reads X.created X.read X.updated) K.is_clone V.is_clone F.post }
 {}
 

@@ -1,7 +1,7 @@
 //! Which segment a key belongs to. moka: `sync::segment`, `select`.
 ghost use Rattle.std.specs.Prelude.{◌≡◌, ◌<◌, max};
-ghost use Rattle.std.specs.List.{fold};
 ghost use Rattle.moka_segments.specs.Routing.{segment_of, share};
+ghost use Rattle.moka_drive.specs.Hashing.{key_hash};
 
 use std::hash::{BuildHasher, Hash};
 use std::marker::Model;
@@ -79,7 +79,7 @@ impl<S> Router<S> {
 impl<S: BuildHasher> Router<S> {
     /// The segment of a key.
     pub fn segment_of<K: Hash>(&self, key: &K) -> usize
-        ensures place { result ≡ segment_of self.now.count (S.Hasher.finish (fold S.Hasher.write (S.build_hasher self.now.hasher) (K.hash_input key.now))) }
+        ensures place { result ≡ segment_of self.now.count (key_hash S.BuildHasher S.Hasher.Hasher self.now.hasher (K.hash_input key.now)) }
         ensures within { result < self.now.count }
     {
         self.segment_of_hash(self.hasher.hash_one(key))

@@ -1,6 +1,5 @@
 //! A synchronous cache that owns its clock.
 ghost use Rattle.std.specs.Prelude.{◌≡◌, ◌≤◌, true, false, Option, Some, None, Result, IfOk, IfErr, OnErr, is_some, option_copied, unwrap_or, IfSome, option_map};
-ghost use Rattle.std.specs.List.{fold};
 ghost use Rattle.moka_parts.specs.Calls.{CapacityStep, ContainsStep, InvalidateStep, no_events, only_ids};
 ghost use Rattle.moka_parts.specs.Copies.{IsCopiedAnswer};
 ghost use Rattle.moka_parts.specs.Exact.{IsExact, IsWithin};
@@ -15,6 +14,7 @@ ghost use Rattle.moka_parts.specs.declared.policy.Instant.{Instant};
 ghost use Rattle.moka_parts.specs.declared.records.Record.{Record};
 ghost use Rattle.moka_engine.specs.Config.{new_engine};
 ghost use Rattle.moka_drive.specs.Counters.{after_look_up};
+ghost use Rattle.moka_drive.specs.Hashing.{key_hash};
 ghost use Rattle.moka_drive.specs.Unsent.{IsThere, ShowsWrites};
 ghost use Rattle.moka_drive.specs.Synchronous.{fresh, Makes, meaning_of, hears_clones, Just, own_run, InsertsEntry, GetsValue, RemovesEntry, removed, invalidated, taken_out, GetsWith, GetsWithIfMade, GetsWithIfNoError};
 
@@ -150,7 +150,7 @@ impl<
         P: Drop,
         ensures made { (now : Instant) × (read : C) × C.reads self.old.clock now read
             × Makes (meaning_of K.eq L.tells P.says W.weighs C.reads X.created X.read X.updated)
-            (InsertsEntry key (S.Hasher.finish (fold S.Hasher.write (S.build_hasher self.old.cache.engine.hasher) (K.hash_input key))) value now result)
+            (InsertsEntry key (key_hash S.BuildHasher S.Hasher.Hasher self.old.cache.engine.hasher (K.hash_input key)) value now result)
             self.old.cache.engine read self.new.cache.engine self.new.clock
             × IfOk result (λ _. is_disabled self.old.cache.engine.state.capacity ≡ false → IsThere K.eq self.new.cache.engine.state key value now)
             × IfOk result (λ _. is_disabled self.old.cache.engine.state.capacity ≡ false → ShowsWrites self.old.cache.engine.state now.0 → ContainsStep P.says K.eq self.new.cache.engine.state key now.0 true) }
@@ -174,7 +174,7 @@ impl<
         ensures made { (now : Instant) × (read : C) × C.reads self.old.clock now read
             × ((own : Result (Option V) OutOfMemory) × IsCopiedAnswer V.is_clone own result
             × Makes (meaning_of K.eq L.tells P.says W.weighs C.reads X.created X.read X.updated)
-            (GetsValue key.now (S.Hasher.finish (fold S.Hasher.write (S.build_hasher self.old.cache.engine.hasher) (K.hash_input key.now))) now own)
+            (GetsValue key.now (key_hash S.BuildHasher S.Hasher.Hasher self.old.cache.engine.hasher (K.hash_input key.now)) now own)
             self.old.cache.engine read self.new.cache.engine self.new.clock)
             × IfOk result (λ found. ContainsStep P.says K.eq self.old.cache.engine.state key.now now.0 (is_some found)) }
         ensures value { IfOk result (λ found. IfSome found (λ v. (r : Record K V)
@@ -198,7 +198,7 @@ impl<
         ensures made { (now : Instant) × (read : C) × C.reads self.old.clock now read
             × ((taken : Option (V × Result (Unit {0}) OutOfMemory)) × (result ≡ removed taken)
             × Makes (meaning_of K.eq (hears_clones K.is_clone V.is_clone L.tells) P.says W.weighs C.reads X.created X.read X.updated)
-            (RemovesEntry key.now (S.Hasher.finish (fold S.Hasher.write (S.build_hasher self.old.cache.engine.hasher) (K.hash_input key.now))) now taken)
+            (RemovesEntry key.now (key_hash S.BuildHasher S.Hasher.Hasher self.old.cache.engine.hasher (K.hash_input key.now)) now taken)
             self.old.cache.engine read self.new.cache.engine self.new.clock) }
         ensures gone { record_of_key K.eq self.new.cache.engine.state.records key.now ≡ None }
         ensures value { taken_out result
@@ -221,7 +221,7 @@ impl<
         ensures made { (now : Instant) × (read : C) × C.reads self.old.clock now read
             × ((taken : Option (V × Result (Unit {0}) OutOfMemory)) × (result ≡ invalidated taken)
             × Makes (meaning_of K.eq (hears_clones K.is_clone V.is_clone L.tells) P.says W.weighs C.reads X.created X.read X.updated)
-            (RemovesEntry key.now (S.Hasher.finish (fold S.Hasher.write (S.build_hasher self.old.cache.engine.hasher) (K.hash_input key.now))) now taken)
+            (RemovesEntry key.now (key_hash S.BuildHasher S.Hasher.Hasher self.old.cache.engine.hasher (K.hash_input key.now)) now taken)
             self.old.cache.engine read self.new.cache.engine self.new.clock) }
         ensures gone { record_of_key K.eq self.new.cache.engine.state.records key.now ≡ None }
         ensures counted { self.new.cache.stats ≡ self.old.cache.stats }
@@ -244,7 +244,7 @@ impl<
         requires { (now : Instant) → ContainsStep P.says K.eq self.old.cache.engine.state key now.0 false → F.pre init }
         ensures { (now : Instant) × (read : C) × C.reads self.old.clock now read
             × GetsWith (meaning_of K.eq L.tells P.says W.weighs C.reads X.created X.read X.updated)
-            V.is_clone key (S.Hasher.finish (fold S.Hasher.write (S.build_hasher self.old.cache.engine.hasher) (K.hash_input key))) now
+            V.is_clone key (key_hash S.BuildHasher S.Hasher.Hasher self.old.cache.engine.hasher (K.hash_input key)) now
             self.old.cache read self.new.cache self.new.clock (F.post init) result }
     {
         let now = self.clock.now();
@@ -267,7 +267,7 @@ impl<
         requires { (now : Instant) → ContainsStep P.says K.eq self.old.cache.engine.state key now.0 false → F.pre init }
         ensures { (now : Instant) × (read : C) × C.reads self.old.clock now read
             × GetsWithIfMade (meaning_of K.eq L.tells P.says W.weighs C.reads X.created X.read X.updated)
-            V.is_clone key (S.Hasher.finish (fold S.Hasher.write (S.build_hasher self.old.cache.engine.hasher) (K.hash_input key))) now
+            V.is_clone key (key_hash S.BuildHasher S.Hasher.Hasher self.old.cache.engine.hasher (K.hash_input key)) now
             self.old.cache read self.new.cache self.new.clock (F.post init) result }
     {
         let now = self.clock.now();
@@ -291,7 +291,7 @@ impl<
         requires { (now : Instant) → ContainsStep P.says K.eq self.old.cache.engine.state key now.0 false → F.pre init }
         ensures { (now : Instant) × (read : C) × C.reads self.old.clock now read
             × GetsWithIfNoError (meaning_of K.eq L.tells P.says W.weighs C.reads X.created X.read X.updated)
-            V.is_clone key (S.Hasher.finish (fold S.Hasher.write (S.build_hasher self.old.cache.engine.hasher) (K.hash_input key))) now
+            V.is_clone key (key_hash S.BuildHasher S.Hasher.Hasher self.old.cache.engine.hasher (K.hash_input key)) now
             self.old.cache read self.new.cache self.new.clock (F.post init) result }
     {
         let now = self.clock.now();

@@ -1,11 +1,11 @@
 //! Entry calls of the cache that owns its clock, which each reads once, at its start.
 ghost use Rattle.std.specs.Prelude.{◌≡◌, false, Option, Result, is_some, option_copied};
-ghost use Rattle.std.specs.List.{fold};
 ghost use Rattle.moka_parts.specs.Calls.{ContainsStep};
 ghost use Rattle.moka_parts.specs.declared.error.InsertRefused.{InsertRefused};
 ghost use Rattle.moka_parts.specs.declared.policy.Instant.{Instant};
 ghost use Rattle.moka_drive.specs.Computing.{AndUpserts, AndComputes};
 ghost use Rattle.moka_drive.specs.Entries.{OrInserts, OrInsertsMade, OrInsertsIfMade, OrInsertsIfNoError};
+ghost use Rattle.moka_drive.specs.Hashing.{key_hash};
 ghost use Rattle.moka_drive.specs.Synchronous.{meaning_of, hears_clones};
 
 use crate::cache::TimedCache;
@@ -78,7 +78,7 @@ impl<
         P: Drop,
         ensures { (now : Instant) × (read : C) × C.reads self.entry.cache.now.clock now read
             × OrInserts (meaning_of K.eq L.tells P.says W.weighs C.reads X.created X.read X.updated)
-            K.is_clone V.is_clone self.entry.key (S.Hasher.finish (fold S.Hasher.write (S.build_hasher self.entry.cache.now.cache.engine.hasher) (K.hash_input self.entry.key))) now
+            K.is_clone V.is_clone self.entry.key (key_hash S.BuildHasher S.Hasher.Hasher self.entry.cache.now.cache.engine.hasher (K.hash_input self.entry.key)) now
             self.entry.cache.now.cache read self.exit.0.now.cache self.exit.0.now.clock value result }
     {
         let TimedEntrySelector { cache: timed, key } = self;
@@ -101,7 +101,7 @@ impl<
         requires callable { (now : Instant) → ContainsStep P.says K.eq self.cache.now.cache.engine.state self.key now.0 false → F.pre init }
         ensures { (now : Instant) × (read : C) × C.reads self.entry.cache.now.clock now read
             × OrInsertsMade (meaning_of K.eq L.tells P.says W.weighs C.reads X.created X.read X.updated)
-            K.is_clone V.is_clone self.entry.key (S.Hasher.finish (fold S.Hasher.write (S.build_hasher self.entry.cache.now.cache.engine.hasher) (K.hash_input self.entry.key))) now
+            K.is_clone V.is_clone self.entry.key (key_hash S.BuildHasher S.Hasher.Hasher self.entry.cache.now.cache.engine.hasher (K.hash_input self.entry.key)) now
             self.entry.cache.now.cache read self.exit.0.now.cache self.exit.0.now.clock (F.post init) result }
     {
         let TimedEntrySelector { cache: timed, key } = self;
@@ -126,7 +126,7 @@ impl<
         requires callable { (now : Instant) → ContainsStep P.says K.eq self.cache.now.cache.engine.state self.key now.0 false → F.pre init }
         ensures { (now : Instant) × (read : C) × C.reads self.entry.cache.now.clock now read
             × OrInsertsIfMade (meaning_of K.eq L.tells P.says W.weighs C.reads X.created X.read X.updated)
-            K.is_clone V.is_clone self.entry.key (S.Hasher.finish (fold S.Hasher.write (S.build_hasher self.entry.cache.now.cache.engine.hasher) (K.hash_input self.entry.key))) now
+            K.is_clone V.is_clone self.entry.key (key_hash S.BuildHasher S.Hasher.Hasher self.entry.cache.now.cache.engine.hasher (K.hash_input self.entry.key)) now
             self.entry.cache.now.cache read self.exit.0.now.cache self.exit.0.now.clock (F.post init) result }
     {
         let TimedEntrySelector { cache: timed, key } = self;
@@ -151,7 +151,7 @@ impl<
         requires callable { (now : Instant) → ContainsStep P.says K.eq self.cache.now.cache.engine.state self.key now.0 false → F.pre init }
         ensures { (now : Instant) × (read : C) × C.reads self.entry.cache.now.clock now read
             × OrInsertsIfNoError (meaning_of K.eq L.tells P.says W.weighs C.reads X.created X.read X.updated)
-            K.is_clone V.is_clone self.entry.key (S.Hasher.finish (fold S.Hasher.write (S.build_hasher self.entry.cache.now.cache.engine.hasher) (K.hash_input self.entry.key))) now
+            K.is_clone V.is_clone self.entry.key (key_hash S.BuildHasher S.Hasher.Hasher self.entry.cache.now.cache.engine.hasher (K.hash_input self.entry.key)) now
             self.entry.cache.now.cache read self.exit.0.now.cache self.exit.0.now.clock (F.post init) result }
     {
         let TimedEntrySelector { cache: timed, key } = self;
@@ -176,7 +176,7 @@ impl<
         requires callable { (now : Instant) → (seen : Option V) → ContainsStep P.says K.eq self.cache.now.cache.engine.state self.key now.0 (is_some seen) → F.pre f seen }
         ensures { (now : Instant) × (read : C) × C.reads self.entry.cache.now.clock now read
             × AndUpserts (meaning_of K.eq L.tells P.says W.weighs C.reads X.created X.read X.updated)
-            K.is_clone V.is_clone self.entry.key (S.Hasher.finish (fold S.Hasher.write (S.build_hasher self.entry.cache.now.cache.engine.hasher) (K.hash_input self.entry.key))) now
+            K.is_clone V.is_clone self.entry.key (key_hash S.BuildHasher S.Hasher.Hasher self.entry.cache.now.cache.engine.hasher (K.hash_input self.entry.key)) now
             self.entry.cache.now.cache read self.exit.0.now.cache self.exit.0.now.clock (F.post f) result }
     {
         let TimedEntrySelector { cache: timed, key } = self;
@@ -199,7 +199,7 @@ impl<
         requires callable { (now : Instant) → (seen : _) → ContainsStep P.says K.eq self.cache.now.cache.engine.state self.key now.0 (is_some (option_copied seen)) → F.pre f seen }
         ensures { (now : Instant) × (read : C) × C.reads self.entry.cache.now.clock now read
             × AndComputes (meaning_of K.eq (hears_clones K.is_clone V.is_clone L.tells) P.says W.weighs C.reads X.created X.read X.updated)
-            K.is_clone V.is_clone self.entry.key (S.Hasher.finish (fold S.Hasher.write (S.build_hasher self.entry.cache.now.cache.engine.hasher) (K.hash_input self.entry.key))) now
+            K.is_clone V.is_clone self.entry.key (key_hash S.BuildHasher S.Hasher.Hasher self.entry.cache.now.cache.engine.hasher (K.hash_input self.entry.key)) now
             self.entry.cache.now.cache read self.exit.0.now.cache self.exit.0.now.clock (λ seen op. (x : _) × (option_copied x ≡ seen) × F.post f x op) result }
     {
         let TimedEntrySelector { cache: timed, key } = self;

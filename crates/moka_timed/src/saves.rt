@@ -1,11 +1,11 @@
 //! The visible entries in the order of access, and a cache made again from them.
 ghost use Rattle.std.specs.Prelude.{◌≡◌, ◌∷◌, ◌++◌, Bool, List, IfOk, IfErr};
-ghost use Rattle.std.specs.List.{fold};
 ghost use Rattle.std.specs.Vec.Iter.{into_iter_items};
 ghost use Rattle.moka_parts.specs.declared.calls.Reply.TheVariants as reply;
 ghost use Rattle.moka_parts.specs.declared.policy.Instant.{Instant};
 ghost use Rattle.moka_engine.specs.Snapshots.{scene_of};
 ghost use Rattle.moka_engine.specs.declared.base_cache.restores.Restored.{Restored};
+ghost use Rattle.moka_drive.specs.Hashing.{key_hash};
 ghost use Rattle.moka_drive.specs.Saved.{AddsOnly, AreAllMembers, AreSaved, AreThere, PutsManyBack, TakesOnlyExpired};
 ghost use Rattle.moka_drive.specs.Synchronous.{Just, Makes, meaning_of, own_run};
 ghost use Rattle.moka_drive.specs.Unsent.{HidesNoMore};
@@ -63,7 +63,7 @@ impl<
         P: Drop,
         ensures made { (now : Instant) × (read : C) × C.reads self.old.clock now read
             × PutsManyBack (meaning_of K.eq L.tells P.says W.weighs C.reads X.created X.read X.updated)
-            (λ h k. S.Hasher.finish (fold S.Hasher.write (S.build_hasher h) (K.hash_input k))) now items.items result
+            (λ h k. key_hash S.BuildHasher S.Hasher.Hasher h (K.hash_input k)) now items.items result
             self.old.cache.engine read self.new.cache.engine self.new.clock
             × IfOk result (λ _. AreThere W.weighs K.eq now.0 items.items self.old.cache.engine.state self.new.cache.engine.state)
             × TakesOnlyExpired W.weighs items.items now.0 self.old.cache.engine.state self.new.cache.engine.state }

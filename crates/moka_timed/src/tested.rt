@@ -1,6 +1,5 @@
 //! Look-ups and removals by a test of the key in place of a key.
 ghost use Rattle.std.specs.Prelude.{◌≡◌, true, Option, Some, None, Result, IfOk, IfSome, OnErr, is_some};
-ghost use Rattle.std.specs.List.{fold};
 ghost use Rattle.moka_parts.specs.Calls.{ContainsStep};
 ghost use Rattle.moka_parts.specs.Copies.{IsCopiedAnswer};
 ghost use Rattle.moka_parts.specs.KeyTests.{ContainsByStep, record_by};
@@ -9,6 +8,7 @@ ghost use Rattle.moka_parts.specs.declared.error.OutOfMemory.{OutOfMemory};
 ghost use Rattle.moka_parts.specs.declared.policy.Instant.{Instant};
 ghost use Rattle.moka_parts.specs.declared.records.Record.{Record};
 ghost use Rattle.moka_drive.specs.Counters.{after_look_up};
+ghost use Rattle.moka_drive.specs.Hashing.{key_hash};
 ghost use Rattle.moka_drive.specs.Synchronous.{GetsValue, Makes, RemovesEntry, hears_clones, invalidated, meaning_of, removed};
 
 use crate::cache::TimedCache;
@@ -33,14 +33,14 @@ impl<
 > TimedCache<K, V, C, X, L, P, W, S> {
     /// As `Cache::hash_of`.
     pub fn hash_of<Q: Hash>(&self, form: &Q) -> u64
-        ensures { result ≡ S.Hasher.finish (fold S.Hasher.write (S.build_hasher self.now.cache.engine.hasher) (Q.hash_input form.now)) }
+        ensures { result ≡ key_hash S.BuildHasher S.Hasher.Hasher self.now.cache.engine.hasher (Q.hash_input form.now) }
     {
         self.cache.hash_of(form)
     }
 
     /// As `contains_key` of the key that passes. `hash` is that of the keys that do, by the cache's hasher.
     pub fn contains_key_by<T: KeyTest<K>>(&mut self, test: &T, hash: u64) -> bool
-        requires own { (k : K) → T.passes test.now k ≡ true → hash ≡ S.Hasher.finish (fold S.Hasher.write (S.build_hasher self.old.cache.engine.hasher) (K.hash_input k)) }
+        requires own { (k : K) → T.passes test.now k ≡ true → hash ≡ key_hash S.BuildHasher S.Hasher.Hasher self.old.cache.engine.hasher (K.hash_input k) }
         ensures { (now : Instant) × C.reads self.old.clock now self.new.clock
             × ContainsByStep P.says (T.passes test.now) self.old.cache.engine.state now.0 result
             × ((key : K) → T.passes test.now key ≡ true → ContainsStep P.says K.eq self.old.cache.engine.state key now.0 result)
@@ -59,7 +59,7 @@ impl<
         K: Clone + Drop,
         V: Clone + Drop,
         P: Drop,
-        requires own { (k : K) → T.passes test.now k ≡ true → hash ≡ S.Hasher.finish (fold S.Hasher.write (S.build_hasher self.old.cache.engine.hasher) (K.hash_input k)) }
+        requires own { (k : K) → T.passes test.now k ≡ true → hash ≡ key_hash S.BuildHasher S.Hasher.Hasher self.old.cache.engine.hasher (K.hash_input k) }
         ensures made { (now : Instant) × (read : C) × C.reads self.old.clock now read
             × ((key : K) → T.passes test.now key ≡ true → (own : Result (Option V) OutOfMemory) × IsCopiedAnswer V.is_clone own result
             × Makes (meaning_of K.eq L.tells P.says W.weighs C.reads X.created X.read X.updated)
@@ -82,7 +82,7 @@ impl<
         K: Clone + Drop,
         V: Clone + Drop,
         P: Drop,
-        requires own { (k : K) → T.passes test.now k ≡ true → hash ≡ S.Hasher.finish (fold S.Hasher.write (S.build_hasher self.old.cache.engine.hasher) (K.hash_input k)) }
+        requires own { (k : K) → T.passes test.now k ≡ true → hash ≡ key_hash S.BuildHasher S.Hasher.Hasher self.old.cache.engine.hasher (K.hash_input k) }
         ensures made { (now : Instant) × (read : C) × C.reads self.old.clock now read
             × ((key : K) → T.passes test.now key ≡ true → (taken : Option (V × Result (Unit {0}) OutOfMemory)) × (result ≡ removed taken)
             × Makes (meaning_of K.eq (hears_clones K.is_clone V.is_clone L.tells) P.says W.weighs C.reads X.created X.read X.updated)
@@ -103,7 +103,7 @@ impl<
         K: Clone + Drop,
         V: Clone + Drop,
         P: Drop,
-        requires own { (k : K) → T.passes test.now k ≡ true → hash ≡ S.Hasher.finish (fold S.Hasher.write (S.build_hasher self.old.cache.engine.hasher) (K.hash_input k)) }
+        requires own { (k : K) → T.passes test.now k ≡ true → hash ≡ key_hash S.BuildHasher S.Hasher.Hasher self.old.cache.engine.hasher (K.hash_input k) }
         ensures made { (now : Instant) × (read : C) × C.reads self.old.clock now read
             × ((key : K) → T.passes test.now key ≡ true → (taken : Option (V × Result (Unit {0}) OutOfMemory)) × (result ≡ invalidated taken)
             × Makes (meaning_of K.eq (hears_clones K.is_clone V.is_clone L.tells) P.says W.weighs C.reads X.created X.read X.updated)

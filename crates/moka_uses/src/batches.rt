@@ -1,7 +1,7 @@
 //! Rows that are put in, looked up and taken out many at a time.
 ghost use Rattle.std.specs.Prelude.{◌≡◌, ◌++◌, ◌∷◌, List, length, IfOk, IfErr};
-ghost use Rattle.std.specs.List.{fold};
 ghost use Rattle.std.specs.Vec.Iter.{into_iter_items};
+ghost use Rattle.moka_drive.specs.Hashing.{key_hash};
 ghost use Rattle.moka_drive.specs.Many.{GetsMany, InsertsMany, InvalidatesMany};
 ghost use Rattle.moka_drive.specs.Synchronous.{Makes, hears_clones, meaning_of};
 
@@ -31,7 +31,7 @@ pub fn load<
     clock: &mut C,
 ) -> Result<(), InsertManyRefused<K, V>>
     ensures made { Makes (meaning_of K.eq L.tells P.says W.weighs C.reads X.created X.read X.updated)
-        (InsertsMany (λ key. S.Hasher.finish (fold S.Hasher.write (S.build_hasher cache.old.engine.hasher) (K.hash_input key))) now rows.items result)
+        (InsertsMany (λ key. key_hash S.BuildHasher S.Hasher.Hasher cache.old.engine.hasher (K.hash_input key)) now rows.items result)
         cache.old.engine clock.old cache.new.engine clock.new }
     ensures back { IfErr result (λ e. (put : List (K × V)) × (rows.items ≡ put ++ (e.refused.key, e.refused.value) ∷ into_iter_items e.rest) × (e.done ≡ length put)) }
 {
@@ -59,7 +59,7 @@ pub fn ask<
     clock: &mut C,
 ) -> Result<Vec<Option<V>>, GetManyRefused<V>>
     ensures made { Makes (meaning_of K.eq L.tells P.says W.weighs C.reads X.created X.read X.updated)
-        (GetsMany V.is_clone (λ key. S.Hasher.finish (fold S.Hasher.write (S.build_hasher cache.old.engine.hasher) (K.hash_input key))) now keys.now result)
+        (GetsMany V.is_clone (λ key. key_hash S.BuildHasher S.Hasher.Hasher cache.old.engine.hasher (K.hash_input key)) now keys.now result)
         cache.old.engine clock.old cache.new.engine clock.new }
     ensures each { IfOk result (λ found. length found.items ≡ length keys.now) }
 {
@@ -86,7 +86,7 @@ pub fn drop_all<
     clock: &mut C,
 ) -> Result<(), InvalidateManyRefused<V>>
     ensures made { Makes (meaning_of K.eq (hears_clones K.is_clone V.is_clone L.tells) P.says W.weighs C.reads X.created X.read X.updated)
-        (InvalidatesMany (λ key. S.Hasher.finish (fold S.Hasher.write (S.build_hasher cache.old.engine.hasher) (K.hash_input key))) now keys.now result)
+        (InvalidatesMany (λ key. key_hash S.BuildHasher S.Hasher.Hasher cache.old.engine.hasher (K.hash_input key)) now keys.now result)
         cache.old.engine clock.old cache.new.engine clock.new }
     ensures stopped { IfErr result (λ e. (before : List K) × (key : K) × (after : List K) × (keys.now ≡ before ++ key ∷ after) × (e.done ≡ length before)) }
 {

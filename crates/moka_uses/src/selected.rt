@@ -1,8 +1,8 @@
 //! Entry calls by moka's names: a value that is put only if its key is not there.
 ghost use Rattle.std.specs.Prelude.{◌≡◌, IfOk, Option, Result};
-ghost use Rattle.std.specs.List.{fold};
 ghost use Rattle.moka_engine.specs.parts.InsertRefused.{InsertRefused};
 ghost use Rattle.moka_drive.specs.Given.{IsHandedOut};
+ghost use Rattle.moka_drive.specs.Hashing.{key_hash};
 ghost use Rattle.moka_drive.specs.Synchronous.{GetsOrInserts, Makes, meaning_of};
 
 use moka_drive::{Cache, CacheEntry};
@@ -31,7 +31,7 @@ pub fn put_if_absent<
 ) -> Result<CacheEntry<K, V>, InsertRefused<K, V>>
     ensures made { (put : Option V) × (own : Result V (Option (InsertRefused K V)))
         × Makes (meaning_of K.eq L.tells P.says W.weighs C.reads X.created X.read X.updated)
-        (GetsOrInserts key (S.Hasher.finish (fold S.Hasher.write (S.build_hasher cache.old.engine.hasher) (K.hash_input key))) now put own)
+        (GetsOrInserts key (key_hash S.BuildHasher S.Hasher.Hasher cache.old.engine.hasher (K.hash_input key)) now put own)
         cache.old.engine clock.old cache.new.engine clock.new }
     ensures given { IfOk result (λ entry.
         IsHandedOut K.eq P.says V.is_clone cache.old.engine.state key now.0 (λ v. v ≡ value) entry.value) }

@@ -1,6 +1,6 @@
 //! A cache in segments that keeps its bound, and each key in one segment, each of which is a cache of its own.
-ghost use Rattle.std.specs.List.{fold};
 ghost use Rattle.std.specs.Prelude.{◌≤◌, IfSome};
+ghost use Rattle.moka_drive.specs.Hashing.{key_hash};
 ghost use Rattle.moka_drive.specs.Synchronous.{meaning_of};
 ghost use Rattle.moka_segments.specs.Keys.{AreInOneSegment, KeysBelong};
 ghost use Rattle.moka_segments.specs.Moves.{InsertsThenGets};
@@ -53,8 +53,8 @@ pub fn put_where_it_belongs<
     now: Instant,
     clock: &mut C,
 ) -> Result<(), InsertRefused<K, V>>
-    requires { KeysBelong (λ h k. S.Hasher.finish (fold S.Hasher.write (S.build_hasher h) (K.hash_input k))) cache.old }
-    ensures belong { KeysBelong (λ h k. S.Hasher.finish (fold S.Hasher.write (S.build_hasher h) (K.hash_input k))) cache.new }
+    requires { KeysBelong (λ h k. key_hash S.BuildHasher S.Hasher.Hasher h (K.hash_input k)) cache.old }
+    ensures belong { KeysBelong (λ h k. key_hash S.BuildHasher S.Hasher.Hasher h (K.hash_input k)) cache.new }
     ensures apart { AreInOneSegment K.eq cache.new }
 {
     calls_by_key_keep_keys::<K, V, S, X, L, P, W, C>();
@@ -86,7 +86,7 @@ pub fn put_and_find<
     Result<(), InsertRefused<K, V>>,
     Result<Option<V>, OutOfMemory>,
 )
-    ensures { InsertsThenGets (λ h k. S.Hasher.finish (fold S.Hasher.write (S.build_hasher h) (K.hash_input k)))
+    ensures { InsertsThenGets (λ h k. key_hash S.BuildHasher S.Hasher.Hasher h (K.hash_input k))
         (meaning_of K.eq L.tells P.says W.weighs C.reads X.created X.read X.updated) K.is_clone V.is_clone
         entry.0 entry.1 sought.now now result.0 result.1 cache.old cache.new }
 {

@@ -1,13 +1,13 @@
 //! The visible entries in the order of access, and a cache made again from them.
 ghost use Rattle.std.specs.Prelude.{◌≡◌, ◌∷◌, ◌++◌, [], Bool, false, List, IfOk, IfErr, OnErr, option_map};
 ghost use Rattle.std.specs.Duration.{as_nanos};
-ghost use Rattle.std.specs.List.{fold};
 ghost use Rattle.std.specs.Vec.Iter.{into_iter_items};
 ghost use Rattle.moka_parts.specs.State.{is_disabled};
 ghost use Rattle.moka_parts.specs.declared.calls.Reply.TheVariants as reply;
 ghost use Rattle.moka_parts.specs.declared.policy.Instant.{Instant};
 ghost use Rattle.moka_engine.specs.Snapshots.{scene_of};
 ghost use Rattle.moka_engine.specs.declared.base_cache.restores.Restored.{Restored};
+ghost use Rattle.moka_drive.specs.Hashing.{key_hash};
 ghost use Rattle.moka_drive.specs.Saved.{AddsOnly, AreAllMembers, AreSaved, AreThere, IsRestored, IsSaved, PutsBack, PutsManyBack, TakesOnlyExpired};
 ghost use Rattle.moka_drive.specs.Synchronous.{Just, Makes, meaning_of, own_run};
 ghost use Rattle.moka_drive.specs.Unsent.{HidesNoMore};
@@ -107,7 +107,7 @@ impl<
         V: Drop,
         P: Drop,
         ensures made { PutsBack (meaning_of K.eq L.tells P.says W.weighs C.reads X.created X.read X.updated)
-            (λ h k. S.Hasher.finish (fold S.Hasher.write (S.build_hasher h) (K.hash_input k))) now item result
+            (λ h k. key_hash S.BuildHasher S.Hasher.Hasher h (K.hash_input k)) now item result
             self.old.engine clock.old self.new.engine clock.new }
         ensures kept { IfOk result (λ _. is_disabled self.old.engine.state.capacity ≡ false → IsRestored K.eq self.new.engine.state item) }
         ensures adds { AddsOnly (item ∷ []) self.old.engine.state self.new.engine.state }
@@ -151,7 +151,7 @@ impl<
         V: Drop,
         P: Drop,
         ensures made { PutsManyBack (meaning_of K.eq L.tells P.says W.weighs C.reads X.created X.read X.updated)
-            (λ h k. S.Hasher.finish (fold S.Hasher.write (S.build_hasher h) (K.hash_input k))) now items.items result
+            (λ h k. key_hash S.BuildHasher S.Hasher.Hasher h (K.hash_input k)) now items.items result
             self.old.engine clock.old self.new.engine clock.new }
         ensures there { IfOk result (λ _. AreThere W.weighs K.eq now.0 items.items self.old.engine.state self.new.engine.state) }
         ensures adds { AddsOnly items.items self.old.engine.state self.new.engine.state }

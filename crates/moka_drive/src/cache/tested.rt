@@ -1,6 +1,5 @@
 //! Look-ups and removals by a test of the key in place of a key.
 ghost use Rattle.std.specs.Prelude.{◌≡◌, true, Option, Some, None, Result, IfOk, IfSome, OnErr, is_some};
-ghost use Rattle.std.specs.List.{fold};
 ghost use Rattle.moka_parts.specs.Calls.{ContainsStep};
 ghost use Rattle.moka_parts.specs.Copies.{IsCopiedAnswer};
 ghost use Rattle.moka_parts.specs.KeyTests.{ContainsByStep, record_by};
@@ -8,6 +7,7 @@ ghost use Rattle.moka_parts.specs.Records.{record_of_key};
 ghost use Rattle.moka_parts.specs.declared.error.OutOfMemory.{OutOfMemory};
 ghost use Rattle.moka_parts.specs.declared.records.Record.{Record};
 ghost use Rattle.moka_drive.specs.Counters.{after_look_up};
+ghost use Rattle.moka_drive.specs.Hashing.{key_hash};
 ghost use Rattle.moka_drive.specs.Synchronous.{GetsValue, Makes, RemovesEntry, hears_clones, invalidated, meaning_of, removed};
 
 use super::{Cache, post, value_of};
@@ -32,14 +32,14 @@ impl<
     /// The hash of a form of a key by the cache's hasher. It is the key's if both give the hasher the same, as a `&str`
     /// and a `String` of the same text do.
     pub fn hash_of<Q: Hash>(&self, form: &Q) -> u64
-        ensures { result ≡ S.Hasher.finish (fold S.Hasher.write (S.build_hasher self.now.engine.hasher) (Q.hash_input form.now)) }
+        ensures { result ≡ key_hash S.BuildHasher S.Hasher.Hasher self.now.engine.hasher (Q.hash_input form.now) }
     {
         self.engine.hash_of(form)
     }
 
     /// As `contains_key` of the key that passes. `hash` is that of the keys that do, by the cache's hasher.
     pub fn contains_key_by<T: KeyTest<K>>(&self, test: &T, hash: u64, now: Instant) -> bool
-        requires own { (k : K) → T.passes test.now k ≡ true → hash ≡ S.Hasher.finish (fold S.Hasher.write (S.build_hasher self.now.engine.hasher) (K.hash_input k)) }
+        requires own { (k : K) → T.passes test.now k ≡ true → hash ≡ key_hash S.BuildHasher S.Hasher.Hasher self.now.engine.hasher (K.hash_input k) }
         ensures shown { ContainsByStep P.says (T.passes test.now) self.now.engine.state now.0 result }
         ensures as_key { (key : K) → T.passes test.now key ≡ true → ContainsStep P.says K.eq self.now.engine.state key now.0 result }
     {
@@ -61,7 +61,7 @@ impl<
         K: Clone + Drop,
         V: Clone + Drop,
         P: Drop,
-        requires own { (k : K) → T.passes test.now k ≡ true → hash ≡ S.Hasher.finish (fold S.Hasher.write (S.build_hasher self.old.engine.hasher) (K.hash_input k)) }
+        requires own { (k : K) → T.passes test.now k ≡ true → hash ≡ key_hash S.BuildHasher S.Hasher.Hasher self.old.engine.hasher (K.hash_input k) }
         ensures made { (key : K) → T.passes test.now key ≡ true → (own : Result (Option V) OutOfMemory) × IsCopiedAnswer V.is_clone own result
             × Makes (meaning_of K.eq L.tells P.says W.weighs C.reads X.created X.read X.updated)
             (GetsValue key hash now own) self.old.engine clock.old self.new.engine clock.new }
@@ -92,7 +92,7 @@ impl<
         K: Clone + Drop,
         V: Clone + Drop,
         P: Drop,
-        requires own { (k : K) → T.passes test.now k ≡ true → hash ≡ S.Hasher.finish (fold S.Hasher.write (S.build_hasher self.old.engine.hasher) (K.hash_input k)) }
+        requires own { (k : K) → T.passes test.now k ≡ true → hash ≡ key_hash S.BuildHasher S.Hasher.Hasher self.old.engine.hasher (K.hash_input k) }
         ensures made { (key : K) → T.passes test.now key ≡ true → (taken : Option (V × Result (Unit {0}) OutOfMemory)) × (result ≡ removed taken)
             × Makes (meaning_of K.eq (hears_clones K.is_clone V.is_clone L.tells) P.says W.weighs C.reads X.created X.read X.updated)
             (RemovesEntry key hash now taken) self.old.engine clock.old self.new.engine clock.new }
@@ -123,7 +123,7 @@ impl<
         K: Clone + Drop,
         V: Clone + Drop,
         P: Drop,
-        requires own { (k : K) → T.passes test.now k ≡ true → hash ≡ S.Hasher.finish (fold S.Hasher.write (S.build_hasher self.old.engine.hasher) (K.hash_input k)) }
+        requires own { (k : K) → T.passes test.now k ≡ true → hash ≡ key_hash S.BuildHasher S.Hasher.Hasher self.old.engine.hasher (K.hash_input k) }
         ensures made { (key : K) → T.passes test.now key ≡ true → (taken : Option (V × Result (Unit {0}) OutOfMemory)) × (result ≡ invalidated taken)
             × Makes (meaning_of K.eq (hears_clones K.is_clone V.is_clone L.tells) P.says W.weighs C.reads X.created X.read X.updated)
             (RemovesEntry key hash now taken) self.old.engine clock.old self.new.engine clock.new }
@@ -151,7 +151,7 @@ impl<
         K: Clone + Drop,
         V: Clone + Drop,
         P: Drop,
-        requires own { (k : K) → T.passes test.now k ≡ true → hash ≡ S.Hasher.finish (fold S.Hasher.write (S.build_hasher self.old.engine.hasher) (K.hash_input k)) }
+        requires own { (k : K) → T.passes test.now k ≡ true → hash ≡ key_hash S.BuildHasher S.Hasher.Hasher self.old.engine.hasher (K.hash_input k) }
         ensures made { (key : K) → T.passes test.now key ≡ true → Makes (meaning_of K.eq (hears_clones K.is_clone V.is_clone L.tells) P.says W.weighs C.reads X.created X.read X.updated)
             (RemovesEntry key hash now result) self.old.engine clock.old self.new.engine clock.new }
         ensures gone { (key : K) → T.passes test.now key ≡ true → record_of_key K.eq self.new.engine.state.records key ≡ None }
