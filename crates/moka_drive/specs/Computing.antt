@@ -25,29 +25,37 @@ use Rattle.moka_drive.specs.Given.{Sees, ComesBack}
 use Rattle.moka_drive.specs.Synchronous.{Synchronous, Makes, GetsValue, InsertsMade, RemovesEntry}
 
 -- calls that fit the first, and then calls that fit the second
-abbrev pub InTurn : {K V P : Type 0} → (List (Call K V P) → List (Reply K V P) → Type 0) → (List (Call K V P) → List (Reply K V P) → Type 0) → List (Call K V P) → List (Reply K V P) → Type 0
+abbrev pub InTurn : {K V P : Type 0} → (List (Call K V P) → List (Reply K V P) → Type 0) →
+    (List (Call K V P) → List (Reply K V P) → Type 0) → List (Call K V P) → List (Reply K V P) → Type 0
 InTurn {K} {V} {P} First Then calls replies =
-    (asked : List (Call K V P)) × (got : List (Reply K V P)) × (later : List (Call K V P)) × (answers : List (Reply K V P))
+    (asked : List (Call K V P)) × (got : List (Reply K V P)) × (later : List (Call K V P))
+    × (answers : List (Reply K V P))
     × First asked got × Then later answers × (calls ≡ asked ++ later) × (replies ≡ got ++ answers)
 
 -- ---- a value made of the one that is there
 
 -- the function was called with what was got, and made this value; if the look-up was refused, it was not called
-abbrev pub IsUpsertOf : {V R : Type 0} → (Option V → V → Type 0) → Result (Option V) OutOfMemory → Option (V × R) → Type 0
+abbrev pub IsUpsertOf : {V R : Type 0} → (Option V → V → Type 0) → Result (Option V) OutOfMemory → Option (V × R) →
+    Type 0
 IsUpsertOf Made (Err refused) None = ⊤
 IsUpsertOf Made (Ok seen) (Some (value, answer)) = Made seen value
 IsUpsertOf Made got put = ⊥
 
 -- a get, and unless it was refused an insert of the value that was made, and what became of it
-abbrev pub Upserts : {K V P : Type 0} → K → ℕ → Instant → Result (Option V) OutOfMemory → Option (V × Result V (InsertRefused K V)) → List (Call K V P) → List (Reply K V P) → Type 0
+abbrev pub Upserts : {K V P : Type 0} → K → ℕ → Instant → Result (Option V) OutOfMemory →
+    Option (V × Result V (InsertRefused K V)) → List (Call K V P) → List (Reply K V P) → Type 0
 Upserts key hash now own None calls replies = GetsValue key hash now own calls replies
-Upserts key hash now own (Some (value, answer)) calls replies = InTurn (GetsValue key hash now own) (InsertsMade key hash now value answer) calls replies
+Upserts key hash now own (Some (value, answer)) calls replies =
+    InTurn (GetsValue key hash now own) (InsertsMade key hash now value answer) calls replies
 
 -- the entry, which tells whether a value was there, or what was refused
-abbrev pub HandsOutUpserted : {K V : Type 0} → (K → K → Type 0) → (V → V → Type 0) → K → Result (Option V) OutOfMemory → Option (V × Result V (InsertRefused K V)) → Result (CacheEntry K V) (GetWithRefused K V) → Type 0
+abbrev pub HandsOutUpserted : {K V : Type 0} → (K → K → Type 0) → (V → V → Type 0) → K → Result (Option V) OutOfMemory →
+    Option (V × Result V (InsertRefused K V)) → Result (CacheEntry K V) (GetWithRefused K V) → Type 0
 HandsOutUpserted is_key_clone is_clone key got None (Err (get_with_refused.Lookup k)) = k ≡ key
-HandsOutUpserted is_key_clone is_clone key (Ok seen) (Some (value, Ok own)) (Ok e) = is_clone own e.value × IsFresh is_key_clone key e × (e.is_old_value_replaced ≡ is_some seen)
-HandsOutUpserted is_key_clone is_clone key (Ok seen) (Some (value, Err refused)) (Err (get_with_refused.Insert r)) = r ≡ refused
+HandsOutUpserted is_key_clone is_clone key (Ok seen) (Some (value, Ok own)) (Ok e) = is_clone own e.value
+    × IsFresh is_key_clone key e × (e.is_old_value_replaced ≡ is_some seen)
+HandsOutUpserted is_key_clone is_clone key (Ok seen) (Some (value, Err refused))
+    (Err (get_with_refused.Insert r)) = r ≡ refused
 HandsOutUpserted is_key_clone is_clone key got put result = ⊥
 
 -- ---- a value that is put, removed or left
@@ -72,33 +80,42 @@ op_of (Takes taken) = Remove
 
 -- the function was called with what was got, and what it answered was done; if the look-up was refused, it was not
 -- called
-abbrev pub IsComputedBy : {K V : Type 0} → (Option V → Op V → Type 0) → Result (Option V) OutOfMemory → Option (Computed K V) → Type 0
+abbrev pub IsComputedBy : {K V : Type 0} → (Option V → Op V → Type 0) → Result (Option V) OutOfMemory →
+    Option (Computed K V) → Type 0
 IsComputedBy Answers (Err refused) None = ⊤
 IsComputedBy Answers (Ok seen) (Some did) = Answers seen (op_of did)
 IsComputedBy Answers got did = ⊥
 
 -- a get, and then what was done
-abbrev pub Computes : {K V P : Type 0} → K → ℕ → Instant → Result (Option V) OutOfMemory → Option (Computed K V) → List (Call K V P) → List (Reply K V P) → Type 0
+abbrev pub Computes : {K V P : Type 0} → K → ℕ → Instant → Result (Option V) OutOfMemory → Option (Computed K V) →
+    List (Call K V P) → List (Reply K V P) → Type 0
 Computes key hash now own None calls replies = GetsValue key hash now own calls replies
 Computes key hash now own (Some Left) calls replies = GetsValue key hash now own calls replies
 Computes key hash now own (Some LeftNone) calls replies = GetsValue key hash now own calls replies
-Computes key hash now own (Some (Puts value answer)) calls replies = InTurn (GetsValue key hash now own) (InsertsMade key hash now value answer) calls replies
-Computes key hash now own (Some (Takes taken)) calls replies = InTurn (GetsValue key hash now own) (RemovesEntry key hash now taken) calls replies
+Computes key hash now own (Some (Puts value answer)) calls replies =
+    InTurn (GetsValue key hash now own) (InsertsMade key hash now value answer) calls replies
+Computes key hash now own (Some (Takes taken)) calls replies =
+    InTurn (GetsValue key hash now own) (RemovesEntry key hash now taken) calls replies
 
 module _ {K V : Type 0} (is_key_clone : K → K → Type 0) (is_clone : V → V → Type 0) (key : K) where
   -- what a put answers, by whether a value was there
-  abbrev pub HandsOutComputedPut : Bool → Result V (InsertRefused K V) → Result (CompResult K V) (ComputeRefused K V) → Type 0
-  HandsOutComputedPut false (Ok own) (Ok (Inserted e)) = is_clone own e.value × IsFresh is_key_clone key e × (e.is_old_value_replaced ≡ false)
-  HandsOutComputedPut true (Ok own) (Ok (ReplacedWith e)) = is_clone own e.value × IsFresh is_key_clone key e × (e.is_old_value_replaced ≡ true)
+  abbrev pub HandsOutComputedPut : Bool → Result V (InsertRefused K V) → Result (CompResult K V) (ComputeRefused K V) →
+      Type 0
+  HandsOutComputedPut false (Ok own) (Ok (Inserted e)) = is_clone own e.value × IsFresh is_key_clone key e
+      × (e.is_old_value_replaced ≡ false)
+  HandsOutComputedPut true (Ok own) (Ok (ReplacedWith e)) = is_clone own e.value × IsFresh is_key_clone key e
+      × (e.is_old_value_replaced ≡ true)
   HandsOutComputedPut there (Err refused) (Err (compute_refused.Insert r)) = r ≡ refused
   HandsOutComputedPut there answer result = ⊥
 
   -- what a removal answers: the value, or that the look-up's run of maintenance had taken it already, or that it was
   -- not told
-  abbrev pub HandsOutTaken : Option (V × Result (Unit {0}) OutOfMemory) → Result (CompResult K V) (ComputeRefused K V) → Type 0
+  abbrev pub HandsOutTaken : Option (V × Result (Unit {0}) OutOfMemory) → Result (CompResult K V) (ComputeRefused K V) →
+      Type 0
   HandsOutTaken None (Ok (StillNone k)) = k ≡ key
   HandsOutTaken (Some (value, Ok told)) (Ok (Removed e)) = (e.value ≡ value) × IsFound key e
-  HandsOutTaken (Some (value, Err refused)) (Err (compute_refused.NotTold k r)) = (k ≡ key) × (r ≡ record { error = refused; value = value })
+  HandsOutTaken (Some (value, Err refused)) (Err (compute_refused.NotTold k r)) = (k ≡ key)
+      × (r ≡ record { error = refused; value = value })
   HandsOutTaken taken result = ⊥
 
   -- what is answered if nothing was done: what was seen comes back
@@ -108,7 +125,8 @@ module _ {K V : Type 0} (is_key_clone : K → K → Type 0) (is_clone : V → V 
   HandsOutLeft seen result = ⊥
 
   -- what is answered, after what was seen and done
-  abbrev pub HandsOutComputed : Result (Option V) OutOfMemory → Option (Computed K V) → Result (CompResult K V) (ComputeRefused K V) → Type 0
+  abbrev pub HandsOutComputed : Result (Option V) OutOfMemory → Option (Computed K V) →
+      Result (CompResult K V) (ComputeRefused K V) → Type 0
   HandsOutComputed (Ok seen) (Some Left) result = HandsOutLeft seen result
   HandsOutComputed (Ok seen) (Some LeftNone) result = (seen ≡ None) × HandsOutTaken None result
   HandsOutComputed (Ok seen) (Some (Puts value answer)) result = HandsOutComputedPut (is_some seen) answer result
@@ -119,7 +137,9 @@ module _ {K V : Type 0} (is_key_clone : K → K → Type 0) (is_clone : V → V 
 
 -- ---- what a call that computes promises
 
-module _ {K V S X L P W C : Type 0} (m : Meaning K V X L P W C (Unit {0})) (is_key_clone : K → K → Type 0) (is_clone : V → V → Type 0) (key : K) (hash : ℕ) (now : Instant) (old : Synchronous K V S X L P W) (clock : C) (new : Synchronous K V S X L P W) (clock_after : C) where
+module _ {K V S X L P W C : Type 0} (m : Meaning K V X L P W C (Unit {0})) (is_key_clone : K → K → Type 0)
+    (is_clone : V → V → Type 0) (key : K) (hash : ℕ) (now : Instant) (old : Synchronous K V S X L P W) (clock : C)
+    (new : Synchronous K V S X L P W) (clock_after : C) where
   -- the function sees a clone of the value that is visible, or nothing if none is, and what it makes of that is put, or
   -- comes back
   abbrev pub AndUpserts : (Option V → V → Type 0) → Result (CacheEntry K V) (GetWithRefused K V) → Type 0

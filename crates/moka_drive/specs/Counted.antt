@@ -59,38 +59,70 @@ pub record IsCounted {K V P : Type 0} (replies : List (Reply K V P)) (makers : �
 
 -- each call counts the look-ups among the calls that it stands for, and the maker that it called
 pub record CountsCalls (K V P E : Type 0) (is_clone : V → V → Type 0) : Type 0 where
-  pub get : (s : Stats) (key : K) (hash : ℕ) (now : Instant) (own answer : Result (Option V) OutOfMemory) (calls : List (Call K V P)) (replies : List (Reply K V P)) → AreCounters s → IsCopiedAnswer is_clone own answer → GetsValue key hash now own calls replies →
+  pub get : (s : Stats) (key : K) (hash : ℕ) (now : Instant) (own answer : Result (Option V) OutOfMemory)
+      (calls : List (Call K V P)) (replies : List (Reply K V P)) → AreCounters s → IsCopiedAnswer is_clone own answer →
+      GetsValue key hash now own calls replies →
       IsCounted replies 0 s (after_look_up answer s)
-  pub get_with : (s : Stats) (key : K) (hash : ℕ) (now : Instant) (made : Option V) (own : Result V (Option (InsertRefused K V))) (calls : List (Call K V P)) (replies : List (Reply K V P)) → AreCounters s → GetsOrInserts key hash now made own calls replies →
+  pub get_with : (s : Stats) (key : K) (hash : ℕ) (now : Instant) (made : Option V)
+      (own : Result V (Option (InsertRefused K V))) (calls : List (Call K V P)) (replies : List (Reply K V P)) →
+      AreCounters s → GetsOrInserts key hash now made own calls replies →
       IsCounted replies (loads_of made) s (after_get_with made own s)
-  pub optionally_get_with : (s : Stats) (key : K) (hash : ℕ) (now : Instant) (made : Option (Option V)) (own : Result (Option V) (Option (InsertRefused K V))) (calls : List (Call K V P)) (replies : List (Reply K V P)) → AreCounters s → GetsOrInsertsIfMade key hash now made own calls replies →
+  pub optionally_get_with : (s : Stats) (key : K) (hash : ℕ) (now : Instant) (made : Option (Option V))
+      (own : Result (Option V) (Option (InsertRefused K V))) (calls : List (Call K V P))
+      (replies : List (Reply K V P)) → AreCounters s → GetsOrInsertsIfMade key hash now made own calls replies →
       IsCounted replies (loads_of made) s (after_get_with made own s)
-  pub try_get_with : (s : Stats) (key : K) (hash : ℕ) (now : Instant) (made : Option (Result V E)) (own : Result (Result V E) (Option (InsertRefused K V))) (calls : List (Call K V P)) (replies : List (Reply K V P)) → AreCounters s → GetsOrInsertsIfNoError key hash now made own calls replies →
+  pub try_get_with : (s : Stats) (key : K) (hash : ℕ) (now : Instant) (made : Option (Result V E))
+      (own : Result (Result V E) (Option (InsertRefused K V))) (calls : List (Call K V P))
+      (replies : List (Reply K V P)) → AreCounters s → GetsOrInsertsIfNoError key hash now made own calls replies →
       IsCounted replies (loads_of made) s (after_get_with made own s)
-  pub insert : (s : Stats) (key : K) (hash : ℕ) (value : V) (now : Instant) (answer : Result (Unit {0}) (InsertRefused K V)) (calls : List (Call K V P)) (replies : List (Reply K V P)) → AreCounters s → InsertsEntry key hash value now answer calls replies → IsCounted replies 0 s s
-  pub remove : (s : Stats) (key : K) (hash : ℕ) (now : Instant) (taken : Option (V × Result (Unit {0}) OutOfMemory)) (calls : List (Call K V P)) (replies : List (Reply K V P)) → AreCounters s → RemovesEntry key hash now taken calls replies → IsCounted replies 0 s s
-  pub run_pending_tasks : (s : Stats) (now : Instant) (more : Bool) (calls : List (Call K V P)) (replies : List (Reply K V P)) → AreCounters s → Just (own_run now) (reply.Run more) calls replies → IsCounted replies 0 s s
-  pub invalidate_all : (s : Stats) (now : Instant) (calls : List (Call K V P)) (replies : List (Reply K V P)) → AreCounters s → Just (call.InvalidateAll now) reply.InvalidateAll calls replies → IsCounted replies 0 s s
-  pub set_max_capacity : (s : Stats) (capacity : Option ℕ) (answer : Result (Unit {0}) CapacityError) (calls : List (Call K V P)) (replies : List (Reply K V P)) → AreCounters s → Just (call.SetCapacity capacity) (reply.SetCapacity answer) calls replies → IsCounted replies 0 s s
+  pub insert : (s : Stats) (key : K) (hash : ℕ) (value : V) (now : Instant)
+      (answer : Result (Unit {0}) (InsertRefused K V)) (calls : List (Call K V P)) (replies : List (Reply K V P)) →
+      AreCounters s → InsertsEntry key hash value now answer calls replies → IsCounted replies 0 s s
+  pub remove : (s : Stats) (key : K) (hash : ℕ) (now : Instant) (taken : Option (V × Result (Unit {0}) OutOfMemory))
+      (calls : List (Call K V P)) (replies : List (Reply K V P)) → AreCounters s →
+      RemovesEntry key hash now taken calls replies → IsCounted replies 0 s s
+  pub run_pending_tasks : (s : Stats) (now : Instant) (more : Bool) (calls : List (Call K V P))
+      (replies : List (Reply K V P)) → AreCounters s → Just (own_run now) (reply.Run more) calls replies →
+      IsCounted replies 0 s s
+  pub invalidate_all : (s : Stats) (now : Instant) (calls : List (Call K V P)) (replies : List (Reply K V P)) →
+      AreCounters s → Just (call.InvalidateAll now) reply.InvalidateAll calls replies → IsCounted replies 0 s s
+  pub set_max_capacity : (s : Stats) (capacity : Option ℕ) (answer : Result (Unit {0}) CapacityError)
+      (calls : List (Call K V P)) (replies : List (Reply K V P)) → AreCounters s →
+      Just (call.SetCapacity capacity) (reply.SetCapacity answer) calls replies → IsCounted replies 0 s s
   -- a miss after which a value is put is no load
-  pub get_or_insert : (s : Stats) (key : K) (hash : ℕ) (now : Instant) (put : Option V) (own : Result V (Option (InsertRefused K V))) (calls : List (Call K V P)) (replies : List (Reply K V P)) → AreCounters s → GetsOrInserts key hash now put own calls replies →
+  pub get_or_insert : (s : Stats) (key : K) (hash : ℕ) (now : Instant) (put : Option V)
+      (own : Result V (Option (InsertRefused K V))) (calls : List (Call K V P)) (replies : List (Reply K V P)) →
+      AreCounters s → GetsOrInserts key hash now put own calls replies →
       IsCounted replies 0 s (after_get_or_insert put own s)
   -- a function that computes a value is no maker
-  pub upsert_with : (s : Stats) (key : K) (hash : ℕ) (now : Instant) (own got : Result (Option V) OutOfMemory) (put : Option (V × Result V (InsertRefused K V))) (calls : List (Call K V P)) (replies : List (Reply K V P)) → AreCounters s → IsCopiedAnswer is_clone own got → Upserts key hash now own put calls replies →
+  pub upsert_with : (s : Stats) (key : K) (hash : ℕ) (now : Instant) (own got : Result (Option V) OutOfMemory)
+      (put : Option (V × Result V (InsertRefused K V))) (calls : List (Call K V P)) (replies : List (Reply K V P)) →
+      AreCounters s → IsCopiedAnswer is_clone own got → Upserts key hash now own put calls replies →
       IsCounted replies 0 s (after_look_up got s)
-  pub compute_with : (s : Stats) (key : K) (hash : ℕ) (now : Instant) (own got : Result (Option V) OutOfMemory) (done : Option (Computed K V)) (calls : List (Call K V P)) (replies : List (Reply K V P)) → AreCounters s → IsCopiedAnswer is_clone own got → Computes key hash now own done calls replies →
+  pub compute_with : (s : Stats) (key : K) (hash : ℕ) (now : Instant) (own got : Result (Option V) OutOfMemory)
+      (done : Option (Computed K V)) (calls : List (Call K V P)) (replies : List (Reply K V P)) → AreCounters s →
+      IsCopiedAnswer is_clone own got → Computes key hash now own done calls replies →
       IsCounted replies 0 s (after_look_up got s)
-  pub get_many : (s : Stats) (hash_of : K → ℕ) (now : Instant) (keys : List K) (answer : Result (Vec (Option V) Global) (GetManyRefused V)) (calls : List (Call K V P)) (replies : List (Reply K V P)) → AreCounters s → GetsMany is_clone hash_of now keys answer calls replies →
+  pub get_many : (s : Stats) (hash_of : K → ℕ) (now : Instant) (keys : List K)
+      (answer : Result (Vec (Option V) Global) (GetManyRefused V)) (calls : List (Call K V P))
+      (replies : List (Reply K V P)) → AreCounters s → GetsMany is_clone hash_of now keys answer calls replies →
       IsCounted replies 0 s (after_look_ups (found_by answer) s)
-  pub insert_many : (s : Stats) (hash_of : K → ℕ) (now : Instant) (items : List (K × V)) (answer : Result (Unit {0}) (InsertManyRefused K V)) (calls : List (Call K V P)) (replies : List (Reply K V P)) → AreCounters s → InsertsMany hash_of now items answer calls replies → IsCounted replies 0 s s
-  pub invalidate_many : (s : Stats) (hash_of : K → ℕ) (now : Instant) (keys : List K) (answer : Result (Unit {0}) (InvalidateManyRefused V)) (calls : List (Call K V P)) (replies : List (Reply K V P)) → AreCounters s → InvalidatesMany hash_of now keys answer calls replies → IsCounted replies 0 s s
+  pub insert_many : (s : Stats) (hash_of : K → ℕ) (now : Instant) (items : List (K × V))
+      (answer : Result (Unit {0}) (InsertManyRefused K V)) (calls : List (Call K V P)) (replies : List (Reply K V P)) →
+      AreCounters s → InsertsMany hash_of now items answer calls replies → IsCounted replies 0 s s
+  pub invalidate_many : (s : Stats) (hash_of : K → ℕ) (now : Instant) (keys : List K)
+      (answer : Result (Unit {0}) (InvalidateManyRefused V)) (calls : List (Call K V P))
+      (replies : List (Reply K V P)) → AreCounters s → InvalidatesMany hash_of now keys answer calls replies →
+      IsCounted replies 0 s s
 
 -- so it is with any list of calls: what is counted adds up from call to call
 pub record AddsUp (K V P : Type 0) : Type 0 where
   pub at_first : (s : Stats) → AreCounters s → IsCounted {K = K} {V = V} {P = P} [] 0 s s
-  pub goes_on : (replies later : List (Reply K V P)) (m n : ℕ) (s t u : Stats) → IsCounted replies m s t → IsCounted later n t u → IsCounted (replies ++ later) (m + n) s u
+  pub goes_on : (replies later : List (Reply K V P)) (m n : ℕ) (s t u : Stats) → IsCounted replies m s t →
+      IsCounted later n t u → IsCounted (replies ++ later) (m + n) s u
   pub fits : (replies : List (Reply K V P)) (m : ℕ) (s t : Stats) → IsCounted replies m s t → AreCounters t
 
 -- and from the first call on, hits and misses sum to the look-ups that were answered, as long as no counter is full
 abbrev pub SumsToLookUps : (K V P : Type 0) → Type 0
-SumsToLookUps K V P = (replies : List (Reply K V P)) (makers : ℕ) (s : Stats) → IsCounted replies makers no_stats s → count_by is_look_up replies ≤ greatest → s.hits + s.misses ≡ count_by is_look_up replies
+SumsToLookUps K V P = (replies : List (Reply K V P)) (makers : ℕ) (s : Stats) → IsCounted replies makers no_stats s
+    → count_by is_look_up replies ≤ greatest → s.hits + s.misses ≡ count_by is_look_up replies

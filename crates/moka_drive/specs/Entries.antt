@@ -46,9 +46,11 @@ module _ {K V : Type 0} where
 -- ---- an insert of a value only if the key is not there
 
 -- what it hands out: a clone of the value, or what was refused, with key and value
-abbrev pub HandsOutPut : {K V : Type 0} → (V → V → Type 0) → K → V → Result V (Option (InsertRefused K V)) → Result V (InsertRefused K V) → Type 0
+abbrev pub HandsOutPut : {K V : Type 0} → (V → V → Type 0) → K → V → Result V (Option (InsertRefused K V)) →
+    Result V (InsertRefused K V) → Type 0
 HandsOutPut is_clone key value (Ok own) (Ok copy) = is_clone own copy
-HandsOutPut is_clone key value (Err None) (Err r) = r ≡ record { error = insert_error.OutOfMemory; key = key; value = value }
+HandsOutPut is_clone key value (Err None) (Err r) =
+    r ≡ record { error = insert_error.OutOfMemory; key = key; value = value }
 HandsOutPut is_clone key value (Err (Some refused)) (Err r) = r ≡ refused
 HandsOutPut is_clone key value own result = ⊥
 
@@ -60,7 +62,9 @@ after_get_or_insert (Some put) answer s = record s { misses = one_more s.misses 
 
 -- ---- what an entry call promises
 
-module _ {K V S X L P W C : Type 0} (m : Meaning K V X L P W C (Unit {0})) (is_key_clone : K → K → Type 0) (is_clone : V → V → Type 0) (key : K) (hash : ℕ) (now : Instant) (old : Synchronous K V S X L P W) (clock : C) (new : Synchronous K V S X L P W) (clock_after : C) where
+module _ {K V S X L P W C : Type 0} (m : Meaning K V X L P W C (Unit {0})) (is_key_clone : K → K → Type 0)
+    (is_clone : V → V → Type 0) (key : K) (hash : ℕ) (now : Instant) (old : Synchronous K V S X L P W) (clock : C)
+    (new : Synchronous K V S X L P W) (clock_after : C) where
   -- a get, and only if it misses this value is put; what is handed out, or comes back
   abbrev pub OrInserts : V → Result (CacheEntry K V) (InsertRefused K V) → Type 0
   OrInserts value result = (put : Option V) × (own : Result V (Option (InsertRefused K V)))
@@ -85,8 +89,10 @@ module _ {K V S X L P W C : Type 0} (m : Meaning K V X L P W C (Unit {0})) (is_k
       × IsGotWithIfMade m is_clone key hash now old clock new clock_after made own Answers (entry_value_if_made result)
 
   -- or fail
-  abbrev pub OrInsertsIfNoError : {E : Type 0} → (Result V E → Type 0) → Result (Result (CacheEntry K V) E) (GetWithRefused K V) → Type 0
-  OrInsertsIfNoError {E} Answers result = (made : Option (Result V E)) × (own : Result (Result V E) (Option (InsertRefused K V)))
+  abbrev pub OrInsertsIfNoError : {E : Type 0} → (Result V E → Type 0) →
+      Result (Result (CacheEntry K V) E) (GetWithRefused K V) → Type 0
+  OrInsertsIfNoError {E} Answers result = (made : Option (Result V E))
+      × (own : Result (Result V E) (Option (InsertRefused K V)))
       × IfOk result (λ found. IfOk found (IsEntryOf is_key_clone key made))
       × IsGotWithIfNoError m is_clone key hash now old clock new clock_after made own Answers
       (entry_value_if_no_error result)

@@ -28,34 +28,51 @@ AreTimely s (x ∷ xs) = IsTimely s x.call × AreTimely x.after xs
 module _ {K V X L P W C : Type 0} (S : Type 0) (m : Meaning K V X L P W C (Unit {0})) where
   -- what was made after what was made is a run as well
   abbrev pub GoesOn : Type 0
-  GoesOn = (calls later : List (Call K V P)) (replies answers : List (Reply K V P)) (old mid new : Engine K V S X L P W) (c1 c2 c3 : C) → Made m calls replies old c1 mid c2 → Made m later answers mid c2 new c3 → Made m (calls ++ later) (replies ++ answers) old c1 new c3
+  GoesOn = (calls later : List (Call K V P)) (replies answers : List (Reply K V P)) (old mid new : Engine K V S X L P W)
+      (c1 c2 c3 : C) → Made m calls replies old c1 mid c2 → Made m later answers mid c2 new c3
+      → Made m (calls ++ later) (replies ++ answers) old c1 new c3
 
   -- what `invalidate_all` ensures is a chain of one step, whatever the clock is, since it is not read
   abbrev pub InvalidateAllIsMade : Type 0
-  InvalidateAllIsMade = (now : Instant) (old new : Engine K V S X L P W) (clock : C) → new.state ≡ record old.state { invalid_before = Some now } → Befalls m.tells no_events old new →
+  InvalidateAllIsMade = (now : Instant) (old new : Engine K V S X L P W) (clock : C) →
+      new.state ≡ record old.state { invalid_before = Some now } → Befalls m.tells no_events old new →
       Made m (call.InvalidateAll now ∷ []) (reply.InvalidateAll ∷ []) old clock new clock
 
   -- and so is what `set_max_capacity` ensures, refused or not
   abbrev pub SetMaxCapacityIsMade : Type 0
-  SetMaxCapacityIsMade = (capacity : Option ℕ) (answer : Result (Unit {0}) CapacityError) (old new : Engine K V S X L P W) (clock : C) → CapacityStep old.state capacity answer new.state → Befalls m.tells no_events old new →
+  SetMaxCapacityIsMade = (capacity : Option ℕ) (answer : Result (Unit {0}) CapacityError)
+      (old new : Engine K V S X L P W) (clock : C) → CapacityStep old.state capacity answer new.state →
+      Befalls m.tells no_events old new →
       Made m (call.SetCapacity capacity ∷ []) (reply.SetCapacity answer ∷ []) old clock new clock
 
   -- what was made from a valid cache keeps all that is promised of a list of calls
   abbrev pub KeepsPromises : Type 0
-  KeepsPromises = (calls : List (Call K V P)) (replies : List (Reply K V P)) (old new : Engine K V S X L P W) (clock clock_after : C) → IsValid m.eq old.state → (keeps_write_list old.state.settings ≡ true → IsWriteList old.state old.write_list) → Made m calls replies old clock new clock_after →
+  KeepsPromises = (calls : List (Call K V P)) (replies : List (Reply K V P)) (old new : Engine K V S X L P W)
+      (clock clock_after : C) → IsValid m.eq old.state →
+      (keeps_write_list old.state.settings ≡ true → IsWriteList old.state old.write_list) →
+      Made m calls replies old clock new clock_after →
       Drives m calls replies old clock tt new clock_after tt
 
   -- from an empty cache, where no insert is earlier than a write that is there, each run that is not cut also removes
   -- what is past its time
   abbrev pub AgesOut : Type 0
-  AgesOut = (calls : List (Call K V P)) (replies : List (Reply K V P)) (old new : Engine K V S X L P W) (clock clock_after : C) → IsValid m.eq old.state → IsEmpty old.state → (keeps_write_list old.state.settings ≡ true → IsWriteList old.state old.write_list) → (made : Made m calls replies old clock new clock_after) → AreTimely old.state made.steps →
+  AgesOut = (calls : List (Call K V P)) (replies : List (Reply K V P)) (old new : Engine K V S X L P W)
+      (clock clock_after : C) → IsValid m.eq old.state → IsEmpty old.state →
+      (keeps_write_list old.state.settings ≡ true → IsWriteList old.state old.write_list) →
+      (made : Made m calls replies old clock new clock_after) → AreTimely old.state made.steps →
       AreSteps m (OrderlyRun m.says m.read) old.state made.steps
 
   -- a listener that hears hears of clones
   abbrev pub HearsClones : (K → K → Type 0) → (V → V → Type 0) → Type 0
-  HearsClones is_key_clone is_value_clone = (calls : List (Call K V P)) (replies : List (Reply K V P)) (old new : Engine K V S X L P W) (clock clock_after : C) → Made m calls replies old clock new clock_after → Made (record m { tells = hears_clones is_key_clone is_value_clone m.tells }) calls replies old clock new clock_after
+  HearsClones is_key_clone is_value_clone = (calls : List (Call K V P)) (replies : List (Reply K V P))
+      (old new : Engine K V S X L P W) (clock clock_after : C) → Made m calls replies old clock new clock_after
+      → Made (record m { tells = hears_clones is_key_clone is_value_clone m.tells }) calls
+      replies old clock new clock_after
 
   -- and where clones equal what was cloned, of keys and values themselves
   abbrev pub HearsThemselves : (K → K → Type 0) → (V → V → Type 0) → Type 0
-  HearsThemselves is_key_clone is_value_clone = ClonesAreEqual is_key_clone → ClonesAreEqual is_value_clone → (calls : List (Call K V P)) (replies : List (Reply K V P)) (old new : Engine K V S X L P W) (clock clock_after : C) →
-      Made (record m { tells = hears_clones is_key_clone is_value_clone m.tells }) calls replies old clock new clock_after → Made m calls replies old clock new clock_after
+  HearsThemselves is_key_clone is_value_clone = ClonesAreEqual is_key_clone → ClonesAreEqual is_value_clone →
+      (calls : List (Call K V P)) (replies : List (Reply K V P))
+      (old new : Engine K V S X L P W) (clock clock_after : C) →
+      Made (record m { tells = hears_clones is_key_clone is_value_clone m.tells }) calls replies old clock new
+      clock_after → Made m calls replies old clock new clock_after

@@ -28,15 +28,28 @@ SetNoCapacity (c ∷ cs) = SetsNoCapacity c × SetNoCapacity cs
 
 -- over any list of calls that set no capacity the limits stay
 abbrev pub KeepsLimits : {K V X L P W C : Type 0} → Type 0 → Meaning K V X L P W C (Unit {0}) → Type 0
-KeepsLimits {K} {V} {X} {L} {P} {W} {C} S m = (calls : List (Call K V P)) (replies : List (Reply K V P)) (old new : Engine K V S X L P W) (clock clock_after : C) → Made m calls replies old clock new clock_after → SetNoCapacity calls → HasSameLimits old.state new.state
+KeepsLimits {K} {V} {X} {L} {P} {W} {C} S m = (calls : List (Call K V P)) (replies : List (Reply K V P))
+    (old new : Engine K V S X L P W) (clock clock_after : C) → Made m calls replies old clock new clock_after
+    → SetNoCapacity calls → HasSameLimits old.state new.state
 
 -- what each call of the synchronous cache stands for sets none
 pub record CallsSetNoCapacity (K V P E : Type 0) (key : K) (hash : ℕ) (now : Instant) : Type 0 where
-  pub insert : (value : V) (a : Result (Unit {0}) (InsertRefused K V)) (calls : List (Call K V P)) (replies : List (Reply K V P)) → InsertsEntry key hash value now a calls replies → SetNoCapacity calls
-  pub get : (a : Result (Option V) OutOfMemory) (calls : List (Call K V P)) (replies : List (Reply K V P)) → GetsValue key hash now a calls replies → SetNoCapacity calls
-  pub remove : (taken : Option (V × Result (Unit {0}) OutOfMemory)) (calls : List (Call K V P)) (replies : List (Reply K V P)) → RemovesEntry key hash now taken calls replies → SetNoCapacity calls
-  pub get_with : (made : Option V) (own : Result V (Option (InsertRefused K V))) (calls : List (Call K V P)) (replies : List (Reply K V P)) → GetsOrInserts key hash now made own calls replies → SetNoCapacity calls
-  pub optionally_get_with : (made : Option (Option V)) (own : Result (Option V) (Option (InsertRefused K V))) (calls : List (Call K V P)) (replies : List (Reply K V P)) → GetsOrInsertsIfMade key hash now made own calls replies → SetNoCapacity calls
-  pub try_get_with : (made : Option (Result V E)) (own : Result (Result V E) (Option (InsertRefused K V))) (calls : List (Call K V P)) (replies : List (Reply K V P)) → GetsOrInsertsIfNoError key hash now made own calls replies → SetNoCapacity calls
-  pub upsert_with : (own : Result (Option V) OutOfMemory) (put : Option (V × Result V (InsertRefused K V))) (calls : List (Call K V P)) (replies : List (Reply K V P)) → Upserts key hash now own put calls replies → SetNoCapacity calls
-  pub compute_with : (own : Result (Option V) OutOfMemory) (done : Option (Computed K V)) (calls : List (Call K V P)) (replies : List (Reply K V P)) → Computes key hash now own done calls replies → SetNoCapacity calls
+  pub insert : (value : V) (a : Result (Unit {0}) (InsertRefused K V)) (calls : List (Call K V P))
+      (replies : List (Reply K V P)) → InsertsEntry key hash value now a calls replies → SetNoCapacity calls
+  pub get : (a : Result (Option V) OutOfMemory) (calls : List (Call K V P)) (replies : List (Reply K V P)) →
+      GetsValue key hash now a calls replies → SetNoCapacity calls
+  pub remove : (taken : Option (V × Result (Unit {0}) OutOfMemory)) (calls : List (Call K V P))
+      (replies : List (Reply K V P)) → RemovesEntry key hash now taken calls replies → SetNoCapacity calls
+  pub get_with : (made : Option V) (own : Result V (Option (InsertRefused K V))) (calls : List (Call K V P))
+      (replies : List (Reply K V P)) → GetsOrInserts key hash now made own calls replies → SetNoCapacity calls
+  pub optionally_get_with : (made : Option (Option V)) (own : Result (Option V) (Option (InsertRefused K V)))
+      (calls : List (Call K V P)) (replies : List (Reply K V P)) →
+      GetsOrInsertsIfMade key hash now made own calls replies → SetNoCapacity calls
+  pub try_get_with : (made : Option (Result V E)) (own : Result (Result V E) (Option (InsertRefused K V)))
+      (calls : List (Call K V P)) (replies : List (Reply K V P)) →
+      GetsOrInsertsIfNoError key hash now made own calls replies → SetNoCapacity calls
+  pub upsert_with : (own : Result (Option V) OutOfMemory) (put : Option (V × Result V (InsertRefused K V)))
+      (calls : List (Call K V P)) (replies : List (Reply K V P)) → Upserts key hash now own put calls replies →
+      SetNoCapacity calls
+  pub compute_with : (own : Result (Option V) OutOfMemory) (done : Option (Computed K V)) (calls : List (Call K V P))
+      (replies : List (Reply K V P)) → Computes key hash now own done calls replies → SetNoCapacity calls

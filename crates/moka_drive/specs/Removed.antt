@@ -26,8 +26,10 @@ after_removal Replaced s = record s { replaced = one_more s.replaced }
 after_removal Size s = record s { size = one_more s.size }
 
 -- a notice is counted, and heard by the listener within
-abbrev pub counting : {K V L : Type 0} → (L → K → V → RemovalCause → L → Type 0) → CountingListener L → K → V → RemovalCause → CountingListener L → Type 0
-counting tells before key value cause after = (after.removals ≡ after_removal cause before.removals) × tells before.listener key value cause after.listener
+abbrev pub counting : {K V L : Type 0} → (L → K → V → RemovalCause → L → Type 0) → CountingListener L → K → V →
+    RemovalCause → CountingListener L → Type 0
+counting tells before key value cause after = (after.removals ≡ after_removal cause before.removals)
+    × tells before.listener key value cause after.listener
 
 -- what was counted, if a listener is set
 abbrev pub removals_of : {L : Type 0} → Option (CountingListener L) → Removals
@@ -63,10 +65,15 @@ pub record AreCounted {K V : Type 0} (notices : List (Notice K V)) (s t : Remova
 -- ---- laws
 
 -- over any list of calls of a cache the counters are the notices of its run, by cause
-abbrev pub CountsRemovals : {K V X L P W C : Type 0} → Type 0 → Meaning K V X (CountingListener L) P W C (Unit {0}) → Type 0
-CountsRemovals {K} {V} {X} {L} {P} {W} {C} S m = (calls : List (Call K V P)) (replies : List (Reply K V P)) (old new : Engine K V S X (CountingListener L) P W) (clock clock_after : C) → AreHeld (removals_of old.listener) → (made : Made m calls replies old clock new clock_after) →
-    AreCounted (notices_of made.steps) (removals_of old.listener) (removals_of new.listener) × AreHeld (removals_of new.listener)
+abbrev pub CountsRemovals : {K V X L P W C : Type 0} → Type 0 → Meaning K V X (CountingListener L) P W C (Unit {0}) →
+    Type 0
+CountsRemovals {K} {V} {X} {L} {P} {W} {C} S m = (calls : List (Call K V P)) (replies : List (Reply K V P))
+    (old new : Engine K V S X (CountingListener L) P W) (clock clock_after : C) → AreHeld (removals_of old.listener) →
+    (made : Made m calls replies old clock new clock_after) →
+    AreCounted (notices_of made.steps) (removals_of old.listener) (removals_of new.listener)
+    × AreHeld (removals_of new.listener)
 
 -- and the listener within hears of each
 abbrev pub PassesOn : {K V L : Type 0} → (L → K → V → RemovalCause → L → Type 0) → Type 0
-PassesOn {K} {V} {L} tells = (before after : Option (CountingListener L)) (notices : List (Notice K V)) → Heard (counting tells) before notices after → Heard tells (inner_of before) notices (inner_of after)
+PassesOn {K} {V} {L} tells = (before after : Option (CountingListener L)) (notices : List (Notice K V))
+    → Heard (counting tells) before notices after → Heard tells (inner_of before) notices (inner_of after)

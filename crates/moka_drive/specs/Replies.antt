@@ -12,15 +12,20 @@ use Rattle.moka_parts.specs.State.{State, Settings, Events}
 use Rattle.moka_parts.specs.Calls.{only_notices, RemoveStep, NotifiesAfter, oldest_ticket}
 
 -- the reply is that of a removal of the key with these events
-abbrev pub RemovesAndNotifies : {K V X P W : Type 0} → (K → K → Bool) → State K V X P W → K → Option Instant → Reply K V P → Events K V → State K V X P W → Type 0
-RemovesAndNotifies eq s key now (reply.Remove removed told) e t = RemoveStep eq s key removed t × NotifiesAfter s.settings removed now told e.notices × (e ≡ only_notices e.notices)
+abbrev pub RemovesAndNotifies : {K V X P W : Type 0} → (K → K → Bool) → State K V X P W → K → Option Instant →
+    Reply K V P → Events K V → State K V X P W → Type 0
+RemovesAndNotifies eq s key now (reply.Remove removed told) e t = RemoveStep eq s key removed t
+    × NotifiesAfter s.settings removed now told e.notices × (e ≡ only_notices e.notices)
 RemovesAndNotifies eq s key now r e t = ⊥
 
 -- the notice of an entry that was removed, under whichever ticket, if the removal carried a moment
-abbrev pub NotifiesEntry : {K V X W : Type 0} → Settings X W → KvEntry K V → Option Instant → Option (Result (Unit {0}) OutOfMemory) → List (Notice K V) → Type 0
-NotifiesEntry settings entry now a notices = (ticket : Ticket) → NotifiesAfter settings (Some (entry, ticket)) now a notices
+abbrev pub NotifiesEntry : {K V X W : Type 0} → Settings X W → KvEntry K V → Option Instant →
+    Option (Result (Unit {0}) OutOfMemory) → List (Notice K V) → Type 0
+NotifiesEntry settings entry now a notices = (ticket : Ticket)
+    → NotifiesAfter settings (Some (entry, ticket)) now a notices
 
 -- the reply tells what waits
 abbrev pub TellsPending : {K V X P W : Type 0} → State K V X P W → Reply K V P → Type 0
-TellsPending s (reply.Pending handed oldest writes reads) = (handed ≡ len s.outstanding) × (option_map (λ ticket. ticket.0) oldest ≡ oldest_ticket s) × (writes ≡ length s.writes) × (reads ≡ length s.reads)
+TellsPending s (reply.Pending handed oldest writes reads) = (handed ≡ len s.outstanding)
+    × (option_map (λ ticket. ticket.0) oldest ≡ oldest_ticket s) × (writes ≡ length s.writes) × (reads ≡ length s.reads)
 TellsPending s r = ⊥

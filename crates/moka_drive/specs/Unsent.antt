@@ -47,7 +47,8 @@ pub record ShowsWrites {K V X P W : Type 0} (s : State K V X P W) (now : ℕ) : 
   pub unhidden : s.predicates ≡ []
 
 -- the key has a record with the value, written and read at the moment
-pub record IsThere {K V X P W : Type 0} (eq : K → K → Bool) (s : State K V X P W) (key : K) (value : V) (now : Instant) : Type 0 where
+pub record IsThere {K V X P W : Type 0} (eq : K → K → Bool) (s : State K V X P W) (key : K) (value : V)
+    (now : Instant) : Type 0 where
   pub kept : Record K V
   pub found : record_of_key eq s.records key ≡ Some kept
   pub value_is : kept.value ≡ value

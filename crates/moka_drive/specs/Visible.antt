@@ -7,7 +7,8 @@ use Rattle.moka_parts.specs.Calls.{ScanStep}
 use Rattle.moka_parts.specs.State.{State}
 use Rattle.moka_parts.specs.Visibility.{IsVisible, IsHidden}
 
-module _ {K V X P W : Type 0} (says : P → K → V → Bool → Type 0) (is_value_clone : V → V → Type 0) (s : State K V X P W) (now : ℕ) where
+module _ {K V X P W : Type 0} (says : P → K → V → Bool → Type 0) (is_value_clone : V → V → Type 0)
+    (s : State K V X P W) (now : ℕ) where
   -- of these records the visible ones, in their order: the key, and a clone of the value
   abbrev pub AreShown : List (Record K V) → List (K × V) → Type 0
   AreShown [] found = found ≡ []
@@ -24,7 +25,8 @@ module _ {K V X P W : Type 0} (says : P → K → V → Bool → Type 0) (is_val
     abbrev pub LooksUp : List K → List (K × V) → Type 0
     LooksUp [] found = found ≡ []
     LooksUp (key ∷ keys) found = (ScanStep says eq s key now (Ok None) × LooksUp keys found)
-        ⊎ ((own : V) × (copy : V) × (rest : List (K × V)) × ScanStep says eq s key now (Ok (Some own)) × is_value_clone own copy
+        ⊎ ((own : V) × (copy : V) × (rest : List (K × V)) × ScanStep says eq s key now (Ok (Some own))
+        × is_value_clone own copy
         × (found ≡ (key, copy) ∷ rest) × LooksUp keys rest)
 
     -- clones of the keys of all records, each looked up

@@ -228,12 +228,16 @@ impl<
         V: Drop,
         P: Drop,
         ensures made { Makes (meaning_of K.eq L.tells P.says W.weighs C.reads X.created X.read X.updated)
-            (InsertsEntry key (key_hash S.BuildHasher S.Hasher.Hasher self.old.engine.hasher (K.hash_input key)) value now result)
+            (InsertsEntry key
+            (key_hash S.BuildHasher S.Hasher.Hasher self.old.engine.hasher (K.hash_input key)) value now result)
             self.old.engine clock.old self.new.engine clock.new }
         ensures back { IfErr result (λ refused. (refused.key ≡ key) × (refused.value ≡ value)) }
         ensures unchanged { OnErr result ((self.new.engine.state ≡ self.old.engine.state) × (clock.new ≡ clock.old)) }
-        ensures kept { IfOk result (λ _. is_disabled self.old.engine.state.capacity ≡ false → IsThere K.eq self.new.engine.state key value now) }
-        ensures shown { IfOk result (λ _. is_disabled self.old.engine.state.capacity ≡ false → ShowsWrites self.old.engine.state now.0 → ContainsStep P.says K.eq self.new.engine.state key now.0 true) }
+        ensures kept { IfOk result (λ _. is_disabled self.old.engine.state.capacity ≡ false
+            → IsThere K.eq self.new.engine.state key value now) }
+        ensures shown { IfOk result (λ _. is_disabled self.old.engine.state.capacity ≡ false
+            → ShowsWrites self.old.engine.state now.0
+            → ContainsStep P.says K.eq self.new.engine.state key now.0 true) }
         ensures counted { self.new.stats ≡ self.old.stats }
     {
         let hash = self.engine.hash(&key);
@@ -253,12 +257,16 @@ impl<
         P: Drop,
         requires own { put.hash ≡ key_hash S.BuildHasher S.Hasher.Hasher self.old.engine.hasher (K.hash_input put.key) }
         ensures made { Makes (meaning_of K.eq L.tells P.says W.weighs C.reads X.created X.read X.updated)
-            (InsertsEntry put.key (key_hash S.BuildHasher S.Hasher.Hasher self.old.engine.hasher (K.hash_input put.key)) put.value now result)
+            (InsertsEntry put.key (key_hash S.BuildHasher S.Hasher.Hasher self.old.engine.hasher (K.hash_input put.key))
+            put.value now result)
             self.old.engine clock.old self.new.engine clock.new }
         ensures back { IfErr result (λ refused. (refused.key ≡ put.key) × (refused.value ≡ put.value)) }
         ensures unchanged { OnErr result ((self.new.engine.state ≡ self.old.engine.state) × (clock.new ≡ clock.old)) }
-        ensures kept { IfOk result (λ _. is_disabled self.old.engine.state.capacity ≡ false → IsThere K.eq self.new.engine.state put.key put.value now) }
-        ensures shown { IfOk result (λ _. is_disabled self.old.engine.state.capacity ≡ false → ShowsWrites self.old.engine.state now.0 → ContainsStep P.says K.eq self.new.engine.state put.key now.0 true) }
+        ensures kept { IfOk result (λ _. is_disabled self.old.engine.state.capacity ≡ false
+            → IsThere K.eq self.new.engine.state put.key put.value now) }
+        ensures shown { IfOk result (λ _. is_disabled self.old.engine.state.capacity ≡ false
+            → ShowsWrites self.old.engine.state now.0
+            → ContainsStep P.says K.eq self.new.engine.state put.key now.0 true) }
         ensures counted { self.new.stats ≡ self.old.stats }
     {
         let Put { key, hash, value } = put;
@@ -292,12 +300,16 @@ impl<
         P: Drop,
         ensures made { (own : Result (Option V) OutOfMemory) × IsCopiedAnswer V.is_clone own result
             × Makes (meaning_of K.eq L.tells P.says W.weighs C.reads X.created X.read X.updated)
-            (GetsValue key.now (key_hash S.BuildHasher S.Hasher.Hasher self.old.engine.hasher (K.hash_input key.now)) now own)
+            (GetsValue key.now
+            (key_hash S.BuildHasher S.Hasher.Hasher self.old.engine.hasher (K.hash_input key.now)) now own)
             self.old.engine clock.old self.new.engine clock.new }
-        ensures value { IfOk result (λ found. IfSome found (λ v. (r : Record K V) × (record_of_key K.eq self.old.engine.state.records key.now ≡ Some r) × V.is_clone r.value v)) }
+        ensures value { IfOk result (λ found. IfSome found (λ v. (r : Record K V)
+            × (record_of_key K.eq self.old.engine.state.records key.now ≡ Some r) × V.is_clone r.value v)) }
         ensures sees { IfOk result (Sees K.eq P.says V.is_clone self.old.engine.state key.now now.0) }
-        ensures shown { IfOk result (λ found. ContainsStep P.says K.eq self.old.engine.state key.now now.0 (is_some found)) }
-        ensures found { ContainsStep P.says K.eq self.old.engine.state key.now now.0 true → IfOk result (λ found. is_some found ≡ true) }
+        ensures shown { IfOk result
+            (λ found. ContainsStep P.says K.eq self.old.engine.state key.now now.0 (is_some found)) }
+        ensures found { ContainsStep P.says K.eq self.old.engine.state key.now now.0 true
+            → IfOk result (λ found. is_some found ≡ true) }
         ensures unchanged { OnErr result ((self.new.engine.state ≡ self.old.engine.state) × (clock.new ≡ clock.old)) }
         ensures counted { self.new.stats ≡ after_look_up result self.old.stats }
     {
@@ -321,12 +333,16 @@ impl<
         requires own { hash ≡ key_hash S.BuildHasher S.Hasher.Hasher self.old.engine.hasher (K.hash_input key.now) }
         ensures made { (own : Result (Option V) OutOfMemory) × IsCopiedAnswer V.is_clone own result
             × Makes (meaning_of K.eq L.tells P.says W.weighs C.reads X.created X.read X.updated)
-            (GetsValue key.now (key_hash S.BuildHasher S.Hasher.Hasher self.old.engine.hasher (K.hash_input key.now)) now own)
+            (GetsValue key.now
+            (key_hash S.BuildHasher S.Hasher.Hasher self.old.engine.hasher (K.hash_input key.now)) now own)
             self.old.engine clock.old self.new.engine clock.new }
-        ensures value { IfOk result (λ found. IfSome found (λ v. (r : Record K V) × (record_of_key K.eq self.old.engine.state.records key.now ≡ Some r) × V.is_clone r.value v)) }
+        ensures value { IfOk result (λ found. IfSome found (λ v. (r : Record K V)
+            × (record_of_key K.eq self.old.engine.state.records key.now ≡ Some r) × V.is_clone r.value v)) }
         ensures sees { IfOk result (Sees K.eq P.says V.is_clone self.old.engine.state key.now now.0) }
-        ensures shown { IfOk result (λ found. ContainsStep P.says K.eq self.old.engine.state key.now now.0 (is_some found)) }
-        ensures found { ContainsStep P.says K.eq self.old.engine.state key.now now.0 true → IfOk result (λ found. is_some found ≡ true) }
+        ensures shown { IfOk result
+            (λ found. ContainsStep P.says K.eq self.old.engine.state key.now now.0 (is_some found)) }
+        ensures found { ContainsStep P.says K.eq self.old.engine.state key.now now.0 true
+            → IfOk result (λ found. is_some found ≡ true) }
         ensures unchanged { OnErr result ((self.new.engine.state ≡ self.old.engine.state) × (clock.new ≡ clock.old)) }
         ensures counted { self.new.stats ≡ after_look_up result self.old.stats }
         ensures stays { (p : Record K V) → record_of_key K.eq self.new.engine.state.records key.now ≡ Some p
@@ -357,8 +373,10 @@ impl<
         V: Clone + Drop,
         P: Drop,
         ensures made { (taken : Option (V × Result (Unit {0}) OutOfMemory)) × (result ≡ removed taken)
-            × Makes (meaning_of K.eq (hears_clones K.is_clone V.is_clone L.tells) P.says W.weighs C.reads X.created X.read X.updated)
-            (RemovesEntry key.now (key_hash S.BuildHasher S.Hasher.Hasher self.old.engine.hasher (K.hash_input key.now)) now taken)
+            × Makes (meaning_of K.eq (hears_clones K.is_clone V.is_clone L.tells) P.says W.weighs C.reads
+            X.created X.read X.updated)
+            (RemovesEntry key.now
+            (key_hash S.BuildHasher S.Hasher.Hasher self.old.engine.hasher (K.hash_input key.now)) now taken)
             self.old.engine clock.old self.new.engine clock.new }
         ensures gone { record_of_key K.eq self.new.engine.state.records key.now ≡ None }
         ensures value { taken_out result
@@ -390,8 +408,10 @@ impl<
         V: Clone + Drop,
         P: Drop,
         ensures made { (taken : Option (V × Result (Unit {0}) OutOfMemory)) × (result ≡ invalidated taken)
-            × Makes (meaning_of K.eq (hears_clones K.is_clone V.is_clone L.tells) P.says W.weighs C.reads X.created X.read X.updated)
-            (RemovesEntry key.now (key_hash S.BuildHasher S.Hasher.Hasher self.old.engine.hasher (K.hash_input key.now)) now taken)
+            × Makes (meaning_of K.eq (hears_clones K.is_clone V.is_clone L.tells) P.says W.weighs C.reads
+            X.created X.read X.updated)
+            (RemovesEntry key.now
+            (key_hash S.BuildHasher S.Hasher.Hasher self.old.engine.hasher (K.hash_input key.now)) now taken)
             self.old.engine clock.old self.new.engine clock.new }
         ensures gone { record_of_key K.eq self.new.engine.state.records key.now ≡ None }
         ensures counted { self.new.stats ≡ self.old.stats }
@@ -419,8 +439,10 @@ impl<
         V: Clone + Drop,
         P: Drop,
         requires own { hash ≡ key_hash S.BuildHasher S.Hasher.Hasher self.old.engine.hasher (K.hash_input key.now) }
-        ensures made { Makes (meaning_of K.eq (hears_clones K.is_clone V.is_clone L.tells) P.says W.weighs C.reads X.created X.read X.updated)
-            (RemovesEntry key.now (key_hash S.BuildHasher S.Hasher.Hasher self.old.engine.hasher (K.hash_input key.now)) now result)
+        ensures made { Makes (meaning_of K.eq (hears_clones K.is_clone V.is_clone L.tells) P.says W.weighs C.reads
+            X.created X.read X.updated)
+            (RemovesEntry key.now
+            (key_hash S.BuildHasher S.Hasher.Hasher self.old.engine.hasher (K.hash_input key.now)) now result)
             self.old.engine clock.old self.new.engine clock.new }
         ensures gone { record_of_key K.eq self.new.engine.state.records key.now ≡ None }
         ensures value { option_map (λ t. t.0) result
@@ -560,7 +582,8 @@ impl<
         requires own { put.hash ≡ key_hash S.BuildHasher S.Hasher.Hasher self.old.engine.hasher (K.hash_input put.key) }
         ensures made { (own : Result V (InsertRefused K V)) × HandsOutOwn V.is_clone own result
             × Makes (meaning_of K.eq L.tells P.says W.weighs C.reads X.created X.read X.updated)
-            (InsertsMade put.key (key_hash S.BuildHasher S.Hasher.Hasher self.old.engine.hasher (K.hash_input put.key)) now put.value own)
+            (InsertsMade put.key (key_hash S.BuildHasher S.Hasher.Hasher self.old.engine.hasher (K.hash_input put.key))
+            now put.value own)
             self.old.engine clock.old self.new.engine clock.new }
         ensures back { IfErr result (λ refused. (refused.key ≡ put.key) × (refused.value ≡ put.value)) }
         ensures counted { self.new.stats ≡ self.old.stats }

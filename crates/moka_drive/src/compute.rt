@@ -102,9 +102,11 @@ impl<
         K: Clone + Drop,
         V: Clone + Drop,
         P: Drop,
-        requires callable { (seen : Option V) → ContainsStep P.says K.eq self.old.engine.state key now.0 (is_some seen) → F.pre f seen }
+        requires callable { (seen : Option V) → ContainsStep P.says K.eq self.old.engine.state key now.0 (is_some seen)
+            → F.pre f seen }
         ensures { AndUpserts (meaning_of K.eq L.tells P.says W.weighs C.reads X.created X.read X.updated)
-            K.is_clone V.is_clone key (key_hash S.BuildHasher S.Hasher.Hasher self.old.engine.hasher (K.hash_input key)) now
+            K.is_clone V.is_clone key
+            (key_hash S.BuildHasher S.Hasher.Hasher self.old.engine.hasher (K.hash_input key)) now
             self.old clock.old self.new clock.new (F.post f) result }
     {
         let hash = self.engine().hash(&key);
@@ -138,10 +140,14 @@ impl<
         K: Clone + Drop,
         V: Clone + Drop,
         P: Drop,
-        requires callable { (seen : _) → ContainsStep P.says K.eq self.old.engine.state key now.0 (is_some (option_copied seen)) → F.pre f seen }
-        ensures { AndComputes (meaning_of K.eq (hears_clones K.is_clone V.is_clone L.tells) P.says W.weighs C.reads X.created X.read X.updated)
-            K.is_clone V.is_clone key (key_hash S.BuildHasher S.Hasher.Hasher self.old.engine.hasher (K.hash_input key)) now
-            self.old clock.old self.new clock.new (λ seen op. (x : _) × (option_copied x ≡ seen) × F.post f x op) result }
+        requires callable { (seen : _)
+            → ContainsStep P.says K.eq self.old.engine.state key now.0 (is_some (option_copied seen)) → F.pre f seen }
+        ensures { AndComputes (meaning_of K.eq (hears_clones K.is_clone V.is_clone L.tells) P.says W.weighs C.reads
+            X.created X.read X.updated)
+            K.is_clone V.is_clone key
+            (key_hash S.BuildHasher S.Hasher.Hasher self.old.engine.hasher (K.hash_input key)) now
+            self.old clock.old self.new clock.new (λ seen op. (x : _) × (option_copied x ≡ seen)
+            × F.post f x op) result }
     {
         let hash = self.engine().hash(&key);
         let seen = match self.get_hashed(&key, hash, now, clock) {
@@ -181,7 +187,8 @@ impl<
         ensures made { (own : Result V (InsertRefused K V))
             × HandsOutComputedPut K.is_clone V.is_clone put.key is_there own result
             × Makes (meaning_of K.eq L.tells P.says W.weighs C.reads X.created X.read X.updated)
-            (InsertsMade put.key (key_hash S.BuildHasher S.Hasher.Hasher self.old.engine.hasher (K.hash_input put.key)) now put.value own)
+            (InsertsMade put.key (key_hash S.BuildHasher S.Hasher.Hasher self.old.engine.hasher (K.hash_input put.key))
+            now put.value own)
             self.old.engine clock.old self.new.engine clock.new }
         ensures counted { self.new.stats ≡ self.old.stats }
     {
@@ -211,8 +218,10 @@ impl<
         requires own { hash ≡ key_hash S.BuildHasher S.Hasher.Hasher self.old.engine.hasher (K.hash_input key) }
         ensures made { (taken : Option (V × Result (Unit {0}) OutOfMemory))
             × HandsOutTaken K.is_clone V.is_clone key taken result
-            × Makes (meaning_of K.eq (hears_clones K.is_clone V.is_clone L.tells) P.says W.weighs C.reads X.created X.read X.updated)
-            (RemovesEntry key (key_hash S.BuildHasher S.Hasher.Hasher self.old.engine.hasher (K.hash_input key)) now taken)
+            × Makes (meaning_of K.eq (hears_clones K.is_clone V.is_clone L.tells) P.says W.weighs C.reads
+            X.created X.read X.updated)
+            (RemovesEntry key
+            (key_hash S.BuildHasher S.Hasher.Hasher self.old.engine.hasher (K.hash_input key)) now taken)
             self.old.engine clock.old self.new.engine clock.new
             × (option_map (λ t. t.0) taken
             ≡ option_map (λ r. r.value) (record_of_key K.eq self.old.engine.state.records key)) }

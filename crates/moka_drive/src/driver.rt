@@ -96,7 +96,8 @@ fn make<
 ) -> Reply<K, V, P>
     requires keys { ClonesAreEqual K.is_clone }
     requires values { ClonesAreEqual V.is_clone }
-    ensures { Makes (meaning_of K.eq L.tells P.says W.weighs C.reads I.gives X.created X.read X.updated) call result cache.old cache.new
+    ensures { Makes (meaning_of K.eq L.tells P.says W.weighs C.reads I.gives X.created X.read X.updated) call
+        result cache.old cache.new
         (λ e. Leads C.reads clock.old e.readings clock.new × Leads I.gives ids.old e.ids ids.new) }
 {
     match call {
@@ -170,7 +171,8 @@ fn remove<
 ) -> Reply<K, V, P>
     requires keys { ClonesAreEqual K.is_clone }
     requires values { ClonesAreEqual V.is_clone }
-    ensures { (e : Events K V) × RemovesAndNotifies K.eq cache.old.state key.now now result e cache.new.state × Befalls L.tells e cache.old cache.new }
+    ensures { (e : Events K V) × RemovesAndNotifies K.eq cache.old.state key.now now result e cache.new.state
+        × Befalls L.tells e cache.old cache.new }
 {
     let Some((entry, ticket)) = cache.remove_entry(key, hash) else {
         return Reply::Remove {

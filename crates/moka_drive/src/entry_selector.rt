@@ -82,7 +82,8 @@ impl<
         V: Clone + Drop,
         P: Drop,
         ensures { OrInserts (meaning_of K.eq L.tells P.says W.weighs C.reads X.created X.read X.updated)
-            K.is_clone V.is_clone self.entry.key (key_hash S.BuildHasher S.Hasher.Hasher self.entry.cache.now.engine.hasher (K.hash_input self.entry.key)) now
+            K.is_clone V.is_clone self.entry.key (key_hash S.BuildHasher S.Hasher.Hasher
+            self.entry.cache.now.engine.hasher (K.hash_input self.entry.key)) now
             self.entry.cache.now clock.old self.exit.0.now clock.new value result }
     {
         let OwnedKeyEntrySelector { cache, key } = self;
@@ -106,7 +107,8 @@ impl<
         P: Drop,
         requires callable { ContainsStep P.says K.eq self.cache.now.engine.state self.key now.0 false → F.pre init }
         ensures { OrInsertsMade (meaning_of K.eq L.tells P.says W.weighs C.reads X.created X.read X.updated)
-            K.is_clone V.is_clone self.entry.key (key_hash S.BuildHasher S.Hasher.Hasher self.entry.cache.now.engine.hasher (K.hash_input self.entry.key)) now
+            K.is_clone V.is_clone self.entry.key (key_hash S.BuildHasher S.Hasher.Hasher
+            self.entry.cache.now.engine.hasher (K.hash_input self.entry.key)) now
             self.entry.cache.now clock.old self.exit.0.now clock.new (F.post init) result }
     {
         let OwnedKeyEntrySelector { cache, key } = self;
@@ -130,7 +132,8 @@ impl<
         P: Drop,
         requires callable { ContainsStep P.says K.eq self.cache.now.engine.state self.key now.0 false → F.pre init }
         ensures { OrInsertsIfMade (meaning_of K.eq L.tells P.says W.weighs C.reads X.created X.read X.updated)
-            K.is_clone V.is_clone self.entry.key (key_hash S.BuildHasher S.Hasher.Hasher self.entry.cache.now.engine.hasher (K.hash_input self.entry.key)) now
+            K.is_clone V.is_clone self.entry.key (key_hash S.BuildHasher S.Hasher.Hasher
+            self.entry.cache.now.engine.hasher (K.hash_input self.entry.key)) now
             self.entry.cache.now clock.old self.exit.0.now clock.new (F.post init) result }
     {
         let OwnedKeyEntrySelector { cache, key } = self;
@@ -154,7 +157,8 @@ impl<
         P: Drop,
         requires callable { ContainsStep P.says K.eq self.cache.now.engine.state self.key now.0 false → F.pre init }
         ensures { OrInsertsIfNoError (meaning_of K.eq L.tells P.says W.weighs C.reads X.created X.read X.updated)
-            K.is_clone V.is_clone self.entry.key (key_hash S.BuildHasher S.Hasher.Hasher self.entry.cache.now.engine.hasher (K.hash_input self.entry.key)) now
+            K.is_clone V.is_clone self.entry.key (key_hash S.BuildHasher S.Hasher.Hasher
+            self.entry.cache.now.engine.hasher (K.hash_input self.entry.key)) now
             self.entry.cache.now clock.old self.exit.0.now clock.new (F.post init) result }
     {
         let OwnedKeyEntrySelector { cache, key } = self;
@@ -176,9 +180,11 @@ impl<
         K: Clone + Drop,
         V: Clone + Drop,
         P: Drop,
-        requires callable { (seen : Option V) → ContainsStep P.says K.eq self.cache.now.engine.state self.key now.0 (is_some seen) → F.pre f seen }
+        requires callable { (seen : Option V)
+            → ContainsStep P.says K.eq self.cache.now.engine.state self.key now.0 (is_some seen) → F.pre f seen }
         ensures { AndUpserts (meaning_of K.eq L.tells P.says W.weighs C.reads X.created X.read X.updated)
-            K.is_clone V.is_clone self.entry.key (key_hash S.BuildHasher S.Hasher.Hasher self.entry.cache.now.engine.hasher (K.hash_input self.entry.key)) now
+            K.is_clone V.is_clone self.entry.key (key_hash S.BuildHasher S.Hasher.Hasher
+            self.entry.cache.now.engine.hasher (K.hash_input self.entry.key)) now
             self.entry.cache.now clock.old self.exit.0.now clock.new (F.post f) result }
     {
         let OwnedKeyEntrySelector { cache, key } = self;
@@ -200,10 +206,15 @@ impl<
         K: Clone + Drop,
         V: Clone + Drop,
         P: Drop,
-        requires callable { (seen : _) → ContainsStep P.says K.eq self.cache.now.engine.state self.key now.0 (is_some (option_copied seen)) → F.pre f seen }
-        ensures { AndComputes (meaning_of K.eq (hears_clones K.is_clone V.is_clone L.tells) P.says W.weighs C.reads X.created X.read X.updated)
-            K.is_clone V.is_clone self.entry.key (key_hash S.BuildHasher S.Hasher.Hasher self.entry.cache.now.engine.hasher (K.hash_input self.entry.key)) now
-            self.entry.cache.now clock.old self.exit.0.now clock.new (λ seen op. (x : _) × (option_copied x ≡ seen) × F.post f x op) result }
+        requires callable { (seen : _)
+            → ContainsStep P.says K.eq self.cache.now.engine.state self.key now.0 (is_some (option_copied seen))
+            → F.pre f seen }
+        ensures { AndComputes (meaning_of K.eq (hears_clones K.is_clone V.is_clone L.tells) P.says W.weighs C.reads
+            X.created X.read X.updated)
+            K.is_clone V.is_clone self.entry.key (key_hash S.BuildHasher S.Hasher.Hasher
+            self.entry.cache.now.engine.hasher (K.hash_input self.entry.key)) now
+            self.entry.cache.now clock.old self.exit.0.now clock.new (λ seen op. (x : _) × (option_copied x ≡ seen)
+            × F.post f x op) result }
     {
         let OwnedKeyEntrySelector { cache, key } = self;
         cache.compute_with(key, f, now, clock)

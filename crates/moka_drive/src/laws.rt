@@ -45,8 +45,10 @@ pub fn makes_one_step<
     W: Weigher<K, V>,
     C: Clock,
 >()
-    ensures invalidate_all { InvalidateAllIsMade S (meaning_of K.eq L.tells P.says W.weighs C.reads X.created X.read X.updated) }
-    ensures set_max_capacity { SetMaxCapacityIsMade S (meaning_of K.eq L.tells P.says W.weighs C.reads X.created X.read X.updated) }
+    ensures invalidate_all { InvalidateAllIsMade S
+        (meaning_of K.eq L.tells P.says W.weighs C.reads X.created X.read X.updated) }
+    ensures set_max_capacity { SetMaxCapacityIsMade S
+        (meaning_of K.eq L.tells P.says W.weighs C.reads X.created X.read X.updated) }
 {}
 
 /// Such chains and calls of `invalidate_entries_if` are one run too, in which identifiers are asked for (`MadeAsking`),
@@ -62,10 +64,14 @@ pub fn joins_registrations<
     C: Clock,
     I: IdSource,
 >()
-    ensures themselves { JoinsRegistrations S L.tells (meaning_of K.eq L.tells P.says W.weighs C.reads X.created X.read X.updated)
+    ensures themselves { JoinsRegistrations S L.tells
+        (meaning_of K.eq L.tells P.says W.weighs C.reads X.created X.read X.updated)
         (asking_meaning_of K.eq L.tells P.says W.weighs C.reads I.gives X.created X.read X.updated) }
-    ensures clones { JoinsRegistrations S L.tells (meaning_of K.eq (hears_clones K.is_clone V.is_clone L.tells) P.says W.weighs C.reads X.created X.read X.updated)
-        (asking_meaning_of K.eq (hears_clones K.is_clone V.is_clone L.tells) P.says W.weighs C.reads I.gives X.created X.read X.updated) }
+    ensures clones { JoinsRegistrations S L.tells
+        (meaning_of K.eq (hears_clones K.is_clone V.is_clone L.tells) P.says W.weighs C.reads
+        X.created X.read X.updated)
+        (asking_meaning_of K.eq (hears_clones K.is_clone V.is_clone L.tells) P.says W.weighs C.reads I.gives
+        X.created X.read X.updated) }
 {}
 
 /// It keeps all that is promised of a list of calls.
@@ -109,7 +115,8 @@ pub fn hears_clones<
     W: Weigher<K, V>,
     C: Clock,
 >()
-    ensures { HearsClones S (meaning_of K.eq L.tells P.says W.weighs C.reads X.created X.read X.updated) K.is_clone V.is_clone }
+    ensures { HearsClones S
+        (meaning_of K.eq L.tells P.says W.weighs C.reads X.created X.read X.updated) K.is_clone V.is_clone }
 {}
 
 /// Where clones equal what was cloned, the listener hears of keys and values themselves.
@@ -123,7 +130,8 @@ pub fn hears_themselves<
     W: Weigher<K, V>,
     C: Clock,
 >()
-    ensures { HearsThemselves S (meaning_of K.eq L.tells P.says W.weighs C.reads X.created X.read X.updated) K.is_clone V.is_clone }
+    ensures { HearsThemselves S
+        (meaning_of K.eq L.tells P.says W.weighs C.reads X.created X.read X.updated) K.is_clone V.is_clone }
 {}
 
 /// The counters after each call that is a chain of steps are those before, and the hits, misses and makers of what it
@@ -147,8 +155,10 @@ pub fn counts_removals<
     W: Weigher<K, V>,
     C: Clock,
 >()
-    ensures themselves { CountsRemovals S (meaning_of K.eq (counting L.tells) P.says W.weighs C.reads X.created X.read X.updated) }
-    ensures clones { CountsRemovals S (meaning_of K.eq (hears_clones K.is_clone V.is_clone (counting L.tells)) P.says W.weighs C.reads X.created X.read X.updated) }
+    ensures themselves { CountsRemovals S
+        (meaning_of K.eq (counting L.tells) P.says W.weighs C.reads X.created X.read X.updated) }
+    ensures clones { CountsRemovals S (meaning_of K.eq (hears_clones K.is_clone V.is_clone (counting L.tells)) P.says
+        W.weighs C.reads X.created X.read X.updated) }
     ensures passed_on { PassesOn L.tells }
 {}
 

@@ -111,7 +111,8 @@ impl<
         V: Clone + Drop,
         P: Drop,
         ensures made { Makes (meaning_of K.eq L.tells P.says W.weighs C.reads X.created X.read X.updated)
-            (GetsMany V.is_clone (λ key. key_hash S.BuildHasher S.Hasher.Hasher self.old.engine.hasher (K.hash_input key)) now keys.now result)
+            (GetsMany V.is_clone (λ key.
+            key_hash S.BuildHasher S.Hasher.Hasher self.old.engine.hasher (K.hash_input key)) now keys.now result)
             self.old.engine clock.old self.new.engine clock.new }
         ensures counted { self.new.stats ≡ after_look_ups (found_by result) self.old.stats }
     {
@@ -147,7 +148,8 @@ impl<
         V: Drop,
         P: Drop,
         ensures made { Makes (meaning_of K.eq L.tells P.says W.weighs C.reads X.created X.read X.updated)
-            (InsertsMany (λ key. key_hash S.BuildHasher S.Hasher.Hasher self.old.engine.hasher (K.hash_input key)) now items.items result)
+            (InsertsMany (λ key. key_hash S.BuildHasher S.Hasher.Hasher self.old.engine.hasher (K.hash_input key)) now
+            items.items result)
             self.old.engine clock.old self.new.engine clock.new }
         ensures counted { self.new.stats ≡ self.old.stats }
     {
@@ -183,8 +185,10 @@ impl<
         K: Clone + Drop,
         V: Clone + Drop,
         P: Drop,
-        ensures made { Makes (meaning_of K.eq (hears_clones K.is_clone V.is_clone L.tells) P.says W.weighs C.reads X.created X.read X.updated)
-            (InvalidatesMany (λ key. key_hash S.BuildHasher S.Hasher.Hasher self.old.engine.hasher (K.hash_input key)) now keys.now result)
+        ensures made { Makes (meaning_of K.eq (hears_clones K.is_clone V.is_clone L.tells) P.says W.weighs C.reads
+            X.created X.read X.updated)
+            (InvalidatesMany (λ key. key_hash S.BuildHasher S.Hasher.Hasher self.old.engine.hasher (K.hash_input key))
+            now keys.now result)
             self.old.engine clock.old self.new.engine clock.new }
         ensures counted { self.new.stats ≡ self.old.stats }
     {

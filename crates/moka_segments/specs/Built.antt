@@ -17,7 +17,8 @@ SumsTo None segments = ⊤
 SumsTo (Some capacity) segments = whole_capacity segments ≡ Some capacity
 
 -- a new segment with this configuration, room for its initial capacity, and a clone of the hasher
-pub record IsSegment {K V S X L P W : Type 0} (routing : Routing S) (is_clone : S → S → Type 0) (now : ℕ) (config : Config X L W) (s : Synchronous K V S X L P W) : Type 0 where
+pub record IsSegment {K V S X L P W : Type 0} (routing : Routing S) (is_clone : S → S → Type 0) (now : ℕ)
+    (config : Config X L W) (s : Synchronous K V S X L P W) : Type 0 where
   pub hasher : S
   pub cloned : is_clone routing.hasher hasher
   pub is : s ≡ fresh (new_engine config hasher now s.engine.room)
@@ -30,7 +31,8 @@ module _ {K V S X L P W : Type 0} (routing : Routing S) (whole : Option ℕ) (is
 
   -- each is one, of a configuration that was made for its index
   abbrev pub AreBuilt : (ℕ → Config X L W → Type 0) → List (Synchronous K V S X L P W) → Type 0
-  AreBuilt Made segments = (index : ℕ) (d : Synchronous K V S X L P W) → index < length segments → (config : Config X L W) × Made index config × IsBuilt index config (slice_index_or segments index d)
+  AreBuilt Made segments = (index : ℕ) (d : Synchronous K V S X L P W) → index < length segments
+      → (config : Config X L W) × Made index config × IsBuilt index config (slice_index_or segments index d)
 
   -- a new cache of as many segments as the router knows
   pub record IsNew (Made : ℕ → Config X L W → Type 0) (c : Segmented K V S X L P W) : Type 0 where

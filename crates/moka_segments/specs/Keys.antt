@@ -21,7 +21,8 @@ InsertsOnly Is (c ∷ calls) = InsertsOnly Is calls
 
 -- no segment holds a key
 abbrev pub HoldNone : {K V S X L P W : Type 0} → Segmented K V S X L P W → Type 0
-HoldNone {K} {V} {S} {X} {L} {P} {W} c = (index : ℕ) (x : Synchronous K V S X L P W) → IsAt c.segments index x → x.engine.state.records ≡ empty
+HoldNone {K} {V} {S} {X} {L} {P} {W} c = (index : ℕ) (x : Synchronous K V S X L P W) → IsAt c.segments index x
+    → x.engine.state.records ≡ empty
 
 module _ {K S : Type 0} (hash_of : S → K → ℕ) where
   -- the key belongs to the segment at the index
@@ -30,13 +31,16 @@ module _ {K S : Type 0} (hash_of : S → K → ℕ) where
 
   -- each segment holds only keys that belong to it
   abbrev pub KeysBelong : {V X L P W : Type 0} → Segmented K V S X L P W → Type 0
-  KeysBelong {V} {X} {L} {P} {W} c = (index : ℕ) (x : Synchronous K V S X L P W) → IsAt c.segments index x → EachKey (Belongs c.routing index) x.engine.state.records
+  KeysBelong {V} {X} {L} {P} {W} c = (index : ℕ) (x : Synchronous K V S X L P W) → IsAt c.segments index x
+      → EachKey (Belongs c.routing index) x.engine.state.records
 
   -- what leads from one cache to another leaves keys where they belong
   abbrev pub KeepsKeys : {V X L P W : Type 0} → (Segmented K V S X L P W → Segmented K V S X L P W → Type 0) → Type 0
-  KeepsKeys {V} {X} {L} {P} {W} Leads = (old new : Segmented K V S X L P W) → Leads old new → KeysBelong old → KeysBelong new
+  KeepsKeys {V} {X} {L} {P} {W} Leads = (old new : Segmented K V S X L P W) → Leads old new → KeysBelong old
+      → KeysBelong new
 
 -- keys that are equal are in one segment at most
 abbrev pub AreInOneSegment : {K V S X L P W : Type 0} → (K → K → Bool) → Segmented K V S X L P W → Type 0
-AreInOneSegment {K} {V} {S} {X} {L} {P} {W} eq c = (i j n m : ℕ) (x y : Synchronous K V S X L P W) (r q : Record K V) → IsAt c.segments i x → IsAt c.segments j y →
+AreInOneSegment {K} {V} {S} {X} {L} {P} {W} eq c = (i j n m : ℕ) (x y : Synchronous K V S X L P W) (r q : Record K V) →
+    IsAt c.segments i x → IsAt c.segments j y →
     get x.engine.state.records n ≡ Some r → get y.engine.state.records m ≡ Some q → eq r.key q.key ≡ true → i ≡ j

@@ -22,7 +22,9 @@ pub record StepsAt {A : Type 0} (index : ℕ) (Step : A → A → Type 0) (xs ys
   pub others : ys ≡ slice_set xs index after
 
 -- the same of the segments of a cache
-pub record Steps {K V S X L P W : Type 0} (index : ℕ) (Step : Synchronous K V S X L P W → Synchronous K V S X L P W → Type 0) (old new : Segmented K V S X L P W) : Type 0 where
+pub record Steps {K V S X L P W : Type 0} (index : ℕ)
+    (Step : Synchronous K V S X L P W → Synchronous K V S X L P W → Type 0)
+    (old new : Segmented K V S X L P W) : Type 0 where
   pub routing : new.routing ≡ old.routing
   pub one : StepsAt index Step old.segments new.segments
 

@@ -15,31 +15,43 @@ use Rattle.moka_drive.specs.Unsent.{IsThere, ShowsWrites}
 use Rattle.moka_drive.specs.Synchronous.{Synchronous, Makes, hears_clones, InsertsEntry, GetsValue, RemovesEntry}
 use Rattle.moka_drive.specs.Synchronous as own
 
-module _ {K V S X L P W C : Type 0} (m : Meaning K V X L P W C (Unit {0})) (hash_of : S → K → ℕ) (key : K) (now : Instant) (clock clock_after : C) where
+module _ {K V S X L P W C : Type 0} (m : Meaning K V X L P W C (Unit {0})) (hash_of : S → K → ℕ) (key : K)
+    (now : Instant) (clock clock_after : C) where
   -- an insert
-  pub record Inserts (value : V) (result : Result (Unit {0}) (InsertRefused K V)) (old new : Synchronous K V S X L P W) : Type 0 where
-    pub made : Makes m (InsertsEntry key (hash_of old.engine.hasher key) value now result) old.engine clock new.engine clock_after
+  pub record Inserts (value : V) (result : Result (Unit {0}) (InsertRefused K V))
+      (old new : Synchronous K V S X L P W) : Type 0 where
+    pub made : Makes m (InsertsEntry key (hash_of old.engine.hasher key) value now result) old.engine
+        clock new.engine clock_after
     pub unchanged : OnErr result ((new.engine.state ≡ old.engine.state) × (clock_after ≡ clock))
-    pub kept : IfOk result (λ _. is_disabled old.engine.state.capacity ≡ false → IsThere m.eq new.engine.state key value now)
-    pub shown : IfOk result (λ _. is_disabled old.engine.state.capacity ≡ false → ShowsWrites old.engine.state now.0 → ContainsStep m.says m.eq new.engine.state key now.0 true)
+    pub kept : IfOk result (λ _. is_disabled old.engine.state.capacity ≡ false →
+        IsThere m.eq new.engine.state key value now)
+    pub shown : IfOk result (λ _. is_disabled old.engine.state.capacity ≡ false → ShowsWrites old.engine.state now.0 →
+        ContainsStep m.says m.eq new.engine.state key now.0 true)
     pub counted : new.stats ≡ old.stats
 
   -- a get
-  pub record Gets (is_clone : V → V → Type 0) (result : Result (Option V) OutOfMemory) (old new : Synchronous K V S X L P W) : Type 0 where
+  pub record Gets (is_clone : V → V → Type 0) (result : Result (Option V) OutOfMemory)
+      (old new : Synchronous K V S X L P W) : Type 0 where
     pub made : (own : Result (Option V) OutOfMemory) × IsCopiedAnswer is_clone own result
         × Makes m (GetsValue key (hash_of old.engine.hasher key) now own) old.engine clock new.engine clock_after
-    pub value : IfOk result (λ found. IfSome found (λ v. (r : Record K V) × (record_of_key m.eq old.engine.state.records key ≡ Some r) × is_clone r.value v))
+    pub value : IfOk result (λ found. IfSome found (λ v. (r : Record K V)
+        × (record_of_key m.eq old.engine.state.records key ≡ Some r) × is_clone r.value v))
     pub shown : IfOk result (λ found. ContainsStep m.says m.eq old.engine.state key now.0 (is_some found))
     pub found : ContainsStep m.says m.eq old.engine.state key now.0 true → IfOk result (λ found. is_some found ≡ true)
     pub unchanged : OnErr result ((new.engine.state ≡ old.engine.state) × (clock_after ≡ clock))
     pub counted : new.stats ≡ after_look_up result old.stats
 
   -- a removal, of which clones are told
-  pub record Removes (is_key_clone : K → K → Type 0) (is_clone : V → V → Type 0) (Answers : Option (V × Result (Unit {0}) OutOfMemory) → Type 0) (old new : Synchronous K V S X L P W) : Type 0 where
+  pub record Removes (is_key_clone : K → K → Type 0) (is_clone : V → V → Type 0)
+      (Answers : Option (V × Result (Unit {0}) OutOfMemory) → Type 0)
+      (old new : Synchronous K V S X L P W) : Type 0 where
     pub made : (taken : Option (V × Result (Unit {0}) OutOfMemory)) × Answers taken
-        × Makes (record m { tells = hears_clones is_key_clone is_clone m.tells }) (RemovesEntry key (hash_of old.engine.hasher key) now taken) old.engine clock new.engine clock_after
+        × Makes (record m { tells = hears_clones is_key_clone is_clone m.tells })
+        (RemovesEntry key (hash_of old.engine.hasher key) now taken) old.engine clock new.engine clock_after
     pub counted : new.stats ≡ old.stats
 
   -- a get, and where it misses an insert of the value that the maker made
-  abbrev pub GetsWith : (V → V → Type 0) → (V → Type 0) → Result V (GetWithRefused K V) → Synchronous K V S X L P W → Synchronous K V S X L P W → Type 0
-  GetsWith is_clone Made result old new = own.GetsWith m is_clone key (hash_of old.engine.hasher key) now old clock new clock_after Made result
+  abbrev pub GetsWith : (V → V → Type 0) → (V → Type 0) → Result V (GetWithRefused K V) → Synchronous K V S X L P W →
+      Synchronous K V S X L P W → Type 0
+  GetsWith is_clone Made result old new =
+      own.GetsWith m is_clone key (hash_of old.engine.hasher key) now old clock new clock_after Made result

@@ -76,7 +76,8 @@ impl<
     where
         F: Drop,
         requires { F.IsAlwaysCallable make }
-        ensures new { IfOk result (λ c. (c.routing.count ≡ max count 1) × IsNew c.routing max_capacity (λ a b. b.initial ≡ a.initial) now.0 (F.post make) c) }
+        ensures new { IfOk result (λ c. (c.routing.count ≡ max count 1)
+            × IsNew c.routing max_capacity (λ a b. b.initial ≡ a.initial) now.0 (F.post make) c) }
         ensures shares { IfOk result (λ c. (length c.segments ≡ max count 1) × SumsTo max_capacity c.segments) }
         ensures empty { IfOk result HoldNone }
     {

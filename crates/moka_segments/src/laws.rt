@@ -151,9 +151,12 @@ pub fn own_calls_run<
     W: Weigher<K, V>,
     C: Clock,
 >()
-    ensures runs { EachRuns S (for_all_calls K.is_clone V.is_clone (meaning_of K.eq L.tells P.says W.weighs C.reads X.created X.read X.updated)) }
-    ensures alone { EachMovesAlone S (for_all_calls K.is_clone V.is_clone (meaning_of K.eq L.tells P.says W.weighs C.reads X.created X.read X.updated)) }
-    ensures go_on { MovesGoOn S (for_all_calls K.is_clone V.is_clone (meaning_of K.eq L.tells P.says W.weighs C.reads X.created X.read X.updated)) }
+    ensures runs { EachRuns S (for_all_calls K.is_clone V.is_clone
+        (meaning_of K.eq L.tells P.says W.weighs C.reads X.created X.read X.updated)) }
+    ensures alone { EachMovesAlone S (for_all_calls K.is_clone V.is_clone
+        (meaning_of K.eq L.tells P.says W.weighs C.reads X.created X.read X.updated)) }
+    ensures go_on { MovesGoOn S (for_all_calls K.is_clone V.is_clone
+        (meaning_of K.eq L.tells P.says W.weighs C.reads X.created X.read X.updated)) }
 {}
 
 /// What each call by key ensures is a move of the key's own segment, of the calls that it stands for;
@@ -200,7 +203,8 @@ pub fn calls_of_all_are_moves<
     W: Weigher<K, V>,
     C: Clock,
 >()
-    ensures { CallsOfAllAreMoves S (meaning_of K.eq L.tells P.says W.weighs C.reads X.created X.read X.updated) K.is_clone V.is_clone }
+    ensures { CallsOfAllAreMoves S
+        (meaning_of K.eq L.tells P.says W.weighs C.reads X.created X.read X.updated) K.is_clone V.is_clone }
 {}
 
 /// So is what `invalidate_entries_if` ensures, by a maker of this type. A segment that is not asked makes no call.
@@ -216,5 +220,6 @@ pub fn registering_is_moves<
     I: IdSource,
     F: Fn() -> P,
 >()
-    ensures { RegisteringIsMoves S (meaning_of K.eq L.tells P.says W.weighs C.reads X.created X.read X.updated) K.is_clone V.is_clone I.gives F.post }
+    ensures { RegisteringIsMoves S (meaning_of K.eq L.tells P.says W.weighs C.reads X.created X.read X.updated)
+        K.is_clone V.is_clone I.gives F.post }
 {}

@@ -63,7 +63,8 @@ impl<
         F: Drop,
         requires { F.IsAlwaysCallable make }
         ensures routing { self.new.routing ≡ self.old.routing }
-        ensures each { AllRegister L.tells I.gives (F.post make) now (ids_given result) (outcome result) ids.old ids.new self.old.segments self.new.segments }
+        ensures each { AllRegister L.tells I.gives (F.post make) now (ids_given result)
+            (outcome result) ids.old ids.new self.old.segments self.new.segments }
     {
         let mut done = Vec::new(*self.segments.allocator());
         match register_all(&mut self.segments, &make, now, ids, &mut done) {
@@ -130,7 +131,8 @@ fn register_all<
 ) -> Result<(), PredicateRefused<P>>
     requires { F.IsAlwaysCallable make.now }
     ensures each { (given : List Uuid) × (done.new.items ≡ done.old.items ++ given)
-        × AllRegister L.tells I.gives (F.post make.now) now given result ids.old ids.new segments.old.items segments.new.items }
+        × AllRegister L.tells I.gives (F.post make.now) now given result ids.old ids.new
+        segments.old.items segments.new.items }
     ensures as_many { length segments.new.items ≡ length segments.old.items }
 {
     register_each(segments, make, now, ids, done)

@@ -79,7 +79,8 @@ impl<S> Router<S> {
 impl<S: BuildHasher> Router<S> {
     /// The segment of a key.
     pub fn segment_of<K: Hash>(&self, key: &K) -> usize
-        ensures place { result ≡ segment_of self.now.count (key_hash S.BuildHasher S.Hasher.Hasher self.now.hasher (K.hash_input key.now)) }
+        ensures place { result ≡ segment_of self.now.count
+            (key_hash S.BuildHasher S.Hasher.Hasher self.now.hasher (K.hash_input key.now)) }
         ensures within { result < self.now.count }
     {
         self.segment_of_hash(self.hasher.hash_one(key))

@@ -118,7 +118,8 @@ impl<
 
     /// The segment of a key.
     pub fn segment_of(&self, key: &K) -> usize
-        ensures place { result ≡ segment_of self.now.routing.count (key_hash S.BuildHasher S.Hasher.Hasher self.now.routing.hasher (K.hash_input key.now)) }
+        ensures place { result ≡ segment_of self.now.routing.count
+            (key_hash S.BuildHasher S.Hasher.Hasher self.now.routing.hasher (K.hash_input key.now)) }
         ensures within { result < length self.now.segments }
     {
         let _ = &self.segments;
@@ -127,7 +128,8 @@ impl<
 
     /// Whether a key is there and visible at the moment `now`. Nothing is recorded.
     pub fn contains_key(&self, key: &K, now: Instant) -> bool
-        ensures { Holds (segment_of self.now.routing.count (key_hash S.BuildHasher S.Hasher.Hasher self.now.routing.hasher (K.hash_input key.now)))
+        ensures { Holds (segment_of self.now.routing.count
+            (key_hash S.BuildHasher S.Hasher.Hasher self.now.routing.hasher (K.hash_input key.now)))
             (λ s. ContainsStep P.says K.eq s.engine.state key.now now.0 result) self.now.segments }
     {
         let index = self.router.segment_of(key);
@@ -149,7 +151,8 @@ impl<
         K: Drop,
         V: Drop,
         P: Drop,
-        ensures step { StepsIn (segment_of self.old.routing.count (key_hash S.BuildHasher S.Hasher.Hasher self.old.routing.hasher (K.hash_input key)))
+        ensures step { StepsIn (segment_of self.old.routing.count
+            (key_hash S.BuildHasher S.Hasher.Hasher self.old.routing.hasher (K.hash_input key)))
             (Inserts (meaning_of K.eq L.tells P.says W.weighs C.reads X.created X.read X.updated)
             (λ h k. key_hash S.BuildHasher S.Hasher.Hasher h (K.hash_input k)) key now clock.old clock.new value result)
             self.old self.new }
@@ -174,9 +177,11 @@ impl<
         K: Clone + Drop,
         V: Clone + Drop,
         P: Drop,
-        ensures { StepsIn (segment_of self.old.routing.count (key_hash S.BuildHasher S.Hasher.Hasher self.old.routing.hasher (K.hash_input key.now)))
+        ensures { StepsIn (segment_of self.old.routing.count
+            (key_hash S.BuildHasher S.Hasher.Hasher self.old.routing.hasher (K.hash_input key.now)))
             (Gets (meaning_of K.eq L.tells P.says W.weighs C.reads X.created X.read X.updated)
-            (λ h k. key_hash S.BuildHasher S.Hasher.Hasher h (K.hash_input k)) key.now now clock.old clock.new V.is_clone result)
+            (λ h k. key_hash S.BuildHasher S.Hasher.Hasher h (K.hash_input k)) key.now now clock.old
+            clock.new V.is_clone result)
             self.old self.new }
     {
         let index = self.router.segment_of(key);
@@ -199,9 +204,11 @@ impl<
         K: Clone + Drop,
         V: Clone + Drop,
         P: Drop,
-        ensures { StepsIn (segment_of self.old.routing.count (key_hash S.BuildHasher S.Hasher.Hasher self.old.routing.hasher (K.hash_input key.now)))
+        ensures { StepsIn (segment_of self.old.routing.count
+            (key_hash S.BuildHasher S.Hasher.Hasher self.old.routing.hasher (K.hash_input key.now)))
             (Removes (meaning_of K.eq L.tells P.says W.weighs C.reads X.created X.read X.updated)
-            (λ h k. key_hash S.BuildHasher S.Hasher.Hasher h (K.hash_input k)) key.now now clock.old clock.new K.is_clone V.is_clone (λ taken. result ≡ removed taken))
+            (λ h k. key_hash S.BuildHasher S.Hasher.Hasher h (K.hash_input k)) key.now now clock.old clock.new
+            K.is_clone V.is_clone (λ taken. result ≡ removed taken))
             self.old self.new }
     {
         let index = self.router.segment_of(key);
@@ -223,9 +230,11 @@ impl<
         K: Clone + Drop,
         V: Clone + Drop,
         P: Drop,
-        ensures { StepsIn (segment_of self.old.routing.count (key_hash S.BuildHasher S.Hasher.Hasher self.old.routing.hasher (K.hash_input key.now)))
+        ensures { StepsIn (segment_of self.old.routing.count
+            (key_hash S.BuildHasher S.Hasher.Hasher self.old.routing.hasher (K.hash_input key.now)))
             (Removes (meaning_of K.eq L.tells P.says W.weighs C.reads X.created X.read X.updated)
-            (λ h k. key_hash S.BuildHasher S.Hasher.Hasher h (K.hash_input k)) key.now now clock.old clock.new K.is_clone V.is_clone (λ taken. result ≡ invalidated taken))
+            (λ h k. key_hash S.BuildHasher S.Hasher.Hasher h (K.hash_input k)) key.now now clock.old clock.new
+            K.is_clone V.is_clone (λ taken. result ≡ invalidated taken))
             self.old self.new }
     {
         let index = self.router.segment_of(key);
@@ -249,11 +258,15 @@ impl<
         K: Clone + Drop,
         V: Clone + Drop,
         P: Drop,
-        requires callable { (s : _) → IsAt self.old.segments (segment_of self.old.routing.count (key_hash S.BuildHasher S.Hasher.Hasher self.old.routing.hasher (K.hash_input key))) s
+        requires callable { (s : _)
+            → IsAt self.old.segments (segment_of self.old.routing.count
+            (key_hash S.BuildHasher S.Hasher.Hasher self.old.routing.hasher (K.hash_input key))) s
             → ContainsStep P.says K.eq s.engine.state key now.0 false → F.pre init }
-        ensures { StepsIn (segment_of self.old.routing.count (key_hash S.BuildHasher S.Hasher.Hasher self.old.routing.hasher (K.hash_input key)))
+        ensures { StepsIn (segment_of self.old.routing.count
+            (key_hash S.BuildHasher S.Hasher.Hasher self.old.routing.hasher (K.hash_input key)))
             (GetsWith (meaning_of K.eq L.tells P.says W.weighs C.reads X.created X.read X.updated)
-            (λ h k. key_hash S.BuildHasher S.Hasher.Hasher h (K.hash_input k)) key now clock.old clock.new V.is_clone (F.post init) result)
+            (λ h k. key_hash S.BuildHasher S.Hasher.Hasher h (K.hash_input k)) key now clock.old clock.new
+            V.is_clone (F.post init) result)
             self.old self.new }
     {
         let index = self.router.segment_of(&key);

@@ -68,7 +68,8 @@ impl<
         V: Drop,
         P: Drop,
         ensures routing { self.new.routing ≡ self.old.routing }
-        ensures each { AllRan (meaning_of K.eq L.tells P.says W.weighs C.reads X.created X.read X.updated) now clock.old result clock.new self.old.segments self.new.segments }
+        ensures each { AllRan (meaning_of K.eq L.tells P.says W.weighs C.reads X.created X.read X.updated) now clock.old
+            result clock.new self.old.segments self.new.segments }
         ensures within { IsWithinWhole (whole_capacity self.new.segments) self.new.segments }
     {
         run_all(&mut self.segments, now, clock)
@@ -198,7 +199,8 @@ fn run_each<
     S: BuildHasher,
     C: Clock,
 >(segments: &mut [Cache<K, V, X, L, P, W, S>], now: Instant, clock: &mut C) -> bool
-    ensures { AllRan (meaning_of K.eq L.tells P.says W.weighs C.reads X.created X.read X.updated) now clock.old result clock.new segments.old segments.new }
+    ensures { AllRan (meaning_of K.eq L.tells P.says W.weighs C.reads X.created X.read X.updated) now clock.old result
+        clock.new segments.old segments.new }
 {
     let Some((first, rest)) = segments.split_first_mut() else {
         return false;
@@ -235,7 +237,8 @@ fn run_all<
     S: BuildHasher,
     C: Clock,
 >(segments: &mut Vec<Cache<K, V, X, L, P, W, S>>, now: Instant, clock: &mut C) -> bool
-    ensures each { AllRan (meaning_of K.eq L.tells P.says W.weighs C.reads X.created X.read X.updated) now clock.old result clock.new segments.old.items segments.new.items }
+    ensures each { AllRan (meaning_of K.eq L.tells P.says W.weighs C.reads X.created X.read X.updated) now clock.old
+        result clock.new segments.old.items segments.new.items }
     ensures as_many { length segments.new.items ≡ length segments.old.items }
 {
     run_each(segments, now, clock)

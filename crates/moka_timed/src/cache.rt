@@ -133,7 +133,8 @@ impl<
     /// Whether a key is there and visible. Nothing is recorded.
     pub fn contains_key(&mut self, key: &K) -> bool
         ensures { (now : Instant) × C.reads self.old.clock now self.new.clock
-            × ContainsStep P.says K.eq self.old.cache.engine.state key.now now.0 result × (self.new.cache ≡ self.old.cache) }
+            × ContainsStep P.says K.eq self.old.cache.engine.state key.now now.0 result
+            × (self.new.cache ≡ self.old.cache) }
     {
         let now = self.clock.now();
         self.cache.contains_key(key, now)
@@ -150,10 +151,14 @@ impl<
         P: Drop,
         ensures made { (now : Instant) × (read : C) × C.reads self.old.clock now read
             × Makes (meaning_of K.eq L.tells P.says W.weighs C.reads X.created X.read X.updated)
-            (InsertsEntry key (key_hash S.BuildHasher S.Hasher.Hasher self.old.cache.engine.hasher (K.hash_input key)) value now result)
+            (InsertsEntry key (key_hash S.BuildHasher S.Hasher.Hasher self.old.cache.engine.hasher (K.hash_input key))
+            value now result)
             self.old.cache.engine read self.new.cache.engine self.new.clock
-            × IfOk result (λ _. is_disabled self.old.cache.engine.state.capacity ≡ false → IsThere K.eq self.new.cache.engine.state key value now)
-            × IfOk result (λ _. is_disabled self.old.cache.engine.state.capacity ≡ false → ShowsWrites self.old.cache.engine.state now.0 → ContainsStep P.says K.eq self.new.cache.engine.state key now.0 true) }
+            × IfOk result (λ _. is_disabled self.old.cache.engine.state.capacity ≡ false
+            → IsThere K.eq self.new.cache.engine.state key value now)
+            × IfOk result (λ _. is_disabled self.old.cache.engine.state.capacity ≡ false
+            → ShowsWrites self.old.cache.engine.state now.0
+            → ContainsStep P.says K.eq self.new.cache.engine.state key now.0 true) }
         ensures back { IfErr result (λ refused. (refused.key ≡ key) × (refused.value ≡ value)) }
         ensures unchanged { OnErr result (self.new.cache.engine.state ≡ self.old.cache.engine.state) }
         ensures counted { self.new.cache.stats ≡ self.old.cache.stats }
@@ -174,9 +179,11 @@ impl<
         ensures made { (now : Instant) × (read : C) × C.reads self.old.clock now read
             × ((own : Result (Option V) OutOfMemory) × IsCopiedAnswer V.is_clone own result
             × Makes (meaning_of K.eq L.tells P.says W.weighs C.reads X.created X.read X.updated)
-            (GetsValue key.now (key_hash S.BuildHasher S.Hasher.Hasher self.old.cache.engine.hasher (K.hash_input key.now)) now own)
+            (GetsValue key.now
+            (key_hash S.BuildHasher S.Hasher.Hasher self.old.cache.engine.hasher (K.hash_input key.now)) now own)
             self.old.cache.engine read self.new.cache.engine self.new.clock)
-            × IfOk result (λ found. ContainsStep P.says K.eq self.old.cache.engine.state key.now now.0 (is_some found)) }
+            × IfOk result
+            (λ found. ContainsStep P.says K.eq self.old.cache.engine.state key.now now.0 (is_some found)) }
         ensures value { IfOk result (λ found. IfSome found (λ v. (r : Record K V)
             × (record_of_key K.eq self.old.cache.engine.state.records key.now ≡ Some r) × V.is_clone r.value v)) }
         ensures unchanged { OnErr result (self.new.cache.engine.state ≡ self.old.cache.engine.state) }
@@ -197,8 +204,10 @@ impl<
         P: Drop,
         ensures made { (now : Instant) × (read : C) × C.reads self.old.clock now read
             × ((taken : Option (V × Result (Unit {0}) OutOfMemory)) × (result ≡ removed taken)
-            × Makes (meaning_of K.eq (hears_clones K.is_clone V.is_clone L.tells) P.says W.weighs C.reads X.created X.read X.updated)
-            (RemovesEntry key.now (key_hash S.BuildHasher S.Hasher.Hasher self.old.cache.engine.hasher (K.hash_input key.now)) now taken)
+            × Makes (meaning_of K.eq (hears_clones K.is_clone V.is_clone L.tells) P.says W.weighs C.reads
+            X.created X.read X.updated)
+            (RemovesEntry key.now
+            (key_hash S.BuildHasher S.Hasher.Hasher self.old.cache.engine.hasher (K.hash_input key.now)) now taken)
             self.old.cache.engine read self.new.cache.engine self.new.clock) }
         ensures gone { record_of_key K.eq self.new.cache.engine.state.records key.now ≡ None }
         ensures value { taken_out result
@@ -220,8 +229,10 @@ impl<
         P: Drop,
         ensures made { (now : Instant) × (read : C) × C.reads self.old.clock now read
             × ((taken : Option (V × Result (Unit {0}) OutOfMemory)) × (result ≡ invalidated taken)
-            × Makes (meaning_of K.eq (hears_clones K.is_clone V.is_clone L.tells) P.says W.weighs C.reads X.created X.read X.updated)
-            (RemovesEntry key.now (key_hash S.BuildHasher S.Hasher.Hasher self.old.cache.engine.hasher (K.hash_input key.now)) now taken)
+            × Makes (meaning_of K.eq (hears_clones K.is_clone V.is_clone L.tells) P.says W.weighs C.reads
+            X.created X.read X.updated)
+            (RemovesEntry key.now
+            (key_hash S.BuildHasher S.Hasher.Hasher self.old.cache.engine.hasher (K.hash_input key.now)) now taken)
             self.old.cache.engine read self.new.cache.engine self.new.clock) }
         ensures gone { record_of_key K.eq self.new.cache.engine.state.records key.now ≡ None }
         ensures counted { self.new.cache.stats ≡ self.old.cache.stats }

@@ -78,7 +78,8 @@ impl<
         P: Drop,
         ensures { (now : Instant) × (read : C) × C.reads self.entry.cache.now.clock now read
             × OrInserts (meaning_of K.eq L.tells P.says W.weighs C.reads X.created X.read X.updated)
-            K.is_clone V.is_clone self.entry.key (key_hash S.BuildHasher S.Hasher.Hasher self.entry.cache.now.cache.engine.hasher (K.hash_input self.entry.key)) now
+            K.is_clone V.is_clone self.entry.key (key_hash S.BuildHasher S.Hasher.Hasher
+            self.entry.cache.now.cache.engine.hasher (K.hash_input self.entry.key)) now
             self.entry.cache.now.cache read self.exit.0.now.cache self.exit.0.now.clock value result }
     {
         let TimedEntrySelector { cache: timed, key } = self;
@@ -98,10 +99,12 @@ impl<
         K: Clone + Drop,
         V: Clone + Drop,
         P: Drop,
-        requires callable { (now : Instant) → ContainsStep P.says K.eq self.cache.now.cache.engine.state self.key now.0 false → F.pre init }
+        requires callable { (now : Instant)
+            → ContainsStep P.says K.eq self.cache.now.cache.engine.state self.key now.0 false → F.pre init }
         ensures { (now : Instant) × (read : C) × C.reads self.entry.cache.now.clock now read
             × OrInsertsMade (meaning_of K.eq L.tells P.says W.weighs C.reads X.created X.read X.updated)
-            K.is_clone V.is_clone self.entry.key (key_hash S.BuildHasher S.Hasher.Hasher self.entry.cache.now.cache.engine.hasher (K.hash_input self.entry.key)) now
+            K.is_clone V.is_clone self.entry.key (key_hash S.BuildHasher S.Hasher.Hasher
+            self.entry.cache.now.cache.engine.hasher (K.hash_input self.entry.key)) now
             self.entry.cache.now.cache read self.exit.0.now.cache self.exit.0.now.clock (F.post init) result }
     {
         let TimedEntrySelector { cache: timed, key } = self;
@@ -123,10 +126,12 @@ impl<
         K: Clone + Drop,
         V: Clone + Drop,
         P: Drop,
-        requires callable { (now : Instant) → ContainsStep P.says K.eq self.cache.now.cache.engine.state self.key now.0 false → F.pre init }
+        requires callable { (now : Instant)
+            → ContainsStep P.says K.eq self.cache.now.cache.engine.state self.key now.0 false → F.pre init }
         ensures { (now : Instant) × (read : C) × C.reads self.entry.cache.now.clock now read
             × OrInsertsIfMade (meaning_of K.eq L.tells P.says W.weighs C.reads X.created X.read X.updated)
-            K.is_clone V.is_clone self.entry.key (key_hash S.BuildHasher S.Hasher.Hasher self.entry.cache.now.cache.engine.hasher (K.hash_input self.entry.key)) now
+            K.is_clone V.is_clone self.entry.key (key_hash S.BuildHasher S.Hasher.Hasher
+            self.entry.cache.now.cache.engine.hasher (K.hash_input self.entry.key)) now
             self.entry.cache.now.cache read self.exit.0.now.cache self.exit.0.now.clock (F.post init) result }
     {
         let TimedEntrySelector { cache: timed, key } = self;
@@ -148,10 +153,12 @@ impl<
         K: Clone + Drop,
         V: Clone + Drop,
         P: Drop,
-        requires callable { (now : Instant) → ContainsStep P.says K.eq self.cache.now.cache.engine.state self.key now.0 false → F.pre init }
+        requires callable { (now : Instant)
+            → ContainsStep P.says K.eq self.cache.now.cache.engine.state self.key now.0 false → F.pre init }
         ensures { (now : Instant) × (read : C) × C.reads self.entry.cache.now.clock now read
             × OrInsertsIfNoError (meaning_of K.eq L.tells P.says W.weighs C.reads X.created X.read X.updated)
-            K.is_clone V.is_clone self.entry.key (key_hash S.BuildHasher S.Hasher.Hasher self.entry.cache.now.cache.engine.hasher (K.hash_input self.entry.key)) now
+            K.is_clone V.is_clone self.entry.key (key_hash S.BuildHasher S.Hasher.Hasher
+            self.entry.cache.now.cache.engine.hasher (K.hash_input self.entry.key)) now
             self.entry.cache.now.cache read self.exit.0.now.cache self.exit.0.now.clock (F.post init) result }
     {
         let TimedEntrySelector { cache: timed, key } = self;
@@ -173,10 +180,12 @@ impl<
         K: Clone + Drop,
         V: Clone + Drop,
         P: Drop,
-        requires callable { (now : Instant) → (seen : Option V) → ContainsStep P.says K.eq self.cache.now.cache.engine.state self.key now.0 (is_some seen) → F.pre f seen }
+        requires callable { (now : Instant) → (seen : Option V)
+            → ContainsStep P.says K.eq self.cache.now.cache.engine.state self.key now.0 (is_some seen) → F.pre f seen }
         ensures { (now : Instant) × (read : C) × C.reads self.entry.cache.now.clock now read
             × AndUpserts (meaning_of K.eq L.tells P.says W.weighs C.reads X.created X.read X.updated)
-            K.is_clone V.is_clone self.entry.key (key_hash S.BuildHasher S.Hasher.Hasher self.entry.cache.now.cache.engine.hasher (K.hash_input self.entry.key)) now
+            K.is_clone V.is_clone self.entry.key (key_hash S.BuildHasher S.Hasher.Hasher
+            self.entry.cache.now.cache.engine.hasher (K.hash_input self.entry.key)) now
             self.entry.cache.now.cache read self.exit.0.now.cache self.exit.0.now.clock (F.post f) result }
     {
         let TimedEntrySelector { cache: timed, key } = self;
@@ -196,11 +205,16 @@ impl<
         K: Clone + Drop,
         V: Clone + Drop,
         P: Drop,
-        requires callable { (now : Instant) → (seen : _) → ContainsStep P.says K.eq self.cache.now.cache.engine.state self.key now.0 (is_some (option_copied seen)) → F.pre f seen }
+        requires callable { (now : Instant) → (seen : _)
+            → ContainsStep P.says K.eq self.cache.now.cache.engine.state self.key now.0 (is_some (option_copied seen))
+            → F.pre f seen }
         ensures { (now : Instant) × (read : C) × C.reads self.entry.cache.now.clock now read
-            × AndComputes (meaning_of K.eq (hears_clones K.is_clone V.is_clone L.tells) P.says W.weighs C.reads X.created X.read X.updated)
-            K.is_clone V.is_clone self.entry.key (key_hash S.BuildHasher S.Hasher.Hasher self.entry.cache.now.cache.engine.hasher (K.hash_input self.entry.key)) now
-            self.entry.cache.now.cache read self.exit.0.now.cache self.exit.0.now.clock (λ seen op. (x : _) × (option_copied x ≡ seen) × F.post f x op) result }
+            × AndComputes (meaning_of K.eq (hears_clones K.is_clone V.is_clone L.tells) P.says W.weighs C.reads
+            X.created X.read X.updated)
+            K.is_clone V.is_clone self.entry.key (key_hash S.BuildHasher S.Hasher.Hasher
+            self.entry.cache.now.cache.engine.hasher (K.hash_input self.entry.key)) now
+            self.entry.cache.now.cache read self.exit.0.now.cache self.exit.0.now.clock (λ seen op. (x : _)
+            × (option_copied x ≡ seen) × F.post f x op) result }
     {
         let TimedEntrySelector { cache: timed, key } = self;
         let now = timed.clock.now();

@@ -65,11 +65,13 @@ impl<
             × PutsManyBack (meaning_of K.eq L.tells P.says W.weighs C.reads X.created X.read X.updated)
             (λ h k. key_hash S.BuildHasher S.Hasher.Hasher h (K.hash_input k)) now items.items result
             self.old.cache.engine read self.new.cache.engine self.new.clock
-            × IfOk result (λ _. AreThere W.weighs K.eq now.0 items.items self.old.cache.engine.state self.new.cache.engine.state)
+            × IfOk result
+            (λ _. AreThere W.weighs K.eq now.0 items.items self.old.cache.engine.state self.new.cache.engine.state)
             × TakesOnlyExpired W.weighs items.items now.0 self.old.cache.engine.state self.new.cache.engine.state }
         ensures adds { AddsOnly items.items self.old.cache.engine.state self.new.cache.engine.state }
         ensures hides { HidesNoMore self.old.cache.engine.state self.new.cache.engine.state }
-        ensures back { IfErr result (λ e. (done : List (Restored K V)) × (items.items ≡ done ++ e.refused.item ∷ into_iter_items e.rest)) }
+        ensures back { IfErr result (λ e. (done : List (Restored K V))
+            × (items.items ≡ done ++ e.refused.item ∷ into_iter_items e.rest)) }
         ensures counted { self.new.cache.stats ≡ self.old.cache.stats }
     {
         let now = self.clock.now();

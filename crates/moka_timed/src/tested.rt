@@ -40,10 +40,12 @@ impl<
 
     /// As `contains_key` of the key that passes. `hash` is that of the keys that do, by the cache's hasher.
     pub fn contains_key_by<T: KeyTest<K>>(&mut self, test: &T, hash: u64) -> bool
-        requires own { (k : K) → T.passes test.now k ≡ true → hash ≡ key_hash S.BuildHasher S.Hasher.Hasher self.old.cache.engine.hasher (K.hash_input k) }
+        requires own { (k : K) → T.passes test.now k ≡ true
+            → hash ≡ key_hash S.BuildHasher S.Hasher.Hasher self.old.cache.engine.hasher (K.hash_input k) }
         ensures { (now : Instant) × C.reads self.old.clock now self.new.clock
             × ContainsByStep P.says (T.passes test.now) self.old.cache.engine.state now.0 result
-            × ((key : K) → T.passes test.now key ≡ true → ContainsStep P.says K.eq self.old.cache.engine.state key now.0 result)
+            × ((key : K) → T.passes test.now key ≡ true
+            → ContainsStep P.says K.eq self.old.cache.engine.state key now.0 result)
             × (self.new.cache ≡ self.old.cache) }
     {
         let now = self.clock.now();
@@ -59,13 +61,18 @@ impl<
         K: Clone + Drop,
         V: Clone + Drop,
         P: Drop,
-        requires own { (k : K) → T.passes test.now k ≡ true → hash ≡ key_hash S.BuildHasher S.Hasher.Hasher self.old.cache.engine.hasher (K.hash_input k) }
+        requires own { (k : K) → T.passes test.now k ≡ true
+            → hash ≡ key_hash S.BuildHasher S.Hasher.Hasher self.old.cache.engine.hasher (K.hash_input k) }
         ensures made { (now : Instant) × (read : C) × C.reads self.old.clock now read
-            × ((key : K) → T.passes test.now key ≡ true → (own : Result (Option V) OutOfMemory) × IsCopiedAnswer V.is_clone own result
+            × ((key : K) → T.passes test.now key ≡ true → (own : Result (Option V) OutOfMemory)
+            × IsCopiedAnswer V.is_clone own result
             × Makes (meaning_of K.eq L.tells P.says W.weighs C.reads X.created X.read X.updated)
             (GetsValue key hash now own) self.old.cache.engine read self.new.cache.engine self.new.clock)
-            × IfOk result (λ found. ContainsByStep P.says (T.passes test.now) self.old.cache.engine.state now.0 (is_some found)) }
-        ensures value { IfOk result (λ found. IfSome found (λ v. (r : Record K V) × (record_by (T.passes test.now) self.old.cache.engine.state.records ≡ Some r) × V.is_clone r.value v)) }
+            × IfOk result
+            (λ found. ContainsByStep P.says (T.passes test.now) self.old.cache.engine.state now.0 (is_some found)) }
+        ensures value { IfOk result (λ found. IfSome found (λ v. (r : Record K V)
+            × (record_by (T.passes test.now) self.old.cache.engine.state.records ≡ Some r)
+            × V.is_clone r.value v)) }
         ensures unchanged { OnErr result (self.new.cache.engine.state ≡ self.old.cache.engine.state) }
         ensures counted { self.new.cache.stats ≡ after_look_up result self.old.cache.stats }
     {
@@ -82,12 +89,16 @@ impl<
         K: Clone + Drop,
         V: Clone + Drop,
         P: Drop,
-        requires own { (k : K) → T.passes test.now k ≡ true → hash ≡ key_hash S.BuildHasher S.Hasher.Hasher self.old.cache.engine.hasher (K.hash_input k) }
+        requires own { (k : K) → T.passes test.now k ≡ true
+            → hash ≡ key_hash S.BuildHasher S.Hasher.Hasher self.old.cache.engine.hasher (K.hash_input k) }
         ensures made { (now : Instant) × (read : C) × C.reads self.old.clock now read
-            × ((key : K) → T.passes test.now key ≡ true → (taken : Option (V × Result (Unit {0}) OutOfMemory)) × (result ≡ removed taken)
-            × Makes (meaning_of K.eq (hears_clones K.is_clone V.is_clone L.tells) P.says W.weighs C.reads X.created X.read X.updated)
+            × ((key : K) → T.passes test.now key ≡ true → (taken : Option (V × Result (Unit {0}) OutOfMemory))
+            × (result ≡ removed taken)
+            × Makes (meaning_of K.eq (hears_clones K.is_clone V.is_clone L.tells) P.says W.weighs C.reads
+            X.created X.read X.updated)
             (RemovesEntry key hash now taken) self.old.cache.engine read self.new.cache.engine self.new.clock) }
-        ensures gone { (key : K) → T.passes test.now key ≡ true → record_of_key K.eq self.new.cache.engine.state.records key ≡ None }
+        ensures gone { (key : K) → T.passes test.now key ≡ true
+            → record_of_key K.eq self.new.cache.engine.state.records key ≡ None }
         ensures counted { self.new.cache.stats ≡ self.old.cache.stats }
     {
         let now = self.clock.now();
@@ -103,12 +114,16 @@ impl<
         K: Clone + Drop,
         V: Clone + Drop,
         P: Drop,
-        requires own { (k : K) → T.passes test.now k ≡ true → hash ≡ key_hash S.BuildHasher S.Hasher.Hasher self.old.cache.engine.hasher (K.hash_input k) }
+        requires own { (k : K) → T.passes test.now k ≡ true
+            → hash ≡ key_hash S.BuildHasher S.Hasher.Hasher self.old.cache.engine.hasher (K.hash_input k) }
         ensures made { (now : Instant) × (read : C) × C.reads self.old.clock now read
-            × ((key : K) → T.passes test.now key ≡ true → (taken : Option (V × Result (Unit {0}) OutOfMemory)) × (result ≡ invalidated taken)
-            × Makes (meaning_of K.eq (hears_clones K.is_clone V.is_clone L.tells) P.says W.weighs C.reads X.created X.read X.updated)
+            × ((key : K) → T.passes test.now key ≡ true → (taken : Option (V × Result (Unit {0}) OutOfMemory))
+            × (result ≡ invalidated taken)
+            × Makes (meaning_of K.eq (hears_clones K.is_clone V.is_clone L.tells) P.says W.weighs C.reads
+            X.created X.read X.updated)
             (RemovesEntry key hash now taken) self.old.cache.engine read self.new.cache.engine self.new.clock) }
-        ensures gone { (key : K) → T.passes test.now key ≡ true → record_of_key K.eq self.new.cache.engine.state.records key ≡ None }
+        ensures gone { (key : K) → T.passes test.now key ≡ true
+            → record_of_key K.eq self.new.cache.engine.state.records key ≡ None }
         ensures counted { self.new.cache.stats ≡ self.old.cache.stats }
     {
         let now = self.clock.now();

@@ -9,11 +9,13 @@ use Rattle.moka_uses.specs.declared.invalidated.Below.{Below}
 module _ {X W : Type 0} (s : State ℕ ℕ X Below W) (key : ℕ) where
   -- the key's value lies below the bound, and was written at that moment or before
   abbrev pub IsBelow : ℕ → ℕ → Type 0
-  IsBelow bound now = (r : Record ℕ ℕ) × (record_of_key (λ a b. a == b) s.records key ≡ Some r) × (r.value < bound) × (r.written.0 ≤ now)
+  IsBelow bound now = (r : Record ℕ ℕ) × (record_of_key (λ a b. a == b) s.records key ≡ Some r) × (r.value < bound)
+      × (r.written.0 ≤ now)
 
   -- whether the key is there is answered with no, at whatever moment
   abbrev pub IsNeverShown : Type 0
-  IsNeverShown = (later : ℕ) (shown : Bool) → ContainsStep (λ below _ value answer. answer ≡ nat_lt value below.0) (λ a b. a == b) s key later shown → shown ≡ false
+  IsNeverShown = (later : ℕ) (shown : Bool) → ContainsStep (λ below _ value answer. answer ≡ nat_lt value below.0)
+      (λ a b. a == b) s key later shown → shown ≡ false
 
   -- the key is hidden at the moment
   abbrev pub IsHiddenAt : ℕ → Type 0
@@ -21,4 +23,6 @@ module _ {X W : Type 0} (s : State ℕ ℕ X Below W) (key : ℕ) where
 
   -- whether the key is there is answered with no at the moment and later
   abbrev pub IsHiddenFrom : ℕ → Type 0
-  IsHiddenFrom now = (later : ℕ) (shown : Bool) → now ≤ later → ContainsStep (λ below _ value answer. answer ≡ nat_lt value below.0) (λ a b. a == b) s key later shown → shown ≡ false
+  IsHiddenFrom now = (later : ℕ) (shown : Bool) → now ≤ later
+      → ContainsStep (λ below _ value answer. answer ≡ nat_lt value below.0) (λ a b. a == b) s key later shown
+      → shown ≡ false

@@ -10,14 +10,17 @@ use Rattle.moka_drive.specs.Unsent.{HidesNoMore}
 
 -- each session that is there is one of those that were saved: with its token, and used when that was
 abbrev pub AreAmong : {X P W : Type 0} → State ℕ ℕ X P W → List (Restored ℕ ℕ) → Type 0
-AreAmong s saved = (n : ℕ) (r : Record ℕ ℕ) → get s.records n ≡ Some r → (item : Restored ℕ ℕ) × Contains saved item × IsOfItem item r
+AreAmong s saved = (n : ℕ) (r : Record ℕ ℕ) → get s.records n ≡ Some r → (item : Restored ℕ ℕ) × Contains saved item
+    × IsOfItem item r
 
 -- each session that was saved is there, unless it has ended at the moment
 abbrev pub AreBack : {X P W : Type 0} → State ℕ ℕ X P W → List (Restored ℕ ℕ) → ℕ → Type 0
-AreBack s saved now = AllByRecursion (λ item. has_expired s.settings now item ≡ false → IsRestored (λ a b. a == b) s item) saved
+AreBack s saved now =
+    AllByRecursion (λ item. has_expired s.settings now item ≡ false → IsRestored (λ a b. a == b) s item) saved
 
 -- they were put back at the moment into new sessions with this idle time
-pub record ArePutBack {X P W : Type 0} (weighs : W → ℕ → ℕ → ℕ → Type 0) (saved : List (Restored ℕ ℕ)) (put idle : ℕ) (s : State ℕ ℕ X P W) : Type 0 where
+pub record ArePutBack {X P W : Type 0} (weighs : W → ℕ → ℕ → ℕ → Type 0) (saved : List (Restored ℕ ℕ)) (put idle : ℕ)
+    (s : State ℕ ℕ X P W) : Type 0 where
   pub begun : State ℕ ℕ X P W
   pub no_records : begun.records ≡ empty
   pub roomy : IsRoomyFor weighs saved begun
@@ -29,6 +32,8 @@ pub record ArePutBack {X P W : Type 0} (weighs : W → ℕ → ℕ → ℕ → T
 
 -- the sessions of the first are those of the second, where those end by this idle time alone: at each moment that is
 -- before neither of the two, each user has the same in both
-abbrev pub AreHandedOver : {X P W : Type 0} → (P → ℕ → ℕ → Bool → Type 0) → ℕ → ℕ → ℕ → State ℕ ℕ X P W → State ℕ ℕ X P W → Type 0
-AreHandedOver says idle saved put first second = first.settings.time_to_idle ≡ Some idle → first.settings.time_to_live ≡ None →
+abbrev pub AreHandedOver : {X P W : Type 0} → (P → ℕ → ℕ → Bool → Type 0) → ℕ → ℕ → ℕ → State ℕ ℕ X P W →
+    State ℕ ℕ X P W → Type 0
+AreHandedOver says idle saved put first second = first.settings.time_to_idle ≡ Some idle →
+    first.settings.time_to_live ≡ None →
     (user now : ℕ) → saved ≤ now → put ≤ now → AnswerAlike (λ a b. a == b) says (λ a b. b ≡ a) first second user now

@@ -15,4 +15,5 @@ pub record OnlyIdles {K V X P W : Type 0} (s : State K V X P W) (r : Record K V)
 
 -- whether a session is found at the moment tells whether its last use lies less than the idle time before
 abbrev pub IsFoundWithin : {V X P W : Type 0} → State ℕ V X P W → ℕ → ℕ → Bool → Type 0
-IsFoundWithin {V} s user now found = (r : Record ℕ V) (idle : ℕ) → record_of_key (λ a b. a == b) s.records user ≡ Some r → OnlyIdles s r idle → found ≡ nat_lt now (plus r.read.0 idle)
+IsFoundWithin {V} s user now found = (r : Record ℕ V) (idle : ℕ) → record_of_key (λ a b. a == b) s.records user ≡ Some r
+    → OnlyIdles s r idle → found ≡ nat_lt now (plus r.read.0 idle)

@@ -40,20 +40,37 @@ module _ {X P W : Type 0} (s : State ℕ ℕ X P W) where
 -- what the parts of the cache mean: there is no listener, no expiry but by times, no predicate that covers a record,
 -- and each count weighs 1
 abbrev pub meaning : {X L P W C : Type 0} → (C → Instant → C → Type 0) → Meaning ℕ ℕ X L P W C (Unit {0})
-meaning reads = record { eq = λ a b. a == b; tells = λ before _ _ _ after. after ≡ before; says = λ _ _ _ answer. answer ≡ false; weighs = λ _ _ _ weight. weight ≡ 1; observes = reads; gives = λ _ _ _. ⊥; created = λ _ _ _ _. None; read = λ _ _ _ _ left _. left; updated = λ _ _ _ _ left. left }
+meaning reads = record {
+  eq = λ a b. a == b;
+  tells = λ before _ _ _ after. after ≡ before;
+  says = λ _ _ _ answer. answer ≡ false;
+  weighs = λ _ _ _ weight. weight ≡ 1;
+  observes = reads;
+  gives = λ _ _ _. ⊥;
+  created = λ _ _ _ _. None;
+  read = λ _ _ _ _ left _. left;
+  updated = λ _ _ _ _ left. left;
+}
 
-module _ {S X L P W C : Type 0} (m : Meaning ℕ ℕ X L P W C (Unit {0})) (page : ℕ) (now : Instant) (old : Engine ℕ ℕ S X L P W) (clock : C) (new : Engine ℕ ℕ S X L P W) (clock_after : C) where
+module _ {S X L P W C : Type 0} (m : Meaning ℕ ℕ X L P W C (Unit {0})) (page : ℕ) (now : Instant)
+    (old : Engine ℕ ℕ S X L P W) (clock : C) (new : Engine ℕ ℕ S X L P W) (clock_after : C) where
   -- the cache made a look-up of the page, and no other call
   abbrev pub LooksUp : Type 0
-  LooksUp = (hash : ℕ) × Makes m (GetsValue page hash now (Ok (count_at old.state page now.0))) old clock new clock_after
+  LooksUp = (hash : ℕ)
+      × Makes m (GetsValue page hash now (Ok (count_at old.state page now.0))) old clock new clock_after
 
   -- the cache made a look-up of the page, and put this count
   abbrev pub PutsCount : ℕ → Type 0
-  PutsCount count = (hash : ℕ) × Makes m (InTurn (GetsValue page hash now (Ok (count_at old.state page now.0))) (InsertsMade page hash now count (Ok count))) old clock new clock_after
+  PutsCount count = (hash : ℕ)
+      × Makes m (InTurn (GetsValue page hash now (Ok (count_at old.state page now.0)))
+      (InsertsMade page hash now count (Ok count))) old clock new clock_after
 
   -- the cache made a look-up of the page, which found this count, and a removal, which handed that out
   abbrev pub RemovesCount : ℕ → Option ℕ → Type 0
-  RemovesCount count taken = (hash : ℕ) × (out : Option (ℕ × Result (Unit {0}) OutOfMemory)) × (taken ≡ option_map (λ t. t.0) out) × Makes m (InTurn (GetsValue page hash now (Ok (Some count))) (RemovesEntry page hash now out)) old clock new clock_after
+  RemovesCount count taken = (hash : ℕ) × (out : Option (ℕ × Result (Unit {0}) OutOfMemory))
+      × (taken ≡ option_map (λ t. t.0) out)
+      × Makes m (InTurn (GetsValue page hash now (Ok (Some count)))
+      (RemovesEntry page hash now out)) old clock new clock_after
 
 -- what is to be done with a page of this count
 abbrev pub op_for : ℕ → Option ℕ → Op ℕ

@@ -31,9 +31,11 @@ pub fn load<
     clock: &mut C,
 ) -> Result<(), InsertManyRefused<K, V>>
     ensures made { Makes (meaning_of K.eq L.tells P.says W.weighs C.reads X.created X.read X.updated)
-        (InsertsMany (λ key. key_hash S.BuildHasher S.Hasher.Hasher cache.old.engine.hasher (K.hash_input key)) now rows.items result)
+        (InsertsMany (λ key. key_hash S.BuildHasher S.Hasher.Hasher cache.old.engine.hasher (K.hash_input key)) now
+        rows.items result)
         cache.old.engine clock.old cache.new.engine clock.new }
-    ensures back { IfErr result (λ e. (put : List (K × V)) × (rows.items ≡ put ++ (e.refused.key, e.refused.value) ∷ into_iter_items e.rest) × (e.done ≡ length put)) }
+    ensures back { IfErr result (λ e. (put : List (K × V))
+        × (rows.items ≡ put ++ (e.refused.key, e.refused.value) ∷ into_iter_items e.rest) × (e.done ≡ length put)) }
 {
     cache.insert_many(rows, now, clock)
 }
@@ -59,7 +61,8 @@ pub fn ask<
     clock: &mut C,
 ) -> Result<Vec<Option<V>>, GetManyRefused<V>>
     ensures made { Makes (meaning_of K.eq L.tells P.says W.weighs C.reads X.created X.read X.updated)
-        (GetsMany V.is_clone (λ key. key_hash S.BuildHasher S.Hasher.Hasher cache.old.engine.hasher (K.hash_input key)) now keys.now result)
+        (GetsMany V.is_clone (λ key. key_hash S.BuildHasher S.Hasher.Hasher cache.old.engine.hasher (K.hash_input key))
+        now keys.now result)
         cache.old.engine clock.old cache.new.engine clock.new }
     ensures each { IfOk result (λ found. length found.items ≡ length keys.now) }
 {
@@ -85,10 +88,13 @@ pub fn drop_all<
     now: Instant,
     clock: &mut C,
 ) -> Result<(), InvalidateManyRefused<V>>
-    ensures made { Makes (meaning_of K.eq (hears_clones K.is_clone V.is_clone L.tells) P.says W.weighs C.reads X.created X.read X.updated)
-        (InvalidatesMany (λ key. key_hash S.BuildHasher S.Hasher.Hasher cache.old.engine.hasher (K.hash_input key)) now keys.now result)
+    ensures made { Makes (meaning_of K.eq (hears_clones K.is_clone V.is_clone L.tells) P.says W.weighs C.reads
+        X.created X.read X.updated)
+        (InvalidatesMany (λ key. key_hash S.BuildHasher S.Hasher.Hasher cache.old.engine.hasher (K.hash_input key)) now
+        keys.now result)
         cache.old.engine clock.old cache.new.engine clock.new }
-    ensures stopped { IfErr result (λ e. (before : List K) × (key : K) × (after : List K) × (keys.now ≡ before ++ key ∷ after) × (e.done ≡ length before)) }
+    ensures stopped { IfErr result (λ e. (before : List K) × (key : K) × (after : List K)
+        × (keys.now ≡ before ++ key ∷ after) × (e.done ≡ length before)) }
 {
     cache.invalidate_many(keys, now, clock)
 }

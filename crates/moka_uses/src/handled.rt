@@ -66,7 +66,8 @@ pub fn value_or_made<V: Clone + Drop, F: FnOnce() -> V, C: Clock>(
     now: Instant,
     clock: &mut C,
 ) -> Result<V, OutOfMemory>
-    requires callable { ContainsStep (λ _ _ _ answer. answer ≡ false) (λ a b. a == b) cache.old.engine.state key now.0 false → F.pre make }
+    requires callable { ContainsStep (λ _ _ _ answer. answer ≡ false)
+        (λ a b. a == b) cache.old.engine.state key now.0 false → F.pre make }
     ensures { IfOk result (λ value. F.post make value
         ⊎ IsHandedOut (λ a b. a == b) (λ _ _ _ answer. answer ≡ false) V.is_clone cache.old.engine.state key now.0
         (F.post make) value) }
@@ -89,7 +90,8 @@ pub fn hide<P: PredicateFn<u64, u64> + Drop, I: IdSource>(
     now: Instant,
     ids: &mut I,
 ) -> Option<PredicateId>
-    ensures hidden { IfSome result (λ id. cache.new.engine.state.predicates ≡ cache.old.engine.state.predicates ++ record { id = id; predicate = predicate; registered = now } ∷ []) }
+    ensures hidden { IfSome result (λ id. cache.new.engine.state.predicates ≡ cache.old.engine.state.predicates
+        ++ record { id = id; predicate = predicate; registered = now } ∷ []) }
     ensures all { result ≡ None → cache.new.engine.state ≡ record cache.old.engine.state { invalid_before = Some now } }
 {
     match cache.invalidate_entries_if(predicate, now, ids) {

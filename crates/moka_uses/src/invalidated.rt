@@ -55,8 +55,10 @@ pub fn hide_below<I: IdSource>(
     now: Instant,
     ids: &mut I,
 ) -> Result<PredicateId, PredicateRefused<Below>>
-    ensures hidden { IfOk result (λ _. (key : ℕ) → IsBelow numbers.old.state key bound now.0 → IsNeverShown numbers.new.state key) }
-    ensures at_once { IfOk result (λ _. (key : ℕ) → IsBelow numbers.old.state key bound now.0 → IsHiddenAt numbers.new.state key now.0) }
+    ensures hidden { IfOk result (λ _. (key : ℕ) → IsBelow numbers.old.state key bound now.0
+        → IsNeverShown numbers.new.state key) }
+    ensures at_once { IfOk result (λ _. (key : ℕ) → IsBelow numbers.old.state key bound now.0
+        → IsHiddenAt numbers.new.state key now.0) }
     ensures back { IfErr result (λ refused. refused.predicate ≡ record { 0 = bound }) }
     ensures unchanged { OnErr result (numbers.new.state ≡ numbers.old.state) }
 {

@@ -86,7 +86,8 @@ pub fn log_in<C: Clock>(
 /// `OutOfMemory`
 pub fn find<C: Clock>(logins: &mut Logins<C>, number: u64) -> Result<Option<Session>, OutOfMemory>
     ensures shown { (now : Instant) × (read : C) × C.reads logins.old.clock now read
-        × IfOk result (λ found. ContainsStep is_of (λ a b. a == b) logins.old.cache.engine.state number now.0 (is_some found)) }
+        × IfOk result
+        (λ found. ContainsStep is_of (λ a b. a == b) logins.old.cache.engine.state number now.0 (is_some found)) }
     ensures kept { IfOk result (λ found. IfSome found (IsSession logins.old.cache.engine.state number)) }
 {
     logins.get(&number)
@@ -104,7 +105,8 @@ pub fn log_out<C: Clock, I: IdSource>(
     ids: &mut I,
 ) -> Result<PredicateId, PredicateRefused<OfUser>>
     ensures ended { (now : Instant) × C.reads logins.old.clock now logins.new.clock
-        × IfOk result (λ _. LogsOut (meaning C.reads I.gives) logins.old.cache.engine logins.new.cache.engine user now.0) }
+        × IfOk result
+        (λ _. LogsOut (meaning C.reads I.gives) logins.old.cache.engine logins.new.cache.engine user now.0) }
     ensures back { IfErr result (λ refused. refused.predicate ≡ record { 0 = user }) }
     ensures unchanged { OnErr result (logins.new.cache.engine.state ≡ logins.old.cache.engine.state) }
 {

@@ -42,7 +42,9 @@ pub fn profile<V: Clone + Drop, C: Clock, F: FnOnce() -> V>(
 ) -> Result<V, GetWithRefused<u64, V>>
     requires { F.pre read }
     ensures { (now : Instant) × (read_clock : C) × C.reads profiles.old.clock now read_clock
-        × IfOk result (λ profile. IsHandedOut (λ a b. a == b) (λ _ _ _ answer. answer ≡ false) V.is_clone profiles.old.cache.engine.state user now.0 (F.post read) profile) }
+        × IfOk result (λ profile. IsHandedOut (λ a b. a == b)
+        (λ _ _ _ answer. answer ≡ false) V.is_clone profiles.old.cache.engine.state user
+        now.0 (F.post read) profile) }
 {
     profiles.get_with(user, read)
 }

@@ -36,7 +36,8 @@ pub fn look_up<
     ensures given { IfOk result (λ answer. IfOk answer
         (IsHandedOut K.eq P.says V.is_clone cache.old.engine.state key now.0 (λ value. F.post ask (Ok value)))) }
     ensures failed { IfOk result (λ answer. IfErr answer (λ error. F.post ask (Err error)
-        × FindsNothing (meaning_of K.eq L.tells P.says W.weighs C.reads X.created X.read X.updated) key now cache.old.engine clock.old cache.new.engine clock.new)) }
+        × FindsNothing (meaning_of K.eq L.tells P.says W.weighs C.reads X.created X.read X.updated) key now
+        cache.old.engine clock.old cache.new.engine clock.new)) }
     ensures back { IfErr result
         (ComesBack cache.old.engine.state cache.new.engine.state key (λ value. F.post ask (Ok value))) }
 {

@@ -96,7 +96,8 @@ pub fn hand_over<C: Clock, D: Clock + Drop>(
     ensures { IfOk result (λ again. (saved : Instant) × (read : C) × C.reads sessions.old.clock saved read
         × (begun : Instant) × (ticked : D) × D.reads clock begun ticked
         × (put : Instant) × (read_again : D) × D.reads ticked put read_again
-        × AreHandedOver (λ _ _ _ answer. answer ≡ false) (as_nanos idle) saved.0 put.0 sessions.new.cache.engine.state again.cache.engine.state) }
+        × AreHandedOver (λ _ _ _ answer. answer ≡ false)
+        (as_nanos idle) saved.0 put.0 sessions.new.cache.engine.state again.cache.engine.state) }
 {
     made_again_answers_alike::<u64, u64, NoExpiry, NoPredicate, NoWeigher>();
     let saved = save(alloc, sessions)?;

@@ -31,7 +31,8 @@ pub fn put_if_absent<
 ) -> Result<CacheEntry<K, V>, InsertRefused<K, V>>
     ensures made { (put : Option V) × (own : Result V (Option (InsertRefused K V)))
         × Makes (meaning_of K.eq L.tells P.says W.weighs C.reads X.created X.read X.updated)
-        (GetsOrInserts key (key_hash S.BuildHasher S.Hasher.Hasher cache.old.engine.hasher (K.hash_input key)) now put own)
+        (GetsOrInserts key
+        (key_hash S.BuildHasher S.Hasher.Hasher cache.old.engine.hasher (K.hash_input key)) now put own)
         cache.old.engine clock.old cache.new.engine clock.new }
     ensures given { IfOk result (λ entry.
         IsHandedOut K.eq P.says V.is_clone cache.old.engine.state key now.0 (λ v. v ≡ value) entry.value) }

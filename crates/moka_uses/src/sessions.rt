@@ -60,7 +60,8 @@ pub fn touch<C: Clock>(sessions: &mut Sessions<C>, user: u64) -> Result<Option<u
 
 /// Ends the session of a user, and hands its token out, also where its time is over.
 pub fn log_out<C: Clock>(sessions: &mut Sessions<C>, user: u64) -> Option<u64>
-    ensures { result ≡ option_map (λ r. r.value) (record_of_key (λ a b. a == b) sessions.old.cache.engine.state.records user) }
+    ensures { result ≡ option_map (λ r. r.value)
+        (record_of_key (λ a b. a == b) sessions.old.cache.engine.state.records user) }
 {
     match sessions.remove(&user) {
         Ok(token) => token,

@@ -19,7 +19,8 @@ pub fn count<C: Clock>(
     clock: &mut C,
 ) -> Result<u64, GetWithRefused<u64, u64>>
     ensures counted { IfOk result (λ count. count ≡ next_count visits.old.engine.state page now.0) }
-    ensures put { IfOk result (PutsCount (meaning C.reads) page now visits.old.engine clock.old visits.new.engine clock.new) }
+    ensures put { IfOk result
+        (PutsCount (meaning C.reads) page now visits.old.engine clock.old visits.new.engine clock.new) }
     ensures back { IfErr result (ComesBack visits.old.engine.state visits.new.engine.state page
         (λ count. count ≡ next_count visits.old.engine.state page now.0)) }
 {
@@ -42,7 +43,8 @@ pub fn take_full<C: Clock>(
     clock: &mut C,
 ) -> Result<Option<u64>, ComputeRefused<u64, u64>>
     ensures full { IfOk result (λ taken. IfSome taken (IsFull visits.old.engine.state page now.0 limit)) }
-    ensures left { IfOk result (λ _. (count : _) → IsFull visits.old.engine.state page now.0 limit count → HasLeft visits.new.engine.state page) }
+    ensures left { IfOk result (λ _. (count : _) → IsFull visits.old.engine.state page now.0 limit count
+        → HasLeft visits.new.engine.state page) }
     ensures removed { IfOk result (λ taken. (count : _) → IsFull visits.old.engine.state page now.0 limit count
         → RemovesCount (meaning C.reads) page now visits.old.engine clock.old visits.new.engine clock.new count taken) }
     ensures looked_up { IfOk result (λ _. ((count : _) → IsFull visits.old.engine.state page now.0 limit count → ⊥)

@@ -109,7 +109,8 @@ impl<
         ensures made { PutsBack (meaning_of K.eq L.tells P.says W.weighs C.reads X.created X.read X.updated)
             (λ h k. key_hash S.BuildHasher S.Hasher.Hasher h (K.hash_input k)) now item result
             self.old.engine clock.old self.new.engine clock.new }
-        ensures kept { IfOk result (λ _. is_disabled self.old.engine.state.capacity ≡ false → IsRestored K.eq self.new.engine.state item) }
+        ensures kept { IfOk result (λ _. is_disabled self.old.engine.state.capacity ≡ false
+            → IsRestored K.eq self.new.engine.state item) }
         ensures adds { AddsOnly (item ∷ []) self.old.engine.state self.new.engine.state }
         ensures lasts { TakesOnlyExpired W.weighs (item ∷ []) now.0 self.old.engine.state self.new.engine.state }
         ensures hides { HidesNoMore self.old.engine.state self.new.engine.state }
@@ -135,8 +136,8 @@ impl<
     /// An entry that is there is visible exactly when the one was that it was listed of, until either is read or
     /// written, if time to live and time to idle are the same (`laws::answers_as_before`). Without predicates and an
     /// invalidation of all, and if there is no capacity or it has room for all entries, each is there that has not
-    /// expired at the moment `now` (`IsRoomyFor`); else runs that a later entry starts may evict it. How often keys were
-    /// asked for is not known any more, and entries do not stand in the order of writing.
+    /// expired at the moment `now` (`IsRoomyFor`); else runs that a later entry starts may evict it. How often keys
+    /// were asked for is not known any more, and entries do not stand in the order of writing.
     ///
     /// # Errors
     /// As `restore_entry`, at the first entry that is refused: it comes back with the entries after it.
@@ -153,11 +154,13 @@ impl<
         ensures made { PutsManyBack (meaning_of K.eq L.tells P.says W.weighs C.reads X.created X.read X.updated)
             (λ h k. key_hash S.BuildHasher S.Hasher.Hasher h (K.hash_input k)) now items.items result
             self.old.engine clock.old self.new.engine clock.new }
-        ensures there { IfOk result (λ _. AreThere W.weighs K.eq now.0 items.items self.old.engine.state self.new.engine.state) }
+        ensures there { IfOk result
+            (λ _. AreThere W.weighs K.eq now.0 items.items self.old.engine.state self.new.engine.state) }
         ensures adds { AddsOnly items.items self.old.engine.state self.new.engine.state }
         ensures lasts { TakesOnlyExpired W.weighs items.items now.0 self.old.engine.state self.new.engine.state }
         ensures hides { HidesNoMore self.old.engine.state self.new.engine.state }
-        ensures back { IfErr result (λ e. (done : List (Restored K V)) × (items.items ≡ done ++ e.refused.item ∷ into_iter_items e.rest)) }
+        ensures back { IfErr result (λ e. (done : List (Restored K V))
+            × (items.items ≡ done ++ e.refused.item ∷ into_iter_items e.rest)) }
         ensures counted { self.new.stats ≡ self.old.stats }
     {
         let mut rest = items.into_iter();
@@ -177,7 +180,8 @@ fn clones_of<K: Eq + Hash + Clone + Drop, V: Clone + Drop, S: BuildHasher, X, P:
     alloc: Global,
     snapshot: Snapshot<'_, K, V, S, X, P>,
 ) -> Result<Vec<Restored<K, V>>, OutOfMemory>
-    ensures { IfOk result (λ items. AreSaved P.says K.is_clone V.is_clone snapshot.entry snapshot.entry.members items.items) }
+    ensures { IfOk result
+        (λ items. AreSaved P.says K.is_clone V.is_clone snapshot.entry snapshot.entry.members items.items) }
 {
     let mut items = Vec::new(alloc);
     for entry in snapshot {

@@ -39,9 +39,11 @@ impl<
 
     /// As `contains_key` of the key that passes. `hash` is that of the keys that do, by the cache's hasher.
     pub fn contains_key_by<T: KeyTest<K>>(&self, test: &T, hash: u64, now: Instant) -> bool
-        requires own { (k : K) → T.passes test.now k ≡ true → hash ≡ key_hash S.BuildHasher S.Hasher.Hasher self.now.engine.hasher (K.hash_input k) }
+        requires own { (k : K) → T.passes test.now k ≡ true
+            → hash ≡ key_hash S.BuildHasher S.Hasher.Hasher self.now.engine.hasher (K.hash_input k) }
         ensures shown { ContainsByStep P.says (T.passes test.now) self.now.engine.state now.0 result }
-        ensures as_key { (key : K) → T.passes test.now key ≡ true → ContainsStep P.says K.eq self.now.engine.state key now.0 result }
+        ensures as_key { (key : K) → T.passes test.now key ≡ true
+            → ContainsStep P.says K.eq self.now.engine.state key now.0 result }
     {
         self.engine.contains_by(test, hash, now)
     }
@@ -61,12 +63,16 @@ impl<
         K: Clone + Drop,
         V: Clone + Drop,
         P: Drop,
-        requires own { (k : K) → T.passes test.now k ≡ true → hash ≡ key_hash S.BuildHasher S.Hasher.Hasher self.old.engine.hasher (K.hash_input k) }
-        ensures made { (key : K) → T.passes test.now key ≡ true → (own : Result (Option V) OutOfMemory) × IsCopiedAnswer V.is_clone own result
+        requires own { (k : K) → T.passes test.now k ≡ true
+            → hash ≡ key_hash S.BuildHasher S.Hasher.Hasher self.old.engine.hasher (K.hash_input k) }
+        ensures made { (key : K) → T.passes test.now key ≡ true → (own : Result (Option V) OutOfMemory)
+            × IsCopiedAnswer V.is_clone own result
             × Makes (meaning_of K.eq L.tells P.says W.weighs C.reads X.created X.read X.updated)
             (GetsValue key hash now own) self.old.engine clock.old self.new.engine clock.new }
-        ensures value { IfOk result (λ found. IfSome found (λ v. (r : Record K V) × (record_by (T.passes test.now) self.old.engine.state.records ≡ Some r) × V.is_clone r.value v)) }
-        ensures shown { IfOk result (λ found. ContainsByStep P.says (T.passes test.now) self.old.engine.state now.0 (is_some found)) }
+        ensures value { IfOk result (λ found. IfSome found (λ v. (r : Record K V)
+            × (record_by (T.passes test.now) self.old.engine.state.records ≡ Some r) × V.is_clone r.value v)) }
+        ensures shown { IfOk result
+            (λ found. ContainsByStep P.says (T.passes test.now) self.old.engine.state now.0 (is_some found)) }
         ensures unchanged { OnErr result ((self.new.engine.state ≡ self.old.engine.state) × (clock.new ≡ clock.old)) }
         ensures counted { self.new.stats ≡ after_look_up result self.old.stats }
     {
@@ -92,11 +98,15 @@ impl<
         K: Clone + Drop,
         V: Clone + Drop,
         P: Drop,
-        requires own { (k : K) → T.passes test.now k ≡ true → hash ≡ key_hash S.BuildHasher S.Hasher.Hasher self.old.engine.hasher (K.hash_input k) }
-        ensures made { (key : K) → T.passes test.now key ≡ true → (taken : Option (V × Result (Unit {0}) OutOfMemory)) × (result ≡ removed taken)
-            × Makes (meaning_of K.eq (hears_clones K.is_clone V.is_clone L.tells) P.says W.weighs C.reads X.created X.read X.updated)
+        requires own { (k : K) → T.passes test.now k ≡ true
+            → hash ≡ key_hash S.BuildHasher S.Hasher.Hasher self.old.engine.hasher (K.hash_input k) }
+        ensures made { (key : K) → T.passes test.now key ≡ true → (taken : Option (V × Result (Unit {0}) OutOfMemory))
+            × (result ≡ removed taken)
+            × Makes (meaning_of K.eq (hears_clones K.is_clone V.is_clone L.tells) P.says W.weighs C.reads
+            X.created X.read X.updated)
             (RemovesEntry key hash now taken) self.old.engine clock.old self.new.engine clock.new }
-        ensures gone { (key : K) → T.passes test.now key ≡ true → record_of_key K.eq self.new.engine.state.records key ≡ None }
+        ensures gone { (key : K) → T.passes test.now key ≡ true
+            → record_of_key K.eq self.new.engine.state.records key ≡ None }
         ensures counted { self.new.stats ≡ self.old.stats }
     {
         let Some((value, told)) = self.take_by(test, hash, now, clock) else {
@@ -123,11 +133,15 @@ impl<
         K: Clone + Drop,
         V: Clone + Drop,
         P: Drop,
-        requires own { (k : K) → T.passes test.now k ≡ true → hash ≡ key_hash S.BuildHasher S.Hasher.Hasher self.old.engine.hasher (K.hash_input k) }
-        ensures made { (key : K) → T.passes test.now key ≡ true → (taken : Option (V × Result (Unit {0}) OutOfMemory)) × (result ≡ invalidated taken)
-            × Makes (meaning_of K.eq (hears_clones K.is_clone V.is_clone L.tells) P.says W.weighs C.reads X.created X.read X.updated)
+        requires own { (k : K) → T.passes test.now k ≡ true
+            → hash ≡ key_hash S.BuildHasher S.Hasher.Hasher self.old.engine.hasher (K.hash_input k) }
+        ensures made { (key : K) → T.passes test.now key ≡ true → (taken : Option (V × Result (Unit {0}) OutOfMemory))
+            × (result ≡ invalidated taken)
+            × Makes (meaning_of K.eq (hears_clones K.is_clone V.is_clone L.tells) P.says W.weighs C.reads
+            X.created X.read X.updated)
             (RemovesEntry key hash now taken) self.old.engine clock.old self.new.engine clock.new }
-        ensures gone { (key : K) → T.passes test.now key ≡ true → record_of_key K.eq self.new.engine.state.records key ≡ None }
+        ensures gone { (key : K) → T.passes test.now key ≡ true
+            → record_of_key K.eq self.new.engine.state.records key ≡ None }
         ensures counted { self.new.stats ≡ self.old.stats }
     {
         let Some((value, told)) = self.take_by(test, hash, now, clock) else {
@@ -151,10 +165,14 @@ impl<
         K: Clone + Drop,
         V: Clone + Drop,
         P: Drop,
-        requires own { (k : K) → T.passes test.now k ≡ true → hash ≡ key_hash S.BuildHasher S.Hasher.Hasher self.old.engine.hasher (K.hash_input k) }
-        ensures made { (key : K) → T.passes test.now key ≡ true → Makes (meaning_of K.eq (hears_clones K.is_clone V.is_clone L.tells) P.says W.weighs C.reads X.created X.read X.updated)
+        requires own { (k : K) → T.passes test.now k ≡ true
+            → hash ≡ key_hash S.BuildHasher S.Hasher.Hasher self.old.engine.hasher (K.hash_input k) }
+        ensures made { (key : K) → T.passes test.now key ≡ true
+            → Makes (meaning_of K.eq (hears_clones K.is_clone V.is_clone L.tells) P.says W.weighs C.reads
+            X.created X.read X.updated)
             (RemovesEntry key hash now result) self.old.engine clock.old self.new.engine clock.new }
-        ensures gone { (key : K) → T.passes test.now key ≡ true → record_of_key K.eq self.new.engine.state.records key ≡ None }
+        ensures gone { (key : K) → T.passes test.now key ≡ true
+            → record_of_key K.eq self.new.engine.state.records key ≡ None }
         ensures counted { self.new.stats ≡ self.old.stats }
     {
         self.engine.invariant_holds();

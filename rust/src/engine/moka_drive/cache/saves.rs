@@ -99,8 +99,8 @@ impl<
     /// An entry that is there is visible exactly when the one was that it was listed of, until either is read or
     /// written, if time to live and time to idle are the same (`laws::answers_as_before`). Without predicates and an
     /// invalidation of all, and if there is no capacity or it has room for all entries, each is there that has not
-    /// expired at the moment `now` (`IsRoomyFor`); else runs that a later entry starts may evict it. How often keys were
-    /// asked for is not known any more, and entries do not stand in the order of writing.
+    /// expired at the moment `now` (`IsRoomyFor`); else runs that a later entry starts may evict it. How often keys
+    /// were asked for is not known any more, and entries do not stand in the order of writing.
     ///
     /// # Errors
     /// As `restore_entry`, at the first entry that is refused: it comes back with the entries after it.
