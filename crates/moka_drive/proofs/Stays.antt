@@ -42,9 +42,6 @@ module _ {K V : Type 0} (n : ℕ) (r : Record K V) where
     | inr apart ↦ apart
   ]
 
-  past_insert : (records : Records K V) (k : ℕ) (q : Record K V) → AreApart n k → IsHeld n r records → IsHeld n r (insert records k q)
-  past_insert records k q apart h = record { applied = h.applied; there = get_past_insert records k q n apart ∙ h.there; below = h.below }
-
   past_remove : (records : Records K V) (k : ℕ) → AreApart n k → IsHeld n r records → IsHeld n r (remove records k)
   past_remove records k apart h = record { applied = h.applied; there = get_past_remove records k n apart ∙ h.there; below = h.below }
 
