@@ -4,12 +4,24 @@ use crate::support::prelude::*;
 #[cfg(test)]
 use crate::support::test::prelude::*;
 use crate::proved_tests::moka_uses_tests::equal::assert_equal;
-use crate::support::anyhow::Result;
+use crate::support::anyhow::{Result, bail};
 use crate::engine::moka_engine::Instant;
 use crate::proved_tests::moka_timed::ManualClock;
 use crate::proved_tests::moka_uses::restarted::{hand_over, save, start_again, start_again_within};
-use crate::proved_tests::moka_uses::sessions::{log_in, log_out, start, touch};
+use crate::proved_tests::moka_uses::sessions::{Sessions, log_in, log_out, start, touch};
 use crate::support::time::Duration;
+
+// Logs users 1 to 3 in, so many nanoseconds apart.
+fn log_three_in(sessions: &mut Sessions<ManualClock>, apart: u64) -> Result<()> {
+    for user in 1..4 {
+        if sessions.cache.engine().is_map_disabled() {
+            bail!("a cache of sessions keeps nothing");
+        }
+        log_in(sessions, user, user * 10)?;
+        sessions.clock.advance(Duration::from_nanos(apart));
+    }
+    Ok(())
+}
 
 #[test]
 fn sessions_go_on() -> Result<()> {
@@ -17,13 +29,7 @@ fn sessions_go_on() -> Result<()> {
     let idle = Duration::from_nanos(100);
     let clock = ManualClock { now: Instant(0) };
     let mut sessions = start(rt.alloc(), idle, clock)?;
-    for user in 1..4 {
-        if sessions.cache.engine().is_map_disabled() {
-            return Ok(());
-        }
-        log_in(&mut sessions, user, user * 10)?;
-        sessions.clock.advance(Duration::from_nanos(20));
-    }
+    log_three_in(&mut sessions, 20)?;
     assert_equal(&rt, log_out(&mut sessions, 2), Some(20));
     let saved = save(rt.alloc(), &mut sessions)?;
     let clock = ManualClock { now: Instant(99) };
@@ -42,13 +48,7 @@ fn sessions_are_handed_over() -> Result<()> {
     let idle = Duration::from_nanos(100);
     let clock = ManualClock { now: Instant(0) };
     let mut sessions = start(rt.alloc(), idle, clock)?;
-    for user in 1..4 {
-        if sessions.cache.engine().is_map_disabled() {
-            return Ok(());
-        }
-        log_in(&mut sessions, user, user * 10)?;
-        sessions.clock.advance(Duration::from_nanos(20));
-    }
+    log_three_in(&mut sessions, 20)?;
     let clock = ManualClock { now: Instant(110) };
     let mut again = hand_over(rt.alloc(), &mut sessions, idle, clock)?;
     for (user, token) in [(1, None), (2, Some(20)), (3, Some(30))] {
@@ -63,12 +63,7 @@ fn sessions_go_on_within_a_bound() -> Result<()> {
     let idle = Duration::from_nanos(100);
     let clock = ManualClock { now: Instant(0) };
     let mut sessions = start(rt.alloc(), idle, clock)?;
-    for user in 1..4 {
-        if sessions.cache.engine().is_map_disabled() {
-            return Ok(());
-        }
-        log_in(&mut sessions, user, user * 10)?;
-    }
+    log_three_in(&mut sessions, 0)?;
     for (capacity, count) in [(3, 3), (2, 2)] {
         let saved = save(rt.alloc(), &mut sessions)?;
         let clock = ManualClock { now: Instant(50) };
