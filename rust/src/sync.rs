@@ -468,7 +468,7 @@ where
 #[cfg(test)]
 mod tests {
     use super::*;
-    use crate::engine::moka_store::KeyHash;
+    use crate::engine::moka_store::IndexHash;
     use std::collections::HashSet;
 
     const SHARDS: usize = 64;
@@ -479,7 +479,7 @@ mod tests {
         let mut parts = vec![HashSet::new(); SHARDS];
         for key in 0..100_000 {
             let hash = hash_of(key);
-            let part = KeyHash::of(hash).0 >> 26;
+            let part = IndexHash::of(hash).0 >> 26;
             parts[router.segment_of_hash(spread(hash))].insert(part);
         }
         parts

@@ -15,4 +15,3 @@ pub mod Computing
 pub mod Many
 pub mod Limits
 pub mod Registering
-pub mod Hashing

@@ -5,7 +5,7 @@ ghost use Rattle.moka_parts.specs.Records.{record_of_key};
 ghost use Rattle.moka_parts.specs.declared.error.InsertRefused.{InsertRefused};
 ghost use Rattle.moka_parts.specs.declared.error.OutOfMemory.{OutOfMemory};
 ghost use Rattle.moka_drive.specs.Computing.{HandsOutComputedPut, HandsOutTaken, AndUpserts, AndComputes};
-ghost use Rattle.moka_drive.specs.Hashing.{key_hash};
+ghost use Rattle.moka_parts.specs.Hashing.{key_hash};
 ghost use Rattle.moka_drive.specs.Synchronous.{InsertsMade, Makes, RemovesEntry, hears_clones, meaning_of};
 
 use crate::cache::{Cache, Put};

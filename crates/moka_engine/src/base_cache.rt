@@ -1,7 +1,8 @@
 //! The cache. moka: `sync::base_cache`.
 ghost use Rattle.std.specs.Prelude.{◌≡◌, ◌≤◌, ◌||◌, true, false, [], length, map, is_some, List, Option, Some, None, Ok, Err, IfOk, IfErr, option_map, option_copied, unwrap_or};
-ghost use Rattle.std.specs.List.{AllZip, fold};
+ghost use Rattle.std.specs.List.{AllZip};
 ghost use Rattle.std.specs.String.{string_bytes};
+ghost use Rattle.moka_parts.specs.Hashing.{key_hash};
 ghost use Rattle.moka_parts.specs.Calls.{no_events, only_notices, CapacityStep, InsertStep, SendStep, RemoveStep, ContainsStep, KeysStep};
 ghost use Rattle.moka_parts.specs.Copies.{HandsOut, IsCopy, IsEntryCopy, NotifiesOfCopy};
 ghost use Rattle.moka_parts.specs.Housekeeper.{new_keeper};
@@ -11,7 +12,7 @@ ghost use Rattle.moka_parts.specs.Runs.{Befalls};
 ghost use Rattle.moka_parts.specs.Settling.{IsValid};
 ghost use Rattle.moka_parts.specs.State.{Events, is_disabled, keeps_write_list, limits_of};
 ghost use Rattle.moka_parts.specs.Surroundings.{Leads};
-ghost use Rattle.moka_store.specs.Hashing.{IsKeyHash};
+ghost use Rattle.moka_store.specs.Hashing.{IsIndexHash};
 ghost use Rattle.moka_parts.specs.declared.calls.Call.TheVariants as call;
 ghost use Rattle.moka_parts.specs.declared.calls.Reply.TheVariants as reply;
 ghost use Rattle.moka_parts.specs.declared.records.ReadOperation.TheVariants.{Hit};
@@ -28,7 +29,7 @@ use moka_parts::invalidator::Invalidator;
 use moka_parts::notification::{Listener, RemovalNotifier};
 use moka_parts::policy::{EvictionPolicy, ExpirationPolicy, Expiry, Instant, Policy};
 use moka_parts::records::ReadOperation;
-use moka_store::{KeyHash, Update};
+use moka_store::{IndexHash, Update};
 use std::alloc::Global;
 use std::hash::{BuildHasher, Hash};
 use std::marker::Model;
@@ -316,8 +317,7 @@ impl<
     /// The hash of a key by the cache's own hasher.
     #[inline(always)]
     pub fn hash(&self, key: &K) -> u64
-        ensures { result
-            ≡ S.Hasher.finish (fold S.Hasher.write (S.build_hasher self.now.hasher) (K.hash_input key.now)) }
+        ensures { result ≡ key_hash S.BuildHasher S.Hasher.Hasher self.now.hasher (K.hash_input key.now) }
     {
         self.inner.hash(key)
     }
@@ -404,7 +404,7 @@ impl<
         ensures { Makes (meaning K.eq L.tells P.says W.weighs X.created X.read X.updated)
             (call.Insert key hash value now) (reply.Insert result) self.old self.new (λ e. e ≡ only_notices e.notices) }
     {
-        let own = self.inner.key_hash(&key);
+        let own = self.inner.index_hash(&key);
         self.insert_hashed(key, Hashes { hash, own }, value, now)
     }
 
@@ -425,12 +425,11 @@ impl<
         K: Drop,
         V: Drop,
         requires enabled { is_disabled self.old.state.capacity ≡ false }
-        requires own { hash
-            ≡ S.Hasher.finish (fold S.Hasher.write (S.build_hasher self.old.hasher) (K.hash_input key)) }
+        requires own { hash ≡ key_hash S.BuildHasher S.Hasher.Hasher self.old.hasher (K.hash_input key) }
         ensures { Makes (meaning K.eq L.tells P.says W.weighs X.created X.read X.updated)
             (call.Insert key hash value now) (reply.Insert result) self.old self.new (λ e. e ≡ only_notices e.notices) }
     {
-        let own = KeyHash::of(hash);
+        let own = IndexHash::of(hash);
         self.insert_hashed(key, Hashes { hash, own }, value, now)
     }
 
@@ -447,8 +446,7 @@ impl<
         K: Drop,
         V: Drop,
         requires enabled { is_disabled self.old.state.capacity ≡ false }
-        requires own { IsKeyHash S.build_hasher S.Hasher.finish S.Hasher.write self.old.hasher
-            (K.hash_input key) hashes.own }
+        requires own { IsIndexHash S.BuildHasher S.Hasher.Hasher self.old.hasher (K.hash_input key) hashes.own }
         ensures { (e : Events K V) × InsertStep X.created X.updated W.weighs K.eq self.old.state key hashes.hash value
             now result e self.new.state × Befalls L.tells e self.old self.new }
     {
@@ -505,7 +503,7 @@ impl<
         ensures step { RemoveStep K.eq self.old.state key.now result self.new.state }
         ensures events { Befalls L.tells no_events self.old self.new }
     {
-        let own = self.inner.key_hash(key);
+        let own = self.inner.index_hash(key);
         self.remove_hashed(key, own)
     }
 
@@ -517,20 +515,18 @@ impl<
     ) -> Option<(KvEntry<K, V>, Ticket)>
     where
         K: Drop,
-        requires own { hash
-            ≡ S.Hasher.finish (fold S.Hasher.write (S.build_hasher self.old.hasher) (K.hash_input key.now)) }
+        requires own { hash ≡ key_hash S.BuildHasher S.Hasher.Hasher self.old.hasher (K.hash_input key.now) }
         ensures step { RemoveStep K.eq self.old.state key.now result self.new.state }
         ensures events { Befalls L.tells no_events self.old self.new }
     {
-        self.remove_hashed(key, KeyHash::of(hash))
+        self.remove_hashed(key, IndexHash::of(hash))
     }
 
     // A removal of a key with its hash in the map.
-    fn remove_hashed(&mut self, key: &K, own: KeyHash) -> Option<(KvEntry<K, V>, Ticket)>
+    fn remove_hashed(&mut self, key: &K, own: IndexHash) -> Option<(KvEntry<K, V>, Ticket)>
     where
         K: Drop,
-        requires own { IsKeyHash S.build_hasher S.Hasher.finish S.Hasher.write self.old.hasher
-            (K.hash_input key.now) own }
+        requires own { IsIndexHash S.BuildHasher S.Hasher.Hasher self.old.hasher (K.hash_input key.now) own }
         ensures step { RemoveStep K.eq self.old.state key.now result self.new.state }
         ensures events { Befalls L.tells no_events self.old self.new }
     {
@@ -591,24 +587,22 @@ impl<
     pub fn contains_key_with_hash(&self, key: &K, _hash: u64, now: Instant) -> bool
         ensures { ContainsStep P.says K.eq self.now.state key.now now.0 result }
     {
-        let own = self.inner.key_hash(key);
+        let own = self.inner.index_hash(key);
         self.contains_hashed(key, own, now)
     }
 
     /// As `contains_key_with_hash` with the key's hash by the cache's own hasher, as `hash` tells it, which is not made
     /// again.
     pub fn contains_key_with_own_hash(&self, key: &K, hash: u64, now: Instant) -> bool
-        requires own { hash
-            ≡ S.Hasher.finish (fold S.Hasher.write (S.build_hasher self.now.hasher) (K.hash_input key.now)) }
+        requires own { hash ≡ key_hash S.BuildHasher S.Hasher.Hasher self.now.hasher (K.hash_input key.now) }
         ensures { ContainsStep P.says K.eq self.now.state key.now now.0 result }
     {
-        self.contains_hashed(key, KeyHash::of(hash), now)
+        self.contains_hashed(key, IndexHash::of(hash), now)
     }
 
     // The same with the key's hash in the map.
-    fn contains_hashed(&self, key: &K, own: KeyHash, now: Instant) -> bool
-        requires own { IsKeyHash S.build_hasher S.Hasher.finish S.Hasher.write self.now.hasher
-            (K.hash_input key.now) own }
+    fn contains_hashed(&self, key: &K, own: IndexHash, now: Instant) -> bool
+        requires own { IsIndexHash S.BuildHasher S.Hasher.Hasher self.now.hasher (K.hash_input key.now) own }
         ensures { ContainsStep P.says K.eq self.now.state key.now now.0 result }
     {
         let moments = Moments {
@@ -623,10 +617,8 @@ impl<
     pub fn get_key_with_hash(&self, key: &K, _hash: u64) -> Option<&K>
         ensures { option_copied result ≡ option_map (λ r. r.key) (record_of_key K.eq self.now.state.records key.now) }
     {
-        match self.inner.find(key, self.inner.key_hash(key)) {
-            Some((_, found)) => Some(found.key()),
-            None => None,
-        }
+        let (_, found) = self.inner.find(key, self.inner.index_hash(key))?;
+        Some(found.key())
     }
 
     /// How many segments the map has: one. It is for moka's iterators, which go from one to the next.
@@ -650,10 +642,7 @@ impl<
         if segment >= SEGMENTS {
             return Ok(None);
         }
-        match self.inner.keys(self.alloc) {
-            Ok(keys) => Ok(Some(keys)),
-            Err(_) => Err(OutOfMemory),
-        }
+        Ok(Some(self.inner.keys(self.alloc)?))
     }
 
     /// Looks up a key at the moment `now`, and queues the read. The answer has a clone of the record's value, and one
@@ -681,7 +670,7 @@ impl<
             (call.Get key.now hash need_key now)
             (reply.Get own) self.old self.new (λ e. Leads C.reads clock.old e.readings clock.new)) result }
     {
-        let own = self.inner.key_hash(key);
+        let own = self.inner.index_hash(key);
         let look = Look {
             key,
             hashes: Hashes { hash, own },
@@ -708,14 +697,13 @@ impl<
         K: Clone + Drop,
         V: Clone + Drop,
         P: Drop,
-        requires own { hash
-            ≡ S.Hasher.finish (fold S.Hasher.write (S.build_hasher self.old.hasher) (K.hash_input key.now)) }
+        requires own { hash ≡ key_hash S.BuildHasher S.Hasher.Hasher self.old.hasher (K.hash_input key.now) }
         ensures { HandsOut (IsEntryCopy K.is_clone V.is_clone)
             (λ own. Makes (meaning K.eq L.tells P.says W.weighs X.created X.read X.updated)
             (call.Get key.now hash need_key now)
             (reply.Get own) self.old self.new (λ e. Leads C.reads clock.old e.readings clock.new)) result }
     {
-        let own = KeyHash::of(hash);
+        let own = IndexHash::of(hash);
         let look = Look {
             key,
             hashes: Hashes { hash, own },

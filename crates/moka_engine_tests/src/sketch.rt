@@ -4,7 +4,7 @@ use moka_maintenance::sketch::enable_frequency_sketch;
 use moka_parts::policy::{EvictionPolicy, Instant};
 use moka_parts::records::Record;
 use moka_sketch::frequency_sketch::{FrequencySketch, sketch_capacity, table_len_for};
-use moka_store::{KeyHash, Store};
+use moka_store::{IndexHash, Store};
 use std::alloc::Global;
 use std::hash::{BuildHasherDefault, FoldHasher};
 use std::test::Fail;
@@ -15,7 +15,7 @@ type TestStore = Store<u64, u64, BuildHasherDefault<FoldHasher>>;
 fn store_of(alloc: Global, weight: u32) -> Result<TestStore, Fail> {
     let mut store: TestStore = Store::new(alloc, BuildHasherDefault::new(), false, false)?;
     store.reserve(1)?;
-    let hash = KeyHash::of(store.hash(&1));
+    let hash = IndexHash::of(store.hash(&1));
     if store.find_by_key(&1, hash).is_none() {
         let first = Record {
             number: 1,

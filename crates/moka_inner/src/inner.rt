@@ -2,7 +2,7 @@
 ghost use Rattle.std.specs.Prelude.{◌≡◌, ◌+◌, ◌^◌, ◌<◌, ◌≤◌, ◌↔◌, true, [], ◌∷◌, ◌++◌, None, Some, Ok, Err, OnOk, OnErr, IfOk, IfSome, if◌then◌else◌, length, nat_lt, option_map, slice_get};
 ghost use Rattle.std.specs.Duration.{as_nanos};
 ghost use Rattle.std.specs.FinMap as finite;
-ghost use Rattle.std.specs.List.{fold};
+ghost use Rattle.moka_parts.specs.Hashing.{key_hash};
 ghost use Rattle.moka_parts.specs.Calls.{queue_length};
 ghost use Rattle.moka_parts.specs.Order.{IsListOf};
 ghost use Rattle.moka_parts.specs.Reads.{after_reads};
@@ -12,7 +12,7 @@ ghost use Rattle.moka_parts.specs.declared.records.Operation.{Operation};
 ghost use Rattle.moka_parts.specs.declared.records.Operation.TheVariants.{Upsert, Removal};
 ghost use Rattle.moka_parts.specs.declared.records.ReadOperation.TheVariants.{Hit};
 ghost use Rattle.moka_parts.specs.declared.records.Record.{Record};
-ghost use Rattle.moka_store.specs.Hashing.{IsKeyHash};
+ghost use Rattle.moka_store.specs.Hashing.{IsIndexHash};
 ghost use Rattle.moka_store.specs.Store.{AreKeysOf, ChangesRecord, ExpiresAsBefore, IsHandle};
 ghost use Rattle.moka_store.specs.Updates.{updated};
 ghost use Rattle.moka_maintenance.specs.Passes.{IsRan};
@@ -38,7 +38,7 @@ use moka_parts::policy::Instant;
 use moka_parts::record_ref::RecordRef;
 use moka_parts::records::{Operation, ReadOperation, Record};
 use moka_sketch::frequency_sketch::FrequencySketch;
-use moka_store::{Handle, KeyHash, Store, Update};
+use moka_store::{Handle, IndexHash, Store, Update};
 use moka_structures::outstanding::Outstanding;
 use std::alloc::{AllocError, Global};
 use std::hash::{BuildHasher, Hash};
@@ -67,7 +67,7 @@ pub struct Layout {
 #[derive(Clone, Copy)]
 pub struct Hashes {
     pub hash: u64,
-    pub own: KeyHash,
+    pub own: IndexHash,
 }
 
 /// The inner part of the cache. moka: `sync::base_cache::Inner`.
@@ -170,30 +170,27 @@ impl<K: Eq + Hash, V, S: BuildHasher> Inner<K, V, S> {
     /// The hash of a key by the store's hasher.
     #[inline(always)]
     pub fn hash(&self, key: &K) -> u64
-        ensures { result
-            ≡ S.Hasher.finish (fold S.Hasher.write (S.build_hasher self.now.kept.hasher) (K.hash_input key.now)) }
+        ensures { result ≡ key_hash S.BuildHasher S.Hasher.Hasher self.now.kept.hasher (K.hash_input key.now) }
     {
         self.store.hash(key)
     }
 
     /// The hash under which the store has a key, or would have it.
     #[inline(always)]
-    pub fn key_hash(&self, key: &K) -> KeyHash
-        ensures { IsKeyHash S.build_hasher S.Hasher.finish S.Hasher.write self.now.kept.hasher
-            (K.hash_input key.now) result }
+    pub fn index_hash(&self, key: &K) -> IndexHash
+        ensures { IsIndexHash S.BuildHasher S.Hasher.Hasher self.now.kept.hasher (K.hash_input key.now) result }
     {
-        KeyHash::of(self.store.hash(key))
+        IndexHash::of(self.store.hash(key))
     }
 
     /// The record whose key is equal, with its handle, under the key's hash.
     #[inline(always)]
-    pub fn find(&self, key: &K, hash: KeyHash) -> Option<(Handle, RecordRef<'_, K, V>)>
-        requires hashed { IsKeyHash S.build_hasher S.Hasher.finish S.Hasher.write self.now.kept.hasher
-            (K.hash_input key.now) hash }
+    pub fn find(&self, key: &K, hash: IndexHash) -> Option<(Handle, RecordRef<'_, K, V>)>
+        requires hashed { IsIndexHash S.BuildHasher S.Hasher.Hasher self.now.kept.hasher (K.hash_input key.now) hash }
         ensures handle { IfSome result (λ f. IsHandle self.now.kept f.0) }
         ensures numbered { IfSome result (λ f. finite.get self.now.kept.records f.0.number ≡ Some f.1) }
         ensures found { option_map (λ f. f.1) result ≡ record_of_key K.eq self.now.kept.records key.now }
-        ensures hashed { IfSome result (λ f. IsKeyHash S.build_hasher S.Hasher.finish S.Hasher.write
+        ensures hashed { IfSome result (λ f. IsIndexHash S.BuildHasher S.Hasher.Hasher
             self.now.kept.hasher (K.hash_input f.1.key) hash) }
     {
         self.store.find_by_key(key, hash)
@@ -255,8 +252,7 @@ impl<K: Eq + Hash, V, S: BuildHasher> Inner<K, V, S> {
         requires operations { 1 < self.old.operation_room }
         requires tickets { self.old.next_ticket + finite.len self.old.kept.records + 1 < 2 ^ 64 }
         requires fresh { record_of_key K.eq self.old.kept.records key ≡ None }
-        requires hashed { IsKeyHash S.build_hasher S.Hasher.finish S.Hasher.write self.old.kept.hasher
-            (K.hash_input key) hashes.own }
+        requires hashed { IsIndexHash S.BuildHasher S.Hasher.Hasher self.old.kept.hasher (K.hash_input key) hashes.own }
         ensures ticket { result.0 ≡ self.old.next_ticket }
         ensures step { self.new ≡ record (handing_out_inside self.old
             (with_record self.old.kept.records (first_record self.old.next_number key hashes.hash update))
@@ -303,12 +299,12 @@ impl<K: Eq + Hash, V, S: BuildHasher> Inner<K, V, S> {
 
     /// Takes the record at this handle out of the map, where it is under the hash of its key, and hands its removal out
     /// under the next ticket. It takes no memory. The member stays until the removal is applied.
-    pub fn remove(&mut self, handle: Handle, hash: KeyHash) -> (Record<K, V>, Ticket)
+    pub fn remove(&mut self, handle: Handle, hash: IndexHash) -> (Record<K, V>, Ticket)
     where
         K: Drop,
         requires handle { IsHandle self.old.kept handle }
         requires hashed { (r : Record K V) → finite.get self.old.kept.records handle.number ≡ Some r
-            → IsKeyHash S.build_hasher S.Hasher.finish S.Hasher.write self.old.kept.hasher (K.hash_input r.key) hash }
+            → IsIndexHash S.BuildHasher S.Hasher.Hasher self.old.kept.hasher (K.hash_input r.key) hash }
         ensures ticket { result.1.0 ≡ self.old.next_ticket }
         ensures taken { finite.get self.old.kept.records handle.number ≡ Some result.0 }
         ensures step { self.new ≡ handing_out_inside self.old
@@ -407,7 +403,7 @@ impl<K: Eq + Hash, V, S: BuildHasher> Inner<K, V, S> {
             hash,
             renewed,
         };
-        match self.store.find_by_key(key, self.key_hash(key)) {
+        match self.store.find_by_key(key, self.index_hash(key)) {
             Some((Handle { place, .. }, _)) => self.queue_read(place, read),
             None => self.queue_read(0, read),
         }

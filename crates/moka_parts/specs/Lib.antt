@@ -1,6 +1,7 @@
 pub mod Time
 pub mod Policy
 pub mod Records
+pub mod Hashing
 pub mod Surroundings
 pub mod Notification
 pub use Rattle.moka_sketch.specs.Frequency

@@ -37,10 +37,8 @@ impl Notices {
     pub fn with_room(alloc: Global, room: usize) -> Result<Notices, OutOfMemory>
         ensures { IfOk result (λ notices. notices ≡ record { told = []; room = room }) }
     {
-        match Vec::with_capacity(alloc, room) {
-            Ok(told) => Ok(Notices { told }),
-            Err(_) => Err(OutOfMemory),
-        }
+        let told = Vec::with_capacity(alloc, room)?;
+        Ok(Notices { told })
     }
 
     /// What was told, in order.

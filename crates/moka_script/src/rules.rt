@@ -57,10 +57,7 @@ impl Rules {
             .rules
             .iter()
             .find(|rule| fits(**rule, question, key, now.0));
-        match found {
-            Some(rule) => Some(rule.answer.map(Duration::from_nanos)),
-            None => None,
-        }
+        Some(found?.answer.map(Duration::from_nanos))
     }
 }
 
@@ -98,10 +95,7 @@ impl Expiry<u32, Word> for Rules {
         _value: &Word,
         created_at: Instant,
     ) -> Option<Duration> {
-        match self.answer(Question::Create, *key, created_at) {
-            Some(answer) => answer,
-            None => None,
-        }
+        self.answer(Question::Create, *key, created_at)?
     }
 
     fn expire_after_read(

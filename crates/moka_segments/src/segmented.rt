@@ -1,7 +1,7 @@
 //! The segmented cache, and its calls by key. moka: `sync::segment`.
 ghost use Rattle.std.specs.Prelude.{◌≡◌, ◌<◌, false, length, IfErr};
 ghost use Rattle.moka_parts.specs.Calls.{ContainsStep};
-ghost use Rattle.moka_drive.specs.Hashing.{key_hash};
+ghost use Rattle.moka_parts.specs.Hashing.{key_hash};
 ghost use Rattle.moka_drive.specs.Synchronous.{meaning_of, removed, invalidated};
 ghost use Rattle.moka_segments.specs.Routing.{segment_of};
 ghost use Rattle.moka_segments.specs.Segmented.{Holds, IsAt, Steps as StepsIn};

@@ -3,11 +3,12 @@
 //! moka: `sync::base_cache::Inner`, whose maps and deques these are.
 ghost use Rattle.std.specs.Prelude.{◌==◌, if◌then◌else◌, ◌≡◌, ◌≢◌, ◌+◌, ◌^◌, ◌<◌, ◌≤◌, ℕ, [], ◌∷◌, ◌++◌, length, OnOk, IfOk, IfSome, IfNone, true, false, IsOk, IsSome, IsNone, None, Some, slice_get, nat_lt, option_map, option_copied, IsTrue, IfErr, ◌↔◌};
 ghost use Rattle.std.specs.FinMap as finite;
-ghost use Rattle.std.specs.List.{IsDistinct, fold};
+ghost use Rattle.std.specs.List.{IsDistinct};
+ghost use Rattle.moka_parts.specs.Hashing.{key_hash};
 ghost use Rattle.moka_store.specs.Store.{member_after, number_after, cursor_past, with_timer, AreKeysOf, ChangesRecord, ExpiresAsBefore, IsOff, IsPlaced, IsHandle, IsOneEach, IsOrdered};
 ghost use Rattle.moka_store.specs.declared.store.Handle.{Handle};
 ghost use Rattle.moka_parts.specs.declared.records.Record.{Record};
-ghost use Rattle.moka_store.specs.Hashing.{IsKeyHash};
+ghost use Rattle.moka_store.specs.Hashing.{IsIndexHash};
 ghost use Rattle.moka_store.specs.Updates.{updated};
 ghost use Rattle.moka_parts.specs.Order.{IsListOf};
 ghost use Rattle.moka_parts.specs.Time.{moment_of};
@@ -16,7 +17,7 @@ ghost use Rattle.moka_parts.specs.Records.{member, counted_of, record_of_key, wi
 use crate::table::{Membership, RecordTable};
 use crate::timers::Timers;
 use crate::write_list::WriteList;
-pub use hashing::KeyHash;
+pub use hashing::IndexHash;
 use moka_index::PlaceIndex;
 use moka_parts::policy::Instant;
 use moka_parts::record_ref::RecordRef;
@@ -85,7 +86,8 @@ impl<K: Eq + Hash + Drop, V: Drop, S: BuildHasher + Drop> Drop for Store<K, V, S
 
 impl<K: Eq + Hash, V, S: BuildHasher> Model for Store<K, V, S> {
     ghost use Rattle.std.specs.FinMap as finite;
-    ghost use Rattle.moka_store.specs.Hashing.{hash_by};
+    ghost use Rattle.moka_parts.specs.Hashing.{key_hash};
+    ghost use Rattle.moka_store.specs.Hashing.{index_hash};
     ghost use Rattle.moka_store.specs.Store.{Kept, kept_code};
 
     ghost Value = { Kept K V S };
@@ -99,7 +101,7 @@ impl<K: Eq + Hash, V, S: BuildHasher> Model for Store<K, V, S> {
 
     ghost invariant = { λ a. IsStore K.eq a.table.rows
         (record {
-          hash_of = λ k. hash_by S.Hasher.finish S.Hasher.write (S.build_hasher a.hasher) (K.hash_input k);
+          hash_of = λ k. index_hash (key_hash S.BuildHasher S.Hasher.Hasher a.hasher (K.hash_input k));
           entries = a.index.entries;
         })
         (finite.len a.index.entries) a.access.members a.written a.timers
@@ -162,22 +164,20 @@ impl<K: Eq + Hash, V, S: BuildHasher> Store<K, V, S> {
     /// The hash of a key by the store's hasher.
     #[inline(always)]
     pub fn hash(&self, key: &K) -> u64
-        ensures { result
-            ≡ S.Hasher.finish (fold S.Hasher.write (S.build_hasher self.now.hasher) (K.hash_input key.now)) }
+        ensures { result ≡ key_hash S.BuildHasher S.Hasher.Hasher self.now.hasher (K.hash_input key.now) }
     {
         self.hasher.hash_one(key)
     }
 
     /// The record whose key is equal, with its handle, under the key's hash.
     #[inline(always)]
-    pub fn find_by_key(&self, key: &K, hash: KeyHash) -> Option<(Handle, RecordRef<'_, K, V>)>
-        requires hashed { IsKeyHash S.build_hasher S.Hasher.finish S.Hasher.write self.now.hasher
-            (K.hash_input key.now) hash }
+    pub fn find_by_key(&self, key: &K, hash: IndexHash) -> Option<(Handle, RecordRef<'_, K, V>)>
+        requires hashed { IsIndexHash S.BuildHasher S.Hasher.Hasher self.now.hasher (K.hash_input key.now) hash }
         ensures handle { IfSome result (λ f. IsHandle self.now f.0) }
         ensures found { IfSome result (λ f. finite.get self.now.records f.0.number ≡ Some f.1) }
         ensures value { option_map (λ f. f.1) result ≡ record_of_key K.eq self.now.records key.now }
         ensures hashed { IfSome result
-            (λ f. IsKeyHash S.build_hasher S.Hasher.finish S.Hasher.write self.now.hasher (K.hash_input f.1.key) hash) }
+            (λ f. IsIndexHash S.BuildHasher S.Hasher.Hasher self.now.hasher (K.hash_input f.1.key) hash) }
         ensures one_each { IsOneEach K.eq self.now.records }
     {
         let table = &self.table;
@@ -218,12 +218,11 @@ impl<K: Eq + Hash, V, S: BuildHasher> Store<K, V, S> {
 
     /// A new record of a key that has none, under the key's hash. It takes no memory.
     #[inline(always)]
-    pub fn insert_new(&mut self, stored: Record<K, V>, hash: KeyHash) -> Handle
+    pub fn insert_new(&mut self, stored: Record<K, V>, hash: IndexHash) -> Handle
         requires room { 0 < self.old.room }
         requires fresh { finite.get self.old.places stored.number ≡ None }
         requires unknown { record_of_key K.eq self.old.records stored.key ≡ None }
-        requires hashed { IsKeyHash S.build_hasher S.Hasher.finish S.Hasher.write self.old.hasher
-            (K.hash_input stored.key) hash }
+        requires hashed { IsIndexHash S.BuildHasher S.Hasher.Hasher self.old.hasher (K.hash_input stored.key) hash }
         ensures number { result.number ≡ stored.number }
         ensures step { self.new ≡ record self.old {
           records = with_record self.old.records stored;
@@ -294,23 +293,23 @@ impl<K: Eq + Hash, V, S: BuildHasher> Store<K, V, S> {
 
     // The hash under which the store has the record at this handle.
     #[inline(always)]
-    fn hash_at(&self, handle: Handle) -> KeyHash
+    fn hash_at(&self, handle: Handle) -> IndexHash
         requires { IsHandle self.now handle }
         ensures { (r : Record K V) → finite.get self.now.records handle.number ≡ Some r
-            → IsKeyHash S.build_hasher S.Hasher.finish S.Hasher.write self.now.hasher (K.hash_input r.key) result }
+            → IsIndexHash S.BuildHasher S.Hasher.Hasher self.now.hasher (K.hash_input r.key) result }
     {
         let Some(found) = self.find(handle) else {
             unreachable!()
         };
-        KeyHash::of(self.hash(found.key()))
+        IndexHash::of(self.hash(found.key()))
     }
 
     /// The record at this handle leaves the map, where it is under the hash of its key, and its number stays.
     #[inline(always)]
-    pub fn take_record(&mut self, handle: Handle, hash: KeyHash) -> Record<K, V>
+    pub fn take_record(&mut self, handle: Handle, hash: IndexHash) -> Record<K, V>
         requires handle { IsHandle self.old handle }
         requires hashed { (r : Record K V) → finite.get self.old.records handle.number ≡ Some r
-            → IsKeyHash S.build_hasher S.Hasher.finish S.Hasher.write self.old.hasher (K.hash_input r.key) hash }
+            → IsIndexHash S.BuildHasher S.Hasher.Hasher self.old.hasher (K.hash_input r.key) hash }
         ensures taken { finite.get self.old.records handle.number ≡ Some result }
         ensures step { self.new
             ≡ record self.old { records = finite.remove self.old.records handle.number; room = self.new.room } }

@@ -4,7 +4,7 @@ use moka_maintenance::sketch::enable_frequency_sketch;
 use moka_parts::policy::{EvictionPolicy, Instant};
 use moka_parts::records::Record;
 use moka_sketch::frequency_sketch::FrequencySketch;
-use moka_store::{KeyHash, Store};
+use moka_store::{IndexHash, Store};
 use std::alloc::{AllocError, Global};
 use std::hash::{BuildHasherDefault, FoldHasher};
 
@@ -15,7 +15,7 @@ fn length_at_256(alloc: Global) -> Result<usize, AllocError> {
     let mut store: TestStore = Store::new(alloc, BuildHasherDefault::new(), false, false)?;
     let mut sketch = FrequencySketch::new(alloc)?;
     store.reserve(1)?;
-    let hash = KeyHash::of(store.hash(&1));
+    let hash = IndexHash::of(store.hash(&1));
     if store.find_by_key(&1, hash).is_none() {
         let first = Record {
             number: 1,

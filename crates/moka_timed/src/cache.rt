@@ -14,7 +14,7 @@ ghost use Rattle.moka_parts.specs.declared.policy.Instant.{Instant};
 ghost use Rattle.moka_parts.specs.declared.records.Record.{Record};
 ghost use Rattle.moka_engine.specs.Config.{new_engine};
 ghost use Rattle.moka_drive.specs.Counters.{after_look_up};
-ghost use Rattle.moka_drive.specs.Hashing.{key_hash};
+ghost use Rattle.moka_parts.specs.Hashing.{key_hash};
 ghost use Rattle.moka_drive.specs.Unsent.{IsThere, ShowsWrites};
 ghost use Rattle.moka_drive.specs.Synchronous.{fresh, Makes, meaning_of, hears_clones, Just, own_run, InsertsEntry, GetsValue, RemovesEntry, removed, invalidated, taken_out, GetsWith, GetsWithIfMade, GetsWithIfNoError};
 

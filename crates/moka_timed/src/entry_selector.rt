@@ -5,7 +5,7 @@ ghost use Rattle.moka_parts.specs.declared.error.InsertRefused.{InsertRefused};
 ghost use Rattle.moka_parts.specs.declared.policy.Instant.{Instant};
 ghost use Rattle.moka_drive.specs.Computing.{AndUpserts, AndComputes};
 ghost use Rattle.moka_drive.specs.Entries.{OrInserts, OrInsertsMade, OrInsertsIfMade, OrInsertsIfNoError};
-ghost use Rattle.moka_drive.specs.Hashing.{key_hash};
+ghost use Rattle.moka_parts.specs.Hashing.{key_hash};
 ghost use Rattle.moka_drive.specs.Synchronous.{meaning_of, hears_clones};
 
 use crate::cache::TimedCache;

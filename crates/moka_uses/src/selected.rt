@@ -2,7 +2,7 @@
 ghost use Rattle.std.specs.Prelude.{◌≡◌, IfOk, Option, Result};
 ghost use Rattle.moka_engine.specs.parts.InsertRefused.{InsertRefused};
 ghost use Rattle.moka_drive.specs.Given.{IsHandedOut};
-ghost use Rattle.moka_drive.specs.Hashing.{key_hash};
+ghost use Rattle.moka_parts.specs.Hashing.{key_hash};
 ghost use Rattle.moka_drive.specs.Synchronous.{GetsOrInserts, Makes, meaning_of};
 
 use moka_drive::{Cache, CacheEntry};

@@ -7,7 +7,7 @@ ghost use Rattle.moka_parts.specs.declared.calls.Reply.TheVariants as reply;
 ghost use Rattle.moka_parts.specs.declared.policy.Instant.{Instant};
 ghost use Rattle.moka_engine.specs.Snapshots.{scene_of};
 ghost use Rattle.moka_engine.specs.declared.base_cache.restores.Restored.{Restored};
-ghost use Rattle.moka_drive.specs.Hashing.{key_hash};
+ghost use Rattle.moka_parts.specs.Hashing.{key_hash};
 ghost use Rattle.moka_drive.specs.Saved.{AddsOnly, AreAllMembers, AreSaved, AreThere, IsRestored, IsSaved, PutsBack, PutsManyBack, TakesOnlyExpired};
 ghost use Rattle.moka_drive.specs.Synchronous.{Just, Makes, meaning_of, own_run};
 ghost use Rattle.moka_drive.specs.Unsent.{HidesNoMore};

@@ -7,7 +7,7 @@ ghost use Rattle.moka_parts.specs.Records.{record_of_key};
 ghost use Rattle.moka_parts.specs.Surroundings.{IsAskedOnce};
 ghost use Rattle.moka_parts.specs.Time.{moment_of};
 ghost use Rattle.moka_parts.specs.Visibility.{has_lapsed as lapsed};
-ghost use Rattle.moka_store.specs.Hashing.{IsKeyHash};
+ghost use Rattle.moka_store.specs.Hashing.{IsIndexHash};
 ghost use Rattle.moka_engine.specs.BaseCache.{NoneExpires, expiring_by};
 ghost use Rattle.moka_engine.specs.Looks.{Finds, Touches, entry_at, value_of};
 
@@ -19,7 +19,7 @@ use moka_parts::expiry::{has_lapsed, remaining, renewed};
 use moka_parts::invalidator::Invalidator;
 use moka_parts::policy::{ExpirationPolicy, Expiry, Instant};
 use moka_parts::record_ref::RecordRef;
-use moka_store::{Handle, KeyHash};
+use moka_store::{Handle, IndexHash};
 use std::hash::{BuildHasher, Hash};
 use std::time::Duration;
 
@@ -53,12 +53,12 @@ pub(super) fn find_unless<'a, K: Eq + Hash, V, S: BuildHasher, X, P, I: ValueTes
     inner: &'a Inner<K, V, S>,
     moments: &Moments<'_, X>,
     invalidator: &Invalidator<P>,
-    sought: (&K, KeyHash),
+    sought: (&K, IndexHash),
     test: &mut I,
 ) -> Option<(Handle, RecordRef<'a, K, V>)>
 where
     P: PredicateFn<K, V>,
-    requires own { IsKeyHash S.build_hasher S.Hasher.finish S.Hasher.write inner.now.kept.hasher
+    requires own { IsIndexHash S.BuildHasher S.Hasher.Hasher inner.now.kept.hasher
         (K.hash_input sought.0.now) sought.1 }
     requires lasting { moments.now.policy.now.expiry ≡ None → NoneExpires inner.now.kept.records }
     requires askable { (v : V) → I.can_ask test.old v }
@@ -82,11 +82,11 @@ pub(super) fn find_shown<'a, K: Eq + Hash, V, S: BuildHasher, X, P>(
     inner: &'a Inner<K, V, S>,
     moments: &Moments<'_, X>,
     invalidator: &Invalidator<P>,
-    sought: (&K, KeyHash),
+    sought: (&K, IndexHash),
 ) -> Option<(Handle, RecordRef<'a, K, V>)>
 where
     P: PredicateFn<K, V>,
-    requires own { IsKeyHash S.build_hasher S.Hasher.finish S.Hasher.write inner.now.kept.hasher
+    requires own { IsIndexHash S.BuildHasher S.Hasher.Hasher inner.now.kept.hasher
         (K.hash_input sought.0.now) sought.1 }
     requires lasting { moments.now.policy.now.expiry ≡ None → NoneExpires inner.now.kept.records }
     ensures { Finds K.eq inner.now.kept moments.entry.now.policy.now moments.entry.now.valid_after.now P.says

@@ -7,7 +7,7 @@ ghost use Rattle.moka_parts.specs.Copies.{HandsOut, IsEntryCopy};
 ghost use Rattle.moka_parts.specs.Records.{record_of_key};
 ghost use Rattle.moka_parts.specs.Runs.{Befalls};
 ghost use Rattle.moka_parts.specs.Surroundings.{IsAskedOnce, Leads};
-ghost use Rattle.moka_store.specs.Hashing.{IsKeyHash};
+ghost use Rattle.moka_store.specs.Hashing.{IsIndexHash};
 ghost use Rattle.moka_engine.specs.Looks.{value_of};
 ghost use Rattle.moka_engine.specs.Makes.{Takes};
 
@@ -61,7 +61,7 @@ impl<
     {
         match ignore_if {
             Some(test) => {
-                let own = self.inner.key_hash(key);
+                let own = self.inner.index_hash(key);
                 let look = Look {
                     key,
                     hashes: Hashes { hash, own },
@@ -86,7 +86,7 @@ impl<
         K: Clone + Drop,
         V: Clone + Drop,
         P: Drop,
-        requires own { IsKeyHash S.build_hasher S.Hasher.finish S.Hasher.write self.old.hasher
+        requires own { IsIndexHash S.BuildHasher S.Hasher.Hasher self.old.hasher
             (K.hash_input look.key.now) look.hashes.own }
         requires askable { (v : V) → I.can_ask test.old v }
         ensures { (ignored : Bool)
@@ -186,7 +186,7 @@ impl<
             (λ a. PeekStep P.says X.read K.eq self.old.state key.now ignored now.0 a self.new.state) result
             × Befalls L.tells no_events self.old self.new }
     {
-        let own = self.inner.key_hash(key);
+        let own = self.inner.index_hash(key);
         let policy = &self.expiration_policy;
         let moments = Moments {
             policy,
@@ -222,14 +222,11 @@ impl<
             valid_after: &self.valid_after,
             now,
         };
-        let sought = (key, self.inner.key_hash(key));
+        let sought = (key, self.inner.index_hash(key));
         let shown = gets::find_shown(&self.inner, &moments, &self.invalidator, sought);
         let Some((_, found)) = shown else {
             return Ok(None);
         };
-        match found.value().clone() {
-            Ok(value) => Ok(Some(value)),
-            Err(_) => Err(OutOfMemory),
-        }
+        Ok(Some(found.value().clone()?))
     }
 }

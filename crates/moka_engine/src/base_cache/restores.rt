@@ -1,11 +1,11 @@
 //! Entries that are put back, as a snapshot listed them.
 ghost use Rattle.std.specs.Prelude.{◌≡◌, ◌&&◌, false, is_some, not};
-ghost use Rattle.std.specs.List.{fold};
+ghost use Rattle.moka_parts.specs.Hashing.{key_hash};
 ghost use Rattle.moka_parts.specs.Calls.{no_events};
 ghost use Rattle.moka_parts.specs.Records.{record_of_key};
 ghost use Rattle.moka_parts.specs.Runs.{Befalls};
 ghost use Rattle.moka_parts.specs.State.{is_disabled};
-ghost use Rattle.moka_store.specs.Hashing.{IsKeyHash};
+ghost use Rattle.moka_store.specs.Hashing.{IsIndexHash};
 ghost use Rattle.moka_engine.specs.Restores.{RestoreStep, restore_error};
 
 use super::{BaseCache, inserts};
@@ -15,7 +15,7 @@ use moka_parts::closures::{PredicateFn, Weigher};
 use moka_parts::error::InsertError;
 use moka_parts::notification::Listener;
 use moka_parts::policy::{ExpirationPolicy, Expiry, Instant};
-use moka_store::{KeyHash, Update};
+use moka_store::{IndexHash, Update};
 use std::error::Error;
 use std::fmt;
 use std::hash::{BuildHasher, Hash};
@@ -48,7 +48,7 @@ pub enum RestoreError {
 
 impl fmt::Display for RestoreError {
     ghost use Rattle.std.specs.Prelude.{Some};
-    ghost use Rattle.moka_store.specs.Hashing.{IsKeyHash};
+    ghost use Rattle.moka_store.specs.Hashing.{IsIndexHash};
     ghost use Rattle.moka_engine.specs.Restores.{restore_text};
 
     ghost output = { λ error. Some (restore_text error) };
@@ -74,7 +74,7 @@ pub struct RestoreRefused<K, V> {
 
 impl<K, V> fmt::Display for RestoreRefused<K, V> {
     ghost use Rattle.std.specs.Prelude.{Some};
-    ghost use Rattle.moka_store.specs.Hashing.{IsKeyHash};
+    ghost use Rattle.moka_store.specs.Hashing.{IsIndexHash};
     ghost use Rattle.moka_engine.specs.Restores.{restore_text};
 
     ghost output = { λ refused. Some (restore_text refused.error) };
@@ -105,12 +105,12 @@ impl<
     pub fn restore(&mut self, item: Restored<K, V>) -> Result<Ticket, RestoreRefused<K, V>>
         requires enabled { is_disabled self.old.state.capacity ≡ false }
         ensures step { RestoreStep W.weighs K.eq self.old.state item
-            (S.Hasher.finish (fold S.Hasher.write (S.build_hasher self.old.hasher) (K.hash_input item.key)))
+            (key_hash S.BuildHasher S.Hasher.Hasher self.old.hasher (K.hash_input item.key))
             result self.new.state }
         ensures events { Befalls L.tells no_events self.old self.new }
     {
         let hash = self.inner.hash(&item.key);
-        let own = KeyHash::of(hash);
+        let own = IndexHash::of(hash);
         if has_key(&self.inner, &item.key, own) {
             let error = RestoreError::KeyPresent;
             return Err(RestoreRefused { error, item });
@@ -142,9 +142,8 @@ impl<
 }
 
 // Whether a key has a record.
-fn has_key<K: Eq + Hash, V, S: BuildHasher>(inner: &Inner<K, V, S>, key: &K, own: KeyHash) -> bool
-    requires own { IsKeyHash S.build_hasher S.Hasher.finish S.Hasher.write inner.now.kept.hasher
-        (K.hash_input key.now) own }
+fn has_key<K: Eq + Hash, V, S: BuildHasher>(inner: &Inner<K, V, S>, key: &K, own: IndexHash) -> bool
+    requires own { IsIndexHash S.BuildHasher S.Hasher.Hasher inner.now.kept.hasher (K.hash_input key.now) own }
     ensures { result ≡ is_some (record_of_key K.eq inner.now.kept.records key.now) }
 {
     inner.find(key, own).is_some()

@@ -47,7 +47,7 @@ impl<
     pub fn sight(&self, key: &K, now: Instant) -> Sight
         ensures { IsSight P.says self.now.state now.0 (record_of_key K.eq self.now.state.records key.now) result }
     {
-        let own = self.inner.key_hash(key);
+        let own = self.inner.index_hash(key);
         let Some((_, found)) = self.inner.find(key, own) else {
             return Sight::Absent;
         };
@@ -64,7 +64,7 @@ impl<
     pub fn is_applied(&self, key: &K) -> Option<bool>
         ensures { result ≡ option_map is_applied (record_of_key K.eq self.now.state.records key.now) }
     {
-        let own = self.inner.key_hash(key);
+        let own = self.inner.index_hash(key);
         let (_, found) = self.inner.find(key, own)?;
         Some(found.is_settled())
     }
@@ -74,7 +74,7 @@ impl<
     pub fn weight(&self, key: &K) -> Option<u32>
         ensures { result ≡ option_map (λ r. r.weight) (record_of_key K.eq self.now.state.records key.now) }
     {
-        let own = self.inner.key_hash(key);
+        let own = self.inner.index_hash(key);
         let (_, found) = self.inner.find(key, own)?;
         Some(found.weight())
     }

@@ -156,8 +156,6 @@ fn next_shown<'a, K: Eq + Hash, V, S: BuildHasher, X, P: PredicateFn<K, V>>(
 fn handle_of(member: Option<(Handle, u32)>) -> Option<Handle>
     ensures { result ≡ option_map (λ m. m.0) member }
 {
-    match member {
-        Some((handle, _)) => Some(handle),
-        None => None,
-    }
+    let (handle, _) = member?;
+    Some(handle)
 }

@@ -1,6 +1,6 @@
 //! Look-ups and removals by a test of the key in place of a key.
 ghost use Rattle.std.specs.Prelude.{◌≡◌, None, Some, length, true, option_map};
-ghost use Rattle.std.specs.List.{fold};
+ghost use Rattle.moka_parts.specs.Hashing.{key_hash};
 ghost use Rattle.moka_parts.specs.Calls.{RecordsRead, no_events};
 ghost use Rattle.moka_parts.specs.Copies.{HandsOut, IsEntryCopy};
 ghost use Rattle.moka_parts.specs.Housekeeping.{is_due};
@@ -8,7 +8,7 @@ ghost use Rattle.moka_parts.specs.KeyTests.{ContainsByStep, GetByStep, RemoveByS
 ghost use Rattle.moka_parts.specs.Runs.{Befalls};
 ghost use Rattle.moka_parts.specs.Surroundings.{Leads};
 ghost use Rattle.moka_parts.specs.declared.records.ReadOperation.TheVariants.{Hit};
-ghost use Rattle.moka_store.specs.Hashing.{IsKeyHash};
+ghost use Rattle.moka_store.specs.Hashing.{IsIndexHash};
 ghost use Rattle.moka_engine.specs.BaseCache.{NoneExpires};
 ghost use Rattle.moka_engine.specs.LooksBy.{FindsBy};
 ghost use Rattle.moka_engine.specs.Makes.{Takes};
@@ -25,7 +25,7 @@ use moka_parts::key_test::KeyTest;
 use moka_parts::notification::Listener;
 use moka_parts::policy::{Expiry, Instant};
 use moka_parts::record_ref::RecordRef;
-use moka_store::{Handle, KeyHash};
+use moka_store::{Handle, IndexHash};
 use std::hash::{BuildHasher, Hash};
 
 // The record whose key passes, unless a moment hides it or a predicate covers it. The test comes with the hash
@@ -35,13 +35,13 @@ fn find_by<'a, K: Eq + Hash, V, S: BuildHasher, X, P, T: KeyTest<K>>(
     inner: &'a Inner<K, V, S>,
     moments: &Moments<'_, X>,
     invalidator: &Invalidator<P>,
-    sought: (&T, KeyHash),
+    sought: (&T, IndexHash),
 ) -> Option<(Handle, RecordRef<'a, K, V>)>
 where
     P: PredicateFn<K, V>,
     requires lasting { moments.now.policy.now.expiry ≡ None → NoneExpires inner.now.kept.records }
     requires own { (k : K) → T.passes sought.0.now k ≡ true
-        → IsKeyHash S.build_hasher S.Hasher.finish S.Hasher.write inner.now.kept.hasher (K.hash_input k) sought.1 }
+        → IsIndexHash S.BuildHasher S.Hasher.Hasher inner.now.kept.hasher (K.hash_input k) sought.1 }
     ensures { FindsBy inner.now.kept moments.entry.now.policy.now moments.entry.now.valid_after.now P.says
         invalidator.now (T.passes sought.entry.0.now) moments.entry.now.now.0 result }
 {
@@ -66,8 +66,7 @@ impl<
     /// `&str` and a `String` of the same text do.
     #[inline(always)]
     pub fn hash_of<Q: Hash>(&self, form: &Q) -> u64
-        ensures { result
-            ≡ S.Hasher.finish (fold S.Hasher.write (S.build_hasher self.now.hasher) (Q.hash_input form.now)) }
+        ensures { result ≡ key_hash S.BuildHasher S.Hasher.Hasher self.now.hasher (Q.hash_input form.now) }
     {
         self.inner.hash_of(form)
     }
@@ -76,7 +75,7 @@ impl<
     /// hasher.
     pub fn contains_by<T: KeyTest<K>>(&self, test: &T, hash: u64, now: Instant) -> bool
         requires own { (k : K) → T.passes test.now k ≡ true
-            → hash ≡ S.Hasher.finish (fold S.Hasher.write (S.build_hasher self.now.hasher) (K.hash_input k)) }
+            → hash ≡ key_hash S.BuildHasher S.Hasher.Hasher self.now.hasher (K.hash_input k) }
         ensures { ContainsByStep P.says (T.passes test.now) self.now.state now.0 result }
     {
         let moments = Moments {
@@ -84,7 +83,7 @@ impl<
             valid_after: &self.valid_after,
             now,
         };
-        let sought = (test, KeyHash::of(hash));
+        let sought = (test, IndexHash::of(hash));
         find_by(&self.inner, &moments, &self.invalidator, sought).is_some()
     }
 
@@ -98,11 +97,11 @@ impl<
     where
         K: Drop,
         requires own { (k : K) → T.passes test.now k ≡ true
-            → hash ≡ S.Hasher.finish (fold S.Hasher.write (S.build_hasher self.old.hasher) (K.hash_input k)) }
+            → hash ≡ key_hash S.BuildHasher S.Hasher.Hasher self.old.hasher (K.hash_input k) }
         ensures step { RemoveByStep (T.passes test.now) self.old.state result self.new.state }
         ensures events { Befalls L.tells no_events self.old self.new }
     {
-        let own = KeyHash::of(hash);
+        let own = IndexHash::of(hash);
         let (handle, _) = self.inner.find_by(test, own)?;
         let (record, ticket) = self.inner.remove(handle, own);
         let entry = KvEntry {
@@ -132,13 +131,13 @@ impl<
         V: Clone + Drop,
         P: Drop,
         requires own { (k : K) → T.passes test.now k ≡ true
-            → hash ≡ S.Hasher.finish (fold S.Hasher.write (S.build_hasher self.old.hasher) (K.hash_input k)) }
+            → hash ≡ key_hash S.BuildHasher S.Hasher.Hasher self.old.hasher (K.hash_input k) }
         ensures { HandsOut (IsEntryCopy K.is_clone V.is_clone)
             (λ own. Takes P.says X.read L.tells
             (λ Runs s. GetByStep P.says (T.passes test.now) s X.read Runs hash need_key now.0 own)
             self.old self.new (λ e. Leads C.reads clock.old e.readings clock.new)) result }
     {
-        let own = KeyHash::of(hash);
+        let own = IndexHash::of(hash);
         let policy = &self.expiration_policy;
         let moments = Moments {
             policy,
@@ -179,7 +178,7 @@ impl<
     #[inline(always)]
     fn record_hit_by<T: KeyTest<K>, C: Clock>(
         &mut self,
-        sought: (&T, KeyHash),
+        sought: (&T, IndexHash),
         hit: ReadHit,
         now: Instant,
         clock: &mut C,
@@ -189,7 +188,7 @@ impl<
         V: Drop,
         P: Drop,
         requires own { (k : K) → T.passes sought.0.now k ≡ true
-            → IsKeyHash S.build_hasher S.Hasher.finish S.Hasher.write self.old.hasher (K.hash_input k) sought.1 }
+            → IsIndexHash S.BuildHasher S.Hasher.Hasher self.old.hasher (K.hash_input k) sought.1 }
         requires due { is_due self.old.state.housekeeping (length self.old.state.reads) now.0 ≡ true }
         requires found { option_map (λ r. r.number)
             (record_by (T.passes sought.0.now) self.old.state.records) ≡ Some hit.number }

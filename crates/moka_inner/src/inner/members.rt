@@ -4,7 +4,7 @@ ghost use Rattle.std.specs.FinMap as finite;
 ghost use Rattle.std.specs.List.{IsDistinct};
 ghost use Rattle.moka_parts.specs.Records.{counted_of, member, numbers_of, record_of_key, with_record};
 ghost use Rattle.moka_parts.specs.declared.records.Operation.TheVariants.{Upsert};
-ghost use Rattle.moka_store.specs.Hashing.{IsKeyHash};
+ghost use Rattle.moka_store.specs.Hashing.{IsIndexHash};
 ghost use Rattle.moka_store.specs.Store.{IsHandle, IsPlaced, member_after};
 ghost use Rattle.moka_inner.specs.Interior.{first_record, handing_out_inside};
 
@@ -62,8 +62,7 @@ impl<K: Eq + Hash, V, S: BuildHasher> Inner<K, V, S> {
         requires operations { 1 < self.old.operation_room }
         requires tickets { self.old.next_ticket + finite.len self.old.kept.records + 1 < 2 ^ 64 }
         requires fresh { record_of_key K.eq self.old.kept.records key ≡ None }
-        requires hashed { IsKeyHash S.build_hasher S.Hasher.finish S.Hasher.write self.old.kept.hasher
-            (K.hash_input key) hashes.own }
+        requires hashed { IsIndexHash S.BuildHasher S.Hasher.Hasher self.old.kept.hasher (K.hash_input key) hashes.own }
         ensures ticket { result.0 ≡ self.old.next_ticket }
         ensures step { self.new ≡ record (handing_out_inside self.old
             (with_record self.old.kept.records

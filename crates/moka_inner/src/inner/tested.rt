@@ -1,11 +1,11 @@
 //! Records by tests of their keys.
 ghost use Rattle.std.specs.Prelude.{◌≡◌, ◌++◌, ◌∷◌, [], IfSome, Some, true, if◌then◌else◌, length, nat_lt, option_map};
 ghost use Rattle.std.specs.FinMap as finite;
-ghost use Rattle.std.specs.List.{fold};
+ghost use Rattle.moka_parts.specs.Hashing.{key_hash};
 ghost use Rattle.moka_parts.specs.Calls.{queue_length};
 ghost use Rattle.moka_parts.specs.KeyTests.{record_by};
 ghost use Rattle.moka_parts.specs.declared.records.ReadOperation.TheVariants.{Hit};
-ghost use Rattle.moka_store.specs.Hashing.{IsKeyHash};
+ghost use Rattle.moka_store.specs.Hashing.{IsIndexHash};
 ghost use Rattle.moka_store.specs.Store.{IsHandle};
 ghost use Rattle.moka_inner.specs.ReadNumber.{IsReadNumber};
 
@@ -13,15 +13,14 @@ use super::Inner;
 use moka_parts::key_test::KeyTest;
 use moka_parts::record_ref::RecordRef;
 use moka_parts::records::ReadOperation;
-use moka_store::{Handle, KeyHash};
+use moka_store::{Handle, IndexHash};
 use std::hash::{BuildHasher, Hash};
 
 impl<K: Eq + Hash, V, S: BuildHasher> Inner<K, V, S> {
     /// The hash of a form of a key by the store's hasher.
     #[inline(always)]
     pub fn hash_of<Q: Hash>(&self, form: &Q) -> u64
-        ensures { result
-            ≡ S.Hasher.finish (fold S.Hasher.write (S.build_hasher self.now.kept.hasher) (Q.hash_input form.now)) }
+        ensures { result ≡ key_hash S.BuildHasher S.Hasher.Hasher self.now.kept.hasher (Q.hash_input form.now) }
     {
         self.store.hash_of(form)
     }
@@ -31,10 +30,10 @@ impl<K: Eq + Hash, V, S: BuildHasher> Inner<K, V, S> {
     pub fn find_by<T: KeyTest<K>>(
         &self,
         test: &T,
-        hash: KeyHash,
+        hash: IndexHash,
     ) -> Option<(Handle, RecordRef<'_, K, V>)>
         requires hashed { (k : K) → T.passes test.now k ≡ true
-            → IsKeyHash S.build_hasher S.Hasher.finish S.Hasher.write self.now.kept.hasher (K.hash_input k) hash }
+            → IsIndexHash S.BuildHasher S.Hasher.Hasher self.now.kept.hasher (K.hash_input k) hash }
         ensures handle { IfSome result (λ f. IsHandle self.now.kept f.0) }
         ensures numbered { IfSome result (λ f. finite.get self.now.kept.records f.0.number ≡ Some f.1) }
         ensures passes { IfSome result (λ f. T.passes test.now f.1.key ≡ true) }
@@ -48,13 +47,13 @@ impl<K: Eq + Hash, V, S: BuildHasher> Inner<K, V, S> {
     #[cold]
     pub fn queue_hit_by<T: KeyTest<K>>(
         &mut self,
-        sought: (&T, KeyHash),
+        sought: (&T, IndexHash),
         number: u64,
         hash: u64,
         renewed: bool,
     )
         requires hashed { (k : K) → T.passes sought.0.now k ≡ true
-            → IsKeyHash S.build_hasher S.Hasher.finish S.Hasher.write self.old.kept.hasher (K.hash_input k) sought.1 }
+            → IsIndexHash S.BuildHasher S.Hasher.Hasher self.old.kept.hasher (K.hash_input k) sought.1 }
         requires known { (key : K) × (T.passes sought.0.now key ≡ true)
             × IsReadNumber K.eq self.old.kept.records self.old.outstanding self.old.writes
             self.old.next_number key number }

@@ -67,10 +67,7 @@ impl<X> ExpirationPolicy<X> {
     pub fn time_to_live(&self) -> Option<Duration>
         ensures { option_map as_nanos result ≡ self.now.time_to_live }
     {
-        match &self.time_to_live {
-            Some(span) => Some(span.duration()),
-            None => None,
-        }
+        Some(self.time_to_live.as_ref()?.duration())
     }
 
     pub fn set_time_to_live(&mut self, duration: Duration)
@@ -84,10 +81,7 @@ impl<X> ExpirationPolicy<X> {
     pub fn time_to_idle(&self) -> Option<Duration>
         ensures { option_map as_nanos result ≡ self.now.time_to_idle }
     {
-        match &self.time_to_idle {
-            Some(span) => Some(span.duration()),
-            None => None,
-        }
+        Some(self.time_to_idle.as_ref()?.duration())
     }
 
     pub fn set_time_to_idle(&mut self, duration: Duration)

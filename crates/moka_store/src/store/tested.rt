@@ -1,14 +1,14 @@
 //! Records by tests of their keys, and hashes of what is not a key.
 ghost use Rattle.std.specs.Prelude.{◌≡◌, IfSome, Some, false, true, option_map};
 ghost use Rattle.std.specs.FinMap as finite;
-ghost use Rattle.std.specs.List.{fold};
+ghost use Rattle.moka_parts.specs.Hashing.{key_hash};
 ghost use Rattle.moka_parts.specs.KeyTests.{record_by};
 ghost use Rattle.moka_parts.specs.declared.records.Record.{Record};
-ghost use Rattle.moka_store.specs.Hashing.{IsKeyHash};
+ghost use Rattle.moka_store.specs.Hashing.{IsIndexHash};
 ghost use Rattle.moka_store.specs.Store.{IsHandle};
 ghost use Rattle.moka_store.specs.StoreRows.{passes_at};
 
-use super::{Handle, KeyHash, Store};
+use super::{Handle, IndexHash, Store};
 use crate::table::RecordTable;
 use moka_parts::key_test::KeyTest;
 use moka_parts::record_ref::RecordRef;
@@ -33,8 +33,7 @@ impl<K: Eq + Hash, V, S: BuildHasher> Store<K, V, S> {
     /// The hash of a form of a key by the store's hasher.
     #[inline(always)]
     pub fn hash_of<Q: Hash>(&self, form: &Q) -> u64
-        ensures { result
-            ≡ S.Hasher.finish (fold S.Hasher.write (S.build_hasher self.now.hasher) (Q.hash_input form.now)) }
+        ensures { result ≡ key_hash S.BuildHasher S.Hasher.Hasher self.now.hasher (Q.hash_input form.now) }
     {
         self.hasher.hash_one(form)
     }
@@ -44,10 +43,10 @@ impl<K: Eq + Hash, V, S: BuildHasher> Store<K, V, S> {
     pub fn find_by<T: KeyTest<K>>(
         &self,
         test: &T,
-        hash: KeyHash,
+        hash: IndexHash,
     ) -> Option<(Handle, RecordRef<'_, K, V>)>
         requires hashed { (k : K) → T.passes test.now k ≡ true
-            → IsKeyHash S.build_hasher S.Hasher.finish S.Hasher.write self.now.hasher (K.hash_input k) hash }
+            → IsIndexHash S.BuildHasher S.Hasher.Hasher self.now.hasher (K.hash_input k) hash }
         ensures handle { IfSome result (λ f. IsHandle self.now f.0) }
         ensures found { IfSome result (λ f. finite.get self.now.records f.0.number ≡ Some f.1) }
         ensures passes { IfSome result (λ f. T.passes test.now f.1.key ≡ true) }

@@ -12,7 +12,7 @@ use crate::engine::moka_parts::invalidator::Invalidator;
 use crate::engine::moka_parts::notification::{Listener, RemovalNotifier};
 use crate::engine::moka_parts::policy::{EvictionPolicy, ExpirationPolicy, Expiry, Instant, Policy};
 use crate::engine::moka_parts::records::ReadOperation;
-use crate::engine::moka_store::{KeyHash, Update};
+use crate::engine::moka_store::{IndexHash, Update};
 use crate::support::alloc::Global;
 use crate::support::hash::{BuildHasher, Hash};
 
@@ -283,7 +283,7 @@ impl<
         now: Instant,
     ) -> Result<(Ticket, Instant), InsertRefused<K, V>>
     {
-        let own = self.inner.key_hash(&key);
+        let own = self.inner.index_hash(&key);
         self.insert_hashed(key, Hashes { hash, own }, value, now)
     }
 
@@ -301,7 +301,7 @@ impl<
         now: Instant,
     ) -> Result<(Ticket, Instant), InsertRefused<K, V>>
     {
-        let own = KeyHash::of(hash);
+        let own = IndexHash::of(hash);
         self.insert_hashed(key, Hashes { hash, own }, value, now)
     }
 
@@ -362,7 +362,7 @@ impl<
     /// notified: `notify_invalidate` does that.
     pub fn remove_entry(&mut self, key: &K, _hash: u64) -> Option<(KvEntry<K, V>, Ticket)>
     {
-        let own = self.inner.key_hash(key);
+        let own = self.inner.index_hash(key);
         self.remove_hashed(key, own)
     }
 
@@ -373,11 +373,11 @@ impl<
         hash: u64,
     ) -> Option<(KvEntry<K, V>, Ticket)>
     {
-        self.remove_hashed(key, KeyHash::of(hash))
+        self.remove_hashed(key, IndexHash::of(hash))
     }
 
     // A removal of a key with its hash in the map.
-    fn remove_hashed(&mut self, key: &K, own: KeyHash) -> Option<(KvEntry<K, V>, Ticket)>
+    fn remove_hashed(&mut self, key: &K, own: IndexHash) -> Option<(KvEntry<K, V>, Ticket)>
     {
         let (handle, _) = self.inner.find(key, own)?;
         let (record, ticket) = self.inner.remove(handle, own);
@@ -429,7 +429,7 @@ impl<
     /// Whether a key is there and visible at the moment `now`. Nothing is recorded.
     pub fn contains_key_with_hash(&self, key: &K, _hash: u64, now: Instant) -> bool
     {
-        let own = self.inner.key_hash(key);
+        let own = self.inner.index_hash(key);
         self.contains_hashed(key, own, now)
     }
 
@@ -437,11 +437,11 @@ impl<
     /// again.
     pub fn contains_key_with_own_hash(&self, key: &K, hash: u64, now: Instant) -> bool
     {
-        self.contains_hashed(key, KeyHash::of(hash), now)
+        self.contains_hashed(key, IndexHash::of(hash), now)
     }
 
     // The same with the key's hash in the map.
-    fn contains_hashed(&self, key: &K, own: KeyHash, now: Instant) -> bool
+    fn contains_hashed(&self, key: &K, own: IndexHash, now: Instant) -> bool
     {
         let moments = Moments {
             policy: &self.expiration_policy,
@@ -454,10 +454,8 @@ impl<
     /// The key that the cache keeps for an equal one, visible or not. Nothing is recorded.
     pub fn get_key_with_hash(&self, key: &K, _hash: u64) -> Option<&K>
     {
-        match self.inner.find(key, self.inner.key_hash(key)) {
-            Some((_, found)) => Some(found.key()),
-            None => None,
-        }
+        let (_, found) = self.inner.find(key, self.inner.index_hash(key))?;
+        Some(found.key())
     }
 
     /// How many segments the map has: one. It is for moka's iterators, which go from one to the next.
@@ -477,10 +475,7 @@ impl<
         if segment >= SEGMENTS {
             return Ok(None);
         }
-        match self.inner.keys(self.alloc) {
-            Ok(keys) => Ok(Some(keys)),
-            Err(_) => Err(OutOfMemory),
-        }
+        Ok(Some(self.inner.keys(self.alloc)?))
     }
 
     /// Looks up a key at the moment `now`, and queues the read. The answer has a clone of the record's value, and one
@@ -503,7 +498,7 @@ impl<
         K: Clone,
         V: Clone,
     {
-        let own = self.inner.key_hash(key);
+        let own = self.inner.index_hash(key);
         let look = Look {
             key,
             hashes: Hashes { hash, own },
@@ -530,7 +525,7 @@ impl<
         K: Clone,
         V: Clone,
     {
-        let own = KeyHash::of(hash);
+        let own = IndexHash::of(hash);
         let look = Look {
             key,
             hashes: Hashes { hash, own },

@@ -18,7 +18,7 @@ use crate::engine::moka_parts::policy::Instant;
 use crate::engine::moka_parts::record_ref::RecordRef;
 use crate::engine::moka_parts::records::{Operation, ReadOperation, Record};
 use crate::engine::moka_sketch::frequency_sketch::FrequencySketch;
-use crate::engine::moka_store::{Handle, KeyHash, Store, Update};
+use crate::engine::moka_store::{Handle, IndexHash, Store, Update};
 use crate::engine::moka_structures::outstanding::Outstanding;
 use crate::support::alloc::{AllocError, Global};
 use crate::support::hash::{BuildHasher, Hash};
@@ -46,7 +46,7 @@ pub struct Layout {
 #[derive(Clone, Copy)]
 pub struct Hashes {
     pub hash: u64,
-    pub own: KeyHash,
+    pub own: IndexHash,
 }
 
 /// The inner part of the cache. moka: `sync::base_cache::Inner`.
@@ -105,14 +105,14 @@ impl<K: Eq + Hash, V, S: BuildHasher> Inner<K, V, S> {
 
     /// The hash under which the store has a key, or would have it.
     #[inline(always)]
-    pub fn key_hash(&self, key: &K) -> KeyHash
+    pub fn index_hash(&self, key: &K) -> IndexHash
     {
-        KeyHash::of(self.store.hash(key))
+        IndexHash::of(self.store.hash(key))
     }
 
     /// The record whose key is equal, with its handle, under the key's hash.
     #[inline(always)]
-    pub fn find(&self, key: &K, hash: KeyHash) -> Option<(Handle, RecordRef<'_, K, V>)>
+    pub fn find(&self, key: &K, hash: IndexHash) -> Option<(Handle, RecordRef<'_, K, V>)>
     {
         self.store.find_by_key(key, hash)
     }
@@ -186,7 +186,7 @@ impl<K: Eq + Hash, V, S: BuildHasher> Inner<K, V, S> {
 
     /// Takes the record at this handle out of the map, where it is under the hash of its key, and hands its removal out
     /// under the next ticket. It takes no memory. The member stays until the removal is applied.
-    pub fn remove(&mut self, handle: Handle, hash: KeyHash) -> (Record<K, V>, Ticket)
+    pub fn remove(&mut self, handle: Handle, hash: IndexHash) -> (Record<K, V>, Ticket)
     {
         let ticket = self.last_ticket + 1;
         let record = self.store.take_record(handle, hash);
@@ -254,7 +254,7 @@ impl<K: Eq + Hash, V, S: BuildHasher> Inner<K, V, S> {
             hash,
             renewed,
         };
-        match self.store.find_by_key(key, self.key_hash(key)) {
+        match self.store.find_by_key(key, self.index_hash(key)) {
             Some((Handle { place, .. }, _)) => self.queue_read(place, read),
             None => self.queue_read(0, read),
         }

@@ -7,7 +7,7 @@ use crate::support::prelude::*;
 use crate::engine::moka_store::table::{Membership, RecordTable};
 use crate::engine::moka_store::timers::Timers;
 use crate::engine::moka_store::write_list::WriteList;
-pub use hashing::KeyHash;
+pub use hashing::IndexHash;
 use crate::engine::moka_index::PlaceIndex;
 use crate::engine::moka_parts::policy::Instant;
 use crate::engine::moka_parts::record_ref::RecordRef;
@@ -99,7 +99,7 @@ impl<K: Eq + Hash, V, S: BuildHasher> Store<K, V, S> {
 
     /// The record whose key is equal, with its handle, under the key's hash.
     #[inline(always)]
-    pub fn find_by_key(&self, key: &K, hash: KeyHash) -> Option<(Handle, RecordRef<'_, K, V>)>
+    pub fn find_by_key(&self, key: &K, hash: IndexHash) -> Option<(Handle, RecordRef<'_, K, V>)>
     {
         let table = &self.table;
         let is_match = |place| changes::has_key(table, place, key);
@@ -132,7 +132,7 @@ impl<K: Eq + Hash, V, S: BuildHasher> Store<K, V, S> {
 
     /// A new record of a key that has none, under the key's hash. It takes no memory.
     #[inline(always)]
-    pub fn insert_new(&mut self, stored: Record<K, V>, hash: KeyHash) -> Handle
+    pub fn insert_new(&mut self, stored: Record<K, V>, hash: IndexHash) -> Handle
     {
         let number = stored.number;
         let place = self.table.insert(stored);
@@ -172,17 +172,17 @@ impl<K: Eq + Hash, V, S: BuildHasher> Store<K, V, S> {
 
     // The hash under which the store has the record at this handle.
     #[inline(always)]
-    fn hash_at(&self, handle: Handle) -> KeyHash
+    fn hash_at(&self, handle: Handle) -> IndexHash
     {
         let Some(found) = self.find(handle) else {
             unreachable!()
         };
-        KeyHash::of(self.hash(found.key()))
+        IndexHash::of(self.hash(found.key()))
     }
 
     /// The record at this handle leaves the map, where it is under the hash of its key, and its number stays.
     #[inline(always)]
-    pub fn take_record(&mut self, handle: Handle, hash: KeyHash) -> Record<K, V>
+    pub fn take_record(&mut self, handle: Handle, hash: IndexHash) -> Record<K, V>
     {
         let taken = self.table.take(handle.place);
         self.index.remove(hash.0, handle.place);

@@ -8,7 +8,7 @@ use crate::engine::moka_maintenance::sketch::enable_frequency_sketch;
 use crate::engine::moka_parts::policy::{EvictionPolicy, Instant};
 use crate::engine::moka_parts::records::Record;
 use crate::engine::moka_sketch::frequency_sketch::{FrequencySketch, sketch_capacity, table_len_for};
-use crate::engine::moka_store::{KeyHash, Store};
+use crate::engine::moka_store::{IndexHash, Store};
 use crate::support::alloc::Global;
 use crate::support::hash::{BuildHasherDefault, FoldHasher};
 use crate::support::test::test::Fail;
@@ -19,7 +19,7 @@ type TestStore = Store<u64, u64, BuildHasherDefault<FoldHasher>>;
 fn store_of(alloc: Global, weight: u32) -> Result<TestStore, Fail> {
     let mut store: TestStore = Store::new(alloc, BuildHasherDefault::new(), false, false)?;
     store.reserve(1)?;
-    let hash = KeyHash::of(store.hash(&1));
+    let hash = IndexHash::of(store.hash(&1));
     if store.find_by_key(&1, hash).is_none() {
         let first = Record {
             number: 1,

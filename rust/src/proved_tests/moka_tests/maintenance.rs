@@ -8,7 +8,7 @@ use crate::engine::moka_maintenance::sketch::enable_frequency_sketch;
 use crate::engine::moka_parts::policy::{EvictionPolicy, Instant};
 use crate::engine::moka_parts::records::Record;
 use crate::engine::moka_sketch::frequency_sketch::FrequencySketch;
-use crate::engine::moka_store::{KeyHash, Store};
+use crate::engine::moka_store::{IndexHash, Store};
 use crate::support::alloc::{AllocError, Global};
 use crate::support::hash::{BuildHasherDefault, FoldHasher};
 
@@ -19,7 +19,7 @@ fn length_at_256(alloc: Global) -> Result<usize, AllocError> {
     let mut store: TestStore = Store::new(alloc, BuildHasherDefault::new(), false, false)?;
     let mut sketch = FrequencySketch::new(alloc)?;
     store.reserve(1)?;
-    let hash = KeyHash::of(store.hash(&1));
+    let hash = IndexHash::of(store.hash(&1));
     if store.find_by_key(&1, hash).is_none() {
         let first = Record {
             number: 1,

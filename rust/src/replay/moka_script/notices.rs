@@ -24,10 +24,8 @@ impl Notices {
     /// A listener with room for that many notices.
     pub fn with_room(alloc: Global, room: usize) -> Result<Notices, OutOfMemory>
     {
-        match Vec::with_capacity(alloc, room) {
-            Ok(told) => Ok(Notices { told }),
-            Err(_) => Err(OutOfMemory),
-        }
+        let told = Vec::with_capacity(alloc, room)?;
+        Ok(Notices { told })
     }
 
     /// What was told, in order.

@@ -1,7 +1,7 @@
 use Rattle.std.proofs.Common.{ap}
-use Rattle.std.specs.List.{fold}
 use Rattle.moka_segments.proofs.Belonging.{in_one_segment}
+use Rattle.moka_parts.specs.Hashing.{key_hash}
 use Rattle.moka_segments.proofs.laws.one_segment_each.Goals as goal
 
 pub returns : goal.returns
-returns g c = in_one_segment _ g.K.PartialEq.eq (λ h k q equal. ap (λ input. g.S.Hasher.Hasher.finish (fold g.S.Hasher.Hasher.write (g.S.BuildHasher.build_hasher h) input)) (g.met.K.Hash.respects_eq k q equal))
+returns g c = in_one_segment _ g.K.PartialEq.eq (λ h k q equal. ap (λ input. key_hash g.S.BuildHasher g.S.Hasher.Hasher h input) (g.met.K.Hash.respects_eq k q equal))

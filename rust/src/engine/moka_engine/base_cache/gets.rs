@@ -10,7 +10,7 @@ use crate::engine::moka_parts::expiry::{has_lapsed, remaining, renewed};
 use crate::engine::moka_parts::invalidator::Invalidator;
 use crate::engine::moka_parts::policy::{ExpirationPolicy, Expiry, Instant};
 use crate::engine::moka_parts::record_ref::RecordRef;
-use crate::engine::moka_store::{Handle, KeyHash};
+use crate::engine::moka_store::{Handle, IndexHash};
 use crate::support::hash::{BuildHasher, Hash};
 use crate::support::time::Duration;
 
@@ -40,7 +40,7 @@ pub(super) fn find_unless<'a, K: Eq + Hash, V, S: BuildHasher, X, P, I: ValueTes
     inner: &'a Inner<K, V, S>,
     moments: &Moments<'_, X>,
     invalidator: &Invalidator<P>,
-    sought: (&K, KeyHash),
+    sought: (&K, IndexHash),
     test: &mut I,
 ) -> Option<(Handle, RecordRef<'a, K, V>)>
 where
@@ -60,7 +60,7 @@ pub(super) fn find_shown<'a, K: Eq + Hash, V, S: BuildHasher, X, P>(
     inner: &'a Inner<K, V, S>,
     moments: &Moments<'_, X>,
     invalidator: &Invalidator<P>,
-    sought: (&K, KeyHash),
+    sought: (&K, IndexHash),
 ) -> Option<(Handle, RecordRef<'a, K, V>)>
 where
     P: PredicateFn<K, V>,

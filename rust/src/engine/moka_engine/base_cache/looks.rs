@@ -44,7 +44,7 @@ impl<
     {
         match ignore_if {
             Some(test) => {
-                let own = self.inner.key_hash(key);
+                let own = self.inner.index_hash(key);
                 let look = Look {
                     key,
                     hashes: Hashes { hash, own },
@@ -143,7 +143,7 @@ impl<
     where
         V: Clone,
     {
-        let own = self.inner.key_hash(key);
+        let own = self.inner.index_hash(key);
         let policy = &self.expiration_policy;
         let moments = Moments {
             policy,
@@ -178,14 +178,11 @@ impl<
             valid_after: &self.valid_after,
             now,
         };
-        let sought = (key, self.inner.key_hash(key));
+        let sought = (key, self.inner.index_hash(key));
         let shown = gets::find_shown(&self.inner, &moments, &self.invalidator, sought);
         let Some((_, found)) = shown else {
             return Ok(None);
         };
-        match found.value().try_clone() {
-            Ok(value) => Ok(Some(value)),
-            Err(_) => Err(OutOfMemory),
-        }
+        Ok(Some(found.value().try_clone()?))
     }
 }

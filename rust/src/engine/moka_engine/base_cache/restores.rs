@@ -9,7 +9,7 @@ use crate::engine::moka_parts::closures::{PredicateFn, Weigher};
 use crate::engine::moka_parts::error::InsertError;
 use crate::engine::moka_parts::notification::Listener;
 use crate::engine::moka_parts::policy::{ExpirationPolicy, Expiry, Instant};
-use crate::engine::moka_store::{KeyHash, Update};
+use crate::engine::moka_store::{IndexHash, Update};
 use std::error::Error;
 use std::fmt;
 use crate::support::hash::{BuildHasher, Hash};
@@ -89,7 +89,7 @@ impl<
     pub fn restore(&mut self, item: Restored<K, V>) -> Result<Ticket, RestoreRefused<K, V>>
     {
         let hash = self.inner.hash(&item.key);
-        let own = KeyHash::of(hash);
+        let own = IndexHash::of(hash);
         if has_key(&self.inner, &item.key, own) {
             let error = RestoreError::KeyPresent;
             return Err(RestoreRefused { error, item });
@@ -121,7 +121,7 @@ impl<
 }
 
 // Whether a key has a record.
-fn has_key<K: Eq + Hash, V, S: BuildHasher>(inner: &Inner<K, V, S>, key: &K, own: KeyHash) -> bool
+fn has_key<K: Eq + Hash, V, S: BuildHasher>(inner: &Inner<K, V, S>, key: &K, own: IndexHash) -> bool
 {
     inner.find(key, own).is_some()
 }

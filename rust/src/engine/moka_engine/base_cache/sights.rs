@@ -44,7 +44,7 @@ impl<
     /// What a look-up of a key meets at the moment `now`, and why. Nothing is recorded.
     pub fn sight(&self, key: &K, now: Instant) -> Sight
     {
-        let own = self.inner.key_hash(key);
+        let own = self.inner.index_hash(key);
         let Some((_, found)) = self.inner.find(key, own) else {
             return Sight::Absent;
         };
@@ -60,7 +60,7 @@ impl<
     /// Whether the last write of a key was applied by a run of maintenance, and `None` if the key has no record.
     pub fn is_applied(&self, key: &K) -> Option<bool>
     {
-        let own = self.inner.key_hash(key);
+        let own = self.inner.index_hash(key);
         let (_, found) = self.inner.find(key, own)?;
         Some(found.is_settled())
     }
@@ -69,7 +69,7 @@ impl<
     /// has no record.
     pub fn weight(&self, key: &K) -> Option<u32>
     {
-        let own = self.inner.key_hash(key);
+        let own = self.inner.index_hash(key);
         let (_, found) = self.inner.find(key, own)?;
         Some(found.weight())
     }

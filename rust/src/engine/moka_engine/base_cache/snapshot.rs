@@ -114,8 +114,6 @@ fn next_shown<'a, K: Eq + Hash, V, S: BuildHasher, X, P: PredicateFn<K, V>>(
 // The handle of a member.
 fn handle_of(member: Option<(Handle, u32)>) -> Option<Handle>
 {
-    match member {
-        Some((handle, _)) => Some(handle),
-        None => None,
-    }
+    let (handle, _) = member?;
+    Some(handle)
 }

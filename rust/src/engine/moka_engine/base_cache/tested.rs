@@ -14,7 +14,7 @@ use crate::engine::moka_parts::key_test::KeyTest;
 use crate::engine::moka_parts::notification::Listener;
 use crate::engine::moka_parts::policy::{Expiry, Instant};
 use crate::engine::moka_parts::record_ref::RecordRef;
-use crate::engine::moka_store::{Handle, KeyHash};
+use crate::engine::moka_store::{Handle, IndexHash};
 use crate::support::hash::{BuildHasher, Hash};
 
 // The record whose key passes, unless a moment hides it or a predicate covers it. The test comes with the hash
@@ -24,7 +24,7 @@ fn find_by<'a, K: Eq + Hash, V, S: BuildHasher, X, P, T: KeyTest<K>>(
     inner: &'a Inner<K, V, S>,
     moments: &Moments<'_, X>,
     invalidator: &Invalidator<P>,
-    sought: (&T, KeyHash),
+    sought: (&T, IndexHash),
 ) -> Option<(Handle, RecordRef<'a, K, V>)>
 where
     P: PredicateFn<K, V>,
@@ -63,7 +63,7 @@ impl<
             valid_after: &self.valid_after,
             now,
         };
-        let sought = (test, KeyHash::of(hash));
+        let sought = (test, IndexHash::of(hash));
         find_by(&self.inner, &moments, &self.invalidator, sought).is_some()
     }
 
@@ -75,7 +75,7 @@ impl<
         hash: u64,
     ) -> Option<(KvEntry<K, V>, Ticket)>
     {
-        let own = KeyHash::of(hash);
+        let own = IndexHash::of(hash);
         let (handle, _) = self.inner.find_by(test, own)?;
         let (record, ticket) = self.inner.remove(handle, own);
         let entry = KvEntry {
@@ -104,7 +104,7 @@ impl<
         K: Clone,
         V: Clone,
     {
-        let own = KeyHash::of(hash);
+        let own = IndexHash::of(hash);
         let policy = &self.expiration_policy;
         let moments = Moments {
             policy,
@@ -145,7 +145,7 @@ impl<
     #[inline(always)]
     fn record_hit_by<T: KeyTest<K>, C: Clock>(
         &mut self,
-        sought: (&T, KeyHash),
+        sought: (&T, IndexHash),
         hit: ReadHit,
         now: Instant,
         clock: &mut C,

@@ -6,7 +6,7 @@ use super::Inner;
 use crate::engine::moka_parts::key_test::KeyTest;
 use crate::engine::moka_parts::record_ref::RecordRef;
 use crate::engine::moka_parts::records::ReadOperation;
-use crate::engine::moka_store::{Handle, KeyHash};
+use crate::engine::moka_store::{Handle, IndexHash};
 use crate::support::hash::{BuildHasher, Hash};
 
 impl<K: Eq + Hash, V, S: BuildHasher> Inner<K, V, S> {
@@ -22,7 +22,7 @@ impl<K: Eq + Hash, V, S: BuildHasher> Inner<K, V, S> {
     pub fn find_by<T: KeyTest<K>>(
         &self,
         test: &T,
-        hash: KeyHash,
+        hash: IndexHash,
     ) -> Option<(Handle, RecordRef<'_, K, V>)>
     {
         self.store.find_by(test, hash)
@@ -33,7 +33,7 @@ impl<K: Eq + Hash, V, S: BuildHasher> Inner<K, V, S> {
     #[cold]
     pub fn queue_hit_by<T: KeyTest<K>>(
         &mut self,
-        sought: (&T, KeyHash),
+        sought: (&T, IndexHash),
         number: u64,
         hash: u64,
         renewed: bool,

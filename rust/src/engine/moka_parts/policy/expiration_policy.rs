@@ -35,10 +35,7 @@ impl<X> ExpirationPolicy<X> {
     /// How long an entry stays after it was written.
     pub fn time_to_live(&self) -> Option<Duration>
     {
-        match &self.time_to_live {
-            Some(span) => Some(span.duration()),
-            None => None,
-        }
+        Some(self.time_to_live.as_ref()?.duration())
     }
 
     pub fn set_time_to_live(&mut self, duration: Duration)
@@ -50,10 +47,7 @@ impl<X> ExpirationPolicy<X> {
     /// How long an entry stays after it was written or read.
     pub fn time_to_idle(&self) -> Option<Duration>
     {
-        match &self.time_to_idle {
-            Some(span) => Some(span.duration()),
-            None => None,
-        }
+        Some(self.time_to_idle.as_ref()?.duration())
     }
 
     pub fn set_time_to_idle(&mut self, duration: Duration)

@@ -14,13 +14,13 @@ fn index_hash(hash: u64) -> u32
 
 /// The hash under which a store has a key, or would have it: 32 bits of the hash that its hasher makes of the key.
 #[derive(Clone, Copy, Debug)]
-pub struct KeyHash(pub(crate) u32);
+pub struct IndexHash(pub(crate) u32);
 
-impl KeyHash {
+impl IndexHash {
     /// What a store keeps of the hash that its hasher makes of a key.
     #[inline(always)]
     pub fn of(hash: u64) -> Self
     {
-        KeyHash(index_hash(hash))
+        IndexHash(index_hash(hash))
     }
 }

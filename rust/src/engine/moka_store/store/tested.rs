@@ -2,7 +2,7 @@
 //! Records by tests of their keys, and hashes of what is not a key.
 use crate::support::prelude::*;
 
-use super::{Handle, KeyHash, Store};
+use super::{Handle, IndexHash, Store};
 use crate::engine::moka_store::table::RecordTable;
 use crate::engine::moka_parts::key_test::KeyTest;
 use crate::engine::moka_parts::record_ref::RecordRef;
@@ -35,7 +35,7 @@ impl<K: Eq + Hash, V, S: BuildHasher> Store<K, V, S> {
     pub fn find_by<T: KeyTest<K>>(
         &self,
         test: &T,
-        hash: KeyHash,
+        hash: IndexHash,
     ) -> Option<(Handle, RecordRef<'_, K, V>)>
     {
         let table = &self.table;

@@ -1,8 +1,7 @@
 use Rattle.std.proofs.Common.{◌∙◌, false}
 use Rattle.moka_parts.specs.KeyTests.{record_by}
 use Rattle.moka_parts.specs.Listed.{ListedRun}
-use Rattle.moka_parts.specs.State.{Meaning}
-use Rattle.moka_drive.specs.Synchronous.{meaning_of, value_found}
+use Rattle.moka_drive.specs.Synchronous.{value_found}
 use Rattle.moka_drive.proofs.Waiting.{gets_alike}
 use Rattle.moka_drive.proofs.Posting.{listed_run_alike}
 use Rattle.moka_drive.proofs.Asking.{got, value_copied}
@@ -17,10 +16,9 @@ invariant_of-self g c =
 
 pub returns-clause-made : goal.returns-clause-made
 returns-clause-made g c =
-    let m : Meaning g.row.K.Denot g.row.V.Denot g.row.X.Denot g.row.L.Denot g.row.P.Denot g.row.W.Denot g.row.C.Denot (Unit {0}) = meaning_of g.K.PartialEq.eq g.L.Listener.tells g.P.PredicateFn.says g.W.Weigher.weighs g.C.Clock.reads g.X.Expiry.created g.X.Expiry.read g.X.Expiry.updated in
     let gets = c.get_by-entry.ensures in
     let as_key = got_as_key g.K.PartialEq.eq (g.T.KeyTest.passes c.args.test.now) (g.met.T.KeyTest.one_key c.args.test.now) c.self.inside.engine.state g.P.PredicateFn.says g.X.Expiry.read (ListedRun g.P.PredicateFn.says g.X.Expiry.read c.self.inside.engine.write_list c.get_by-entry.new.self.write_list) c.args.hash c.args.now.0 gets.0 gets.1.0 c.get_by-entry.new.self.state gets.1.1 in
-    rw (← c.self.view_is, c.value_of-found.ensures) (λ key passing. (value_found gets.0, value_copied g.K.Clone.is_clone g.V.Clone.is_clone gets.0 c.get_by-entry.result gets.2, got m key c.args.hash c.args.now c.self.inside.engine c.get_by-entry.new.self c.args.clock.now c.get_by-entry.new.clock gets.0 gets.1.0 (as_key key passing) gets.1.2 gets.1.3))
+    rw (← c.self.view_is, c.value_of-found.ensures) (λ key passing. (value_found gets.0, value_copied g.K.Clone.is_clone g.V.Clone.is_clone gets.0 c.get_by-entry.result gets.2, got _ key c.args.hash c.args.now c.self.inside.engine c.get_by-entry.new.self c.args.clock.now c.get_by-entry.new.clock gets.0 gets.1.0 (as_key key passing) gets.1.2 gets.1.3))
 
 pub returns-clause-value : goal.returns-clause-value
 returns-clause-value g c =

@@ -1,8 +1,7 @@
 use Rattle.std.proofs.Common.{◌∙◌, false}
 use Rattle.moka_parts.specs.Calls.{ContainsStep}
 use Rattle.moka_parts.specs.Listed.{ListedRun}
-use Rattle.moka_parts.specs.State.{Meaning}
-use Rattle.moka_drive.specs.Synchronous.{meaning_of, value_found}
+use Rattle.moka_drive.specs.Synchronous.{value_found}
 use Rattle.moka_drive.proofs.Waiting.{get_alike}
 use Rattle.moka_drive.proofs.Posting.{listed_run_alike}
 use Rattle.moka_drive.proofs.Asking.{as_seen, got, value_copied, copied_alike, found_as_shown, found_value, found_where_shown, unchanged_when_refused}
@@ -17,9 +16,8 @@ invariant_of-self g c =
 pub returns-clause-made : goal.returns-clause-made
 returns-clause-made g c =
     let own = rw (← c.self.view_is) at c.requires.own in
-    let m : Meaning g.row.K.Denot g.row.V.Denot g.row.X.Denot g.row.L.Denot g.row.P.Denot g.row.W.Denot g.row.C.Denot (Unit {0}) = meaning_of g.K.PartialEq.eq g.L.Listener.tells g.P.PredicateFn.says g.W.Weigher.weighs g.C.Clock.reads g.X.Expiry.created g.X.Expiry.read g.X.Expiry.updated in
     let gets = c.get_with_own_hash-entry.ensures in
-    rw (← c.self.view_is, ← own, c.value_of-found.ensures) (value_found gets.0, value_copied g.K.Clone.is_clone g.V.Clone.is_clone gets.0 c.get_with_own_hash-entry.result gets.2, got m c.args.key.now c.args.hash c.args.now c.self.inside.engine c.get_with_own_hash-entry.new.self c.args.clock.now c.get_with_own_hash-entry.new.clock gets.0 gets.1.0 gets.1.1 gets.1.2 gets.1.3)
+    rw (← c.self.view_is, ← own, c.value_of-found.ensures) (value_found gets.0, value_copied g.K.Clone.is_clone g.V.Clone.is_clone gets.0 c.get_with_own_hash-entry.result gets.2, got _ c.args.key.now c.args.hash c.args.now c.self.inside.engine c.get_with_own_hash-entry.new.self c.args.clock.now c.get_with_own_hash-entry.new.clock gets.0 gets.1.0 gets.1.1 gets.1.2 gets.1.3)
 
 pub returns-clause-value : goal.returns-clause-value
 returns-clause-value g c =

@@ -1,6 +1,4 @@
 use Rattle.std.proofs.Common.{sym, ◌∙◌}
-use Rattle.moka_parts.specs.State.{Meaning}
-use Rattle.moka_drive.specs.Synchronous.{meaning_of}
 use Rattle.moka_drive.proofs.Asking.{let_go, inserted, insert_refused}
 use Rattle.moka_drive.proofs.Put.{put_by_insert, kept_where_held, shown_where_held}
 use Rattle.moka_drive.proofs.Alike.{then, insert_hides, still_shows}
@@ -8,22 +6,19 @@ use Rattle.moka_drive.proofs.cache.Cache.insert_hashed.Goals as goal
 
 pub returns-then-is_map_disabled-clause-made : goal.returns-then-is_map_disabled-clause-made
 returns-then-is_map_disabled-clause-made g c =
-    let m : Meaning g.row.K.Denot g.row.V.Denot g.row.X.Denot g.row.L.Denot g.row.P.Denot g.row.W.Denot g.row.C.Denot (Unit {0}) = meaning_of g.K.PartialEq.eq g.L.Listener.tells g.P.PredicateFn.says g.W.Weigher.weighs g.C.Clock.reads g.X.Expiry.created g.X.Expiry.read g.X.Expiry.updated in
-    rw (← c.self.view_is) (let_go m c.args.put.key _ c.args.put.value c.args.now c.self.inside.engine c.args.clock.now (sym c.is_map_disabled.ensures ∙ c.if-is_map_disabled.true))
+    rw (← c.self.view_is) (let_go _ c.args.put.key _ c.args.put.value c.args.now c.self.inside.engine c.args.clock.now (sym c.is_map_disabled.ensures ∙ c.if-is_map_disabled.true))
 
 pub returns-in-Err-clause-made : goal.returns-in-Err-clause-made
 returns-in-Err-clause-made g c =
     let own = rw (← c.self.view_is) at c.requires.own in
-    let m : Meaning g.row.K.Denot g.row.V.Denot g.row.X.Denot g.row.L.Denot g.row.P.Denot g.row.W.Denot g.row.C.Denot (Unit {0}) = meaning_of g.K.PartialEq.eq g.L.Listener.tells g.P.PredicateFn.says g.W.Weigher.weighs g.C.Clock.reads g.X.Expiry.created g.X.Expiry.read g.X.Expiry.updated in
     let put = c.in-Err.ensures in
-    rw (← c.self.view_is, ← own) (insert_refused m c.args.put.key c.args.put.hash c.args.put.value c.args.now c.self.inside.engine c.do_insert_with_own_hash.new.self c.args.clock.now (sym c.is_map_disabled.ensures ∙ c.if-is_map_disabled.false) c.in-Err.refused put.0 put.1.1 put.2)
+    rw (← c.self.view_is, ← own) (insert_refused _ c.args.put.key c.args.put.hash c.args.put.value c.args.now c.self.inside.engine c.do_insert_with_own_hash.new.self c.args.clock.now (sym c.is_map_disabled.ensures ∙ c.if-is_map_disabled.false) c.in-Err.refused put.0 put.1.1 put.2)
 
 pub returns-clause-made : goal.returns-clause-made
 returns-clause-made g c =
     let own = rw (← c.self.view_is) at c.requires.own in
-    let m : Meaning g.row.K.Denot g.row.V.Denot g.row.X.Denot g.row.L.Denot g.row.P.Denot g.row.W.Denot g.row.C.Denot (Unit {0}) = meaning_of g.K.PartialEq.eq g.L.Listener.tells g.P.PredicateFn.says g.W.Weigher.weighs g.C.Clock.reads g.X.Expiry.created g.X.Expiry.read g.X.Expiry.updated in
     let put = c.in-Ok.ensures in
-    rw (← c.self.view_is, ← own) (inserted m c.args.put.key c.args.put.hash c.args.put.value c.args.now c.self.inside.engine c.do_insert_with_own_hash.new.self c.args.clock.now (sym c.is_map_disabled.ensures ∙ c.if-is_map_disabled.false) (c.in-Ok.ticket, c.in-Ok.field-0-1) put.0 put.1.1 put.2 c.post.new.engine c.post.new.clock c.post.ensures.made)
+    rw (← c.self.view_is, ← own) (inserted _ c.args.put.key c.args.put.hash c.args.put.value c.args.now c.self.inside.engine c.do_insert_with_own_hash.new.self c.args.clock.now (sym c.is_map_disabled.ensures ∙ c.if-is_map_disabled.false) (c.in-Ok.ticket, c.in-Ok.field-0-1) put.0 put.1.1 put.2 c.post.new.engine c.post.new.clock c.post.ensures.made)
 
 pub returns-clause-kept : goal.returns-clause-kept
 returns-clause-kept g c =

@@ -1,43 +1,38 @@
 use Rattle.std.proofs.Common.{◌∙◌, ap, arith, sym, refl, ℕ, [], ◌∷◌, ◌++◌, append_assoc, append-nil, length, length-append, Ok, Err}
-use Rattle.std.specs.List.{fold}
-use Rattle.moka_parts.specs.State.{Meaning}
+use Rattle.moka_parts.specs.Hashing.{key_hash}
 use Rattle.moka_drive.specs.Many.{Invalidates}
-use Rattle.moka_drive.specs.Synchronous.{hears_clones, meaning_of}
 use Rattle.moka_drive.proofs.InOrder.{made_none, made_next, made_last}
 use Rattle.moka_drive.proofs.Quiet.{empty_of_length}
 use Rattle.moka_drive.proofs.cache.Cache.invalidate_many.Goals as goal
 
 pub loop-key-init : goal.loop-key-init
 loop-key-init g c =
-    let m : Meaning g.row.K.Denot g.row.V.Denot g.row.X.Denot g.row.L.Denot g.row.P.Denot g.row.W.Denot g.row.C.Denot (Unit {0}) = meaning_of g.K.PartialEq.eq (hears_clones g.K.Clone.is_clone g.V.Clone.is_clone g.L.Listener.tells) g.P.PredicateFn.says g.W.Weigher.weighs g.C.Clock.reads g.X.Expiry.created g.X.Expiry.read g.X.Expiry.updated in
-    let hash_by : g.row.S.Denot → g.row.K.Denot → ℕ = λ h key. g.S.Hasher.Hasher.finish (fold g.S.Hasher.Hasher.write (g.S.BuildHasher.build_hasher h) (g.K.Hash.hash_input key)) in
+    let hash_by : g.row.S.Denot → g.row.K.Denot → ℕ = λ h key. key_hash g.S.BuildHasher g.S.Hasher.Hasher h (g.K.Hash.hash_input key) in
     record {
-      made = ([], refl, made_none m (Invalidates (hash_by c.args.self.now.engine.hasher) c.args.now (Ok tt)) c.args.self.now.engine c.args.clock.now);
+      made = ([], refl, made_none _ (Invalidates (hash_by c.args.self.now.engine.hasher) c.args.now (Ok tt)) c.args.self.now.engine c.args.clock.now);
       counted = refl;
     }
 
 pub loop-key-preserved : goal.loop-key-preserved
 loop-key-preserved g c =
-    let m : Meaning g.row.K.Denot g.row.V.Denot g.row.X.Denot g.row.L.Denot g.row.P.Denot g.row.W.Denot g.row.C.Denot (Unit {0}) = meaning_of g.K.PartialEq.eq (hears_clones g.K.Clone.is_clone g.V.Clone.is_clone g.L.Listener.tells) g.P.PredicateFn.says g.W.Weigher.weighs g.C.Clock.reads g.X.Expiry.created g.X.Expiry.read g.X.Expiry.updated in
-    let hash_by : g.row.S.Denot → g.row.K.Denot → ℕ = λ h key. g.S.Hasher.Hasher.finish (fold g.S.Hasher.Hasher.write (g.S.BuildHasher.build_hasher h) (g.K.Hash.hash_input key)) in
+    let hash_by : g.row.S.Denot → g.row.K.Denot → ℕ = λ h key. key_hash g.S.BuildHasher g.S.Hasher.Hasher h (g.K.Hash.hash_input key) in
     let h = c.loop-key.invariant.made in
     let k = c.in-Ok.ensures.made in
     record {
       made = (
         h.0 ++ c.in-Some.key.now ∷ [],
         h.1 ∙ (ap (λ xs. h.0 ++ xs) c.in-Some.ensures.cases.0 ∙ sym (append_assoc h.0 (c.in-Some.key.now ∷ []) c.in-Some.after.now)),
-        made_next m hash_by (λ f. Invalidates f c.args.now (Ok tt)) c.args.self.now.engine c.loop-key.self.engine c.invalidate.new.self.engine c.args.clock.now c.loop-key.clock c.invalidate.new.clock h.0 h.2 c.in-Some.key.now (k.2.0, k.2.1, (k.0, k.1, k.2.2), k.2.3),
+        made_next _ hash_by (λ f. Invalidates f c.args.now (Ok tt)) c.args.self.now.engine c.loop-key.self.engine c.invalidate.new.self.engine c.args.clock.now c.loop-key.clock c.invalidate.new.clock h.0 h.2 c.in-Some.key.now (k.2.0, k.2.1, (k.0, k.1, k.2.2), k.2.3),
       );
       counted = c.in-Ok.ensures.counted ∙ c.loop-key.invariant.counted;
     }
 
 pub returns-in-Err-clause-made : goal.returns-in-Err-clause-made
 returns-in-Err-clause-made g c =
-    let m : Meaning g.row.K.Denot g.row.V.Denot g.row.X.Denot g.row.L.Denot g.row.P.Denot g.row.W.Denot g.row.C.Denot (Unit {0}) = meaning_of g.K.PartialEq.eq (hears_clones g.K.Clone.is_clone g.V.Clone.is_clone g.L.Listener.tells) g.P.PredicateFn.says g.W.Weigher.weighs g.C.Clock.reads g.X.Expiry.created g.X.Expiry.read g.X.Expiry.updated in
-    let hash_by : g.row.S.Denot → g.row.K.Denot → ℕ = λ h key. g.S.Hasher.Hasher.finish (fold g.S.Hasher.Hasher.write (g.S.BuildHasher.build_hasher h) (g.K.Hash.hash_input key)) in
+    let hash_by : g.row.S.Denot → g.row.K.Denot → ℕ = λ h key. key_hash g.S.BuildHasher g.S.Hasher.Hasher h (g.K.Hash.hash_input key) in
     let h = c.loop-key.invariant.made in
     let k = c.in-Err.ensures.made in
-    let last = made_last m hash_by (λ f. Invalidates f c.args.now (Ok tt)) c.args.self.now.engine c.loop-key.self.engine c.invalidate.new.self.engine c.args.clock.now c.loop-key.clock c.invalidate.new.clock h.0 h.2 (λ f. Invalidates f c.args.now (Err c.in-Err.refused) c.in-Some.key.now) (k.2.0, k.2.1, (k.0, k.1, k.2.2), k.2.3) in (
+    let last = made_last _ hash_by (λ f. Invalidates f c.args.now (Ok tt)) c.args.self.now.engine c.loop-key.self.engine c.invalidate.new.self.engine c.args.clock.now c.loop-key.clock c.invalidate.new.clock h.0 h.2 (λ f. Invalidates f c.args.now (Err c.in-Err.refused) c.in-Some.key.now) (k.2.0, k.2.1, (k.0, k.1, k.2.2), k.2.3) in (
       last.0,
       last.1,
       (

@@ -1,10 +1,9 @@
 use Rattle.std.proofs.Common.{◌≡◌, ℕ, false, ◌∙◌, ap, sym, subst, refl, [], ◌∷◌, ◌++◌, append_assoc, append-nil}
-use Rattle.std.specs.List.{AllByRecursion, fold}
+use Rattle.std.specs.List.{AllByRecursion}
 use Rattle.std.specs.Vec.Iter.{into_iter_items}
 use Rattle.moka_parts.specs.Settling.{IsValid}
-use Rattle.moka_parts.specs.State.{Meaning}
+use Rattle.moka_parts.specs.Hashing.{key_hash}
 use Rattle.moka_drive.specs.Saved.{AddsOnly, IsRestored, IsRoomyFor, TakesOnlyExpired, has_expired}
-use Rattle.moka_drive.specs.Synchronous.{meaning_of}
 use Rattle.moka_drive.proofs.Alike.{itself, then}
 use Rattle.moka_drive.proofs.Lasting.{keeps_itself, keeps_then}
 use Rattle.moka_drive.proofs.Quiet.{empty_of_length}
@@ -21,8 +20,7 @@ loop-item-init g c = record {
 
 pub loop-item-preserved : goal.loop-item-preserved
 loop-item-preserved g c =
-    let m : Meaning g.row.K.Denot g.row.V.Denot g.row.X.Denot g.row.L.Denot g.row.P.Denot g.row.W.Denot g.row.C.Denot (Unit {0}) = meaning_of g.K.PartialEq.eq g.L.Listener.tells g.P.PredicateFn.says g.W.Weigher.weighs g.C.Clock.reads g.X.Expiry.created g.X.Expiry.read g.X.Expiry.updated in
-    let hash_by : g.row.S.Denot → g.row.K.Denot → ℕ = λ h key. g.S.Hasher.Hasher.finish (fold g.S.Hasher.Hasher.write (g.S.BuildHasher.build_hasher h) (g.K.Hash.hash_input key)) in
+    let hash_by : g.row.S.Denot → g.row.K.Denot → ℕ = λ h key. key_hash g.S.BuildHasher g.S.Hasher.Hasher h (g.K.Hash.hash_input key) in
     let h = c.loop-item.invariant.adds in
     let s = c.args.self.now.engine.state in
     let t = c.loop-item.self.engine.state in
@@ -32,7 +30,7 @@ loop-item-preserved g c =
         h.0 ++ c.in-Some.item ∷ [],
         h.1 ∙ (ap (λ xs. h.0 ++ xs) c.in-Some.ensures.items ∙ sym (append_assoc h.0 (c.in-Some.item ∷ []) (into_iter_items c.next.new.self))),
         adds_then h.0 (c.in-Some.item ∷ []) s t u h.2 c.restore_entry.ensures.adds,
-        put_next m hash_by c.args.now h.0 c.in-Some.item c.args.self.now.engine c.loop-item.self.engine c.restore_entry.new.self.engine c.args.clock.now c.loop-item.clock c.restore_entry.new.clock h.3 c.in-Ok.ensures.made,
+        put_next _ hash_by c.args.now h.0 c.in-Some.item c.args.self.now.engine c.loop-item.self.engine c.restore_entry.new.self.engine c.args.clock.now c.loop-item.clock c.restore_entry.new.clock h.3 c.in-Ok.ensures.made,
         keeps_then g.W.Weigher.weighs h.0 (c.in-Some.item ∷ []) c.args.now.0 s t u h.4 c.restore_entry.ensures.lasts,
         λ roomy.
             let items = into_iter_items c.next.new.self in

@@ -1,14 +1,14 @@
 use Rattle.std.proofs.Common.{◌<◌, sym, subst, ◌∙◌}
 use Rattle.std.proofs.lemmas.List.{length-set}
-use Rattle.std.specs.List.{fold}
 use Rattle.moka_segments.specs.Routing.{segment_of}
 use Rattle.moka_segments.proofs.OneSegment.{steps_in}
+use Rattle.moka_parts.specs.Hashing.{key_hash}
 use Rattle.moka_segments.proofs.segmented.SegmentedCache.insert.Goals as goal
 
 pub returns-clause-step : goal.returns-clause-step
 returns-clause-step g c =
     let e = c.insert.ensures in
-    steps_in (λ r. segment_of r.count (g.S.Hasher.Hasher.finish (fold g.S.Hasher.Hasher.write (g.S.BuildHasher.build_hasher r.hasher) (g.K.Hash.hash_input c.args.key))))
+    steps_in (λ r. segment_of r.count (key_hash g.S.BuildHasher g.S.Hasher.Hasher r.hasher (g.K.Hash.hash_input c.args.key)))
     c.self.inside.router c.self.inside.segments.items c.args.self.now c.self.view_is c.segment_of-index.result c.segment_of-index.ensures.place (rw c.self.invariant c.segment_of-index.ensures.within)
     _ c.index_mut-segment.result.now c.insert.new.self c.index_mut-segment.ensures.value (record { made = e.made; unchanged = e.unchanged; kept = e.kept; shown = e.shown; counted = e.counted })
 
