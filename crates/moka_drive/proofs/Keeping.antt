@@ -40,7 +40,7 @@ module _ {K V X P W : Type 0} where
     pub listed_run_keeps : (s : State K V X P W) (terms : Terms) (course : Course) (notices : List (Notice K V)) (t : State K V X P W) → ListedRun says read before after s terms course notices t → KeepsRecords s t
     listed_run_keeps s terms course notices t run = go (is_disabled s.capacity) run.0
       where
-        go : (b : Bool) → MatchBool b (DoesNothing s course notices t) ((ch : Freedom) × RunsBy says s terms ch course notices t × (IsBounded s terms ch course × LeavesList before after s terms ch course)) → KeepsRecords s t
+        go : (b : Bool) → MatchBool b (DoesNothing s course notices t) ((ch : Freedom) × RunsBy says s terms ch course notices t × (IsBounded says s terms ch course × LeavesList before after s terms ch course)) → KeepsRecords s t
         go true nothing = subst (KeepsRecords s) (sym nothing.0) (keeps_itself s.records)
         go false (ch, by, detail) = subst (KeepsRecords s) (sym by.1) (run_keeps s ch)
 

@@ -372,7 +372,7 @@ module _ {K V X P W : Type 0} (weighs : W → K → V → ℕ → Type 0) where
     pub listed_run_lasts : (s : State K V X P W) (terms : Terms) (course : Course) (notices : List (Notice K V)) (t : State K V X P W) → ListedRun says read before after s terms course notices t → TakesOnlyExpired weighs [] terms.now s t
     listed_run_lasts s terms course notices t run = go (is_disabled s.capacity) run.0
       where
-        go : (b : Bool) → MatchBool b (DoesNothing s course notices t) ((ch : Freedom) × RunsBy says s terms ch course notices t × (IsBounded s terms ch course × LeavesList before after s terms ch course)) → TakesOnlyExpired weighs [] terms.now s t
+        go : (b : Bool) → MatchBool b (DoesNothing s course notices t) ((ch : Freedom) × RunsBy says s terms ch course notices t × (IsBounded says s terms ch course × LeavesList before after s terms ch course)) → TakesOnlyExpired weighs [] terms.now s t
         go true nothing = subst (TakesOnlyExpired weighs [] terms.now s) (sym nothing.0) (keeps_itself [] terms.now s)
         go false (ch, by, detail) = subst (TakesOnlyExpired weighs [] terms.now s) (sym by.1) (λ others roomy. run_keeps_all says s terms.now ch by.0 others roomy)
 

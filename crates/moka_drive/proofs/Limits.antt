@@ -74,7 +74,7 @@ module _ {K V X P W : Type 0} where
     run_limits : (s t : State K V X P W) (terms : Terms) (course : Course) (notices : List (Notice K V)) → PromisedRun says read s terms course notices t → HasSameLimits s t
     run_limits s t terms course notices run = go (is_disabled s.capacity) run.0
       where
-        go : (b : Bool) → MatchBool b (DoesNothing s course notices t) ((ch : Freedom) × RunsBy says s terms ch course notices t × IsBounded s terms ch course) → HasSameLimits s t
+        go : (b : Bool) → MatchBool b (DoesNothing s course notices t) ((ch : Freedom) × RunsBy says s terms ch course notices t × IsBounded says s terms ch course) → HasSameLimits s t
         go true h = alike s t h.0
         go false (ch, by, detail) = to s t _ by.1 (record { settings = refl; capacity = refl })
 

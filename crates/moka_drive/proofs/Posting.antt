@@ -27,26 +27,26 @@ module _ {K V X P W : Type 0} (says : P → K → V → Bool → Type 0) (read :
   -- a run from one write list to the other changes neither the operations that wait nor the capacity
   pub listed_run_alike : (s : State K V X P W) (terms : Terms) (course : Course) (notices : List (Notice K V)) (t : State K V X P W) → ListedRun says read before after s terms course notices t → IsAlike s t
   listed_run_alike s terms course notices t run =
-      run_alike says (λ s terms course t. EndsWell says read s terms course t × (is_disabled s.capacity ≡ true → after ≡ before)) (λ s terms ch course. IsBounded s terms ch course × LeavesList before after s terms ch course) s terms course notices t run
+      run_alike says (λ s terms course t. EndsWell says read s terms course t × (is_disabled s.capacity ≡ true → after ≡ before)) (λ s terms ch course. IsBounded says s terms ch course × LeavesList before after s terms ch course) s terms course notices t run
 
   -- and empties the queue of writes of a map that is not disabled
   pub listed_run_empties : (s : State K V X P W) (terms : Terms) (course : Course) (notices : List (Notice K V)) (t : State K V X P W) → is_disabled s.capacity ≡ false → ListedRun says read before after s terms course notices t → t.writes ≡ []
   listed_run_empties s terms course notices t on run =
-      run_empties says (λ s terms course t. EndsWell says read s terms course t × (is_disabled s.capacity ≡ true → after ≡ before)) (λ s terms ch course. IsBounded s terms ch course × LeavesList before after s terms ch course) s terms course notices t on run
+      run_empties says (λ s terms course t. EndsWell says read s terms course t × (is_disabled s.capacity ≡ true → after ≡ before)) (λ s terms ch course. IsBounded says s terms ch course × LeavesList before after s terms ch course) s terms course notices t on run
 
   -- and holds what is unsent
   pub listed_run_holds : (s : State K V X P W) (terms : Terms) (course : Course) (notices : List (Notice K V)) (t : State K V X P W) → ListedRun says read before after s terms course notices t → HoldsUnsent s t
   listed_run_holds s terms course notices t run n r older held =
-      run_holds says (λ s terms course t. EndsWell says read s terms course t × (is_disabled s.capacity ≡ true → after ≡ before)) (λ s terms ch course. IsBounded s terms ch course × LeavesList before after s terms ch course) n r s terms course notices t older held run
+      run_holds says (λ s terms course t. EndsWell says read s terms course t × (is_disabled s.capacity ≡ true → after ≡ before)) (λ s terms ch course. IsBounded says s terms ch course × LeavesList before after s terms ch course) n r s terms course notices t older held run
 
   pub listed_run_writes : (s : State K V X P W) (terms : Terms) (course : Course) (notices : List (Notice K V)) (t : State K V X P W) → ListedRun says read before after s terms course notices t → (t.writes ≡ []) ⊎ (t.writes ≡ s.writes)
   listed_run_writes s terms course notices t run =
-      run_writes says (λ s terms course t. EndsWell says read s terms course t × (is_disabled s.capacity ≡ true → after ≡ before)) (λ s terms ch course. IsBounded s terms ch course × LeavesList before after s terms ch course) s terms course notices t run
+      run_writes says (λ s terms course t. EndsWell says read s terms course t × (is_disabled s.capacity ≡ true → after ≡ before)) (λ s terms ch course. IsBounded says s terms ch course × LeavesList before after s terms ch course) s terms course notices t run
 
   -- and hides no more
   pub listed_run_hides : (s : State K V X P W) (terms : Terms) (course : Course) (notices : List (Notice K V)) (t : State K V X P W) → ListedRun says read before after s terms course notices t → HidesNoMore s t
   listed_run_hides s terms course notices t run =
-      run_hides says (λ s terms course t. EndsWell says read s terms course t × (is_disabled s.capacity ≡ true → after ≡ before)) (λ s terms ch course. IsBounded s terms ch course × LeavesList before after s terms ch course) s terms course notices t run
+      run_hides says (λ s terms course t. EndsWell says read s terms course t × (is_disabled s.capacity ≡ true → after ≡ before)) (λ s terms ch course. IsBounded says s terms ch course × LeavesList before after s terms ch course) s terms course notices t run
 
 module _ {K V S X L P W C : Type 0} (m : Meaning K V X L P W C (Unit {0})) where
   -- a send of the only operation that waits

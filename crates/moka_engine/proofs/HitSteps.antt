@@ -54,7 +54,7 @@ module _ {K V X P W : Type 0} (eq : K → K → Bool) (laws : IsEquivalence eq) 
   pub keeper_leaves : (says : P → K → V → Bool → Type 0) (read : X → K → V → ℕ → Option ℕ → ℕ → Option ℕ) (before after : List ℕ) (s : State K V X P W) (now : ℕ) (e : Events K V) (t : State K V X P W) → KeeperRun (ListedRun says read before after) s now e t → IsLeft s t
   keeper_leaves says read before after s now e t (answer, mid, (course, run, same, told), changed) = subst (IsLeft s) (sym changed) (record { keeps = at.keeps; fewer = at.fewer; numbers = at.numbers })
     where
-      go : (terms : Terms) (b : Bool) → MatchBool b (DoesNothing s course e.notices mid) ((ch : Freedom) × RunsBy says s terms ch course e.notices mid × (IsBounded s terms ch course × LeavesList before after s terms ch course)) → IsLeft s mid
+      go : (terms : Terms) (b : Bool) → MatchBool b (DoesNothing s course e.notices mid) ((ch : Freedom) × RunsBy says s terms ch course e.notices mid × (IsBounded says s terms ch course × LeavesList before after s terms ch course)) → IsLeft s mid
       go terms true nothing = subst (IsLeft s) (sym nothing.0) (record { keeps = keeps_itself s.records; fewer = λ o waits. waits; numbers = refl })
       go terms false (ch, by, detail) = subst (IsLeft s) (sym by.1) (run_leaves s ch)
 

@@ -33,7 +33,7 @@ keeper_kept : {K V X P W : Type 0} (says : P → K → V → Bool → Type 0) (r
     RunStep (ListedRun says read before after) s terms answer e t → keeper_of t ≡ keeper_of s
 keeper_kept says read before after s terms answer e t (course, run, same, told) = go (is_disabled s.capacity) run.0
   where
-    go : (b : Bool) → MatchBool b (DoesNothing s course e.notices t) ((ch : Freedom) × RunsBy says s terms ch course e.notices t × (IsBounded s terms ch course × LeavesList before after s terms ch course)) → keeper_of t ≡ keeper_of s
+    go : (b : Bool) → MatchBool b (DoesNothing s course e.notices t) ((ch : Freedom) × RunsBy says s terms ch course e.notices t × (IsBounded says s terms ch course × LeavesList before after s terms ch course)) → keeper_of t ≡ keeper_of s
     go true nothing = ap keeper_of nothing.0
     go false (ch, by, detail) = ap keeper_of by.1
 

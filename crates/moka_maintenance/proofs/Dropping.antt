@@ -6,8 +6,9 @@ use Rattle.moka_parts.specs.State.{Contents}
 use Rattle.moka_parts.specs.Maintenance.{Choice, Removes, MovesToBack, Drops, Tests, CoversNothing, after_choice, after_choices, left_by_choice, left_by_choices, kept_by_choice, kept_by_choices, AreJustified}
 use Rattle.moka_parts.specs.Bounds.{removed_by}
 use Rattle.moka_parts.specs.Order.{written_after_choice, written_after_choices}
+use Rattle.moka_parts.specs.Grounds.{AreDrops}
 use Rattle.moka_parts.proofs.OneMore.{AreJustified_push}
-use Rattle.moka_maintenance.specs.Scanning.{AreDrops, CoversSome, AllDropped}
+use Rattle.moka_maintenance.specs.Scanning.{CoversSome, AllDropped}
 use Rattle.moka_maintenance.proofs.Popped.{first_or_rest}
 
 -- ---- steps that are drops alone

@@ -1,5 +1,6 @@
 -- Steps by their grounds, and their order.
-use Rattle.std.proofs.Common.{◌≡◌, refl, ℕ, zero, suc, ◌+◌, Bool, true, false, true≢false, not, ◌&&◌, ◌||◌, List, [], ◌∷◌, ◌++◌, Some, None, inl, inr, ap, sym, subst, ◌∙◌, arith, append_assoc, append-nil, if◌then◌else◌}
+use Rattle.std.proofs.Common.{◌≡◌, refl, ℕ, zero, suc, ◌+◌, ◌≤◌, Bool, true, false, true≢false, not, ◌&&◌, ◌||◌, List, [], ◌∷◌, ◌++◌, length, Option, Some, None, inl, inr, ap, sym, subst, ◌∙◌, arith, append_assoc, append-nil, if◌then◌else◌}
+use Rattle.moka_sketch.specs.Frequency.{Table}
 use Rattle.moka_parts.specs.declared.notification.RemovalCause.{RemovalCause}
 use Rattle.moka_parts.specs.declared.notification.RemovalCause.TheVariants.{Expired, Explicit, Replaced, Size}
 use Rattle.moka_parts.specs.declared.records.Record.{Record}
@@ -8,7 +9,7 @@ use Rattle.moka_parts.specs.State.{Contents}
 use Rattle.moka_parts.specs.Visibility.{SomeCovers, is_expired, is_written_before, is_read_before}
 use Rattle.moka_parts.specs.Maintenance as parts
 use Rattle.moka_parts.specs.Maintenance.{Choice, Removes, MovesToBack, Drops, HasGround, HasCause, after_choice, after_choices, is_past_read, is_past_write}
-use Rattle.moka_parts.specs.Grounds.{Ground, ByTimer, ByWrite, ByRead, ByPredicate, BySurplus, AreTaken, FollowsGrounds, LeavesBy, MayTake, grounds_of, grounds_of_pass, is_sweep}
+use Rattle.moka_parts.specs.Grounds.{Ground, ByTimer, ByWrite, ByRead, ByPredicate, BySurplus, AreTaken, FollowsGrounds, LeavesBy, MayTake, grounds_of, grounds_of_pass, is_batched, is_sweep}
 use Rattle.moka_maintenance.specs.declared.sweep.Tests.{Tests}
 use Rattle.moka_maintenance.specs.declared.sweep.Sweep.{Sweep}
 use Rattle.moka_maintenance.specs.declared.sweep.Sweep.TheVariants.{Written, Read, Surplus}
@@ -110,9 +111,9 @@ module _ {K V : Type 0} (Covered Other : Record K V → Type 0) (also : (r : Rec
   taken-also ground c (x ∷ xs) h = (take-also ground c x h.0, taken-also ground (after_choice c x) xs h.1)
 
   -- what one of two conditions covers, the other does
-  pub grounds-also : (grounds : List Ground) (c : Contents K V) (xs : List Choice) → FollowsGrounds Covered q grounds c xs → FollowsGrounds Other q grounds c xs
-  grounds-also [] c xs h = h
-  grounds-also (ground ∷ grounds) c xs h = (h.0, h.1, h.2, taken-also ground c h.0 h.3, grounds-also grounds (after_choices c h.0) h.1 h.4)
+  pub grounds-also : (batch : ℕ) (grounds : List Ground) (c : Contents K V) (xs : List Choice) → FollowsGrounds Covered q batch grounds c xs → FollowsGrounds Other q batch grounds c xs
+  grounds-also batch [] c xs h = h
+  grounds-also batch (ground ∷ grounds) c xs h = (h.0, h.1, h.2, taken-also ground c h.0 h.3, h.4, grounds-also batch grounds (after_choices c h.0) h.1 h.5)
 
 module _ {K V P : Type 0} (says : P → K → V → Bool → Type 0) (ps : List (Registered P)) where
   -- each step of a pass is one of a run
@@ -151,18 +152,19 @@ module _ {K V : Type 0} (Covered : Record K V → Type 0) (q : parts.Tests) wher
   all_taken May ground takes c (Drops i ∷ xs) may = (takes c (Drops i) may.0, all_taken May ground takes c xs may.1)
 
   -- those of one ground
-  pub grounds-one : (May : Stock K V → Choice → Type 0) (ground : Ground) → ((c : Stock K V) (x : Choice) → May c x → MayTake Covered q ground (contents_of c) x) → (c : Stock K V) (xs : List Choice) → MayAll May c xs → FollowsGrounds Covered q (ground ∷ []) (contents_of c) xs
-  grounds-one May ground takes c xs may = (xs, [], sym (append-nil xs), all_taken May ground takes c xs may, refl)
+  pub grounds-one : (batch : ℕ) (May : Stock K V → Choice → Type 0) (ground : Ground) → ((c : Stock K V) (x : Choice) → May c x → MayTake Covered q ground (contents_of c) x) → (c : Stock K V) (xs : List Choice) → MayAll May c xs → (is_batched ground ≡ true → length xs ≤ batch) → FollowsGrounds Covered q batch (ground ∷ []) (contents_of c) xs
+  grounds-one batch May ground takes c xs may few = (xs, [], sym (append-nil xs), all_taken May ground takes c xs may, few, refl)
 
-  grounds-append : (gs hs : List Ground) (c : Contents K V) (xs ys : List Choice) → FollowsGrounds Covered q gs c xs → FollowsGrounds Covered q hs (after_choices c xs) ys → FollowsGrounds Covered q (gs ++ hs) c (xs ++ ys)
-  grounds-append [] hs c xs ys none later =
-      subst (λ zs. FollowsGrounds Covered q hs c (zs ++ ys)) (sym none) (subst (λ zs. FollowsGrounds Covered q hs (after_choices c zs) ys) none later)
-  grounds-append (g ∷ gs) hs c xs ys h later = (
+  grounds-append : (batch : ℕ) (gs hs : List Ground) (c : Contents K V) (xs ys : List Choice) → FollowsGrounds Covered q batch gs c xs → FollowsGrounds Covered q batch hs (after_choices c xs) ys → FollowsGrounds Covered q batch (gs ++ hs) c (xs ++ ys)
+  grounds-append batch [] hs c xs ys none later =
+      subst (λ zs. FollowsGrounds Covered q batch hs c (zs ++ ys)) (sym none) (subst (λ zs. FollowsGrounds Covered q batch hs (after_choices c zs) ys) none later)
+  grounds-append batch (g ∷ gs) hs c xs ys h later = (
     h.0,
     h.1 ++ ys,
     ap (λ zs. zs ++ ys) h.2 ∙ append_assoc h.0 h.1 ys,
     h.3,
-    grounds-append gs hs (after_choices c h.0) h.1 ys h.4 (subst (λ d. FollowsGrounds Covered q hs d ys) (ap (after_choices c) h.2 ∙ choices-append c h.0 h.1) later),
+    h.4,
+    grounds-append batch gs hs (after_choices c h.0) h.1 ys h.5 (subst (λ d. FollowsGrounds Covered q batch hs d ys) (ap (after_choices c) h.2 ∙ choices-append c h.0 h.1) later),
   )
 
   stock_after : (c : Stock K V) (xs : List Choice) → contents_of (after_steps c xs) ≡ after_choices (contents_of c) xs
@@ -172,8 +174,40 @@ module _ {K V : Type 0} (Covered : Record K V → Type 0) (q : parts.Tests) wher
   stock_after c (Drops i ∷ xs) = stock_after c xs
 
   -- those of some grounds, and then those of others
-  pub grounds-on : (gs hs : List Ground) (a b : Stock K V) (xs ys : List Choice) → b ≡ after_steps a xs → FollowsGrounds Covered q gs (contents_of a) xs → FollowsGrounds Covered q hs (contents_of b) ys → FollowsGrounds Covered q (gs ++ hs) (contents_of a) (xs ++ ys)
-  grounds-on gs hs a b xs ys led first later = grounds-append gs hs (contents_of a) xs ys first (subst (λ d. FollowsGrounds Covered q hs d ys) (ap contents_of led ∙ stock_after a xs) later)
+  pub grounds-on : (batch : ℕ) (gs hs : List Ground) (a b : Stock K V) (xs ys : List Choice) → b ≡ after_steps a xs → FollowsGrounds Covered q batch gs (contents_of a) xs → FollowsGrounds Covered q batch hs (contents_of b) ys → FollowsGrounds Covered q batch (gs ++ hs) (contents_of a) (xs ++ ys)
+  grounds-on batch gs hs a b xs ys led first later = grounds-append batch gs hs (contents_of a) xs ys first (subst (λ d. FollowsGrounds Covered q batch hs d ys) (ap contents_of led ∙ stock_after a xs) later)
+
+  -- ---- whatever sketch the contents have
+
+  taken_sketched : (ground : Ground) (sketch : Option Table) (c : Contents K V) (xs : List Choice) → AreTaken Covered q ground c xs → AreTaken Covered q ground (record c { sketch = sketch }) xs
+  taken_sketched ground sketch c [] h = tt
+  taken_sketched ground sketch c (Removes n cause ∷ xs) h = ((h.0.0, h.0.1, h.0.2, leaves ground h.0.0 h.0.3), taken_sketched ground sketch (after_choice c (Removes n cause)) xs h.1)
+    where
+      leaves : (ground : Ground) (r : Record K V) → LeavesBy Covered q ground c n r cause → LeavesBy Covered q ground (record c { sketch = sketch }) n r cause
+      leaves ByTimer r h = h
+      leaves ByWrite r h = h
+      leaves ByRead r h = h
+      leaves ByPredicate r h = h
+      leaves BySurplus r h = h
+  taken_sketched ground sketch c (MovesToBack n ∷ xs) h = (h.0, taken_sketched ground sketch (after_choice c (MovesToBack n)) xs h.1)
+  taken_sketched ground sketch c (Drops i ∷ xs) h = absurd h.0
+
+  choices_sketched : (sketch : Option Table) (c : Contents K V) (xs : List Choice) → after_choices (record c { sketch = sketch }) xs ≡ record (after_choices c xs) { sketch = sketch }
+  choices_sketched sketch c [] = refl
+  choices_sketched sketch c (Removes n cause ∷ xs) = choices_sketched sketch (after_choice c (Removes n cause)) xs
+  choices_sketched sketch c (MovesToBack n ∷ xs) = choices_sketched sketch (after_choice c (MovesToBack n)) xs
+  choices_sketched sketch c (Drops i ∷ xs) = choices_sketched sketch c xs
+
+  pub grounds-sketched : (batch : ℕ) (sketch : Option Table) (gs : List Ground) (c : Contents K V) (xs : List Choice) → FollowsGrounds Covered q batch gs c xs → FollowsGrounds Covered q batch gs (record c { sketch = sketch }) xs
+  grounds-sketched batch sketch [] c xs h = h
+  grounds-sketched batch sketch (g ∷ gs) c xs h = (
+    h.0,
+    h.1,
+    h.2,
+    taken_sketched g sketch c h.0 h.3,
+    h.4,
+    subst (λ d. FollowsGrounds Covered q batch gs d h.1) (sym (choices_sketched sketch c h.0)) (grounds-sketched batch sketch gs (after_choices c h.0) h.1 h.5),
+  )
 
 -- one pass more
 last_pass : (passes : ℕ) → grounds_of (suc passes) ≡ grounds_of passes ++ grounds_of_pass

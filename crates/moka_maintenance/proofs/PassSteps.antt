@@ -340,22 +340,22 @@ module _ {K V L P S : Type 0} (tells : L → K → V → RemovalCause → L → 
   Covered = SomeCovers says ps
 
   -- the steps one after the other, each with its own causes
-  ordered_moments : FollowsGrounds Covered (tests_in q) (ByTimer ∷ ByWrite ∷ ByRead ∷ []) (contents_of a) moments.by.steps
+  ordered_moments : FollowsGrounds Covered (tests_in q) batch (ByTimer ∷ ByWrite ∷ ByRead ∷ []) (contents_of a) moments.by.steps
   ordered_moments =
-      let timers = grounds-one Covered (tests_in q) (MayExpire q) ByTimer (expiry_takes says ps q) a by_timers.by.steps by_timers.by.may in
-      let writes = grounds-one Covered (tests_in q) (MayTurn q Written) ByWrite (turn_takes says ps q Written) b by_write.by.steps by_write.by.may in
-      let reads = grounds-one Covered (tests_in q) (MayTurn q Read) ByRead (turn_takes says ps q Read) c by_read.by.steps by_read.by.may in
-      let both = grounds-on Covered (tests_in q) (ByTimer ∷ []) (ByWrite ∷ []) a b by_timers.by.steps by_write.by.steps by_timers.by.led timers writes in
-      subst (λ xs. FollowsGrounds Covered (tests_in q) (ByTimer ∷ ByWrite ∷ ByRead ∷ []) (contents_of a) xs) (sym moments_are)
-      (grounds-on Covered (tests_in q) (ByTimer ∷ ByWrite ∷ []) (ByRead ∷ []) a c first.by.steps by_read.by.steps first.by.led (subst (λ xs. FollowsGrounds Covered (tests_in q) (ByTimer ∷ ByWrite ∷ []) (contents_of a) xs) (sym first_are) both) reads)
+      let timers = grounds-one Covered (tests_in q) batch (MayExpire q) ByTimer (expiry_takes says ps q) a by_timers.by.steps by_timers.by.may (λ e. absurd (true≢false (sym e))) in
+      let writes = grounds-one Covered (tests_in q) batch (MayTurn q Written) ByWrite (turn_takes says ps q Written) b by_write.by.steps by_write.by.may (λ _. by_write.few) in
+      let reads = grounds-one Covered (tests_in q) batch (MayTurn q Read) ByRead (turn_takes says ps q Read) c by_read.by.steps by_read.by.may (λ _. by_read.few) in
+      let both = grounds-on Covered (tests_in q) batch (ByTimer ∷ []) (ByWrite ∷ []) a b by_timers.by.steps by_write.by.steps by_timers.by.led timers writes in
+      subst (λ xs. FollowsGrounds Covered (tests_in q) batch (ByTimer ∷ ByWrite ∷ ByRead ∷ []) (contents_of a) xs) (sym moments_are)
+      (grounds-on Covered (tests_in q) batch (ByTimer ∷ ByWrite ∷ []) (ByRead ∷ []) a c first.by.steps by_read.by.steps first.by.led (subst (λ xs. FollowsGrounds Covered (tests_in q) batch (ByTimer ∷ ByWrite ∷ []) (contents_of a) xs) (sym first_are) both) reads)
 
-  ordered : FollowsGrounds Covered (tests_in q) grounds_of_pass (contents_of a) (scanned.by.steps ++ last.steps)
+  ordered : FollowsGrounds Covered (tests_in q) batch grounds_of_pass (contents_of a) (scanned.by.steps ++ last.steps)
   unfolding last stepped-also
   ordered =
-      let scan = grounds-one Covered (tests_in q) (MayScan says ps) ByPredicate (scan_takes says ps (tests_in q)) d by_scan.by.steps by_scan.by.may in
-      let last_of = grounds-one Covered (tests_in q) (MayTurn q Surplus) BySurplus (turn_takes says ps q Surplus) f surplus.by.steps surplus.by.may in
-      let four = grounds-on Covered (tests_in q) (ByTimer ∷ ByWrite ∷ ByRead ∷ []) (ByPredicate ∷ []) a d moments.by.steps by_scan.by.steps moments.by.led ordered_moments scan in
-      grounds-on Covered (tests_in q) (ByTimer ∷ ByWrite ∷ ByRead ∷ ByPredicate ∷ []) (BySurplus ∷ []) a f scanned.by.steps surplus.by.steps scanned.by.led (subst (λ xs. FollowsGrounds Covered (tests_in q) (ByTimer ∷ ByWrite ∷ ByRead ∷ ByPredicate ∷ []) (contents_of a) xs) (sym scanned_are) four) last_of
+      let scan = grounds-one Covered (tests_in q) batch (MayScan says ps) ByPredicate (scan_takes says ps (tests_in q)) d by_scan.by.steps by_scan.by.may (λ _. (let few = by_scan.few in let most = by_scan.goes.most in omega arith)) in
+      let last_of = grounds-one Covered (tests_in q) batch (MayTurn q Surplus) BySurplus (turn_takes says ps q Surplus) f surplus.by.steps surplus.by.may (λ _. surplus.few) in
+      let four = grounds-on Covered (tests_in q) batch (ByTimer ∷ ByWrite ∷ ByRead ∷ []) (ByPredicate ∷ []) a d moments.by.steps by_scan.by.steps moments.by.led ordered_moments scan in
+      grounds-on Covered (tests_in q) batch (ByTimer ∷ ByWrite ∷ ByRead ∷ ByPredicate ∷ []) (BySurplus ∷ []) a f scanned.by.steps surplus.by.steps scanned.by.led (subst (λ xs. FollowsGrounds Covered (tests_in q) batch (ByTimer ∷ ByWrite ∷ ByRead ∷ ByPredicate ∷ []) (contents_of a) xs) (sym scanned_are) four) last_of
 
   wrote_steps : length by_write.by.steps ≤ length first.by.steps
   wrote_steps = let both = ap length first_are ∙ length-on by_timers.by.steps by_write.by.steps in omega arith

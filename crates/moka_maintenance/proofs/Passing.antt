@@ -1,5 +1,5 @@
 -- Passes one after the other.
-use Rattle.std.proofs.Common.{◌≡◌, refl, ℕ, ◌+◌, ◌*◌, ◌/◌, ◌≤◌, ◌⊎◌, Bool, true, false, true≢false, nat_lt, ◌&&◌, ◌||◌, List, [], ◌++◌, Contains, length, Option, inl, inr, ap, sym, subst, ◌∙◌, arith, append_assoc, if◌then◌else◌}
+use Rattle.std.proofs.Common.{◌≡◌, refl, ℕ, ◌+◌, ◌-◌, ◌*◌, ◌/◌, ◌≤◌, ◌⊎◌, Bool, true, false, true≢false, nat_lt, ◌&&◌, ◌||◌, List, [], ◌++◌, Contains, length, Option, inl, inr, ap, sym, subst, ◌∙◌, arith, append_assoc, if◌then◌else◌}
 use Rattle.std.proofs.lemmas.Nat.{div-mul-add}
 use Rattle.std.specs.FinMap.{get}
 use Rattle.std.specs.List.{list_all}
@@ -40,7 +40,7 @@ not_due false removed e is = absurd (true≢false (sym is))
 pub record IsMoving {K V L P : Type 0} (tells : L → K → V → RemovalCause → L → Type 0) (says : P → K → V → Bool → Type 0) (q : Tests) (batch : ℕ) (ordered : Bool) (ps qs : List (Registered P)) (first now : Stock K V) (l m : Option L) (passes : ℕ) : Type 0 where
   pub by : IsStepped tells (MayRun says ps (tests_in q)) first now l m
   pub dropped : AreDropped says (contents_of now) ps qs
-  pub in_order : FollowsGrounds (SomeCovers says ps) (tests_in q) (grounds_of passes) (contents_of first) by.steps
+  pub in_order : FollowsGrounds (SomeCovers says ps) (tests_in q) batch (grounds_of passes) (contents_of first) by.steps
   pub few : passes ≤ length (removed_by by.steps)
   pub turned : ps ≡ [] → passes * batch ≤ length by.steps
   pub many : length by.steps + length now.access ≤ passes * (batch + batch + batch) + length first.access
@@ -82,11 +82,11 @@ module _ {K V L P : Type 0} (tells : L → K → V → RemovalCause → L → Ty
   dropped_all : AreDropped says (contents_of next) ps qs
   dropped_all = dropped-on says (contents_of next) ps rs qs (dropped-later says (contents_of now) (contents_of next) (λ k r at. still_there now p.by.steps k r (sym (ap (λ (s : Stock K V). get s.records k) p.by.led) ∙ at)) ps rs h.dropped) p.dropped
 
-  in_order_all : FollowsGrounds (SomeCovers says ps) (tests_in q) (grounds_of (passes + 1)) (contents_of first) (h.by.steps ++ p.by.steps)
+  in_order_all : FollowsGrounds (SomeCovers says ps) (tests_in q) batch (grounds_of (passes + 1)) (contents_of first) (h.by.steps ++ p.by.steps)
   in_order_all =
-      subst (λ gs. FollowsGrounds (SomeCovers says ps) (tests_in q) gs (contents_of first) (h.by.steps ++ p.by.steps)) (sym (grounds-next passes))
-      (grounds-on (SomeCovers says ps) (tests_in q) (grounds_of passes) grounds_of_pass first now h.by.steps p.by.steps h.by.led h.in_order
-      (grounds-also (SomeCovers says rs) (SomeCovers says ps) covered_before (tests_in q) grounds_of_pass (contents_of now) p.by.steps p.in_order))
+      subst (λ gs. FollowsGrounds (SomeCovers says ps) (tests_in q) batch gs (contents_of first) (h.by.steps ++ p.by.steps)) (sym (grounds-next passes))
+      (grounds-on (SomeCovers says ps) (tests_in q) batch (grounds_of passes) grounds_of_pass first now h.by.steps p.by.steps h.by.led h.in_order
+      (grounds-also (SomeCovers says rs) (SomeCovers says ps) covered_before (tests_in q) batch grounds_of_pass (contents_of now) p.by.steps p.in_order))
 
   -- no predicates are added
   none_yet : ps ≡ [] → rs ≡ []
@@ -100,6 +100,9 @@ module _ {K V L P : Type 0} (tells : L → K → V → RemovalCause → L → Ty
 
   many_all : length (h.by.steps ++ p.by.steps) + length next.access ≤ (passes + 1) * (batch + batch + batch) + length first.access
   many_all = one_less passes (batch + batch + batch) (length h.by.steps) (length p.by.steps) (length (h.by.steps ++ p.by.steps)) (length first.access) (length now.access) (length next.access) h.many p.many (length-on h.by.steps p.by.steps)
+
+  full_all : ps ≡ [] → (passes + 1 - 1) * batch ≤ length (h.by.steps ++ p.by.steps)
+  full_all none = let turned = h.turned none in let both = length-on h.by.steps p.by.steps in let same : passes + 1 - 1 ≡ passes = omega arith in subst (λ k. k * batch ≤ length (h.by.steps ++ p.by.steps)) (sym same) (omega arith)
 
   -- without predicates the sweeps alone leave more
   by_sweeps : ps ≡ [] → (more || scan) ≡ true → more ≡ true
@@ -174,6 +177,7 @@ module _ {K V L P : Type 0} (tells : L → K → V → RemovalCause → L → Ty
       in_order = in_order_all;
       made = omega arith;
       many = many_all;
+      full = full_all;
       few = (let f = h.few in let c = counted in omega arith);
       readings = k.readings;
       read = k.read;
@@ -223,6 +227,7 @@ module _ {K V L P : Type 0} (tells : L → K → V → RemovalCause → L → Ty
       in_order = in_order_all;
       made = omega arith;
       many = many_all;
+      full = full_all;
       few = (let f = h.few in let c = counted in omega arith);
       readings = k.readings;
       read = k.read;

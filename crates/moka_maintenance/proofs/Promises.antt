@@ -1,5 +1,5 @@
 -- What applying the queues and the passes make of a state is a run of the reference cache that keeps its promises.
-use Rattle.std.proofs.Common.{◌≡◌, refl, ℕ, ◌+◌, ◌-◌, ◌*◌, ◌<◌, ◌≤◌, ◌++◌, Bool, true, false, true≢false, not, ◌==◌, ◌&&◌, ◌||◌, List, [], ◌∷◌, length, ◌⊎◌, inl, inr, Option, Some, None, is_some, option_map, ap, sym, subst, ◌∙◌, arith, append-nil, append_assoc, eqb→eq, if◌then◌else◌}
+use Rattle.std.proofs.Common.{◌≡◌, refl, ℕ, ◌+◌, ◌-◌, ◌*◌, ◌/◌, ◌<◌, ◌≤◌, ◌++◌, Bool, true, false, true≢false, not, ◌==◌, ◌&&◌, ◌||◌, List, [], ◌∷◌, length, ◌⊎◌, inl, inr, Option, Some, None, is_some, option_map, ap, sym, subst, ◌∙◌, arith, append-nil, append_assoc, eqb→eq, if◌then◌else◌}
 use Rattle.std.specs.Bool.{passes}
 use Rattle.std.specs.Prelude.{Contains, take}
 use Rattle.std.specs.List.{list_all, list_any}
@@ -12,7 +12,7 @@ use Rattle.moka_parts.specs.declared.records.Member.{Member}
 use Rattle.moka_parts.specs.declared.records.Registered.{Registered}
 use Rattle.moka_parts.specs.declared.records.Operation.{Operation}
 use Rattle.moka_parts.specs.declared.records.Operation.TheVariants.{Upsert}
-use Rattle.moka_parts.specs.Visibility.{is_expired}
+use Rattle.moka_parts.specs.Visibility.{SomeCovers, is_expired}
 use Rattle.moka_parts.specs.Records.{Records, when_listening, is_applied, is_settled, is_member, counted_of, numbers_of, settled_members, total_weight}
 use Rattle.moka_parts.specs.State.{State, Contents, with_contents, is_disabled, keeps_write_list}
 use Rattle.moka_parts.specs.Surroundings.{Heard}
@@ -25,6 +25,7 @@ use Rattle.moka_parts.specs.Exact.{IsExact, IsWithin}
 use Rattle.moka_parts.specs.Settling.{IsAllSent, IsWaitingIn, IsWhole, IsConsistent, IsConsistentState, IsSound, IsValid, LeavesBehind, NeverRenewsOnRead, Settles, leaves_more_idle}
 use Rattle.moka_parts.specs.Listed.{LeavesList, ListedRun}
 use Rattle.moka_parts.specs.Order.{ComesToRest, IsAtRestByWrite, write_list_at_end, write_list_before_steps, written_after_choices, written_after_writes}
+use Rattle.moka_parts.specs.Grounds.{AreDrops, FollowsGrounds, grounds_of}
 use Rattle.moka_parts.proofs.Maps.{same_or_apart}
 use Rattle.moka_parts.proofs.RunKeeps.{run_keeps}
 use Rattle.moka_parts.proofs.RunKeepsSound.{run_kept}
@@ -37,7 +38,6 @@ use Rattle.moka_parts.proofs.RunReturns.{IsPromised}
 use Rattle.moka_parts.proofs.Surplus.{removes_enough, removes_first, removes_for_size_alone, leaves_settled}
 use Rattle.moka_maintenance.specs.declared.sweep.Tests.{Tests}
 use Rattle.moka_maintenance.specs.declared.sweep.Sweep.TheVariants.{Written}
-use Rattle.moka_maintenance.specs.Scanning.{AreDrops}
 use Rattle.moka_maintenance.specs.Steps.{Stock, stock_of, contents_of, after_steps, left_by_steps, MayLeave, MayRun, MayAll, HasUnsettled, Told, makes_room}
 use Rattle.moka_maintenance.specs.Queues.{ArePrepared}
 use Rattle.moka_maintenance.specs.Sweeps.{tests_in, IsAtRest, IsDone}
@@ -45,8 +45,9 @@ use Rattle.moka_maintenance.specs.Passes.{IsRan, sweeps_writes}
 use Rattle.moka_maintenance.proofs.Told.{told_same, told-on}
 use Rattle.moka_maintenance.proofs.Dropping.{choices-append, drops_remove_none, drops_silent, drops_stay, drops_unlisted, gone-append, kept-append, written-append}
 use Rattle.moka_maintenance.proofs.Fewer.{len-fewer}
+use Rattle.moka_maintenance.proofs.Grounded.{grounds-sketched}
 use Rattle.moka_maintenance.proofs.Scanned.{drops_later, justified-append, nothing_kept}
-use Rattle.moka_maintenance.proofs.Stepped.{may-also, may-second, run_leaves, steps-append, unsettled-steps}
+use Rattle.moka_maintenance.proofs.Stepped.{length-on, may-also, may-second, run_leaves, steps-append, unsettled-steps}
 use Rattle.moka_maintenance.proofs.Seen.{steps-seen, led-seen, listed-seen, left-seen, steps_justified, steps_keep_predicates}
 
 -- ---- small facts
@@ -340,6 +341,19 @@ module _ {K V X P W L C : Type 0} {tells : L → K → V → RemovalCause → L 
           removes_first says s terms.now choices capacity terms.batch simple.consistent is_free plain
           (ap length removed_same ∙ ran.batch_used (sym cut_late ∙ cut) one plain.no_predicate (all_before makes_room ran.by.steps ran.dropped.steps (removes_for_size_alone says s terms.now choices capacity simple.consistent is_free plain makes_room (λ n. refl))))
 
+    -- no pass is made for nothing
+    all_needed : (capacity : ℕ) → IsPlainSurplus s terms.now capacity (before_steps s choices) → IsWhole s terms course → passes ≡ length (removed_by (ran.by.steps ++ ran.dropped.steps)) / terms.batch + 1
+    all_needed capacity plain whole =
+        subst (λ ns. passes ≡ length ns / terms.batch + 1) (sym removed_same)
+        (ran.exact (sym cut_late ∙ whole.0) whole.1 plain.no_predicate (all_before makes_room ran.by.steps ran.dropped.steps (removes_for_size_alone says s terms.now choices capacity simple.consistent is_free plain makes_room (λ n. refl))))
+
+    -- the steps are in order, whatever sketch the contents have
+    ordered : FollowsGrounds (SomeCovers says s.predicates) (tests_of s terms.now) terms.batch (grounds_of passes) (before_steps s choices) ran.by.steps
+    ordered =
+        subst (λ t. FollowsGrounds (SomeCovers says s.predicates) t terms.batch (grounds_of passes) (before_steps s choices) ran.by.steps) by_state
+        (subst (λ b. FollowsGrounds (SomeCovers says s.predicates) (tests_in q) terms.batch (grounds_of passes) b ran.by.steps) (sym before_same)
+        (grounds-sketched (SomeCovers says s.predicates) (tests_in q) terms.batch c.sketch (grounds_of passes) (contents_of (stock_of c ms)) ran.by.steps ran.in_order))
+
     -- no reading but the last is late by the limit given, whether the clock is read at all or not
     ends_by_terms : (b : Bool) → s.settings.listening ≡ b → is_late (if b then terms.limit else None) (take (length ran.readings - 1) ran.readings) ≡ false → is_late terms.limit (take (length ran.readings - 1) ran.readings) ≡ false
     ends_by_terms true listens none = none
@@ -352,7 +366,7 @@ module _ {K V X P W L C : Type 0} {tells : L → K → V → RemovalCause → L 
         late_of_none None = refl
         late_of_none (Some limit) = refl
 
-    bounded : IsBounded s terms choices course
+    bounded : IsBounded says s terms choices course
     bounded = record {
       made = ran.made;
       passes = subst (λ ns. passes ≤ length ns + 1) (sym removed_same) ran.few;
@@ -360,6 +374,9 @@ module _ {K V X P W L C : Type 0} {tells : L → K → V → RemovalCause → L 
       timed = λ timed. ran.timed (sym timed_limited ∙ timed) ∙ ap (λ b. passes + (if b then 1 else 0)) (sym cut_late);
       untimed = λ untimed. ran.untimed (sym timed_limited ∙ untimed);
       ends = ends_by_terms s.settings.listening refl ran.ends;
+      in_order = (ran.by.steps, ran.dropped.steps, refl, ran.dropped.drops, ordered);
+      full = λ none. (let full = ran.full none in let both = length-on ran.by.steps ran.dropped.steps in omega arith);
+      needed = all_needed;
       surplus = just_surplus;
       cut_surplus = first_batch;
     }

@@ -10,11 +10,12 @@ use Rattle.moka_parts.specs.Maintenance.{Choice, Removes, MovesToBack, Drops, Te
 use Rattle.moka_parts.specs.Visibility.{Covers, SomeCovers}
 use Rattle.moka_parts.specs.Order.{IsListOf}
 use Rattle.moka_parts.specs.State.{Contents}
+use Rattle.moka_parts.specs.Grounds.{AreDrops}
 use Rattle.moka_parts.proofs.Maps.{itself_tested, same_by_test}
 use Rattle.moka_parts.proofs.Scanned.{not_one_covers, uncovered-none}
 use Rattle.moka_store.specs.Store.{Kept}
 use Rattle.moka_maintenance.proofs.Upkeep.{untimed-none}
-use Rattle.moka_maintenance.specs.Scanning.{round_from, AreDrops, MayScan, GoesRound, IsRound, AreDropped, AllDropped, IsScanned}
+use Rattle.moka_maintenance.specs.Scanning.{round_from, MayScan, GoesRound, IsRound, AreDropped, AllDropped, IsScanned}
 use Rattle.moka_maintenance.specs.Steps.{Stock, AreAllMembers, HasNoSettled, after_steps, contents_in, stock_in}
 use Rattle.moka_maintenance.proofs.Dropping.{drops_stay, kept-append}
 use Rattle.moka_maintenance.proofs.Popped.{first_or_rest}

@@ -54,7 +54,8 @@ module _ {K V L P : Type 0} (tells : L → K → V → RemovalCause → L → Ty
     pub dropped : AreDropped says (contents_of after) ps qs
     -- timers, the sweep by the last write, the one by the last read, the scan and the sweep of the surplus, each with
     -- its own causes
-    pub in_order : FollowsGrounds (SomeCovers says ps) (tests_in q) grounds_of_pass (contents_of before) by.steps
+    pub in_order : FollowsGrounds (SomeCovers says ps) (tests_in q) batch grounds_of_pass (contents_of before)
+        by.steps
     pub count : removed ≤ length (removed_by by.steps)
     pub more : left ≡ true → 1 ≤ batch → 1 ≤ removed
     -- beside timers and the scan, each of its steps takes at most a batch of turns
@@ -92,10 +93,13 @@ module _ {K V L P : Type 0} (tells : L → K → V → RemovalCause → L → Ty
       pub by : IsStepped tells (MayRun says ps (tests_in q)) before after l m
       pub dropped : AreDropped says (contents_of after) ps qs
       -- the steps of each pass have their order and their causes
-      pub in_order : FollowsGrounds (SomeCovers says ps) (tests_in q) (grounds_of passes) (contents_of before) by.steps
+      pub in_order : FollowsGrounds (SomeCovers says ps) (tests_in q) batch (grounds_of passes)
+          (contents_of before) by.steps
       pub made : 1 ≤ passes
       pub few : passes ≤ length (removed_by by.steps) + 1
       pub many : length by.steps + length after.access ≤ passes * (batch + batch + batch) + length before.access
+      -- without predicates each pass but the last makes a batch of steps
+      pub full : ps ≡ [] → (passes - 1) * batch ≤ length by.steps
       pub readings : List Instant
       pub read : Leads reads c readings d
       pub timed : is_some limit ≡ true → length readings ≡ passes + (if is_late limit readings then 1 else 0)

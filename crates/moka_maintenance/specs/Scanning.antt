@@ -11,6 +11,7 @@ use Rattle.moka_parts.specs.Records.{Records, is_member, is_settled}
 use Rattle.moka_parts.specs.State.{Contents}
 use Rattle.moka_parts.specs.Visibility.{Covers, SomeCovers, NoneCovers}
 use Rattle.moka_parts.specs.Maintenance.{Choice, Removes, MovesToBack, Drops, Tests, kept_by_choices, AreJustified}
+use Rattle.moka_parts.specs.Grounds.{AreDrops}
 use Rattle.moka_parts.specs.Scan.{AreUncovered}
 use Rattle.moka_store.specs.Store.{Kept}
 use Rattle.moka_maintenance.specs.Expelled.{Expels}
@@ -41,13 +42,6 @@ LeavesSome (n ∷ ns) kept = LeavesSome ns kept ⊎ ((rest : List ℕ) × (kept 
 -- those of the numbers whose records are settled
 abbrev pub settled_numbers : {K V : Type 0} → Records K V → List ℕ → List ℕ
 settled_numbers records ns = filter (λ n. is_settled records n) ns
-
--- each step drops a predicate
-abbrev pub AreDrops : List Choice → Type 0
-AreDrops [] = Unit {0}
-AreDrops (Removes n cause ∷ xs) = ⊥
-AreDrops (MovesToBack n ∷ xs) = ⊥
-AreDrops (Drops i ∷ xs) = AreDrops xs
 
 module _ {K V P : Type 0} (says : P → K → V → Bool → Type 0) where
   -- the predicate covers a record of the map

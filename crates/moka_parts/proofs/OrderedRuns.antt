@@ -59,8 +59,8 @@ module _ {K V X P W : Type 0} (says : P → K → V → Bool → Type 0) (read :
   pub listed_is_promised : PromisedRun says read s terms course notices t
   listed_is_promised = (go (is_disabled s.capacity) run.0, run.1.0)
     where
-      go : (b : Bool) → MatchBool b (DoesNothing s course notices t) ((ch : Freedom) × RunsBy says s terms ch course notices t × (IsBounded s terms ch course × LeavesList before after s terms ch course)) →
-          MatchBool b (DoesNothing s course notices t) ((ch : Freedom) × RunsBy says s terms ch course notices t × IsBounded s terms ch course)
+      go : (b : Bool) → MatchBool b (DoesNothing s course notices t) ((ch : Freedom) × RunsBy says s terms ch course notices t × (IsBounded says s terms ch course × LeavesList before after s terms ch course)) →
+          MatchBool b (DoesNothing s course notices t) ((ch : Freedom) × RunsBy says s terms ch course notices t × IsBounded says s terms ch course)
       go true nothing = nothing
       go false (ch, by, also) = (ch, by, also.0)
 
@@ -69,7 +69,7 @@ module _ {K V X P W : Type 0} (says : P → K → V → Bool → Type 0) (read :
     pub listed_run_ends : (settings : Settings X W) → IsListedIn settings before s → IsListedIn settings after t
     listed_run_ends settings h = go (is_disabled s.capacity) refl run.0
       where
-        go : (b : Bool) → is_disabled s.capacity ≡ b → MatchBool b (DoesNothing s course notices t) ((ch : Freedom) × RunsBy says s terms ch course notices t × (IsBounded s terms ch course × LeavesList before after s terms ch course)) → IsListedIn settings after t
+        go : (b : Bool) → is_disabled s.capacity ≡ b → MatchBool b (DoesNothing s course notices t) ((ch : Freedom) × RunsBy says s terms ch course notices t × (IsBounded says s terms ch course × LeavesList before after s terms ch course)) → IsListedIn settings after t
         go true off nothing = subst (IsListedIn settings after) (sym nothing.0) (subst (λ ns. IsListedIn settings ns s) (sym (run.1.1 off)) h)
         go false on (ch, (free, same, told), also) = subst (IsListedIn settings after) (sym same) (
           h.0,
@@ -84,7 +84,7 @@ module _ {K V X P W : Type 0} (says : P → K → V → Bool → Type 0) (read :
         bare : is_disabled s.capacity ≡ true → (n : ℕ) (r : Record K V) → get s.records n ≡ Some r → ⊥
         bare off n r there = nothing_at n r (sym (ap (λ m. get m n) (valid.numbered.disabled off).no_records) ∙ there)
 
-        go : (b : Bool) → is_disabled s.capacity ≡ b → MatchBool b (DoesNothing s course notices t) ((ch : Freedom) × RunsBy says s terms ch course notices t × (IsBounded s terms ch course × LeavesList before after s terms ch course)) → AgesOut s terms course t
+        go : (b : Bool) → is_disabled s.capacity ≡ b → MatchBool b (DoesNothing s course notices t) ((ch : Freedom) × RunsBy says s terms ch course notices t × (IsBounded says s terms ch course × LeavesList before after s terms ch course)) → AgesOut s terms course t
         go true off nothing = subst (AgesOut s terms course) (sym nothing.0) (record { live = λ whole all kept n r there. absurd (bare off n r there); invalid = λ whole all kept n r there. absurd (bare off n r there) })
         go false on (ch, (free, same, told), also) = subst (AgesOut s terms course) (sym same) (record { live = λ whole all kept. (aged kept).live whole all kept; invalid = λ whole all kept. (aged kept).invalid whole all kept })
           where

@@ -1,14 +1,15 @@
 -- What a run costs, and which surplus it removes.
-use Rattle.std.specs.Prelude.{◌≡◌, ℕ, true, false, ◌+◌, ◌-◌, ◌<◌, ◌≤◌, List, [], ◌∷◌, length, take, Some, if◌then◌else◌}
+use Rattle.std.specs.Prelude.{◌≡◌, ℕ, Bool, true, false, ◌+◌, ◌-◌, ◌*◌, ◌/◌, ◌<◌, ◌≤◌, List, [], ◌∷◌, ◌++◌, length, take, Some, if◌then◌else◌}
 use Rattle.std.specs.List.{list_all}
 use Rattle.std.specs.FinMap.{get}
 use Rattle.moka_parts.specs.declared.records.Record.{Record}
 use Rattle.moka_parts.specs.declared.records.Member.{Member}
 use Rattle.moka_parts.specs.Records.{is_settled, numbers_of, total_weight}
 use Rattle.moka_parts.specs.State.{State, Contents}
-use Rattle.moka_parts.specs.Visibility.{has_lapsed}
+use Rattle.moka_parts.specs.Visibility.{SomeCovers, has_lapsed}
 use Rattle.moka_parts.specs.Candidates.{prefix}
-use Rattle.moka_parts.specs.Maintenance.{Choice, Freedom, Removes, MovesToBack, Drops, Terms, Course, is_timed, is_late, is_cut, before_steps}
+use Rattle.moka_parts.specs.Maintenance.{Choice, Freedom, Removes, MovesToBack, Drops, Terms, Course, is_timed, is_late, is_cut, before_steps, tests_of}
+use Rattle.moka_parts.specs.Grounds.{AreDrops, FollowsGrounds, grounds_of}
 use Rattle.moka_parts.specs.Settling.{IsWhole}
 
 -- the numbers of the records that the steps remove, in order
@@ -28,8 +29,8 @@ pub record IsPlainSurplus {K V X P W : Type 0} (s : State K V X P W) (now capaci
   pub no_predicate : s.predicates ≡ []
 
 -- what a run costs and removes
-pub record IsBounded {K V X P W : Type 0} (s : State K V X P W) (terms : Terms) (ch : Freedom)
-    (course : Course) : Type 0 where
+pub record IsBounded {K V X P W : Type 0} (says : P → K → V → Bool → Type 0) (s : State K V X P W) (terms : Terms)
+    (ch : Freedom) (course : Course) : Type 0 where
   -- the steps are gone through at least once
   pub made : 1 ≤ course.passes
   -- at most one pass more than the records that the steps remove
@@ -42,6 +43,16 @@ pub record IsBounded {K V X P W : Type 0} (s : State K V X P W) (terms : Terms) 
   pub untimed : is_timed s.settings terms ≡ false → course.readings ≡ []
   -- it ends with the first reading that is late
   pub ends : is_late terms.limit (take (length course.readings - 1) course.readings) ≡ false
+  -- the steps of each pass stand in their order, each with its own grounds and causes, and each but that of the timers
+  -- is made of at most a batch of choices; at last predicates are dropped
+  pub in_order : (taken dropped : List Choice) × (ch.steps ≡ taken ++ dropped) × AreDrops dropped
+      × FollowsGrounds (SomeCovers says s.predicates) (tests_of s terms.now) terms.batch (grounds_of course.passes)
+      (before_steps s ch) taken
+  -- without predicates each pass but the last makes a batch of choices
+  pub full : s.predicates ≡ [] → (course.passes - 1) * terms.batch ≤ length ch.steps
+  -- where weight is the only ground, a whole run makes no more passes than it needs
+  pub needed : (capacity : ℕ) → IsPlainSurplus s terms.now capacity (before_steps s ch) → IsWhole s terms course →
+      course.passes ≡ length (removed_by ch.steps) / terms.batch + 1
   -- a whole run removes just enough from the front
   pub surplus : (capacity : ℕ) → IsPlainSurplus s terms.now capacity (before_steps s ch) → IsWhole s terms course →
       (front : List Member) × (prefix (before_steps s ch).access (total_weight (before_steps s ch).access - capacity)

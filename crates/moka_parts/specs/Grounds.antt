@@ -1,5 +1,5 @@
 -- The grounds on which a pass removes records: the cause that each tells, and their order.
-use Rattle.std.specs.Prelude.{◌≡◌, ℕ, zero, suc, Bool, true, false, ◌&&◌, List, [], ◌∷◌, ◌++◌, Option, Some, None, if◌then◌else◌}
+use Rattle.std.specs.Prelude.{◌≡◌, ℕ, zero, suc, Bool, true, false, ◌&&◌, ◌≤◌, List, [], ◌∷◌, ◌++◌, length, Option, Some, None, if◌then◌else◌}
 use Rattle.std.specs.FinMap.{get}
 use Rattle.moka_parts.specs.declared.notification.RemovalCause.{RemovalCause}
 use Rattle.moka_parts.specs.declared.notification.RemovalCause.TheVariants.{Expired, Explicit, Size}
@@ -39,6 +39,14 @@ is_sweep ByRead = true
 is_sweep ByPredicate = false
 is_sweep BySurplus = true
 
+-- the step is made of at most a batch of choices; all timers that are due are served
+abbrev pub is_batched : Ground → Bool
+is_batched ByTimer = false
+is_batched ByWrite = true
+is_batched ByRead = true
+is_batched ByPredicate = true
+is_batched BySurplus = true
+
 module _ {K V : Type 0} (q : Tests) where
   -- why a record leaves by its last write, if it does: that it is past its time to live is told before that it is
   -- invalidated
@@ -74,8 +82,16 @@ module _ {K V : Type 0} (Covered : Record K V → Type 0) (q : Tests) where
   AreTaken g c [] = Unit {0}
   AreTaken g c (x ∷ xs) = MayTake g c x × AreTaken g (after_choice c x) xs
 
-  -- the choices are those of these steps, one step after the other
-  abbrev pub FollowsGrounds : List Ground → Contents K V → List Choice → Type 0
-  FollowsGrounds [] c xs = xs ≡ []
-  FollowsGrounds (g ∷ gs) c xs = (first later : List Choice) × (xs ≡ first ++ later) × AreTaken g c first
-      × FollowsGrounds gs (after_choices c first) later
+  module _ (batch : ℕ) where
+    -- the choices are those of these steps, one step after the other
+    abbrev pub FollowsGrounds : List Ground → Contents K V → List Choice → Type 0
+    FollowsGrounds [] c xs = xs ≡ []
+    FollowsGrounds (g ∷ gs) c xs = (first later : List Choice) × (xs ≡ first ++ later) × AreTaken g c first
+        × (is_batched g ≡ true → length first ≤ batch) × FollowsGrounds gs (after_choices c first) later
+
+-- each choice drops a predicate
+abbrev pub AreDrops : List Choice → Type 0
+AreDrops [] = Unit {0}
+AreDrops (Removes n cause ∷ xs) = ⊥
+AreDrops (MovesToBack n ∷ xs) = ⊥
+AreDrops (Drops i ∷ xs) = AreDrops xs

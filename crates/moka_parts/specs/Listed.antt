@@ -24,7 +24,7 @@ module _ {K V X P W : Type 0} (says : P → K → V → Bool → Type 0) (read :
   ListedRun s terms course notices t =
       RunsWith says (λ s terms course t. EndsWell says read s terms course t
       × (is_disabled s.capacity ≡ true → after ≡ before))
-      (λ s terms ch course. IsBounded s terms ch course
+      (λ s terms ch course. IsBounded says s terms ch course
       × LeavesList before after s terms ch course) s terms course notices t
 
 module _ {K V X L P W C I : Type 0} (m : Meaning K V X L P W C I) where

@@ -37,17 +37,18 @@ impl<
     P: PredicateFn<K, V>,
     W: Weigher<K, V>,
 > BaseCache<K, V, S, X, L, P, W> {
-    /// Runs maintenance: applies the queued reads and then the queued writes, and removes, in passes, what has expired,
-    /// what was invalidated and what exceeds the capacity. At the end the report is made. The answer tells whether more
-    /// is left. A capacity of 0 leaves nothing to do. The housekeeper is not touched.
+    /// Runs maintenance: applies the queued reads and then the queued writes, and makes passes. Each pass removes, in this
+    /// order, what is past its own expiry, what has expired or was invalidated by its last write and then by its last
+    /// read, what a predicate covers, and what exceeds the capacity. At the end the report is made. The answer tells
+    /// whether more is left. A capacity of 0 leaves nothing to do. The housekeeper is not touched.
     ///
     /// - `now`: the moment by which all is tested.
     /// - `clock`: tells how long the run goes on. It is read only where a listener is set and there is a limit.
     /// - `limit`: after this time no further pass is made, and more is left.
     /// - `repeats`: how often a run may go back to its queues. With one owner nothing is queued meanwhile, so it has no
     ///   effect.
-    /// - `batch`: how many records a sweep of a pass looks at. With 0 only what has expired by itself is removed, and
-    ///   more is left where there is anything to test records by.
+    /// - `batch`: how many records each step of a pass looks at, but for the first. With 0 only what is past its own
+    ///   expiry is removed, and more is left where there is anything to test records by.
     ///
     /// Once every operation was sent, a run leaves count and weight exactly the records', and one that was not cut
     /// short, with a `batch` of at least 1, also the weight within the capacity.
