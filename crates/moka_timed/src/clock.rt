@@ -7,8 +7,29 @@ use moka_parts::housekeeper::Clock;
 use moka_parts::policy::Instant;
 use std::time::Duration;
 
-/// The system's monotonic time, read through `std::time::Clock`, as which a `HostRuntime` serves. Its moments never go
-/// back: where the source does, or cannot be read, the last moment is given again.
+/// What tells how long ago it started. Every `std::time::Clock` is one, as which a `HostRuntime` serves.
+pub trait Monotonic {
+    ghost use Rattle.std.specs.Prelude.{ℕ, Option, option_map};
+    ghost use Rattle.std.specs.Duration.{as_nanos};
+
+    /// It may tell so many nanoseconds, or nothing where it cannot be read.
+    ghost tells: { Self → Option ℕ → Type 0 };
+
+    /// The time since it started, if it can be read.
+    fn since_start(&self) -> Option<Duration>
+        ensures { tells self.now (option_map as_nanos result) };
+}
+
+impl<R: std::time::Clock> Monotonic for R {
+    ghost tells = { λ _ _. Unit {0} };
+
+    fn since_start(&self) -> Option<Duration> {
+        self.monotonic().ok()
+    }
+}
+
+/// The system's monotonic time, in nanoseconds since its source started, saturating. Its moments never go back: where
+/// the source does, or cannot be read, the last moment is given again.
 #[derive(Drop)]
 pub struct SystemClock<R> {
     source: R,
@@ -25,15 +46,19 @@ impl<R> SystemClock<R> {
     }
 }
 
-impl<R: std::time::Clock> Clock for SystemClock<R> {
-    ghost use Rattle.std.specs.Prelude.{◌≡◌, ◌≤◌};
+impl<R: Monotonic> Clock for SystemClock<R> {
+    ghost use Rattle.std.specs.Prelude.{◌≡◌, ℕ, Option, max, min, unwrap_or};
+    ghost use Rattle.moka_parts.specs.Time.{greatest};
 
-    ghost reads = { λ before moment after. (before.last.0 ≤ moment.0) × (after ≡ record before { last = moment }) };
+    // what the source tells, but no moment before the last
+    ghost reads = { λ before moment after. (since : Option ℕ) × R.tells before.source since
+        × (moment.0 ≡ max before.last.0 (min (unwrap_or since 0) greatest))
+        × (after ≡ record before { last = moment }) };
 
     fn now(&mut self) -> Instant {
-        if let Ok(since) = self.source.monotonic() {
+        if let Some(since) = self.source.since_start() {
             let nanos = u64::try_from(since.as_nanos()).unwrap_or(u64::MAX);
-            self.last = self.last.max(Instant(nanos));
+            self.last = Instant(self.last.0.max(nanos));
         }
         self.last
     }

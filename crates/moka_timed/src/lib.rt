@@ -10,5 +10,5 @@ mod saves;
 mod tested;
 
 pub use cache::TimedCache;
-pub use clock::{ManualClock, SystemClock};
+pub use clock::{ManualClock, Monotonic, SystemClock};
 pub use entry_selector::TimedEntrySelector;

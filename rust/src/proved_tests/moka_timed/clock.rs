@@ -8,8 +8,24 @@ use crate::engine::moka_parts::housekeeper::Clock;
 use crate::engine::moka_parts::policy::Instant;
 use crate::support::time::Duration;
 
-/// The system's monotonic time, read through `std::time::Clock`, as which a `HostRuntime` serves. Its moments never go
-/// back: where the source does, or cannot be read, the last moment is given again.
+/// What tells how long ago it started. Every `std::time::Clock` is one, as which a `HostRuntime` serves.
+pub trait Monotonic {
+
+    /// It may tell so many nanoseconds, or nothing where it cannot be read.
+
+    /// The time since it started, if it can be read.
+    fn since_start(&self) -> Option<Duration>;
+}
+
+impl<R: crate::support::time::Clock> Monotonic for R {
+
+    fn since_start(&self) -> Option<Duration> {
+        self.monotonic().ok()
+    }
+}
+
+/// The system's monotonic time, in nanoseconds since its source started, saturating. Its moments never go back: where
+/// the source does, or cannot be read, the last moment is given again.
 pub struct SystemClock<R> {
     source: R,
     last: Instant,
@@ -24,12 +40,14 @@ impl<R> SystemClock<R> {
     }
 }
 
-impl<R: crate::support::time::Clock> Clock for SystemClock<R> {
+impl<R: Monotonic> Clock for SystemClock<R> {
+
+    // what the source tells, but no moment before the last
 
     fn now(&mut self) -> Instant {
-        if let Ok(since) = self.source.monotonic() {
+        if let Some(since) = self.source.since_start() {
             let nanos = u64::try_from(since.as_nanos()).unwrap_or(u64::MAX);
-            self.last = self.last.max(Instant(nanos));
+            self.last = Instant(self.last.0.max(nanos));
         }
         self.last
     }

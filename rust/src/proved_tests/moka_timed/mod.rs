@@ -11,5 +11,5 @@ mod saves;
 mod tested;
 
 pub use cache::TimedCache;
-pub use clock::{ManualClock, SystemClock};
+pub use clock::{ManualClock, Monotonic, SystemClock};
 pub use entry_selector::TimedEntrySelector;
