@@ -1,6 +1,7 @@
 -- What explains the reply to a call.
 use Rattle.std.specs.Prelude.{◌≡◌, ℕ, Bool, List, length, map, IsPermutation, if◌then◌else◌}
 use Rattle.std.specs.List.{AllByRecursion}
+use Rattle.std.specs.List.Sorted.{IsNonDecreasing}
 use Rattle.std.specs.FinMap.{values}
 use Rattle.moka_parts.specs.declared.calls.Call.TheVariants as call
 use Rattle.moka_parts.specs.declared.policy.Instant.{Instant}
@@ -32,9 +33,10 @@ question_of automatic c = question.Nothing
 abbrev pub queued_in : ScriptState → Queued
 queued_in s = record { writes = length s.writes; reads = length s.reads }
 
--- the keys of all records of the first state, each once, and what is known of them in both
+-- the keys of all records of the first state, each once and in rising order, and what is known of them in both
 pub record Tells (s t : ScriptState) (now : ℕ) (before after : List Look) : Type 0 where
   pub keys : IsPermutation (map (λ r. r.key) (values s.records)) (map (λ (l : Look). l.key) before)
+  pub rising : IsNonDecreasing (map (λ (l : Look). l.key) before)
   pub same : map (λ (l : Look). l.key) after ≡ map (λ (l : Look). l.key) before
   pub before_call : AllByRecursion (IsLook s now) before
   pub after_call : AllByRecursion (IsLook t now) after

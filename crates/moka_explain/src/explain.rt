@@ -1,6 +1,7 @@
 //! Makes the calls of a script one after the other, and finds out what each met and what came of it.
 ghost use Rattle.std.specs.Prelude.{◌≡◌, ℕ, List, [], ◌∷◌, map, IfOk, IsPermutation};
 ghost use Rattle.std.specs.FinMap.{values};
+ghost use Rattle.std.specs.List.Sorted.{IsNonDecreasing};
 ghost use Rattle.moka_parts.specs.declared.calls.Reply.{Reply};
 ghost use Rattle.moka_parts.specs.Drives.{Drives};
 ghost use Rattle.moka_script.specs.declared.key_range.KeyRange.{KeyRange};
@@ -208,7 +209,8 @@ fn make_and_compare(
 
 /// The keys of all records, in rising order.
 fn keys_of(cache: &ScriptCache) -> Result<Vec<u32>, OutOfMemory>
-    ensures { IfOk result (λ keys. IsPermutation (map (λ r. r.key) (values cache.now.state.records)) keys.items) }
+    ensures keys { IfOk result (λ keys. IsPermutation (map (λ r. r.key) (values cache.now.state.records)) keys.items) }
+    ensures order { IfOk result (λ keys. IsNonDecreasing keys.items) }
 {
     let Some(mut keys) = cache.keys(0)? else {
         return Err(OutOfMemory);
