@@ -274,10 +274,7 @@ impl<
         if self.engine.is_map_disabled() {
             return Ok(());
         }
-        let ticket = match self.engine.do_insert_with_own_hash(key, hash, value, now) {
-            Ok((ticket, _)) => ticket,
-            Err(refused) => return Err(refused),
-        };
+        let (ticket, _) = self.engine.do_insert_with_own_hash(key, hash, value, now)?;
         post(&mut self.engine, ticket, now, clock);
         self.engine.invariant_holds();
         Ok(())
@@ -489,10 +486,7 @@ impl<
         }
         self.count_load();
         let value = init();
-        match self.insert_made_hashed(Put { key, hash, value }, now, clock) {
-            Ok(copy) => Ok(copy),
-            Err(refused) => Err(GetWithRefused::Insert(refused)),
-        }
+        Ok(self.insert_made_hashed(Put { key, hash, value }, now, clock)?)
     }
 
     /// As `get_with`, for a maker that may decline: then nothing is inserted, and `None` is answered.
@@ -525,10 +519,7 @@ impl<
         let Some(value) = init() else {
             return Ok(None);
         };
-        match self.insert_made_hashed(Put { key, hash, value }, now, clock) {
-            Ok(copy) => Ok(Some(copy)),
-            Err(refused) => Err(GetWithRefused::Insert(refused)),
-        }
+        Ok(Some(self.insert_made_hashed(Put { key, hash, value }, now, clock)?))
     }
 
     /// As `get_with`, for a maker that may fail: then nothing is inserted, and its error is answered.
@@ -593,11 +584,8 @@ impl<
             let error = InsertError::OutOfMemory;
             return Err(InsertRefused { error, key, value });
         };
-        let put = Put { key, hash, value };
-        match self.insert_hashed(put, now, clock) {
-            Ok(()) => Ok(copy),
-            Err(refused) => Err(refused),
-        }
+        self.insert_hashed(Put { key, hash, value }, now, clock)?;
+        Ok(copy)
     }
 
     // Counts a call of a maker.

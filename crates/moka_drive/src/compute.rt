@@ -76,6 +76,17 @@ impl<K, V> fmt::Display for ComputeRefused<K, V> {
 
 impl<K: fmt::Debug + Drop, V: fmt::Debug + Drop> Error for ComputeRefused<K, V> {}
 
+impl<K, V> From<InsertRefused<K, V>> for ComputeRefused<K, V> {
+    ghost use Rattle.std.specs.Prelude.{◌≡◌};
+    ghost use Rattle.moka_drive.specs.declared.compute.ComputeRefused.TheVariants.{Insert};
+
+    ghost from_gives = { λ refused error. error ≡ Insert refused };
+
+    fn from(refused: InsertRefused<K, V>) -> Self {
+        ComputeRefused::Insert(refused)
+    }
+}
+
 impl<
     K: Eq + Hash,
     V,
@@ -110,16 +121,12 @@ impl<
             self.old clock.old self.new clock.new (F.post f) result }
     {
         let hash = self.engine().hash(&key);
-        let seen = match self.get_hashed(&key, hash, now, clock) {
-            Ok(seen) => seen,
-            Err(_) => return Err(GetWithRefused::Lookup(key)),
+        let Ok(seen) = self.get_hashed(&key, hash, now, clock) else {
+            return Err(GetWithRefused::Lookup(key));
         };
         let is_there = seen.is_some();
         let value = f(seen);
-        match self.insert_entry(Put { key, hash, value }, is_there, now, clock) {
-            Ok(entry) => Ok(entry),
-            Err(refused) => Err(GetWithRefused::Insert(refused)),
-        }
+        Ok(self.insert_entry(Put { key, hash, value }, is_there, now, clock)?)
     }
 
     /// Puts a value, takes the key out, or does nothing, as `f` answers, which sees a clone of the key's value, or
@@ -150,9 +157,8 @@ impl<
             × F.post f x op) result }
     {
         let hash = self.engine().hash(&key);
-        let seen = match self.get_hashed(&key, hash, now, clock) {
-            Ok(seen) => seen,
-            Err(_) => return Err(ComputeRefused::Lookup(key)),
+        let Ok(seen) = self.get_hashed(&key, hash, now, clock) else {
+            return Err(ComputeRefused::Lookup(key));
         };
         let is_there = seen.is_some();
         match f(seen.as_ref()) {
@@ -192,10 +198,7 @@ impl<
             self.old.engine clock.old self.new.engine clock.new }
         ensures counted { self.new.stats ≡ self.old.stats }
     {
-        let entry = match self.insert_entry(put, is_there, now, clock) {
-            Ok(entry) => entry,
-            Err(refused) => return Err(ComputeRefused::Insert(refused)),
-        };
+        let entry = self.insert_entry(put, is_there, now, clock)?;
         if is_there {
             Ok(CompResult::ReplacedWith(entry))
         } else {

@@ -49,3 +49,14 @@ impl<K, V> fmt::Display for GetWithRefused<K, V> {
 }
 
 impl<K: fmt::Debug + Drop, V: fmt::Debug + Drop> Error for GetWithRefused<K, V> {}
+
+impl<K, V> From<InsertRefused<K, V>> for GetWithRefused<K, V> {
+    ghost use Rattle.std.specs.Prelude.{◌≡◌};
+    ghost use Rattle.moka_drive.specs.declared.error.GetWithRefused.TheVariants.{Insert};
+
+    ghost from_gives = { λ refused error. error ≡ Insert refused };
+
+    fn from(refused: InsertRefused<K, V>) -> Self {
+        GetWithRefused::Insert(refused)
+    }
+}

@@ -122,10 +122,7 @@ impl<
         if self.engine.is_map_disabled() {
             return Ok(());
         }
-        let ticket = match self.engine.restore(item) {
-            Ok(ticket) => ticket,
-            Err(refused) => return Err(refused),
-        };
+        let ticket = self.engine.restore(item)?;
         post(&mut self.engine, ticket, now, clock);
         self.engine.invariant_holds();
         Ok(())
@@ -165,9 +162,8 @@ impl<
     {
         let mut rest = items.into_iter();
         while let Some(item) = rest.next() {
-            match self.restore_entry(item, now, clock) {
-                Ok(()) => {}
-                Err(refused) => return Err(RestoreManyRefused { refused, rest }),
+            if let Err(refused) = self.restore_entry(item, now, clock) {
+                return Err(RestoreManyRefused { refused, rest });
             }
         }
         self.engine.invariant_holds();

@@ -66,6 +66,13 @@ impl<K, V> fmt::Display for ComputeRefused<K, V> {
 
 impl<K: fmt::Debug, V: fmt::Debug> Error for ComputeRefused<K, V> {}
 
+impl<K, V> From<InsertRefused<K, V>> for ComputeRefused<K, V> {
+
+    fn from(refused: InsertRefused<K, V>) -> Self {
+        ComputeRefused::Insert(refused)
+    }
+}
+
 impl<
     K: Eq + Hash,
     V,
@@ -93,16 +100,12 @@ impl<
         V: Clone,
     {
         let hash = self.engine().hash(&key);
-        let seen = match self.get_hashed(&key, hash, now, clock) {
-            Ok(seen) => seen,
-            Err(_) => return Err(GetWithRefused::Lookup(key)),
+        let Ok(seen) = self.get_hashed(&key, hash, now, clock) else {
+            return Err(GetWithRefused::Lookup(key));
         };
         let is_there = seen.is_some();
         let value = f(seen);
-        match self.insert_entry(Put { key, hash, value }, is_there, now, clock) {
-            Ok(entry) => Ok(entry),
-            Err(refused) => Err(GetWithRefused::Insert(refused)),
-        }
+        Ok(self.insert_entry(Put { key, hash, value }, is_there, now, clock)?)
     }
 
     /// Puts a value, takes the key out, or does nothing, as `f` answers, which sees a clone of the key's value, or
@@ -124,9 +127,8 @@ impl<
         V: Clone,
     {
         let hash = self.engine().hash(&key);
-        let seen = match self.get_hashed(&key, hash, now, clock) {
-            Ok(seen) => seen,
-            Err(_) => return Err(ComputeRefused::Lookup(key)),
+        let Ok(seen) = self.get_hashed(&key, hash, now, clock) else {
+            return Err(ComputeRefused::Lookup(key));
         };
         let is_there = seen.is_some();
         match f(seen.as_ref()) {
@@ -157,10 +159,7 @@ impl<
         K: Clone,
         V: Clone,
     {
-        let entry = match self.insert_entry(put, is_there, now, clock) {
-            Ok(entry) => entry,
-            Err(refused) => return Err(ComputeRefused::Insert(refused)),
-        };
+        let entry = self.insert_entry(put, is_there, now, clock)?;
         if is_there {
             Ok(CompResult::ReplacedWith(entry))
         } else {

@@ -90,10 +90,7 @@ impl<
         }
         self.count_load();
         let value = init();
-        match self.insert_entry(Put { key, hash, value }, false, now, clock) {
-            Ok(entry) => Ok(entry),
-            Err(refused) => Err(GetWithRefused::Insert(refused)),
-        }
+        Ok(self.insert_entry(Put { key, hash, value }, false, now, clock)?)
     }
 
     /// As `get_or_insert_with`, for a maker that may decline: then nothing is inserted, and `None` is answered. moka:
@@ -122,10 +119,7 @@ impl<
         let Some(value) = init() else {
             return Ok(None);
         };
-        match self.insert_entry(Put { key, hash, value }, false, now, clock) {
-            Ok(entry) => Ok(Some(entry)),
-            Err(refused) => Err(GetWithRefused::Insert(refused)),
-        }
+        Ok(Some(self.insert_entry(Put { key, hash, value }, false, now, clock)?))
     }
 
     /// As `get_or_insert_with`, for a maker that may fail: then nothing is inserted, and its error is answered. moka:
@@ -178,15 +172,13 @@ impl<
             let error = InsertError::OutOfMemory;
             return Err(InsertRefused { error, key, value });
         };
-        match self.insert_made_hashed(Put { key, hash, value }, now, clock) {
-            Ok(value) => Ok(CacheEntry {
-                key: own_key,
-                value,
-                is_fresh: true,
-                is_old_value_replaced,
-            }),
-            Err(refused) => Err(refused),
-        }
+        let value = self.insert_made_hashed(Put { key, hash, value }, now, clock)?;
+        Ok(CacheEntry {
+            key: own_key,
+            value,
+            is_fresh: true,
+            is_old_value_replaced,
+        })
     }
 }
 

@@ -43,3 +43,10 @@ impl<K, V> fmt::Display for GetWithRefused<K, V> {
 }
 
 impl<K: fmt::Debug, V: fmt::Debug> Error for GetWithRefused<K, V> {}
+
+impl<K, V> From<InsertRefused<K, V>> for GetWithRefused<K, V> {
+
+    fn from(refused: InsertRefused<K, V>) -> Self {
+        GetWithRefused::Insert(refused)
+    }
+}

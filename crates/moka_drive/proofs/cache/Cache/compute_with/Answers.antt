@@ -12,11 +12,11 @@ use Rattle.moka_drive.proofs.cache.Cache.compute_with.Goals as goal
 same_takes : {K V : Type 0} (a b : Option (V × Result (Unit {0}) OutOfMemory)) → ◌≡◌ {A = Option (Computed K V)} (Some (Takes a)) (Some (Takes b)) → a ≡ b
 same_takes a b e = cc
 
-pub returns-in-Err : goal.returns-in-Err
-returns-in-Err g c =
+pub returns-in_default : goal.returns-in_default
+returns-in_default g c =
     let hash_by : g.row.S.Denot → ℕ = λ h. key_hash g.S.BuildHasher g.S.Hasher.Hasher h (g.K.Hash.hash_input c.args.key) in
-    let got = c.in-Err.ensures.made in
-    (got.0, Err c.in-Err.field-0, got.1, None, tt, refl, heard g.K.Clone.is_clone g.V.Clone.is_clone _ (GetsValue c.args.key (hash_by c.args.self.now.engine.hasher) c.args.now got.0) c.args.self.now.engine c.get_hashed.new.self.engine c.args.clock.now c.get_hashed.new.clock got.2, c.in-Err.ensures.counted, tt, (λ taken e. absurd (cc)))
+    let got = c.in_default.ensures.made in
+    (got.0, Err c.in_default.field-0, got.1, None, tt, refl, heard g.K.Clone.is_clone g.V.Clone.is_clone _ (GetsValue c.args.key (hash_by c.args.self.now.engine.hasher) c.args.now got.0) c.args.self.now.engine c.get_hashed.new.self.engine c.args.clock.now c.get_hashed.new.clock got.2, c.in_default.ensures.counted, tt, (λ taken e. absurd (cc)))
 
 pub returns-in-Put : goal.returns-in-Put
 returns-in-Put g c =

@@ -1,4 +1,5 @@
 use Rattle.std.proofs.Common.{ℕ, Some, None, Ok, Err}
+use Rattle.std.proofs.lemmas.Result.{err_from_is_err_and}
 use Rattle.moka_parts.specs.Hashing.{key_hash}
 use Rattle.moka_drive.specs.declared.error.GetWithRefused.TheVariants.{Lookup, Insert}
 use Rattle.moka_drive.proofs.Getting.{declined, got_refused, got_value, if_made, made_and_handed_out}
@@ -22,14 +23,15 @@ returns-in_default g c =
     let came = declined g.V.Clone.is_clone _ c.args.key hash_by c.args.now c.args.self.now c.get_hashed.new.self c.args.clock.now c.get_hashed.new.clock _ c.in-Ok-None.field-0-is c.in-Ok-None.ensures.made c.in-Ok-None.ensures.counted c.count_load.new.self c.count_load.ensures (λ a. g.F.FnOnce.post c.args.init tt a) c.in_default.ensures in
     (Some None, came.0, came.1)
 
-pub returns-in-Ok : goal.returns-in-Ok
-returns-in-Ok g c =
+pub returns : goal.returns
+returns g c =
     let hash_by : g.row.S.Denot → ℕ = λ h. key_hash g.S.BuildHasher g.S.Hasher.Hasher h (g.K.Hash.hash_input c.args.key) in
-    let came = if_made g.V.Clone.is_clone _ c.args.key (hash_by c.args.self.now.engine.hasher) c.args.now c.args.self.now c.insert_made_hashed.new.self c.args.clock.now c.insert_made_hashed.new.clock (λ a. g.F.FnOnce.post c.args.init tt a) (Some c.in-Some.value) (Ok c.in-Ok.copy) (made_and_handed_out g.V.Clone.is_clone _ c.args.key hash_by c.args.now c.args.self.now c.get_hashed.new.self c.args.clock.now c.get_hashed.new.clock _ c.in-Ok-None.field-0-is c.in-Ok-None.ensures.made c.in-Ok-None.ensures.counted c.count_load.new.self c.count_load.ensures c.in-Ok-None.ensures.sees (λ v. g.F.FnOnce.post c.args.init tt (Some v)) c.in-Some.value c.in-Some.ensures c.insert_made_hashed.new.self c.insert_made_hashed.new.clock c.insert_made_hashed.ensures.counted (Ok c.in-Ok.copy) c.in-Ok.ensures.made tt) in
+    let came = if_made g.V.Clone.is_clone _ c.args.key (hash_by c.args.self.now.engine.hasher) c.args.now c.args.self.now c.insert_made_hashed.new.self c.args.clock.now c.insert_made_hashed.new.clock (λ a. g.F.FnOnce.post c.args.init tt a) (Some c.in-Some.value) (Ok c.in_ok-insert_made_hashed.field-0) (made_and_handed_out g.V.Clone.is_clone _ c.args.key hash_by c.args.now c.args.self.now c.get_hashed.new.self c.args.clock.now c.get_hashed.new.clock _ c.in-Ok-None.field-0-is c.in-Ok-None.ensures.made c.in-Ok-None.ensures.counted c.count_load.new.self c.count_load.ensures c.in-Ok-None.ensures.sees (λ v. g.F.FnOnce.post c.args.init tt (Some v)) c.in-Some.value c.in-Some.ensures c.insert_made_hashed.new.self c.insert_made_hashed.new.clock c.insert_made_hashed.ensures.counted (Ok c.in_ok-insert_made_hashed.field-0) c.in_ok-insert_made_hashed.ensures.made tt) in
     (Some (Some c.in-Some.value), came.0, came.1)
 
-pub returns-in-Err-insert_made_hashed : goal.returns-in-Err-insert_made_hashed
-returns-in-Err-insert_made_hashed g c =
+pub returns-in_err-insert_made_hashed : goal.returns-in_err-insert_made_hashed
+returns-in_err-insert_made_hashed g c =
     let hash_by : g.row.S.Denot → ℕ = λ h. key_hash g.S.BuildHasher g.S.Hasher.Hasher h (g.K.Hash.hash_input c.args.key) in
-    let came = if_made g.V.Clone.is_clone _ c.args.key (hash_by c.args.self.now.engine.hasher) c.args.now c.args.self.now c.insert_made_hashed.new.self c.args.clock.now c.insert_made_hashed.new.clock (λ a. g.F.FnOnce.post c.args.init tt a) (Some c.in-Some.value) (Err (Insert c.in-Err-insert_made_hashed.refused)) (made_and_handed_out g.V.Clone.is_clone _ c.args.key hash_by c.args.now c.args.self.now c.get_hashed.new.self c.args.clock.now c.get_hashed.new.clock _ c.in-Ok-None.field-0-is c.in-Ok-None.ensures.made c.in-Ok-None.ensures.counted c.count_load.new.self c.count_load.ensures c.in-Ok-None.ensures.sees (λ v. g.F.FnOnce.post c.args.init tt (Some v)) c.in-Some.value c.in-Some.ensures c.insert_made_hashed.new.self c.insert_made_hashed.new.clock c.insert_made_hashed.ensures.counted (Err c.in-Err-insert_made_hashed.refused) c.in-Err-insert_made_hashed.ensures.made c.in-Err-insert_made_hashed.ensures.back) in
-    (Some (Some c.in-Some.value), came.0, came.1)
+    let came = if_made g.V.Clone.is_clone _ c.args.key (hash_by c.args.self.now.engine.hasher) c.args.now c.args.self.now c.insert_made_hashed.new.self c.args.clock.now c.insert_made_hashed.new.clock (λ a. g.F.FnOnce.post c.args.init tt a) (Some c.in-Some.value) (Err (Insert c.in_err-insert_made_hashed.field-0.0)) (made_and_handed_out g.V.Clone.is_clone _ c.args.key hash_by c.args.now c.args.self.now c.get_hashed.new.self c.args.clock.now c.get_hashed.new.clock _ c.in-Ok-None.field-0-is c.in-Ok-None.ensures.made c.in-Ok-None.ensures.counted c.count_load.new.self c.count_load.ensures c.in-Ok-None.ensures.sees (λ v. g.F.FnOnce.post c.args.init tt (Some v)) c.in-Some.value c.in-Some.ensures c.insert_made_hashed.new.self c.insert_made_hashed.new.clock c.insert_made_hashed.ensures.counted (Err c.in_err-insert_made_hashed.field-0.0) c.in_err-insert_made_hashed.ensures.made c.in_err-insert_made_hashed.ensures.back) in
+    let p = err_from_is_err_and c.from_residual.result c.from_residual.ensures.1 in
+    rw (p.1, p.2) (Some (Some c.in-Some.value), came.0, came.1)

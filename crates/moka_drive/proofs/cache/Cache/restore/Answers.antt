@@ -30,13 +30,13 @@ loop-item-preserved g c =
         h.0 ++ c.in-Some.item ∷ [],
         h.1 ∙ (ap (λ xs. h.0 ++ xs) c.in-Some.ensures.items ∙ sym (append_assoc h.0 (c.in-Some.item ∷ []) (into_iter_items c.next.new.self))),
         adds_then h.0 (c.in-Some.item ∷ []) s t u h.2 c.restore_entry.ensures.adds,
-        put_next _ hash_by c.args.now h.0 c.in-Some.item c.args.self.now.engine c.loop-item.self.engine c.restore_entry.new.self.engine c.args.clock.now c.loop-item.clock c.restore_entry.new.clock h.3 c.in-Ok.ensures.made,
+        put_next _ hash_by c.args.now h.0 c.in-Some.item c.args.self.now.engine c.loop-item.self.engine c.restore_entry.new.self.engine c.args.clock.now c.loop-item.clock c.restore_entry.new.clock h.3 c.in_default-restore_entry.ensures.made,
         keeps_then g.W.Weigher.weighs h.0 (c.in-Some.item ∷ []) c.args.now.0 s t u h.4 c.restore_entry.ensures.lasts,
         λ roomy.
             let items = into_iter_items c.next.new.self in
             let split = h.1 ∙ ap (λ xs. h.0 ++ xs) c.in-Some.ensures.items in
             let first = h.4 (c.in-Some.item ∷ items) (subst (λ xs. IsRoomyFor g.W.Weigher.weighs xs s) split roomy) in
-            records_more g.K.PartialEq.eq g.W.Weigher.weighs c.args.now.0 s t u h.0 c.in-Some.item (c.in-Some.item ∷ items) first.0 first.1 (c.restore_entry.ensures.lasts items first.1).0 (h.5 roomy) c.in-Ok.ensures.kept,
+            records_more g.K.PartialEq.eq g.W.Weigher.weighs c.args.now.0 s t u h.0 c.in-Some.item (c.in-Some.item ∷ items) first.0 first.1 (c.restore_entry.ensures.lasts items first.1).0 (h.5 roomy) c.in_default-restore_entry.ensures.kept,
       );
       hides = then s t u c.loop-item.invariant.hides c.restore_entry.ensures.hides;
       counted = c.restore_entry.ensures.counted ∙ c.loop-item.invariant.counted;

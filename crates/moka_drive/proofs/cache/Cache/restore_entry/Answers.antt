@@ -1,4 +1,5 @@
 use Rattle.std.proofs.Common.{refl, sym, subst, ◌∙◌, inl, inr, [], ◌∷◌}
+use Rattle.std.proofs.lemmas.Result.{err_from_is_err_and}
 use Rattle.moka_drive.specs.Saved.{TakesOnlyExpired}
 use Rattle.moka_drive.proofs.Lasting.{keeps_itself, keeps_then}
 use Rattle.moka_drive.proofs.Restoring.{restored_there, restored_adds, adds_nothing}
@@ -8,35 +9,37 @@ use Rattle.moka_drive.proofs.cache.Cache.restore_entry.Goals as goal
 pub returns-then-is_map_disabled-clause-adds : goal.returns-then-is_map_disabled-clause-adds
 returns-then-is_map_disabled-clause-adds g c = adds_nothing (c.args.item ∷ []) c.args.self.now.engine.state c.args.self.now.engine.state refl
 
-pub returns-in-Err-clause-adds : goal.returns-in-Err-clause-adds
-returns-in-Err-clause-adds g c = rw (← c.self.view_is) (adds_nothing (c.args.item ∷ []) c.self.inside.engine.state c.restore.new.self.state c.in-Err.ensures.step.2)
+pub returns-in_err-ticket-clause-adds : goal.returns-in_err-ticket-clause-adds
+returns-in_err-ticket-clause-adds g c = rw (← c.self.view_is) (adds_nothing (c.args.item ∷ []) c.self.inside.engine.state c.restore.new.self.state c.in_err-ticket.ensures.step.2)
 
 pub returns-clause-kept : goal.returns-clause-kept
 returns-clause-kept g c = λ enabled.
-    restored_there g.K.PartialEq.eq g.met.K.Eq.laws g.W.Weigher.weighs c.self.inside.engine.state c.restore.new.self.state c.args.item _ c.in-Ok.ticket c.in-Ok.ensures.step c.post.new.engine.state c.invariant_holds.ensures.valid c.invariant_holds-2.ensures.valid c.post.ensures.holds
+    restored_there g.K.PartialEq.eq g.met.K.Eq.laws g.W.Weigher.weighs c.self.inside.engine.state c.restore.new.self.state c.args.item _ c.in_ok-ticket.ticket c.in_ok-ticket.ensures.step c.post.new.engine.state c.invariant_holds.ensures.valid c.invariant_holds-2.ensures.valid c.post.ensures.holds
 
 pub returns-clause-adds : goal.returns-clause-adds
 returns-clause-adds g c =
-    rw (← c.self.view_is) (restored_adds g.K.PartialEq.eq g.met.K.Eq.laws g.W.Weigher.weighs c.self.inside.engine.state c.restore.new.self.state c.args.item _ c.in-Ok.ticket c.in-Ok.ensures.step c.post.new.engine.state c.post.ensures.keeps)
+    rw (← c.self.view_is) (restored_adds g.K.PartialEq.eq g.met.K.Eq.laws g.W.Weigher.weighs c.self.inside.engine.state c.restore.new.self.state c.args.item _ c.in_ok-ticket.ticket c.in_ok-ticket.ensures.step c.post.new.engine.state c.post.ensures.keeps)
 
 pub returns-then-is_map_disabled-clause-made : goal.returns-then-is_map_disabled-clause-made
 returns-then-is_map_disabled-clause-made g c = rw (← c.self.view_is) (inl (sym c.is_map_disabled.ensures ∙ c.if-is_map_disabled.true, refl, refl))
 
-pub returns-in-Err-clause-made : goal.returns-in-Err-clause-made
-returns-in-Err-clause-made g c = rw (← c.self.view_is) (sym c.is_map_disabled.ensures ∙ c.if-is_map_disabled.false, c.in-Err.ensures.step, c.restore.ensures.events, refl)
+pub returns-in_err-ticket-clause-made : goal.returns-in_err-ticket-clause-made
+returns-in_err-ticket-clause-made g c =
+    let p = err_from_is_err_and c.from_residual.result c.from_residual.ensures.1 in
+    rw (p.1, p.2, ← c.self.view_is) (sym c.is_map_disabled.ensures ∙ c.if-is_map_disabled.false, c.in_err-ticket.ensures.step, c.restore.ensures.events, refl)
 
 pub returns-clause-made : goal.returns-clause-made
 returns-clause-made g c =
-    rw (← c.self.view_is) (inr (sym c.is_map_disabled.ensures ∙ c.if-is_map_disabled.false, c.restore.new.self, c.in-Ok.ticket, c.in-Ok.ensures.step, c.restore.ensures.events, c.post.ensures.made))
+    rw (← c.self.view_is) (inr (sym c.is_map_disabled.ensures ∙ c.if-is_map_disabled.false, c.restore.new.self, c.in_ok-ticket.ticket, c.in_ok-ticket.ensures.step, c.restore.ensures.events, c.post.ensures.made))
 
 pub returns-then-is_map_disabled-clause-lasts : goal.returns-then-is_map_disabled-clause-lasts
 returns-then-is_map_disabled-clause-lasts g c = keeps_itself g.W.Weigher.weighs (c.args.item ∷ []) c.args.now.0 c.args.self.now.engine.state
 
-pub returns-in-Err-clause-lasts : goal.returns-in-Err-clause-lasts
-returns-in-Err-clause-lasts g c =
-    rw (← c.self.view_is) (subst (TakesOnlyExpired g.W.Weigher.weighs (c.args.item ∷ []) c.args.now.0 c.self.inside.engine.state) (sym c.in-Err.ensures.step.2) (keeps_itself g.W.Weigher.weighs (c.args.item ∷ []) c.args.now.0 c.self.inside.engine.state))
+pub returns-in_err-ticket-clause-lasts : goal.returns-in_err-ticket-clause-lasts
+returns-in_err-ticket-clause-lasts g c =
+    rw (← c.self.view_is) (subst (TakesOnlyExpired g.W.Weigher.weighs (c.args.item ∷ []) c.args.now.0 c.self.inside.engine.state) (sym c.in_err-ticket.ensures.step.2) (keeps_itself g.W.Weigher.weighs (c.args.item ∷ []) c.args.now.0 c.self.inside.engine.state))
 
 pub returns-clause-lasts : goal.returns-clause-lasts
 returns-clause-lasts g c =
     rw (← c.self.view_is) (keeps_then g.W.Weigher.weighs (c.args.item ∷ []) [] c.args.now.0 c.self.inside.engine.state c.restore.new.self.state c.post.new.engine.state
-    (lasts_restored g.K.PartialEq.eq g.W.Weigher.weighs c.self.inside.engine.state c.restore.new.self.state c.args.item _ c.in-Ok.ticket c.in-Ok.ensures.step c.invariant_holds.ensures.valid c.args.now.0) c.post.ensures.lasts)
+    (lasts_restored g.K.PartialEq.eq g.W.Weigher.weighs c.self.inside.engine.state c.restore.new.self.state c.args.item _ c.in_ok-ticket.ticket c.in_ok-ticket.ensures.step c.invariant_holds.ensures.valid c.args.now.0) c.post.ensures.lasts)
