@@ -58,6 +58,8 @@ module _ {K V X P W : Type 0} where
   pub record Sends (s : State K V X P W) (ticket : ℕ) (t : State K V X P W) : Type 0 where
     pub alike : IsAlike s t
     pub records : t.records ≡ s.records
+    pub next_number : t.next_number ≡ s.next_number
+    pub access : t.access ≡ s.access
     pub outstanding : t.outstanding ≡ remove s.outstanding ticket
 
   -- a send
@@ -65,7 +67,7 @@ module _ {K V X P W : Type 0} where
   sends s ticket u t step = go (get s.outstanding ticket) step
     where
       go : (o : Option Operation) → SendsAt s ticket o (Ok u) t → Sends s ticket t
-      go (Some o) h = subst (Sends s ticket) (sym h.1) (record { alike = record { predicates = refl; bound = refl; capacity = refl; settings = refl }; records = refl; outstanding = refl })
+      go (Some o) h = subst (Sends s ticket) (sym h.1) (record { alike = record { predicates = refl; bound = refl; capacity = refl; settings = refl }; records = refl; next_number = refl; access = refl; outstanding = refl })
       go None h = absurd h
 
   -- an insert

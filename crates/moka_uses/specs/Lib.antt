@@ -1,3 +1,4 @@
+pub mod Made
 pub mod Hidden
 pub mod Ordered
 pub mod Driven
@@ -7,3 +8,9 @@ pub mod Borrowed
 pub mod Restarted
 pub mod Logins
 pub mod Visits
+pub mod Released
+pub mod Refused
+pub mod Handled
+pub mod Shared
+pub mod Resized
+pub mod Asked

@@ -1,5 +1,5 @@
 -- Sessions of users who may have several.
-use Rattle.std.specs.Prelude.{◌≡◌, ℕ, Bool, false, ◌==◌, ◌≤◌, List, Some, None}
+use Rattle.std.specs.Prelude.{◌≡◌, ℕ, Bool, false, ◌==◌, ◌≤◌, List, Some}
 use Rattle.moka_engine.specs.parts.Instant.{Instant}
 use Rattle.moka_engine.specs.parts.Record.{Record}
 use Rattle.moka_engine.specs.parts.Uuid.{Uuid}
@@ -9,6 +9,7 @@ use Rattle.moka_engine.specs.Maintenance.{MaintenanceRun}
 use Rattle.moka_engine.specs.Records.{record_of_key}
 use Rattle.moka_engine.specs.Runs.{Engine, Step, AreSteps, last_state}
 use Rattle.moka_engine.specs.State.{State, Meaning}
+use Rattle.moka_uses.specs.Made.{simple_meaning}
 use Rattle.moka_uses.specs.declared.logins.OfUser.{OfUser}
 use Rattle.moka_uses.specs.declared.logins.Session.{Session}
 
@@ -19,17 +20,7 @@ is_of of _ session answer = answer ≡ (session.user == of.0)
 -- what the parts of the cache mean: there is no listener, no expiry but by times, and each session weighs 1
 abbrev pub meaning : {X L W C I : Type 0} → (C → Instant → C → Type 0) → (I → Uuid → I → Type 0) →
     Meaning ℕ Session X L OfUser W C I
-meaning reads gives = record {
-  eq = λ a b. a == b;
-  tells = λ before _ _ _ after. after ≡ before;
-  says = is_of;
-  weighs = λ _ _ _ weight. weight ≡ 1;
-  observes = reads;
-  gives = gives;
-  created = λ _ _ _ _. None;
-  read = λ _ _ _ _ left _. left;
-  updated = λ _ _ _ _ left. left;
-}
+meaning reads gives = simple_meaning (λ a b. a == b) is_of reads gives
 
 module _ {X W : Type 0} (s : State ℕ Session X OfUser W) (number : ℕ) where
   -- the number has this session

@@ -2,11 +2,21 @@
 use Rattle.std.specs.Prelude.{◌≡◌, ◌==◌, ◌≤◌, ℕ, Bool, false, List, Some, None, Contains}
 use Rattle.std.specs.FinMap.{get, empty}
 use Rattle.std.specs.List.{AllByRecursion}
+use Rattle.moka_engine.specs.parts.Instant.{Instant}
 use Rattle.moka_engine.specs.parts.Record.{Record}
-use Rattle.moka_engine.specs.State.{State}
+use Rattle.moka_engine.specs.parts.Reply.TheVariants as reply
+use Rattle.moka_engine.specs.Runs.{Engine}
+use Rattle.moka_engine.specs.State.{State, Meaning}
 use Rattle.moka_engine.specs.declared.base_cache.restores.Restored.{Restored}
 use Rattle.moka_drive.specs.Saved.{AddsOnly, AnswerAlike, AreThere, IsOfItem, IsRestored, IsRoomyFor, has_expired}
+use Rattle.moka_drive.specs.Synchronous.{Just, Makes, own_run}
 use Rattle.moka_drive.specs.Unsent.{HidesNoMore}
+
+-- the cache made a run of maintenance at the moment, and no other call
+abbrev pub Runs : {K V S X L P W C : Type 0} → Meaning K V X L P W C (Unit {0}) → Instant → Engine K V S X L P W → C →
+    Engine K V S X L P W → C → Type 0
+Runs m now old clock new clock_after = (more : Bool) × Makes m (Just (own_run now) (reply.Run more)) old clock
+    new clock_after
 
 -- each session that is there is one of those that were saved: with its token, and used when that was
 abbrev pub AreAmong : {X P W : Type 0} → State ℕ ℕ X P W → List (Restored ℕ ℕ) → Type 0

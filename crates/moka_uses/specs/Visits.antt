@@ -1,5 +1,5 @@
 -- Visits counted by page.
-use Rattle.std.specs.Prelude.{◌≡◌, ◌==◌, ◌≤◌, ℕ, false, nat_le, Option, Some, None, Result, Ok, option_map, unwrap_or, if◌then◌else◌}
+use Rattle.std.specs.Prelude.{◌≡◌, ◌==◌, ◌≤◌, ℕ, nat_le, Option, Some, None, Result, Ok, option_map, unwrap_or, if◌then◌else◌}
 use Rattle.moka_engine.specs.parts.Instant.{Instant}
 use Rattle.moka_engine.specs.parts.OutOfMemory.{OutOfMemory}
 use Rattle.moka_engine.specs.parts.Record.{Record}
@@ -14,6 +14,7 @@ use Rattle.moka_drive.specs.declared.compute.Op.TheVariants.{Nop, Remove}
 use Rattle.moka_drive.specs.Computing.{InTurn}
 use Rattle.moka_drive.specs.Counters.{one_more}
 use Rattle.moka_drive.specs.Synchronous.{Makes, GetsValue, InsertsMade, RemovesEntry}
+use Rattle.moka_uses.specs.Made.{plain_meaning}
 
 module _ {X P W : Type 0} (s : State ℕ ℕ X P W) where
   -- the record's value, unless a moment hides it
@@ -40,17 +41,7 @@ module _ {X P W : Type 0} (s : State ℕ ℕ X P W) where
 -- what the parts of the cache mean: there is no listener, no expiry but by times, no predicate that covers a record,
 -- and each count weighs 1
 abbrev pub meaning : {X L P W C : Type 0} → (C → Instant → C → Type 0) → Meaning ℕ ℕ X L P W C (Unit {0})
-meaning reads = record {
-  eq = λ a b. a == b;
-  tells = λ before _ _ _ after. after ≡ before;
-  says = λ _ _ _ answer. answer ≡ false;
-  weighs = λ _ _ _ weight. weight ≡ 1;
-  observes = reads;
-  gives = λ _ _ _. ⊥;
-  created = λ _ _ _ _. None;
-  read = λ _ _ _ _ left _. left;
-  updated = λ _ _ _ _ left. left;
-}
+meaning reads = plain_meaning (λ a b. a == b) reads
 
 module _ {S X L P W C : Type 0} (m : Meaning ℕ ℕ X L P W C (Unit {0})) (page : ℕ) (now : Instant)
     (old : Engine ℕ ℕ S X L P W) (clock : C) (new : Engine ℕ ℕ S X L P W) (clock_after : C) where

@@ -1,5 +1,5 @@
 //! A list of calls, and what the laws make of what `drive` promises of it.
-ghost use Rattle.std.specs.Prelude.{IfOk};
+ghost use Rattle.std.specs.Prelude.{◌≡◌, IfErr, IfOk, OnErr};
 ghost use Rattle.moka_drive.specs.Meanings.{meaning_of};
 ghost use Rattle.moka_engine.specs.Copies.{ClonesAreEqual};
 ghost use Rattle.moka_uses.specs.Driven.{Follows};
@@ -12,10 +12,10 @@ use moka_engine::{
 use std::alloc::Global;
 use std::hash::{BuildHasher, Hash};
 
-/// Makes the calls, one after the other. Calls in the order of time keep a cache in the order of writing
-/// (`lists_keep_order`), and a predicate that is gone at the end left in a run at some moment of which it covered no
-/// record (`predicates_leave_idle`). The laws speak of steps of the reference cache, which the calls are
-/// (`lists_are_of_reference`).
+/// Makes the calls, one after the other, and answers each with its reply. Calls in the order of time keep a cache in
+/// the order of writing (`lists_keep_order`), and a predicate that is gone at the end left in a run at some moment of
+/// which it covered no record (`predicates_leave_idle`). The laws speak of steps of the reference cache, which the
+/// calls are (`lists_are_of_reference`).
 ///
 /// # Errors
 /// The calls, where there is no memory for the replies; none was made.
@@ -38,9 +38,11 @@ pub fn make_calls<
 ) -> Result<Vec<Reply<K, V, P>>, DriveRefused<K, V, P>>
     requires keys { ClonesAreEqual K.is_clone }
     requires values { ClonesAreEqual V.is_clone }
-    ensures { IfOk result (λ _. Follows
+    ensures made { IfOk result (λ replies. Follows
         (meaning_of K.eq L.tells P.says W.weighs C.reads I.gives X.created X.read X.updated)
-        calls.items cache.old cache.new) }
+        calls.items replies.items cache.old clock.old ids.old cache.new clock.new ids.new) }
+    ensures refused { IfErr result (λ refused. refused.calls ≡ calls) }
+    ensures unchanged { OnErr result ((cache.new ≡ cache.old) × (clock.new ≡ clock.old) × (ids.new ≡ ids.old)) }
 {
     lists_are_of_reference::<K, V, X, L, P, W, C, I>();
     lists_keep_order::<K, V, X, L, P, W, C, I>();

@@ -5,6 +5,8 @@ ghost use Rattle.moka_engine.specs.Records.{record_of_key};
 ghost use Rattle.moka_engine.specs.State.{is_disabled};
 ghost use Rattle.moka_drive.specs.Given.{IsHandedOut};
 ghost use Rattle.moka_drive.specs.Unsent.{IsThere};
+ghost use Rattle.moka_uses.specs.Handled.{HidesOrInvalidates, InsertsOrRetries, ReadsThroughOrRetries, SetsCapacity, hiding_meaning};
+ghost use Rattle.moka_uses.specs.Made.{TakesOut, engine_meaning, plain_meaning};
 
 use moka_drive::{Cache, GetWithRefused};
 use moka_engine::{
@@ -27,6 +29,8 @@ pub fn put<C: Clock>(
     ensures put { IfOk result (λ _. IsThere (λ a b. a == b) cache.new.engine.state key value now) }
     ensures back { IfErr result (λ refused. (refused.key ≡ key) × (refused.value ≡ value)) }
     ensures unchanged { OnErr result (cache.new.engine.state ≡ cache.old.engine.state) }
+    ensures made { InsertsOrRetries (plain_meaning (λ a b. a == b) C.reads) key value now cache.old.engine clock.old
+        cache.new.engine clock.new result }
 {
     let refused = match cache.insert(key, value, now, clock) {
         Ok(()) => return Ok(()),
@@ -39,14 +43,18 @@ pub fn put<C: Clock>(
     }
 }
 
-/// Takes a value out, whether the listener could be told of it or not.
+/// Takes a value out, whether the listener could be told of it or not. The key is not there then.
 pub fn take<V: Clone + Drop, L: Listener<u64, V>, C: Clock>(
     cache: &mut Cache<u64, V, NoExpiry, L>,
     key: u64,
     now: Instant,
     clock: &mut C,
 ) -> Option<V>
-    ensures { result ≡ option_map (λ r. r.value) (record_of_key (λ a b. a == b) cache.old.engine.state.records key) }
+    ensures value { result
+        ≡ option_map (λ r. r.value) (record_of_key (λ a b. a == b) cache.old.engine.state.records key) }
+    ensures gone { record_of_key (λ a b. a == b) cache.new.engine.state.records key ≡ None }
+    ensures made { TakesOut (record (plain_meaning (λ a b. a == b) C.reads) { tells = L.tells }) key now
+        cache.old.engine clock.old cache.new.engine clock.new (λ a b. b ≡ a) V.is_clone result }
 {
     match cache.remove(&key, now, clock) {
         Ok(value) => value,
@@ -68,7 +76,9 @@ pub fn value_or_made<V: Clone + Drop, F: FnOnce() -> V, C: Clock>(
 ) -> Result<V, OutOfMemory>
     requires callable { ContainsStep (λ _ _ _ answer. answer ≡ false)
         (λ a b. a == b) cache.old.engine.state key now.0 false → F.pre make }
-    ensures { IfOk result (λ value. F.post make value
+    ensures made { ReadsThroughOrRetries (plain_meaning (λ a b. a == b) C.reads) V.is_clone key now cache.old clock.old
+        cache.new clock.new (F.post make) result }
+    ensures given { IfOk result (λ value. F.post make value
         ⊎ IsHandedOut (λ a b. a == b) (λ _ _ _ answer. answer ≡ false) V.is_clone cache.old.engine.state key now.0
         (F.post make) value) }
 {
@@ -77,7 +87,8 @@ pub fn value_or_made<V: Clone + Drop, F: FnOnce() -> V, C: Clock>(
         Err(GetWithRefused::Insert(refused)) => Ok(refused.value),
         Err(GetWithRefused::Lookup(key)) => match cache.get(&key, now, clock) {
             Ok(Some(value)) => Ok(value),
-            _ => Err(OutOfMemory),
+            Ok(None) => Err(OutOfMemory),
+            Err(refused) => Err(refused),
         },
     }
 }
@@ -93,6 +104,8 @@ pub fn hide<P: PredicateFn<u64, u64> + Drop, I: IdSource>(
     ensures hidden { IfSome result (λ id. cache.new.engine.state.predicates ≡ cache.old.engine.state.predicates
         ++ record { id = id; predicate = predicate; registered = now } ∷ []) }
     ensures all { result ≡ None → cache.new.engine.state ≡ record cache.old.engine.state { invalid_before = Some now } }
+    ensures made { HidesOrInvalidates (hiding_meaning P.says I.gives) predicate now
+        cache.old.engine ids.old cache.new.engine ids.new result }
 {
     match cache.invalidate_entries_if(predicate, now, ids) {
         Ok(id) => Some(id),
@@ -109,6 +122,8 @@ pub fn resize(cache: &mut Cache<u64, u64>, capacity: u64) -> u64
     ensures resized { is_disabled cache.old.engine.state.capacity ≡ false → result ≡ max capacity 1 }
     ensures disabled { is_disabled cache.old.engine.state.capacity ≡ true → result ≡ 0 }
     ensures holds { cache.new.engine.state.capacity ≡ Some result }
+    ensures made { SetsCapacity (engine_meaning (λ a b. a == b)) (max capacity 1) cache.old.engine
+        cache.new.engine }
 {
     let at_least_one = capacity.max(1);
     match cache.set_max_capacity(Some(at_least_one)) {

@@ -1,6 +1,9 @@
 //! A caller that hides values by a predicate of its own.
-ghost use Rattle.std.specs.Prelude.{◌≡◌, ℕ, IfOk, IfErr, OnErr};
-ghost use Rattle.moka_uses.specs.Hidden.{IsBelow, IsHiddenAt, IsHiddenFrom, IsNeverShown};
+ghost use Rattle.std.specs.Prelude.{◌≡◌, ℕ, None, IfOk, IfErr, OnErr};
+ghost use Rattle.moka_engine.specs.parts.Call.TheVariants as call;
+ghost use Rattle.moka_engine.specs.parts.Reply.TheVariants as reply;
+ghost use Rattle.moka_uses.specs.Hidden.{IsBelow, IsHiddenAt, IsHiddenFrom, IsNeverShown, meaning, run_meaning};
+ghost use Rattle.moka_uses.specs.Made.{IsOneCall, Registers};
 
 use moka_engine::laws::{stays_hidden, steps_are_of_reference};
 use moka_engine::{
@@ -59,17 +62,21 @@ pub fn hide_below<I: IdSource>(
         → IsNeverShown numbers.new.state key) }
     ensures at_once { IfOk result (λ _. (key : ℕ) → IsBelow numbers.old.state key bound now.0
         → IsHiddenAt numbers.new.state key now.0) }
+    ensures registered { Registers (meaning I.gives) (record { 0 = bound }) now numbers.old ids.old numbers.new ids.new
+        result }
     ensures back { IfErr result (λ refused. refused.predicate ≡ record { 0 = bound }) }
     ensures unchanged { OnErr result (numbers.new.state ≡ numbers.old.state) }
 {
     numbers.invalidate_entries_if(Below(bound), now, ids)
 }
 
-/// Makes a run of maintenance at the moment `now`. A key that was hidden then, as by `hide_below`, is not shown after
-/// it, at that moment or later. A call of the engine is a step of the reference cache (`steps_are_of_reference`), where
-/// a key that is hidden stays so (`stays_hidden`).
+/// Makes a run of maintenance at the moment `now`, and tells whether more is left. A key that was hidden then, as by
+/// `hide_below`, is not shown after it, at that moment or later. A call of the engine is a step of the reference cache
+/// (`steps_are_of_reference`), where a key that is hidden stays so (`stays_hidden`).
 pub fn run_after_hiding(numbers: &mut Numbers, now: Instant) -> bool
-    ensures { (key : ℕ) → IsHiddenAt numbers.old.state key now.0 → IsHiddenFrom numbers.new.state key now.0 }
+    ensures hidden { (key : ℕ) → IsHiddenAt numbers.old.state key now.0 → IsHiddenFrom numbers.new.state key now.0 }
+    ensures ran { IsOneCall run_meaning numbers.old numbers.new
+        (call.Run now None 1 384) (reply.Run result) }
 {
     steps_are_of_reference::<
         u64,

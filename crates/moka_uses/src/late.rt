@@ -1,5 +1,5 @@
 //! A cache whose operations are sent late, and not in the order in which they were handed out.
-ghost use Rattle.std.specs.Prelude.{IfOk};
+ghost use Rattle.std.specs.Prelude.{◌≡◌, IfOk};
 ghost use Rattle.moka_engine.specs.Exact.{IsExact};
 
 use anyhow::Result;
@@ -7,9 +7,10 @@ use moka_engine::{CacheConfig, Engine, FixedClock, Instant};
 use std::alloc::Global;
 
 /// Inserts two entries, sends the second one's operation before the first one's, and makes a run. The count and the
-/// weight that the cache reports are exactly its records'.
+/// weight that the cache reports are exactly its records', of which there are two.
 pub fn send_in_other_order(alloc: Global) -> Result<Engine<u64, u64>>
-    ensures { IfOk result (λ cache. IsExact cache.state) }
+    ensures exact { IfOk result (λ cache. IsExact cache.state) }
+    ensures both { IfOk result (λ cache. (cache.state.count ≡ 2) × (cache.state.weight ≡ 2)) }
 {
     let now = Instant(0);
     let mut cache: Engine<u64, u64> = CacheConfig::default().build(alloc, now)?;

@@ -3,9 +3,11 @@ ghost use Rattle.std.specs.Prelude.{◌≡◌, ◌==◌, true, false, is_some, S
 ghost use Rattle.std.specs.Duration.{as_nanos};
 ghost use Rattle.moka_engine.specs.parts.Instant.{Instant};
 ghost use Rattle.moka_engine.specs.Calls.{ContainsStep};
+ghost use Rattle.moka_engine.specs.Config.{default_config};
 ghost use Rattle.moka_engine.specs.State.{is_disabled};
 ghost use Rattle.moka_drive.specs.Unsent.{IsThere};
 ghost use Rattle.moka_uses.specs.Logins.{LogsOut, is_of, IsSession, meaning};
+ghost use Rattle.moka_uses.specs.Made.{Inserts, IsNew, LooksUp, Registers};
 
 use moka_engine::laws::stays_hidden;
 use moka_engine::{
@@ -53,8 +55,9 @@ pub fn start<C: Clock + Drop>(
     idle: Duration,
     clock: C,
 ) -> Result<Logins<C>, OutOfMemory>
-    ensures idle { IfOk result (λ logins. logins.cache.engine.state.settings.time_to_idle ≡ Some (as_nanos idle)) }
-    ensures predicates { IfOk result (λ logins. logins.cache.engine.state.settings.invalidator ≡ true) }
+    ensures { IfOk result (λ logins. IsNew C.reads
+        (record default_config { time_to_idle = Some (as_nanos idle); invalidator = true })
+        clock logins.cache logins.clock) }
 {
     let config = CacheConfig::default()
         .time_to_idle(idle)
@@ -66,7 +69,7 @@ pub fn start<C: Clock + Drop>(
 /// at the very moment of a log-out of its user is hidden as well.
 ///
 /// # Errors
-/// The insert that was refused, with number and session.
+/// The insert that was refused, with number and session; the sessions are as they were.
 pub fn log_in<C: Clock>(
     logins: &mut Logins<C>,
     number: u64,
@@ -74,8 +77,11 @@ pub fn log_in<C: Clock>(
 ) -> Result<(), InsertRefused<u64, Session>>
     requires { is_disabled logins.old.cache.engine.state.capacity ≡ false }
     ensures begun { (now : Instant) × (read : C) × C.reads logins.old.clock now read
-        × IfOk result (λ _. IsThere (λ a b. a == b) logins.new.cache.engine.state number session now) }
+        × IfOk result (λ _. IsThere (λ a b. a == b) logins.new.cache.engine.state number session now)
+        × Inserts (meaning C.reads (λ _ _ _. ⊥)) number now logins.old.cache.engine read
+        logins.new.cache.engine logins.new.clock session result }
     ensures back { IfErr result (λ refused. (refused.key ≡ number) × (refused.value ≡ session)) }
+    ensures unchanged { OnErr result (logins.new.cache.engine.state ≡ logins.old.cache.engine.state) }
 {
     logins.insert(number, session)
 }
@@ -87,8 +93,11 @@ pub fn log_in<C: Clock>(
 pub fn find<C: Clock>(logins: &mut Logins<C>, number: u64) -> Result<Option<Session>, OutOfMemory>
     ensures shown { (now : Instant) × (read : C) × C.reads logins.old.clock now read
         × IfOk result
-        (λ found. ContainsStep is_of (λ a b. a == b) logins.old.cache.engine.state number now.0 (is_some found)) }
+        (λ found. ContainsStep is_of (λ a b. a == b) logins.old.cache.engine.state number now.0 (is_some found))
+        × IfOk result (LooksUp (meaning C.reads (λ _ _ _. ⊥)) number now logins.old.cache.engine read
+        logins.new.cache.engine logins.new.clock) }
     ensures kept { IfOk result (λ found. IfSome found (IsSession logins.old.cache.engine.state number)) }
+    ensures unchanged { OnErr result (logins.new.cache.engine.state ≡ logins.old.cache.engine.state) }
 {
     logins.get(&number)
 }
@@ -106,7 +115,9 @@ pub fn log_out<C: Clock, I: IdSource>(
 ) -> Result<PredicateId, PredicateRefused<OfUser>>
     ensures ended { (now : Instant) × C.reads logins.old.clock now logins.new.clock
         × IfOk result
-        (λ _. LogsOut (meaning C.reads I.gives) logins.old.cache.engine logins.new.cache.engine user now.0) }
+        (λ _. LogsOut (meaning C.reads I.gives) logins.old.cache.engine logins.new.cache.engine user now.0)
+        × Registers (meaning C.reads I.gives) (record { 0 = user }) now logins.old.cache.engine ids.old
+        logins.new.cache.engine ids.new result }
     ensures back { IfErr result (λ refused. refused.predicate ≡ record { 0 = user }) }
     ensures unchanged { OnErr result (logins.new.cache.engine.state ≡ logins.old.cache.engine.state) }
 {

@@ -1,5 +1,6 @@
 //! A cache with a listener that counts what leaves.
-ghost use Rattle.std.specs.Prelude.{◌≡◌, Some, IfOk};
+ghost use Rattle.std.specs.Prelude.{◌≡◌, ◌==◌, Some, IfOk};
+ghost use Rattle.moka_drive.specs.Unsent.{IsThere};
 
 use anyhow::Result;
 use moka_engine::{CacheConfig, Engine, Instant, Listener, NoExpiry, RemovalCause};
@@ -22,14 +23,15 @@ impl<K: Drop, V: Drop> Listener<K, V> for Counter {
     }
 }
 
-/// Puts two values under one key, of which the first leaves: the listener has counted one.
+/// Puts two values under one key, of which the first leaves: the listener has counted one, and the second is there.
 pub fn replace(
     alloc: Global,
     key: u64,
     first: u64,
     second: u64,
 ) -> Result<Engine<u64, u64, NoExpiry, Counter>>
-    ensures { IfOk result (λ cache. cache.listener ≡ Some (record { count = 1 })) }
+    ensures notified { IfOk result (λ cache. cache.listener ≡ Some (record { count = 1 })) }
+    ensures replaced { IfOk result (λ cache. IsThere (λ a b. a == b) cache.state key second (record { 0 = 0 })) }
 {
     let now = Instant(0);
     let config = CacheConfig::default().eviction_listener(Counter { count: 0 });
@@ -37,7 +39,9 @@ pub fn replace(
     let hash = cache.hash(&key);
     let (put, _) = cache.do_insert_with_hash(key, hash, first, now)?;
     cache.send(put)?;
+    cache.invariant_holds();
     let (replaced, _) = cache.do_insert_with_hash(key, hash, second, now)?;
     cache.send(replaced)?;
+    cache.invariant_holds();
     Ok(cache)
 }

@@ -2,7 +2,11 @@
 ghost use Rattle.std.specs.Prelude.{◌≡◌, ◌==◌, false, IfOk, Some};
 ghost use Rattle.std.specs.Duration.{as_nanos};
 ghost use Rattle.moka_engine.specs.parts.Instant.{Instant};
+ghost use Rattle.moka_engine.specs.Config.{default_config};
 ghost use Rattle.moka_drive.specs.Given.{IsHandedOut};
+ghost use Rattle.moka_drive.specs.Removed.{no_removals};
+ghost use Rattle.moka_uses.specs.Made.{IsNew};
+ghost use Rattle.moka_uses.specs.ReadThrough.{ReadsThrough, counting_meaning};
 
 use moka_drive::{CountingListener, GetWithRefused};
 use moka_engine::{CacheConfig, Clock, NoExpiry, NoListener, OutOfMemory};
@@ -22,7 +26,11 @@ pub fn start<V: Drop, C: Clock + Drop>(
     lasting: Duration,
     clock: C,
 ) -> Result<Profiles<V, C>, OutOfMemory>
-    ensures { IfOk result (λ profiles. profiles.cache.engine.state.settings.time_to_live ≡ Some (as_nanos lasting)) }
+    ensures { IfOk result (λ profiles. IsNew C.reads
+        (record default_config {
+          time_to_live = Some (as_nanos lasting);
+          listener = Some (record { listener = record {}; removals = no_removals });
+        }) clock profiles.cache profiles.clock) }
 {
     let config = CacheConfig::default()
         .time_to_live(lasting)
@@ -44,7 +52,9 @@ pub fn profile<V: Clone + Drop, C: Clock, F: FnOnce() -> V>(
     ensures { (now : Instant) × (read_clock : C) × C.reads profiles.old.clock now read_clock
         × IfOk result (λ profile. IsHandedOut (λ a b. a == b)
         (λ _ _ _ answer. answer ≡ false) V.is_clone profiles.old.cache.engine.state user
-        now.0 (F.post read) profile) }
+        now.0 (F.post read) profile)
+        × ReadsThrough (counting_meaning (λ a b. a == b) C.reads) V.is_clone user now profiles.old.cache read_clock
+        profiles.new.cache profiles.new.clock (F.post read) result }
 {
     profiles.get_with(user, read)
 }

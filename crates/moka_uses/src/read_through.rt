@@ -1,8 +1,8 @@
 //! A read-through cache over a source that can fail.
-ghost use Rattle.std.specs.Prelude.{false, Ok, Err, IfOk, IfErr};
+ghost use Rattle.std.specs.Prelude.{ℕ, false, Ok, Err, IfOk, IfErr};
 ghost use Rattle.moka_engine.specs.Calls.{ContainsStep};
 ghost use Rattle.moka_drive.specs.Given.{ComesBack, IsHandedOut};
-ghost use Rattle.moka_drive.specs.Synchronous.{meaning_of};
+ghost use Rattle.moka_drive.specs.Synchronous.{GetsWithIfNoError, meaning_of};
 ghost use Rattle.moka_uses.specs.ReadThrough.{FindsNothing};
 
 use moka_drive::{Cache, GetWithRefused};
@@ -33,6 +33,9 @@ pub fn look_up<
     clock: &mut C,
 ) -> Result<Result<V, E>, GetWithRefused<K, V>>
     requires callable { ContainsStep P.says K.eq cache.old.engine.state key now.0 false → F.pre ask }
+    ensures made { (hash : ℕ)
+        × GetsWithIfNoError (meaning_of K.eq L.tells P.says W.weighs C.reads X.created X.read X.updated)
+        V.is_clone key hash now cache.old clock.old cache.new clock.new (F.post ask) result }
     ensures given { IfOk result (λ answer. IfOk answer
         (IsHandedOut K.eq P.says V.is_clone cache.old.engine.state key now.0 (λ value. F.post ask (Ok value)))) }
     ensures failed { IfOk result (λ answer. IfErr answer (λ error. F.post ask (Err error)

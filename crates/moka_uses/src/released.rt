@@ -1,10 +1,10 @@
 //! A cache with a listener that gives back what a value held.
 ghost use Rattle.moka_engine.specs.Copies.{ClonesAreEqual};
-ghost use Rattle.moka_engine.specs.Drives.{Drives};
-ghost use Rattle.std.specs.Prelude.{List};
-ghost use Rattle.moka_engine.specs.parts.Call.{Call};
-ghost use Rattle.moka_engine.specs.parts.Reply.{Reply};
-ghost use Rattle.moka_drive.specs.Synchronous.{meaning_of};
+ghost use Rattle.std.specs.Prelude.{◌≡◌, None, Option, Result};
+ghost use Rattle.moka_engine.specs.parts.OutOfMemory.{OutOfMemory};
+ghost use Rattle.moka_engine.specs.Records.{record_of_key};
+ghost use Rattle.moka_drive.specs.Synchronous.{invalidated, meaning_of};
+ghost use Rattle.moka_uses.specs.Released.{DrivesRemoval};
 
 use moka_drive::laws::{hears_themselves, keeps_promises};
 use moka_drive::{Cache, NotTold};
@@ -54,9 +54,10 @@ pub fn close<
 ) -> Result<(), NotTold<V>>
     requires keys { ClonesAreEqual K.is_clone }
     requires values { ClonesAreEqual V.is_clone }
-    ensures { (calls : List (Call K V P)) × (replies : List (Reply K V P))
-        × Drives (meaning_of K.eq L.tells P.says W.weighs C.reads X.created X.read X.updated)
-        calls replies cache.old.engine clock.old tt cache.new.engine clock.new tt }
+    ensures closed { (taken : Option (V × Result (Unit {0}) OutOfMemory)) × (result ≡ invalidated taken)
+        × DrivesRemoval (meaning_of K.eq L.tells P.says W.weighs C.reads X.created X.read X.updated)
+        key.now now taken cache.old.engine clock.old cache.new.engine clock.new }
+    ensures gone { record_of_key K.eq cache.new.engine.state.records key.now ≡ None }
 {
     hears_themselves::<K, V, DefaultHasher, X, L, P, W, C>();
     keeps_promises::<K, V, DefaultHasher, X, L, P, W, C>();

@@ -1,10 +1,11 @@
 //! Sessions that outlast a restart: they are saved when the program ends, and put back when it starts again.
-ghost use Rattle.std.specs.Prelude.{◌≡◌, ◌≤◌, false, length, IfOk, Some};
+ghost use Rattle.std.specs.Prelude.{◌≡◌, ◌==◌, ◌≤◌, false, length, IfOk, Some};
 ghost use Rattle.std.specs.Duration.{as_nanos};
 ghost use Rattle.moka_engine.specs.parts.Instant.{Instant};
 ghost use Rattle.moka_engine.specs.Snapshots.{scene_of};
 ghost use Rattle.moka_drive.specs.Saved.{AreAllMembers, AreSaved};
-ghost use Rattle.moka_uses.specs.Restarted.{AreAmong, AreBack, AreHandedOver, ArePutBack};
+ghost use Rattle.moka_uses.specs.Made.{plain_meaning};
+ghost use Rattle.moka_uses.specs.Restarted.{AreAmong, AreBack, AreHandedOver, ArePutBack, Runs};
 
 use crate::sessions::Sessions;
 use moka_drive::laws::made_again_answers_alike;
@@ -13,7 +14,8 @@ use moka_timed::TimedCache;
 use std::alloc::Global;
 use std::time::Duration;
 
-/// The sessions that have not ended, the one used least recently first. None of them is left out.
+/// The sessions that have not ended, the one used least recently first. None of them is left out. A run of maintenance
+/// is made before, and no other call.
 ///
 /// # Errors
 /// `OutOfMemory`
@@ -24,7 +26,9 @@ pub fn save<C: Clock>(
     ensures members { AreAllMembers sessions.new.cache.engine.state }
     ensures saved { (now : Instant) × (read : C) × C.reads sessions.old.clock now read
         × IfOk result (λ saved. AreSaved (λ _ _ _ answer. answer ≡ false) (λ a b. b ≡ a) (λ a b. b ≡ a)
-        (scene_of sessions.new.cache.engine.state now.0) sessions.new.cache.engine.state.access saved.items) }
+        (scene_of sessions.new.cache.engine.state now.0) sessions.new.cache.engine.state.access saved.items)
+        × Runs (plain_meaning (λ a b. a == b) C.reads) now sessions.old.cache.engine read
+        sessions.new.cache.engine sessions.new.clock }
 {
     sessions.save(alloc)
 }
@@ -67,6 +71,7 @@ pub fn start_again_within<C: Clock + Drop>(
     saved: Vec<Restored<u64, u64>>,
 ) -> Result<Sessions<C>, OutOfMemory>
     ensures idle { IfOk result (λ sessions. sessions.cache.engine.state.settings.time_to_idle ≡ Some (as_nanos idle)) }
+    ensures bound { IfOk result (λ sessions. sessions.cache.engine.state.capacity ≡ Some capacity) }
     ensures back { IfOk result (λ sessions. (begun : Instant) × (ticked : C) × C.reads clock begun ticked
         × (now : Instant) × (read : C) × C.reads ticked now read
         × (1 ≤ capacity → length saved.items ≤ capacity → AreBack sessions.cache.engine.state saved.items now.0)) }
@@ -93,8 +98,10 @@ pub fn hand_over<C: Clock, D: Clock + Drop>(
     idle: Duration,
     clock: D,
 ) -> Result<Sessions<D>, OutOfMemory>
-    ensures { IfOk result (λ again. (saved : Instant) × (read : C) × C.reads sessions.old.clock saved read
-        × (begun : Instant) × (ticked : D) × D.reads clock begun ticked
+    ensures { (saved : Instant) × (read : C) × C.reads sessions.old.clock saved read
+        × Runs (plain_meaning (λ a b. a == b) C.reads) saved sessions.old.cache.engine read
+        sessions.new.cache.engine sessions.new.clock
+        × IfOk result (λ again. (begun : Instant) × (ticked : D) × D.reads clock begun ticked
         × (put : Instant) × (read_again : D) × D.reads ticked put read_again
         × AreHandedOver (λ _ _ _ answer. answer ≡ false)
         (as_nanos idle) saved.0 put.0 sessions.new.cache.engine.state again.cache.engine.state) }

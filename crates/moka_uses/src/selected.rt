@@ -1,18 +1,19 @@
 //! Entry calls by moka's names: a value that is put only if its key is not there.
-ghost use Rattle.std.specs.Prelude.{◌≡◌, IfOk, Option, Result};
-ghost use Rattle.moka_engine.specs.parts.InsertRefused.{InsertRefused};
+ghost use Rattle.std.specs.Prelude.{◌≡◌, IfErr, IfOk};
+ghost use Rattle.moka_drive.specs.Entries.{OrInserts};
 ghost use Rattle.moka_drive.specs.Given.{IsHandedOut};
 ghost use Rattle.moka_parts.specs.Hashing.{key_hash};
-ghost use Rattle.moka_drive.specs.Synchronous.{GetsOrInserts, Makes, meaning_of};
+ghost use Rattle.moka_drive.specs.Synchronous.{meaning_of};
 
 use moka_drive::{Cache, CacheEntry};
 use moka_engine::{Clock, Expiry, InsertRefused, Instant, Listener, PredicateFn, Weigher};
 use std::hash::{BuildHasher, Hash};
 
-/// Puts a value if its key is not there. The entry says which of the two is handed out.
+/// Puts a value if its key is not there. The entry says which of the two is handed out: a fresh one has the value that
+/// was put.
 ///
 /// # Errors
-/// As `Cache::get_or_insert`.
+/// As `Cache::get_or_insert`: key and value come back.
 pub fn put_if_absent<
     K: Eq + Hash + Clone + Drop,
     V: Clone + Drop,
@@ -29,13 +30,13 @@ pub fn put_if_absent<
     now: Instant,
     clock: &mut C,
 ) -> Result<CacheEntry<K, V>, InsertRefused<K, V>>
-    ensures made { (put : Option V) × (own : Result V (Option (InsertRefused K V)))
-        × Makes (meaning_of K.eq L.tells P.says W.weighs C.reads X.created X.read X.updated)
-        (GetsOrInserts key
-        (key_hash S.BuildHasher S.Hasher.Hasher cache.old.engine.hasher (K.hash_input key)) now put own)
-        cache.old.engine clock.old cache.new.engine clock.new }
+    ensures made { OrInserts (meaning_of K.eq L.tells P.says W.weighs C.reads X.created X.read X.updated)
+        K.is_clone V.is_clone key
+        (key_hash S.BuildHasher S.Hasher.Hasher cache.old.engine.hasher (K.hash_input key)) now
+        cache.old clock.old cache.new clock.new value result }
     ensures given { IfOk result (λ entry.
         IsHandedOut K.eq P.says V.is_clone cache.old.engine.state key now.0 (λ v. v ≡ value) entry.value) }
+    ensures back { IfErr result (λ refused. (refused.key ≡ key) × (refused.value ≡ value)) }
 {
     cache.entry(key).or_insert(value, now, clock)
 }

@@ -1,11 +1,13 @@
 //! Sessions that end when they are not used.
-ghost use Rattle.std.specs.Prelude.{◌≡◌, ◌==◌, false, is_some, Some, IfErr, IfOk, option_map};
+ghost use Rattle.std.specs.Prelude.{◌≡◌, ◌==◌, false, is_some, None, Some, IfErr, IfOk, IfSome, OnErr, option_map};
 ghost use Rattle.std.specs.Duration.{as_nanos};
 ghost use Rattle.moka_engine.specs.parts.Instant.{Instant};
+ghost use Rattle.moka_engine.specs.Config.{default_config};
 ghost use Rattle.moka_engine.specs.Records.{record_of_key};
 ghost use Rattle.moka_engine.specs.State.{is_disabled};
 ghost use Rattle.moka_drive.specs.Unsent.{IsThere};
-ghost use Rattle.moka_uses.specs.Sessions.{IsFoundWithin};
+ghost use Rattle.moka_uses.specs.Made.{Inserts, IsNew, LooksUp, TakesOut, plain_meaning};
+ghost use Rattle.moka_uses.specs.Sessions.{IsFoundWithin, IsTokenOf};
 
 use moka_engine::{CacheConfig, Clock, InsertRefused, OutOfMemory};
 use moka_timed::TimedCache;
@@ -24,7 +26,8 @@ pub fn start<C: Clock + Drop>(
     idle: Duration,
     clock: C,
 ) -> Result<Sessions<C>, OutOfMemory>
-    ensures { IfOk result (λ sessions. sessions.cache.engine.state.settings.time_to_idle ≡ Some (as_nanos idle)) }
+    ensures { IfOk result (λ sessions. IsNew C.reads (record default_config { time_to_idle = Some (as_nanos idle) })
+        clock sessions.cache sessions.clock) }
 {
     TimedCache::build(CacheConfig::default().time_to_idle(idle), alloc, clock)
 }
@@ -32,7 +35,7 @@ pub fn start<C: Clock + Drop>(
 /// Begins a session of a user, used at the clock's moment. One that the user has ends.
 ///
 /// # Errors
-/// The insert that was refused, with user and token.
+/// The insert that was refused, with user and token; the sessions are as they were.
 pub fn log_in<C: Clock>(
     sessions: &mut Sessions<C>,
     user: u64,
@@ -40,8 +43,11 @@ pub fn log_in<C: Clock>(
 ) -> Result<(), InsertRefused<u64, u64>>
     requires { is_disabled sessions.old.cache.engine.state.capacity ≡ false }
     ensures begun { (now : Instant) × (read : C) × C.reads sessions.old.clock now read
-        × IfOk result (λ _. IsThere (λ a b. a == b) sessions.new.cache.engine.state user token now) }
+        × IfOk result (λ _. IsThere (λ a b. a == b) sessions.new.cache.engine.state user token now)
+        × Inserts (plain_meaning (λ a b. a == b) C.reads) user now sessions.old.cache.engine read
+        sessions.new.cache.engine sessions.new.clock token result }
     ensures back { IfErr result (λ refused. (refused.key ≡ user) × (refused.value ≡ token)) }
+    ensures unchanged { OnErr result (sessions.new.cache.engine.state ≡ sessions.old.cache.engine.state) }
 {
     sessions.insert(user, token)
 }
@@ -52,16 +58,24 @@ pub fn log_in<C: Clock>(
 /// # Errors
 /// `OutOfMemory`
 pub fn touch<C: Clock>(sessions: &mut Sessions<C>, user: u64) -> Result<Option<u64>, OutOfMemory>
-    ensures { (now : Instant) × (read : C) × C.reads sessions.old.clock now read
-        × IfOk result (λ token. IsFoundWithin sessions.old.cache.engine.state user now.0 (is_some token)) }
+    ensures found { (now : Instant) × (read : C) × C.reads sessions.old.clock now read
+        × IfOk result (λ token. IsFoundWithin sessions.old.cache.engine.state user now.0 (is_some token))
+        × IfOk result (LooksUp (plain_meaning (λ a b. a == b) C.reads) user now sessions.old.cache.engine read
+        sessions.new.cache.engine sessions.new.clock) }
+    ensures kept { IfOk result (λ token. IfSome token (IsTokenOf sessions.old.cache.engine.state user)) }
+    ensures unchanged { OnErr result (sessions.new.cache.engine.state ≡ sessions.old.cache.engine.state) }
 {
     sessions.get(&user)
 }
 
-/// Ends the session of a user, and hands its token out, also where its time is over.
+/// Ends the session of a user, and hands its token out, also where its time is over. The user has none then.
 pub fn log_out<C: Clock>(sessions: &mut Sessions<C>, user: u64) -> Option<u64>
-    ensures { result ≡ option_map (λ r. r.value)
+    ensures token { result ≡ option_map (λ r. r.value)
         (record_of_key (λ a b. a == b) sessions.old.cache.engine.state.records user) }
+    ensures ended { record_of_key (λ a b. a == b) sessions.new.cache.engine.state.records user ≡ None }
+    ensures made { (now : Instant) × (read : C) × C.reads sessions.old.clock now read
+        × TakesOut (plain_meaning (λ a b. a == b) C.reads) user now sessions.old.cache.engine read
+        sessions.new.cache.engine sessions.new.clock (λ a b. b ≡ a) (λ a b. b ≡ a) result }
 {
     match sessions.remove(&user) {
         Ok(token) => token,

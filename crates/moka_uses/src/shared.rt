@@ -1,9 +1,11 @@
 //! A cache in segments that keeps its bound, and each key in one segment, each of which is a cache of its own.
-ghost use Rattle.std.specs.Prelude.{◌≤◌, IfSome};
+ghost use Rattle.std.specs.Prelude.{◌≡◌, ◌≤◌, IfErr, IfSome};
 ghost use Rattle.moka_parts.specs.Hashing.{key_hash};
 ghost use Rattle.moka_drive.specs.Synchronous.{meaning_of};
 ghost use Rattle.moka_segments.specs.Keys.{AreInOneSegment, KeysBelong};
 ghost use Rattle.moka_segments.specs.Moves.{InsertsThenGets};
+ghost use Rattle.moka_segments.specs.Whole.{saturated, total, whole_capacity};
+ghost use Rattle.moka_uses.specs.Shared.{EachRan, InsertsInOne};
 
 use moka_engine::{
     Clock, Expiry, FixedClock, InsertRefused, Instant, Listener, OutOfMemory, PredicateFn, Weigher,
@@ -25,7 +27,10 @@ pub struct Kept {
 
 /// Runs maintenance of each segment at the moment `now`, and tells what they keep.
 pub fn keep_bound(cache: &mut SegmentedCache<u64, u64>, now: Instant) -> Kept
-    ensures { IfSome result.most (λ most. result.weight ≤ most) }
+    ensures within { IfSome result.most (λ most. result.weight ≤ most) }
+    ensures weight { result.weight ≡ total (λ s. s.engine.state.weight) cache.new.segments }
+    ensures most { result.most ≡ saturated (whole_capacity cache.new.segments) }
+    ensures ran { EachRan now cache.old cache.new }
 {
     cache.run_pending_tasks(now, &mut FixedClock(now));
     let (weight, most) = (cache.weighted_size(), cache.max_capacity());
@@ -36,7 +41,7 @@ pub fn keep_bound(cache: &mut SegmentedCache<u64, u64>, now: Instant) -> Kept
 /// (`calls_by_key_keep_keys`), and keys that are equal are in one segment at most (`one_segment_each`).
 ///
 /// # Errors
-/// As `SegmentedCache::insert`: key and value come back.
+/// As `SegmentedCache::insert`: key and value come back, and nothing has changed.
 pub fn put_where_it_belongs<
     K: Eq + Hash + Clone + Drop,
     V: Clone + Drop,
@@ -56,6 +61,10 @@ pub fn put_where_it_belongs<
     requires { KeysBelong (λ h k. key_hash S.BuildHasher S.Hasher.Hasher h (K.hash_input k)) cache.old }
     ensures belong { KeysBelong (λ h k. key_hash S.BuildHasher S.Hasher.Hasher h (K.hash_input k)) cache.new }
     ensures apart { AreInOneSegment K.eq cache.new }
+    ensures put { InsertsInOne (λ h k. key_hash S.BuildHasher S.Hasher.Hasher h (K.hash_input k))
+        (meaning_of K.eq L.tells P.says W.weighs C.reads X.created X.read X.updated) key value now
+        cache.old clock.old cache.new clock.new result }
+    ensures back { IfErr result (λ refused. (refused.key ≡ key) × (refused.value ≡ value)) }
 {
     calls_by_key_keep_keys::<K, V, S, X, L, P, W, C>();
     one_segment_each::<K, V, S, X, L, P, W>();

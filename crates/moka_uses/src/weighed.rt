@@ -1,5 +1,6 @@
 //! A cache bounded by the bytes of its texts.
-ghost use Rattle.std.specs.Prelude.{◌≤◌, IfOk};
+ghost use Rattle.std.specs.Prelude.{◌≡◌, ◌+◌, ◌≤◌, IfOk};
+ghost use Rattle.std.specs.String.{string_len};
 
 use anyhow::Result;
 use moka_engine::{
@@ -29,9 +30,12 @@ impl<K> Weigher<K, String> for ByLength {
 /// A cache of texts by number.
 pub type Texts = Engine<u64, String, NoExpiry, NoListener, NoPredicate, ByLength>;
 
-/// Puts two texts into a cache of at most 1,000 bytes, and tells how many bytes it keeps.
+/// Puts two texts into a cache of at most 1,000 bytes, and tells how many bytes it keeps: those of both, if there is
+/// room for both.
 pub fn keep_two(alloc: Global, one: String, other: String) -> Result<u64>
-    ensures { IfOk result (λ kept. kept ≤ 1_000) }
+    ensures within { IfOk result (λ kept. kept ≤ 1_000) }
+    ensures both { string_len one + string_len other ≤ 1_000
+        → IfOk result (λ kept. kept ≡ string_len one + string_len other) }
 {
     let now = Instant(0);
     let policy = EvictionPolicy::lru();

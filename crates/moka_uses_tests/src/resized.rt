@@ -27,7 +27,11 @@ fn evicts_down_to_fewer(rt: HostRuntime) -> Result<()> {
     assert_equal(&rt, shrink_and_grow(&mut cache, 2, 8, Instant(0)), Ok(2));
     fill(&mut cache)?;
     assert_equal(&rt, cache.entry_count(), 4);
-    let refused = shrink_and_grow(&mut cache, 0, 8, Instant(0));
-    assert_equal(&rt, refused, Err(CapacityError::ZeroCapacity));
+    for (fewer, more) in [(0, 8), (2, 0)] {
+        let refused = shrink_and_grow(&mut cache, fewer, more, Instant(0));
+        assert_equal(&rt, refused, Err(CapacityError::ZeroCapacity));
+    }
+    assert_equal(&rt, cache.entry_count(), 4);
+    assert_equal(&rt, cache.policy().max_capacity(), Some(8));
     Ok(())
 }

@@ -18,19 +18,21 @@ pub fn start<C: Clock>(
     alloc: Global,
     lasting: Duration,
     clock: C,
-) -> Result<Prices<C>, OutOfMemory> {
+) -> Result<Prices<C>, OutOfMemory>
+{
     TimedCache::build(CacheConfig::default().time_to_live(lasting), alloc, clock)
 }
 
-/// Sets the price of a name.
+/// Sets the price of a name at the clock's moment.
 ///
 /// # Errors
-/// As `TimedCache::insert`.
+/// As `TimedCache::insert`: name and price come back, and the prices are as they were.
 pub fn set<C: Clock>(
     prices: &mut Prices<C>,
     name: String,
     price: u64,
-) -> Result<(), InsertRefused<String, u64>> {
+) -> Result<(), InsertRefused<String, u64>>
+{
     prices.insert(name, price)
 }
 

@@ -10,10 +10,10 @@ use crate::engine::moka_engine::{
 use crate::support::alloc::Global;
 use crate::support::hash::{BuildHasher, Hash};
 
-/// Makes the calls, one after the other. Calls in the order of time keep a cache in the order of writing
-/// (`lists_keep_order`), and a predicate that is gone at the end left in a run at some moment of which it covered no
-/// record (`predicates_leave_idle`). The laws speak of steps of the reference cache, which the calls are
-/// (`lists_are_of_reference`).
+/// Makes the calls, one after the other, and answers each with its reply. Calls in the order of time keep a cache in
+/// the order of writing (`lists_keep_order`), and a predicate that is gone at the end left in a run at some moment of
+/// which it covered no record (`predicates_leave_idle`). The laws speak of steps of the reference cache, which the
+/// calls are (`lists_are_of_reference`).
 ///
 /// # Errors
 /// The calls, where there is no memory for the replies; none was made.

@@ -31,7 +31,7 @@ pub fn put<C: Clock>(
     }
 }
 
-/// Takes a value out, whether the listener could be told of it or not.
+/// Takes a value out, whether the listener could be told of it or not. The key is not there then.
 pub fn take<V: Clone, L: Listener<u64, V>, C: Clock>(
     cache: &mut Cache<u64, V, NoExpiry, L>,
     key: u64,
@@ -63,7 +63,8 @@ pub fn value_or_made<V: Clone, F: FnOnce() -> V, C: Clock>(
         Err(GetWithRefused::Insert(refused)) => Ok(refused.value),
         Err(GetWithRefused::Lookup(key)) => match cache.get(&key, now, clock) {
             Ok(Some(value)) => Ok(value),
-            _ => Err(OutOfMemory),
+            Ok(None) => Err(OutOfMemory),
+            Err(refused) => Err(refused),
         },
     }
 }

@@ -50,9 +50,9 @@ pub fn hide_below<I: IdSource>(
     numbers.invalidate_entries_if(Below(bound), now, ids)
 }
 
-/// Makes a run of maintenance at the moment `now`. A key that was hidden then, as by `hide_below`, is not shown after
-/// it, at that moment or later. A call of the engine is a step of the reference cache (`steps_are_of_reference`), where
-/// a key that is hidden stays so (`stays_hidden`).
+/// Makes a run of maintenance at the moment `now`, and tells whether more is left. A key that was hidden then, as by
+/// `hide_below`, is not shown after it, at that moment or later. A call of the engine is a step of the reference cache
+/// (`steps_are_of_reference`), where a key that is hidden stays so (`stays_hidden`).
 pub fn run_after_hiding(numbers: &mut Numbers, now: Instant) -> bool
 {
     steps_are_of_reference::<

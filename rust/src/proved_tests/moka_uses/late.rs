@@ -7,7 +7,7 @@ use crate::engine::moka_engine::{CacheConfig, Engine, FixedClock, Instant};
 use crate::support::alloc::Global;
 
 /// Inserts two entries, sends the second one's operation before the first one's, and makes a run. The count and the
-/// weight that the cache reports are exactly its records'.
+/// weight that the cache reports are exactly its records', of which there are two.
 pub fn send_in_other_order(alloc: Global) -> Result<Engine<u64, u64>>
 {
     let now = Instant(0);

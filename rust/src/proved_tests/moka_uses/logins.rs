@@ -54,7 +54,7 @@ pub fn start<C: Clock>(
 /// at the very moment of a log-out of its user is hidden as well.
 ///
 /// # Errors
-/// The insert that was refused, with number and session.
+/// The insert that was refused, with number and session; the sessions are as they were.
 pub fn log_in<C: Clock>(
     logins: &mut Logins<C>,
     number: u64,

@@ -19,7 +19,7 @@ impl<K, V> Listener<K, V> for Counter {
     }
 }
 
-/// Puts two values under one key, of which the first leaves: the listener has counted one.
+/// Puts two values under one key, of which the first leaves: the listener has counted one, and the second is there.
 pub fn replace(
     alloc: Global,
     key: u64,
@@ -33,7 +33,9 @@ pub fn replace(
     let hash = cache.hash(&key);
     let (put, _) = cache.do_insert_with_hash(key, hash, first, now)?;
     cache.send(put)?;
+    cache.invariant_holds();
     let (replaced, _) = cache.do_insert_with_hash(key, hash, second, now)?;
     cache.send(replaced)?;
+    cache.invariant_holds();
     Ok(cache)
 }

@@ -13,7 +13,7 @@ use crate::engine::moka_engine::{
 /// stays so (`calls_keep_order`).
 ///
 /// # Errors
-/// The insert that was refused, with key and value.
+/// The insert that was refused, with key and value; the cache is as it was.
 pub fn put_last(
     cache: &mut Engine<u64, u64>,
     key: u64,
@@ -36,8 +36,8 @@ pub fn put_last(
     cache.do_insert_with_hash(key, hash, value, now)
 }
 
-/// Makes a run. If every operation was sent, from a state in the order of writing, no entry is left whose time to live
-/// has passed (`runs_age_out`).
+/// Makes a run at the moment `now`, and tells whether more is left. If every operation was sent, from a state in the
+/// order of writing, no entry is left whose time to live has passed (`runs_age_out`).
 pub fn age_out(cache: &mut Engine<u64, u64>, now: Instant) -> bool
 {
     runs_age_out::<u64, u64, NoExpiry, NoPredicate, NoWeigher>();

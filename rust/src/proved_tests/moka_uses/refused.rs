@@ -9,6 +9,7 @@ use crate::engine::moka_engine::{
 };
 
 /// Puts a value under a key, and sends the operation. A full queue is emptied by a run, and the operation sent again.
+/// The value is there then, since no run removes an entry whose operation waits to be sent.
 ///
 /// # Errors
 /// The insert that was refused, with key and value; the cache is as it was.
@@ -19,13 +20,12 @@ pub fn put(
     now: Instant,
 ) -> Result<(), InsertRefused<u64, u64>>
 {
+    cache.invariant_holds();
     let hash = cache.hash(&key);
-    let ticket = match cache.do_insert_with_hash(key, hash, value, now) {
-        Ok((ticket, _)) => ticket,
-        Err(refused) => return Err(refused),
-    };
+    let (ticket, _) = cache.do_insert_with_hash(key, hash, value, now)?;
     // The ticket was handed out just now, so it is known, and its operation is sent.
     let _sent = send_after_all(cache, ticket, now);
+    cache.invariant_holds();
     Ok(())
 }
 
@@ -33,7 +33,7 @@ pub fn put(
 /// (`sends_after_run`).
 ///
 /// # Errors
-/// `UnknownTicket` where no operation waits under the ticket, and nothing else.
+/// `UnknownTicket` where no operation waits under the ticket, and nothing else; the cache is as it was.
 pub fn send_after_all(
     cache: &mut Engine<u64, u64>,
     ticket: Ticket,

@@ -8,7 +8,7 @@ use crate::engine::moka_engine::{CapacityError, Engine, FixedClock, Instant};
 /// again. The answer is the weight that is left: where every operation was sent, no more than `fewer`.
 ///
 /// # Errors
-/// `ZeroCapacity` where the cache's capacity or one of these is 0.
+/// `ZeroCapacity` where the cache's capacity or one of these is 0. Nothing has changed.
 pub fn shrink_and_grow(
     cache: &mut Engine<u64, u64>,
     fewer: u64,
@@ -17,6 +17,10 @@ pub fn shrink_and_grow(
 ) -> Result<u64, CapacityError>
 {
     cache.invariant_holds();
+    // The second change is refused for no other reason than the first, so an error has changed nothing.
+    if fewer == 0 || more == 0 {
+        return Err(CapacityError::ZeroCapacity);
+    }
     cache.set_max_capacity(Some(fewer))?;
     cache.run_pending_tasks(now, &mut FixedClock(now), None, 1, 384);
     cache.set_max_capacity(Some(more))?;

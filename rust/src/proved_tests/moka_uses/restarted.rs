@@ -9,7 +9,8 @@ use crate::proved_tests::moka_timed::TimedCache;
 use crate::support::alloc::Global;
 use crate::support::time::Duration;
 
-/// The sessions that have not ended, the one used least recently first. None of them is left out.
+/// The sessions that have not ended, the one used least recently first. None of them is left out. A run of maintenance
+/// is made before, and no other call.
 ///
 /// # Errors
 /// `OutOfMemory`

@@ -6,10 +6,11 @@ use crate::engine::moka_drive::{Cache, CacheEntry};
 use crate::engine::moka_engine::{Clock, Expiry, InsertRefused, Instant, Listener, PredicateFn, Weigher};
 use crate::support::hash::{BuildHasher, Hash};
 
-/// Puts a value if its key is not there. The entry says which of the two is handed out.
+/// Puts a value if its key is not there. The entry says which of the two is handed out: a fresh one has the value that
+/// was put.
 ///
 /// # Errors
-/// As `Cache::get_or_insert`.
+/// As `Cache::get_or_insert`: key and value come back.
 pub fn put_if_absent<
     K: Eq + Hash + Clone,
     V: Clone,

@@ -26,7 +26,7 @@ pub fn start<C: Clock>(
 /// Begins a session of a user, used at the clock's moment. One that the user has ends.
 ///
 /// # Errors
-/// The insert that was refused, with user and token.
+/// The insert that was refused, with user and token; the sessions are as they were.
 pub fn log_in<C: Clock>(
     sessions: &mut Sessions<C>,
     user: u64,
@@ -46,7 +46,7 @@ pub fn touch<C: Clock>(sessions: &mut Sessions<C>, user: u64) -> Result<Option<u
     sessions.get(&user)
 }
 
-/// Ends the session of a user, and hands its token out, also where its time is over.
+/// Ends the session of a user, and hands its token out, also where its time is over. The user has none then.
 pub fn log_out<C: Clock>(sessions: &mut Sessions<C>, user: u64) -> Option<u64>
 {
     match sessions.remove(&user) {

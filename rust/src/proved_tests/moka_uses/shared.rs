@@ -32,7 +32,7 @@ pub fn keep_bound(cache: &mut SegmentedCache<u64, u64>, now: Instant) -> Kept
 /// (`calls_by_key_keep_keys`), and keys that are equal are in one segment at most (`one_segment_each`).
 ///
 /// # Errors
-/// As `SegmentedCache::insert`: key and value come back.
+/// As `SegmentedCache::insert`: key and value come back, and nothing has changed.
 pub fn put_where_it_belongs<
     K: Eq + Hash + Clone,
     V: Clone,

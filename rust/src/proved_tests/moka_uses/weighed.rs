@@ -24,7 +24,8 @@ impl<K> Weigher<K, String> for ByLength {
 /// A cache of texts by number.
 pub type Texts = Engine<u64, String, NoExpiry, NoListener, NoPredicate, ByLength>;
 
-/// Puts two texts into a cache of at most 1,000 bytes, and tells how many bytes it keeps.
+/// Puts two texts into a cache of at most 1,000 bytes, and tells how many bytes it keeps: those of both, if there is
+/// room for both.
 pub fn keep_two(alloc: Global, one: String, other: String) -> Result<u64>
 {
     let now = Instant(0);

@@ -1,8 +1,21 @@
-use Rattle.std.proofs.Common.{◌≡◌, refl, true, Option, Some, None, Result, Ok, Err, is_some, ap, sym, ◌∙◌, false}
+use Rattle.std.proofs.Common.{◌≡◌, ◌==◌, refl, ℕ, Bool, true, Option, Some, None, Result, Ok, Err, is_some, ap, sym, ◌∙◌, false, List}
 use Rattle.moka_engine.specs.parts.Entry.{Entry}
 use Rattle.moka_engine.specs.parts.OutOfMemory.{OutOfMemory}
+use Rattle.std.specs.Prelude.{MatchBool}
+use Rattle.moka_engine.specs.parts.Call.TheVariants as call
+use Rattle.moka_engine.specs.parts.Instant.{Instant}
+use Rattle.moka_engine.specs.parts.Record.{Record}
+use Rattle.moka_engine.specs.parts.Reply.TheVariants as reply
+use Rattle.moka_engine.specs.Calls.{GetsAt, GetStep, Unchanged}
 use Rattle.moka_engine.specs.Copies.{IsCopiedAnswer, IsEntryCopy}
 use Rattle.moka_engine.specs.Laws.{is_found, is_answered}
+use Rattle.moka_engine.specs.Maintenance.{Terms, Course}
+use Rattle.moka_engine.specs.Makes.{Makes}
+use Rattle.moka_engine.specs.Records.{Notice, record_of_key}
+use Rattle.moka_engine.specs.Runs.{Engine}
+use Rattle.moka_engine.specs.State.{Events, Meaning, State, is_disabled}
+use Rattle.moka_uses.specs.Asked.{Gets}
+use Rattle.moka_uses.specs.Made.{engine_meaning}
 use Rattle.moka_uses.proofs.asked.ask_twice.Goals as goal
 
 module _ {K V : Type 0} (is_key_clone : K → K → Type 0) (is_value_clone : V → V → Type 0) where
@@ -16,8 +29,35 @@ module _ {K V : Type 0} (is_key_clone : K → K → Type 0) (is_value_clone : V 
   found_alike (Ok None) found copy = sym (ap is_some copy)
   found_alike (Err e) found copy = cc
 
-pub returns : goal.returns
-returns c =
+module _ {K V S X L P W C I : Type 0} (m : Meaning K V X L P W C I) (is_key_clone : K → K → Type 0) (is_value_clone : V → V → Type 0) (key : K) (hash : ℕ) (now : Instant) (old new : Engine K V S X L P W) (Sees : Events K V → Type 0) (is_there : Bool) where
+  gets : (own : Result (Option (Entry K V)) OutOfMemory) (found : Option (Entry K V)) → is_there ≡ is_some found → IsCopiedAnswer (IsEntryCopy is_key_clone is_value_clone) own (Ok found) → Makes m (call.Get key hash false now) (reply.Get own) old new Sees → Gets m key now old new is_there
+  gets (Ok (Some x)) (Some y) tells copy made = (hash, Some x, tells, (made.0, made.1, made.2, tt))
+  gets (Ok (Some x)) None tells copy made = absurd copy
+  gets (Ok None) None tells copy made = (hash, None, tells, (made.0, made.1, made.2, tt))
+  gets (Ok None) (Some y) tells copy made = cc
+  gets (Err e) found tells copy made = cc
+
+module _ {K V X P W : Type 0} (says : P → K → V → Bool → Type 0) (read : X → K → V → ℕ → Option ℕ → ℕ → Option ℕ) (Runs : State K V X P W → Terms → Course → List (Notice K V) → State K V X P W → Type 0) where
+  -- a get that is refused changes nothing
+  nothing_changed : (eq : K → K → Bool) (s : State K V X P W) (key : K) (hash : ℕ) (now : ℕ) (a : Result (Option (Entry K V)) OutOfMemory) (refused : OutOfMemory) → a ≡ Err refused → (e : Events K V) (t : State K V X P W) → GetStep says read Runs eq s key hash false false now a e t → t ≡ s
+  nothing_changed eq s key hash now a refused is e t step = go (is_disabled s.capacity) step
+    where
+      at : (o : Option (Record K V)) (a : Result (Option (Entry K V)) OutOfMemory) → a ≡ Err refused → GetsAt says read Runs s o hash false false now a e t → t ≡ s
+      at None a is h = (let none : a ≡ Ok None = h.0 in absurd (cc))
+      at (Some r) (Err x) is h = h.1.0
+      at (Some r) (Ok found) is h = cc
+
+      go : (b : Bool) → MatchBool b ((a ≡ Ok None) × Unchanged s e t) (GetsAt says read Runs s (record_of_key eq s.records key) hash false false now a e t) → t ≡ s
+      go true h = h.1.0
+      go false h = at (record_of_key eq s.records key) a is h
+
+pub returns-clause-got : goal.returns-clause-got
+returns-clause-got c =
+    let called = c.in_ok-found.ensures in
+    gets (engine_meaning (λ a b. a == b)) (λ a b. b ≡ a) (λ a b. b ≡ a) c.args.key c.hash-hash.result c.args.now c.args.cache.now c.get_with_hash.new.self _ c.is_some.result called.0 c.in_ok-found.found c.is_some.ensures called.2 called.1
+
+pub returns-clause-alike : goal.returns-clause-alike
+returns-clause-alike c =
     let called = c.in_ok-found.ensures in
     let s = c.args.cache.now.state in
     let found = c.in_ok-found.found in

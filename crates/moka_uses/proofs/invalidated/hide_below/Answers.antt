@@ -46,6 +46,7 @@ returns g c =
     record {
       hidden = hidden s t c.args.bound c.args.now called.0.ids c.invalidate_entries_if.result called.1.0;
       at_once = at_once s t c.args.bound c.args.now called.0.ids c.invalidate_entries_if.result called.1.0;
+      registered = (called.0, called.1.0, called.1.1, called.2, called.3);
       back = back s t c.args.bound c.args.now called.0.ids c.invalidate_entries_if.result called.1.0;
       unchanged = unchanged s t c.args.bound c.args.now called.0.ids c.invalidate_entries_if.result called.1.0;
     }

@@ -1,9 +1,12 @@
-use Rattle.std.proofs.Common.{◌≡◌, ◌==◌, ◌+◌, min, rules, ap, ◌∙◌, None}
+use Rattle.std.proofs.Common.{◌≡◌, ◌==◌, ◌+◌, min, rules, ap, sym, subst, ◌∙◌, None}
 use Rattle.moka_engine.specs.State.{is_disabled}
 use Rattle.moka_engine.specs.Time.{greatest}
 use Rattle.std.specs.Cmp.{nat_eq_equiv}
 use Rattle.moka_uses.proofs.Sent.{hands_out, sends}
 use Rattle.moka_uses.proofs.Told.{told_of_the_first, heard_of_the_second}
+use Rattle.moka_drive.specs.Unsent.{IsHeld}
+use Rattle.moka_drive.proofs.Put.{kept_where_held, put_by_insert}
+use Rattle.moka_drive.proofs.Stays.{send_holds}
 use Rattle.moka_uses.specs.declared.notified.Counter.{Counter}
 use Rattle.moka_uses.proofs.notified.replace.Goals as goal
 
@@ -15,8 +18,8 @@ do_insert_with_hash-requires-2 c =
     let sent = sends t _ _ c.send.new.self.state c.in_ok-send.ensures.step in
     record { enabled = ap is_disabled (sent.alike.capacity ∙ put.alike.capacity ∙ ap (λ x. x.state.capacity) c.in_ok-cache.ensures.empty) ∙ search rules }
 
-pub returns : goal.returns
-returns c =
+pub returns-clause-notified : goal.returns-clause-notified
+returns-clause-notified c =
     let put = c.in_ok-put.ensures in
     let again = c.in_ok-replaced.ensures in
     let l = c.in_ok-cache.cache in
@@ -32,3 +35,12 @@ returns c =
     heard_of_the_second (λ (c : Counter). record { count = min (c.count + 1) greatest }) (λ before _ _ _ after. after ≡ record { count = min (before.count + 1) greatest }) (λ _ _ _ _ _ h. h)
     (record { count = 0 }) l.listener m.listener n.listener o.listener p.listener put.0.notices again.0.notices
     (ap (λ x. x.listener) c.in_ok-cache.ensures.empty ∙ search rules) put.2.heard c.in_ok-send.ensures.events.heard again.2.heard c.in_ok-send-2.ensures.events.heard told.0 told.1
+
+pub returns-clause-replaced : goal.returns-clause-replaced
+returns-clause-replaced c =
+    let again = c.in_ok-replaced.ensures in
+    let n = c.send.new.self.state in
+    let o = c.do_insert_with_hash-2.new.self.state in
+    let p = c.send-2.new.self.state in
+    let put = put_by_insert (λ a b. a == b) nat_eq_equiv c.args.key c.args.second (record { 0 = 0 }) (λ _ _ _ _. None) (λ _ _ _ _ left. left) (λ _ _ _ weight. weight ≡ 1) n c.hash-hash.result (c.in_ok-replaced.replaced, c.in_ok-replaced.field-0-1) again.0 o c.invariant_holds.ensures.valid again.1.1 in
+    kept_where_held (λ a b. a == b) nat_eq_equiv c.args.key c.args.second (record { 0 = 0 }) _ o p c.invariant_holds-2.ensures.valid put (subst (IsHeld put.made.number put.made) (sym (send_holds o _ _ p c.in_ok-send-2.ensures.step)) put.held)

@@ -29,6 +29,7 @@ pub returns : goal.returns
 returns g c =
     let got = c.try_get_with.ensures in
     record {
+      made = (_, got);
       given = given _ _ c.try_get_with.result got.2.4;
       failed = failed _ g.V.Clone.is_clone c.args.key _ c.args.now c.args.cache.now.engine c.try_get_with.new.self.engine c.args.clock.now c.try_get_with.new.clock _ _ got.0 got.1 c.try_get_with.result got.2.1 got.2.2 got.2.4;
       back = got.2.5;

@@ -1,7 +1,9 @@
-use Rattle.std.proofs.Common.{◌≡◌, Some, None, refl, arith}
+use Rattle.std.proofs.Common.{◌≡◌, ◌==◌, ◌∙◌, Some, None, refl, arith}
 use Rattle.std.specs.Prelude.{length}
 use Rattle.moka_engine.specs.declared.NoWeigher.{NoWeigher}
+use Rattle.moka_uses.specs.Made.{plain_meaning}
 use Rattle.moka_uses.proofs.Among.{each_weighs_one, still_back}
+use Rattle.moka_uses.proofs.Limited.{all_back}
 use Rattle.moka_uses.proofs.restarted.start_again_within.Goals as goal
 
 pub returns-in-Ok-clause-back : goal.returns-in-Ok-clause-back
@@ -21,3 +23,10 @@ returns-in-Ok-clause-back g c =
           (record { records = rw c.in_ok-sessions.ensures.empty.2 refl; outstanding = rw c.in_ok-sessions.ensures.empty.2 refl; writes = rw c.in_ok-sessions.ensures.empty.2 refl; access = rw c.in_ok-sessions.ensures.empty.2 refl })
           (rw c.in_ok-sessions.ensures.empty.2 refl) (rw c.in_ok-sessions.ensures.empty.2 refl) bounded (grind (arith, some)) (rw weigher (each_weighs_one (λ (_ : NoWeigher) _ _ weight. weight ≡ 1) c.args.saved.items)) few)),
     )
+
+pub returns-in-Ok-clause-bound : goal.returns-in-Ok-clause-bound
+returns-in-Ok-clause-bound g c =
+    let (now, read, reads, put, there, lasts) = c.in-Ok.ensures.made in
+    let begun = c.in_ok-sessions.sessions.cache.engine in
+    let bounded : begun.state.capacity ≡ Some c.args.capacity = rw (c.in_ok-sessions.ensures.empty.2, c.max_capacity-config.ensures) refl in
+    all_back (plain_meaning (λ a b. a == b) g.C.Clock.reads) _ now c.args.saved.items begun read c.restore.new.self.cache.engine c.restore.new.self.clock put ∙ bounded

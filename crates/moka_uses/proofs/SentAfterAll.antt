@@ -1,0 +1,96 @@
+-- A send that is made once more where the queue is full, after a run that empties it.
+use Rattle.std.proofs.Common.{◌≡◌, refl, ℕ, ◌<◌, ◌≤◌, Bool, false, List, [], length, Option, Some, None, Result, Ok, Err, ap, sym, subst, ◌∙◌, inl, inr, arith}
+use Rattle.std.specs.Prelude.{IfErr, IfOk, OnErr}
+use Rattle.std.specs.Cmp.{nat_cmp_total}
+use Rattle.std.specs.FinMap.{get, insert, remove, same_map, nat_cmp-IsAntisymmetric}
+use Rattle.std.proofs.lemmas.Option.{none-some}
+use Rattle.moka_engine.specs.parts.Instant.{Instant}
+use Rattle.moka_engine.specs.parts.Operation.{Operation}
+use Rattle.moka_engine.specs.parts.Record.{Record}
+use Rattle.moka_engine.specs.parts.Ticket.{Ticket}
+use Rattle.moka_engine.specs.parts.SendError.{SendError}
+use Rattle.moka_engine.specs.parts.SendError.TheVariants.{UnknownTicket, QueueFull}
+use Rattle.moka_engine.specs.Calls.{InsertsAt, InsertStep, RunStep, SendsAt, SendStep}
+use Rattle.moka_engine.specs.Listed.{ListedRun}
+use Rattle.moka_engine.specs.Maintenance.{Terms}
+use Rattle.moka_engine.specs.Records.{Operations, record_of_key}
+use Rattle.moka_engine.specs.Settling.{IsValid}
+use Rattle.moka_engine.specs.State.{State, Events, is_disabled}
+use Rattle.moka_engine.proofs.Maps.{get_inserted, get_past_insert, get_past_remove, get_removed, same_or_apart}
+use Rattle.moka_drive.specs.Unsent.{AreOlder, HoldsUnsent, IsHeld}
+use Rattle.moka_drive.proofs.Posting.{listed_run_alike, listed_run_empties, listed_run_holds}
+use Rattle.moka_drive.proofs.Stays.{send_holds}
+use Rattle.moka_uses.specs.Refused.{IsSent}
+use Rattle.moka_uses.proofs.Sent.{HandsOut}
+
+-- what is put under a new ticket and taken out again
+pub back_again : (m : Operations) (ticket : ℕ) (o : Operation) → get m ticket ≡ None → remove (insert m ticket o) ticket ≡ m
+back_again m ticket o absent = same_map nat_cmp_total nat_cmp-IsAntisymmetric (remove (insert m ticket o) ticket) m (λ n. elim (same_or_apart n ticket) [
+  | inl e ↦ ap (get (remove (insert m ticket o) ticket)) e ∙ get_removed (insert m ticket o) ticket ∙ sym absent ∙ sym (ap (get m) e)
+  | inr apart ↦ get_past_remove (insert m ticket o) ticket n apart ∙ get_past_insert m ticket o n apart
+])
+
+module _ {K V X P W : Type 0} where
+  -- what a send comes to that is not refused for want of room
+  pub record ComesTo (s : State K V X P W) (ticket : ℕ) (a : Result (Unit {0}) SendError) (t : State K V X P W) : Type 0 where
+    pub refused : IfErr a (λ error. (error ≡ UnknownTicket) × (get s.outstanding ticket ≡ None))
+    pub unchanged : OnErr a (t ≡ s)
+    pub sent : IfOk a (λ _. IsSent ticket s t)
+    pub held : HoldsUnsent s t
+
+  -- at once
+  pub at_once : (s : State K V X P W) (ticket : ℕ) (a : Result (Unit {0}) SendError) (t : State K V X P W) → (a ≡ Err QueueFull → ⊥) → SendStep s ticket a t → ComesTo s ticket a t
+  at_once s ticket a t room step = go (get s.outstanding ticket) refl a room step (λ n r older held. subst (IsHeld n r) (sym (send_holds s ticket a t step)) held)
+    where
+      go : (o : Option Operation) → get s.outstanding ticket ≡ o → (a : Result (Unit {0}) SendError) → (a ≡ Err QueueFull → ⊥) → SendsAt s ticket o a t → HoldsUnsent s t → ComesTo s ticket a t
+      go (Some o) there (Ok u) room h held = record { refused = tt; unchanged = tt; sent = (o, there, ap (λ x. x.outstanding) h.1); held = held }
+      go (Some o) there (Err QueueFull) room h held = absurd (room refl)
+      go (Some o) there (Err UnknownTicket) room h held = absurd h
+      go None there (Err UnknownTicket) room h held = record { refused = (refl, there); unchanged = h; sent = tt; held = held }
+      go None there (Err QueueFull) room h held = absurd h
+      go None there (Ok u) room h held = absurd h
+
+  -- or after a run
+  module _ (says : P → K → V → Bool → Type 0) (read : X → K → V → ℕ → Option ℕ → ℕ → Option ℕ) (before after : List ℕ) where
+    pub after_run : (s full : State K V X P W) (ticket : ℕ) → is_disabled s.capacity ≡ false → SendStep s ticket (Err QueueFull) full → (terms : Terms) (more : Bool) (e : Events K V) (emptied : State K V X P W) → RunStep (ListedRun says read before after) full terms more e emptied
+        → (a : Result (Unit {0}) SendError) (t : State K V X P W) → SendStep emptied ticket a t → ComesTo s ticket a t
+    after_run s full ticket on refused terms more e emptied run a t again = go (get s.outstanding ticket) refl refused
+      where
+        go : (o : Option Operation) → get s.outstanding ticket ≡ o → SendsAt s ticket o (Err QueueFull) full → ComesTo s ticket a t
+        go None there h = absurd h
+        go (Some o) there (long, same) = sent a (subst (λ o. SendsAt emptied ticket o a t) waits again)
+          where
+            alike : emptied.outstanding ≡ s.outstanding
+            alike = (listed_run_alike says read before after full terms run.0 e.notices emptied run.1).outstanding ∙ ap (λ x. x.outstanding) same
+
+            waits : get emptied.outstanding ticket ≡ Some o
+            waits = ap (λ m. get m ticket) alike ∙ there
+
+            room : emptied.writes ≡ []
+            room = listed_run_empties says read before after full terms run.0 e.notices emptied (ap (λ x. is_disabled x.capacity) same ∙ on) run.1
+
+            keeps : HoldsUnsent s t
+            keeps n r older held =
+                subst (IsHeld n r) (sym (send_holds emptied ticket a t again)) (listed_run_holds says read before after full terms run.0 e.notices emptied run.1 n r (subst (λ x. AreOlder n r x.writes) (sym same) older) (subst (λ x. IsHeld n r x.records) (sym same) held))
+
+            sent : (a : Result (Unit {0}) SendError) → SendsAt emptied ticket (Some o) a t → ComesTo s ticket a t
+            sent (Ok u) h = record { refused = tt; unchanged = tt; sent = (o, there, ap (λ x. x.outstanding) h.1 ∙ ap (λ m. remove m ticket) alike); held = keeps }
+            sent (Err QueueFull) h = (let none : length emptied.writes ≡ 0 = ap length room in let full : 384 ≤ length emptied.writes = h.0 in absurd (omega (arith, none, full)))
+            sent (Err UnknownTicket) h = absurd h
+
+  -- an insert hands out a new ticket
+  pub new_ticket : (created : X → K → V → ℕ → Option ℕ) (updated : X → K → V → ℕ → Option ℕ → Option ℕ) (weighs : W → K → V → ℕ → Type 0) (eq : K → K → Bool) (s : State K V X P W) (key : K) (hash : ℕ) (value : V) (now : Instant) (a : Ticket × Instant) (e : Events K V) (t : State K V X P W) → IsValid eq s → InsertStep created updated weighs eq s key hash value now (Ok a) e t → get s.outstanding a.0.0 ≡ None
+  new_ticket created updated weighs eq s key hash value now a e t valid step = none (get s.outstanding a.0.0) refl
+    where
+      is : (o : Option (Record K V)) → InsertsAt created updated weighs s o key hash value now (Ok a) e t → a.0.0 ≡ s.next_ticket
+      is None h = h.3
+      is (Some r) h = h.3
+
+      none : (o : Option Operation) → get s.outstanding a.0.0 ≡ o → o ≡ None
+      none None there = refl
+      none (Some o) there = (let below : a.0.0 < s.next_ticket = valid.numbered.ticketed.handed a.0.0 o there in let same = is (record_of_key eq s.records key) step in absurd (omega (arith, below, same)))
+
+  -- whose operation is sent then
+  pub sent_then : (s t u : State K V X P W) (ticket : ℕ) → HandsOut s ticket t → get s.outstanding ticket ≡ None → (a : Result (Unit {0}) SendError) → IfErr a (λ error. (error ≡ UnknownTicket) × (get t.outstanding ticket ≡ None)) → IfOk a (λ _. IsSent ticket t u) → (a ≡ Ok tt) × (u.outstanding ≡ s.outstanding)
+  sent_then s t u ticket put absent (Ok done) refused sent = (refl, sent.2 ∙ ap (λ m. remove m ticket) put.outstanding ∙ back_again s.outstanding ticket put.operation absent)
+  sent_then s t u ticket put absent (Err e) refused sent = absurd (none-some put.operation (sym refused.1 ∙ ap (λ m. get m ticket) put.outstanding ∙ get_inserted s.outstanding ticket put.operation))
