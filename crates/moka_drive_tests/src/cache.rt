@@ -2,12 +2,13 @@
 use crate::equal::assert_equal;
 use moka_drive::{Cache, CountingListener, Removals, Stats};
 use moka_engine::{
-    CacheConfig, FixedClock, IdSource, Instant, Listener, NoListener, PredicateFn, PredicateId,
-    RemovalCause,
+    CacheConfig, Clock, FixedClock, IdSource, Instant, Listener, NoListener, PredicateFn,
+    PredicateId, RemovalCause,
 };
 use moka_timed::{ManualClock, SystemClock, TimedCache};
 use std::alloc::Global;
 use std::cell::Cell;
+use std::io;
 use std::test::Fail;
 use std::time::Duration;
 
@@ -176,6 +177,26 @@ fn reads_the_system_clock(rt: HostRuntime) -> Result<(), Fail> {
     assert_equal(&rt, cache.remove(&1).ok(), Some(Some(10)));
     assert!(rt; !cache.contains_key(&1));
     Ok(())
+}
+
+// A source of time that stands.
+#[derive(Drop)]
+struct Standing(Duration);
+
+impl std::time::Clock for Standing {
+    fn monotonic(&self) -> io::Result<Duration> {
+        Ok(self.0)
+    }
+
+    fn since_1970(&self) -> io::Result<Duration> {
+        Ok(self.0)
+    }
+}
+
+#[test]
+fn the_system_clock_tells_nanoseconds(rt: HostRuntime) {
+    let mut clock = SystemClock::new(Standing(Duration::from_millis(2)));
+    assert_equal(&rt, clock.now(), Instant(2_000_000));
 }
 
 #[test]

@@ -80,6 +80,9 @@ pub mod time {
     pub trait Clock {
         /// The time since a fixed moment.
         fn monotonic(&self) -> std::io::Result<Duration>;
+
+        /// The time since the year 1970.
+        fn since_1970(&self) -> std::io::Result<Duration>;
     }
 }
 

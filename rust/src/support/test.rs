@@ -2,7 +2,7 @@
 
 use super::alloc::{AllocError, Global};
 use std::sync::OnceLock;
-use std::time::{Duration, Instant};
+use std::time::{Duration, Instant, SystemTime};
 
 /// What each module of tests has at hand.
 #[allow(unused_imports)]
@@ -53,6 +53,12 @@ impl crate::support::time::Clock for &HostRuntime {
     fn monotonic(&self) -> std::io::Result<Duration> {
         static START: OnceLock<Instant> = OnceLock::new();
         Ok(START.get_or_init(Instant::now).elapsed())
+    }
+
+    fn since_1970(&self) -> std::io::Result<Duration> {
+        SystemTime::now()
+            .duration_since(SystemTime::UNIX_EPOCH)
+            .map_err(std::io::Error::other)
     }
 }
 

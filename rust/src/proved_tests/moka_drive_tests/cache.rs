@@ -6,12 +6,13 @@ use crate::support::test::prelude::*;
 use crate::proved_tests::moka_drive_tests::equal::assert_equal;
 use crate::engine::moka_drive::{Cache, CountingListener, Removals, Stats};
 use crate::engine::moka_engine::{
-    CacheConfig, FixedClock, IdSource, Instant, Listener, NoListener, PredicateFn, PredicateId,
-    RemovalCause,
+    CacheConfig, Clock, FixedClock, IdSource, Instant, Listener, NoListener, PredicateFn,
+    PredicateId, RemovalCause,
 };
 use crate::proved_tests::moka_timed::{ManualClock, SystemClock, TimedCache};
 use crate::support::alloc::Global;
 use std::cell::Cell;
+use std::io;
 use crate::support::test::test::Fail;
 use crate::support::time::Duration;
 
@@ -184,6 +185,26 @@ fn reads_the_system_clock() -> Result<(), Fail> {
     assert_equal(&rt, cache.remove(&1).ok(), Some(Some(10)));
     assert!( !cache.contains_key(&1));
     Ok(())
+}
+
+// A source of time that stands.
+struct Standing(Duration);
+
+impl crate::support::time::Clock for Standing {
+    fn monotonic(&self) -> io::Result<Duration> {
+        Ok(self.0)
+    }
+
+    fn since_1970(&self) -> io::Result<Duration> {
+        Ok(self.0)
+    }
+}
+
+#[test]
+fn the_system_clock_tells_nanoseconds() {
+    let rt = HostRuntime;
+    let mut clock = SystemClock::new(Standing(Duration::from_millis(2)));
+    assert_equal(&rt, clock.now(), Instant(2_000_000));
 }
 
 #[test]
