@@ -361,11 +361,11 @@ impl<K: Eq + Hash + 'static, V> Shard<K, V> {
         self.calls_until_reading = 0;
         let now = self.read_clock();
         self.change(|cache, clock| {
-            let mut is_left = cache.run_pending_tasks(now, clock);
+            let mut has_more = cache.run_pending_tasks(now, clock);
             // So many go round the entries twice: after that no predicate covers one.
             for _ in 0..2 * (cache.entry_count() / ENTRIES_A_RUN + 1) {
-                if is_left {
-                    is_left = cache.run_pending_tasks(now, clock);
+                if has_more {
+                    has_more = cache.run_pending_tasks(now, clock);
                 }
             }
         });

@@ -1,16 +1,8 @@
 -- A record that was put back answers as the one that it was listed of.
-use Rattle.std.proofs.Common.{◌≡◌, refl, Bool, true, false, ◌||◌}
+use Rattle.std.proofs.Common.{Bool}
 use Rattle.moka_parts.specs.Visibility.{is_expired, is_past_live, is_past_idle, is_written_before, is_read_before}
+use Rattle.moka_parts.proofs.Surplus.{none_of_five}
 use Rattle.moka_drive.specs.Saved.{AnswersAlike}
-
--- of five tests of which none is passed
-pub none_of_five : (a b c d e : Bool) → (a || b || c || d || e) ≡ false → (a ≡ false) × (b ≡ false) × (c ≡ false) × (d ≡ false) × (e ≡ false)
-none_of_five false false false false false none = (refl, refl, refl, refl, refl)
-none_of_five true b c d e none = cc
-none_of_five false true c d e none = cc
-none_of_five false false true d e none = cc
-none_of_five false false false true e none = cc
-none_of_five false false false false true none = cc
 
 pub answers_alike : {K V P : Type 0} (X W : Type 0) (says : P → K → V → Bool → Type 0) → AnswersAlike X W says
 answers_alike X W says first second r q seen now live idle valid unhidden written read expires shown =

@@ -44,9 +44,6 @@ from_none g n h = omega (arith, h)
 both_parts : (h m n : ℕ) → h + m ≡ n → (h ≤ n) × (m ≤ n)
 both_parts h m n is = (omega (arith, is), omega (arith, is))
 
-trans_le : (a b c : ℕ) → a ≤ b → b ≤ c → a ≤ c
-trans_le a b c h k = omega (arith, h, k)
-
 pub zero_plus : (n : ℕ) → 0 + n ≡ n
 zero_plus n = omega arith
 
@@ -294,6 +291,6 @@ module _ (K V P : Type 0) where
   sums_to_look_ups replies makers s h fits =
       let all = all_of_both replies in
       let parts = both_parts (count_by is_hit replies) (count_by is_miss replies) (count_by is_look_up replies) all in
-      let hits = h.hits ∙ from_none greatest (count_by is_hit replies) (trans_le _ _ _ parts.0 fits) in
-      let misses = h.misses ∙ from_none greatest (count_by is_miss replies) (trans_le _ _ _ parts.1 fits) in
+      let hits = h.hits ∙ from_none greatest (count_by is_hit replies) (omega (arith, parts.0, fits)) in
+      let misses = h.misses ∙ from_none greatest (count_by is_miss replies) (omega (arith, parts.1, fits)) in
       ap (λ n. n + s.misses) hits ∙ ap (λ n. count_by is_hit replies + n) misses ∙ all

@@ -33,11 +33,11 @@ use Rattle.moka_parts.specs.Visibility.{has_lapsed, is_expired, is_past_live, is
 use Rattle.moka_parts.specs.Writes.{Fate, Ignored, Overtaken, Counted, Admitted, TooHeavy, Preferred, Refused, with_applied, fate_by_policy, fate_of_newcomer, fate_of_record, after_fate, after_write, after_writes}
 use Rattle.moka_parts.proofs.Maps.{AreApart, same_or_apart, get_removed, get_past_remove}
 use Rattle.moka_parts.proofs.RunKeeps.{reads_keep}
+use Rattle.moka_parts.proofs.Options.{none_by_test}
 use Rattle.moka_engine.specs.declared.base_cache.restores.Restored.{Restored}
 use Rattle.moka_drive.specs.Saved.{HasRoomFor, IsRoomyFor, KeepsUnexpired, TakesOnlyExpired, WeighAtMost}
 use Rattle.moka_drive.proofs.Alike.{none_kept}
 use Rattle.moka_drive.proofs.Roomy.{FitsIn, enters, enters_again, left, moved_back, taken_out, never_over, newcomer_has_room}
-use Rattle.moka_drive.proofs.Quiet.{none_of}
 use Rattle.moka_drive.proofs.Stays.{noted_by}
 
 -- the tests of a run with this capacity, and no invalidation of all
@@ -105,7 +105,7 @@ module _ {K V : Type 0} (capacity : Option ℕ) (Waits : ℕ → ℕ → Type 0)
 
   admitted : (policy : EvictionPolicy) (c : Contents K V) (k w hash : ℕ) (q : Record K V) → FitsAll c → Waits k w → is_member k c.access ≡ false → get c.records k ≡ Some q → fate_of_newcomer capacity policy c w hash ≡ Admitted
   admitted policy c k w hash q fits waits outside there =
-      ap (λ b. if b then Admitted else (if has_room capacity 0 w then fate_by_policy policy c w hash else TooHeavy)) (newcomer_has_room capacity Waits limit c k w q fits waits (none_of (counted_of k c.access) outside) there)
+      ap (λ b. if b then Admitted else (if has_room capacity 0 w then fate_by_policy policy c w hash else TooHeavy)) (newcomer_has_room capacity Waits limit c k w q fits waits (none_by_test (counted_of k c.access) outside) there)
 
   -- where there is room nothing is rejected
   none_rejected : (policy : EvictionPolicy) (c : Contents K V) (k g w hash : ℕ) (q : Record K V) → FitsAll c → Waits k w → get c.records k ≡ Some q → LeavesAll (fate_of_record capacity policy c k g w hash q)
@@ -127,7 +127,7 @@ module _ {K V : Type 0} (capacity : Option ℕ) (Waits : ℕ → ℕ → Type 0)
 
       new : (o : Option ℕ) → is_member k c.access ≡ false → FitsIn o Waits limit c → FitsIn o Waits limit (after_fate c k g w moved q Admitted)
       new None outside fits = tt
-      new (Some most) outside (fits, enough) = (enters Waits limit c.records c.access fits k g w q there (fits.waiting k w waits q there) (none_of (counted_of k c.access) outside), enough)
+      new (Some most) outside (fits, enough) = (enters Waits limit c.records c.access fits k g w q there (fits.waiting k w waits q there) (none_by_test (counted_of k c.access) outside), enough)
 
       go : (newer member : Bool) → is_member k c.access ≡ member → FitsAll (after_fate c k g w moved q (if newer then (if member then Counted else fate_of_newcomer capacity policy c w hash) else (if member then Overtaken else Ignored)))
       go true true is = again capacity fits

@@ -20,7 +20,7 @@ pub mod Computing
 pub mod InOrder
 pub mod Gotten
 pub mod Keeping
-mod Roomy
+pub mod Roomy
 pub mod Lasting
 pub mod Restoring
 pub mod There

@@ -22,11 +22,11 @@ use Rattle.moka_parts.proofs.Lookup.{record_of_key_found, present_key}
 use Rattle.moka_parts.proofs.Maps.{same_by_test, nothing_at}
 use Rattle.moka_parts.proofs.OrderKept.{of_each}
 use Rattle.moka_parts.proofs.Values.{values-empty}
+use Rattle.moka_parts.proofs.Surplus.{none_of_five}
 use Rattle.moka_engine.specs.declared.base_cache.restores.Restored.{Restored}
 use Rattle.moka_engine.specs.Snapshots.{Seen, IsListed, scene_of}
 use Rattle.moka_drive.specs.Saved.{AreAsWeighed, AreSaved, IsOfItem, IsSaved, IsRestored, HasRoomFor, IsMadeAgain, IsFound, AnswerAlike, MadeAgainAnswersAlike, EmptyHasRoom, has_expired}
 use Rattle.moka_drive.proofs.Answering.{answers_alike}
-use Rattle.moka_drive.proofs.Answering.{none_of_five}
 
 -- ---- what has not expired had not expired before
 

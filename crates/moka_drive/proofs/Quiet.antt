@@ -1,5 +1,5 @@
 -- Before the first call, and where nothing happens.
-use Rattle.std.proofs.Common.{◌≡◌, refl, ap, sym, subst, ◌∙◌, ℕ, Bool, true, false, MatchBool, List, [], ◌∷◌, length, Option, Some, None, is_some, Result, Ok, Err, IfOk, IfErr, option_map}
+use Rattle.std.proofs.Common.{◌≡◌, refl, ap, sym, subst, ◌∙◌, ℕ, Bool, true, false, MatchBool, List, [], length, Option, Some, None, Result, Ok, Err, IfOk, IfErr, option_map}
 use Rattle.std.proofs.lemmas.List.Elements.{same_from_all_zip}
 use Rattle.std.specs.List.{AllZip}
 use Rattle.std.specs.declared.alloc.Global.{Global}
@@ -24,16 +24,6 @@ use Rattle.moka_parts.specs.Runs.{Engine, Befalls, CallStep, MakesCalls}
 use Rattle.moka_parts.proofs.Copies.{copy-same}
 use Rattle.moka_drive.specs.Replies.{TellsPending}
 use Rattle.moka_drive.proofs.Made.{nothing_heard}
-
--- what is not there is nothing
-pub none_of : {A : Type 0} (o : Option A) → is_some o ≡ false → o ≡ None
-none_of None e = refl
-none_of (Some x) e = cc
-
--- a list of no length is empty
-pub empty_of_length : {A : Type 0} (xs : List A) → length xs ≡ 0 → xs ≡ []
-empty_of_length [] e = refl
-empty_of_length (x ∷ xs) e = cc
 
 -- before the first call
 pub no_calls : {K V S X L P W C I : Type 0} (m : Meaning K V X L P W C I) (Runs : State K V X P W → Terms → Course → List (Notice K V) → State K V X P W → Type 0) (c : Engine K V S X L P W) (clock : C) (ids : I) → MakesCalls m Runs [] [] [] c clock ids c clock ids

@@ -22,7 +22,8 @@ module _ {K V : Type 0} where
   abbrev pub Stays : Records K V → ℕ → ℕ → Type 0
   Stays records n w = (r : Record K V) × (get records n ≡ Some r) × (r.weight ≡ w)
 
-  weighs_less : (records : Records K V) (n : ℕ) (r : Record K V) → get records n ≡ Some r → weight_of_records records ≡ r.weight + weight_of_records (remove records n)
+  -- without one of them they weigh less by its weight
+  pub weighs_less : (records : Records K V) (n : ℕ) (r : Record K V) → get records n ≡ Some r → weight_of_records records ≡ r.weight + weight_of_records (remove records n)
   weighs_less records n r there =
       sum_by-IsPermutation (λ (x : Record K V). x.weight) _ _ (values_removed records n r there) ∙ sum_by-cons (λ (x : Record K V). x.weight) r (values (remove records n))
 

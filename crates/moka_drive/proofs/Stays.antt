@@ -17,7 +17,7 @@ use Rattle.moka_parts.specs.State.{State, Contents, Events, contents, is_disable
 use Rattle.moka_parts.specs.Candidates.{prefix, victims_for, is_preferred}
 use Rattle.moka_parts.specs.Writes.{Fate, Ignored, Overtaken, Counted, Admitted, TooHeavy, Preferred, Refused, with_applied, without_records, rejected, fate_by_frequency, fate_by_policy, fate_of_newcomer, fate_of_record, after_fate, after_write, after_writes}
 use Rattle.moka_parts.specs.Maintenance.{Choice, Removes, MovesToBack, Drops, Freedom, Terms, Course, Tests, DoesNothing, RunsBy, RunsWith, IsJustified, AreJustified, after_choice, after_choices, kept_by_choice, after_queued_reads, before_steps, tests_of}
-use Rattle.moka_parts.proofs.Maps.{AreApart, same_or_apart, get_inserted, get_past_insert, get_past_remove}
+use Rattle.moka_parts.proofs.Maps.{AreApart, same_or_apart, get_inserted, get_past_insert, get_past_remove, apart_below}
 use Rattle.moka_parts.proofs.RunKeeps.{reads_keep}
 use Rattle.moka_parts.specs.declared.error.SendError.{SendError}
 use Rattle.moka_parts.specs.declared.error.SendError.TheVariants.{UnknownTicket, QueueFull}
@@ -25,16 +25,13 @@ use Rattle.moka_parts.specs.Housekeeping.{is_due}
 use Rattle.moka_parts.specs.Calls.{KeeperRun, RunsIfDue, Unchanged, SendsAt, SendStep}
 use Rattle.moka_drive.specs.Unsent.{IsHeld, IsOlder, AreOlder, HoldsUnsent}
 
-not_equal : (a g : ℕ) → a < g → (a == g) ≡ false
-not_equal a g less = grind arith
-
 not_equal_back : (a g : ℕ) → a < g → (g == a) ≡ false
 not_equal_back a g less = grind arith
 
 module _ {K V : Type 0} (n : ℕ) (r : Record K V) where
   -- so it is not settled
   unsettled : (records : Records K V) → IsHeld n r records → is_settled records n ≡ false
-  unsettled records h = rw h.there (not_equal h.applied r.generation h.below)
+  unsettled records h = rw h.there (apart_below h.applied r.generation h.below)
 
   apart_from_settled : (records : Records K V) → IsHeld n r records → (k : ℕ) → is_settled records k ≡ true → AreApart n k
   apart_from_settled records h k settled = elim (same_or_apart n k) [

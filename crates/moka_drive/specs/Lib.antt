@@ -1,4 +1,3 @@
-pub mod Meanings
 pub mod Replies
 pub mod Synchronous
 pub mod Unsent

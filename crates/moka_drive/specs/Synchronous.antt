@@ -13,7 +13,7 @@ use Rattle.moka_parts.specs.declared.error.OutOfMemory.{OutOfMemory}
 use Rattle.moka_parts.specs.declared.error.InsertError.TheVariants as insert_error
 use Rattle.moka_parts.specs.declared.error.InsertRefused.{InsertRefused}
 use Rattle.moka_parts.specs.declared.error.SendError.TheVariants.{QueueFull}
-use Rattle.moka_parts.specs.State.{State, Meaning}
+use Rattle.moka_parts.specs.State.{State, Meaning, meaning_of as meaning_with_ids}
 use Rattle.moka_parts.specs.Order.{IsOrderly}
 use Rattle.moka_parts.specs.Runs.{Engine, Step, MakesCalls, PromisedRun}
 use Rattle.moka_parts.specs.Listed.{AreListedSteps}
@@ -51,17 +51,7 @@ module _ {K V X L P W C : Type 0} (eq : K → K → Bool) (tells : L → K → V
     (read : X → K → V → ℕ → Option ℕ → ℕ → Option ℕ) (updated : X → K → V → ℕ → Option ℕ → Option ℕ) where
   -- what the parts of a cache mean that asks for no identifiers
   abbrev pub meaning_of : Meaning K V X L P W C (Unit {0})
-  meaning_of = record {
-    eq = eq;
-    tells = tells;
-    says = says;
-    weighs = weighs;
-    observes = observes;
-    gives = λ _ _ _. ⊥;
-    created = created;
-    read = read;
-    updated = updated;
-  }
+  meaning_of = meaning_with_ids eq tells says weighs observes (λ _ _ _. ⊥) created read updated
 
 -- these calls, made one after the other, gave these replies: a run of the reference cache whose runs of maintenance
 -- keep their promises, in which operations were sent in order

@@ -29,7 +29,7 @@ use moka_engine::config::{CacheConfig, DefaultHasher};
 use moka_parts::calls::{Entry, Ticket};
 use moka_parts::closures::{NoPredicate, NoWeigher, PredicateFn, Weigher};
 use moka_parts::error::{CapacityError, InsertError, InsertRefused, OutOfMemory, PredicateRefused};
-use moka_parts::housekeeper::Clock;
+use moka_parts::housekeeper::{Clock, EVICTION_BATCH_SIZE, MAX_LOG_SYNC_REPEATS};
 use moka_parts::invalidator::{IdSource, PredicateId};
 use moka_parts::notification::{Listener, NoListener};
 use moka_parts::policy::{Expiry, Instant, NoExpiry, Policy};
@@ -37,16 +37,10 @@ use std::alloc::Global;
 use std::hash::{BuildHasher, Hash};
 use std::marker::Model;
 
+mod by_key_test;
 mod saves;
-mod tested;
 
 pub use saves::RestoreManyRefused;
-
-// How often a run of its own may go back to its queues.
-const MAX_LOG_SYNC_REPEATS: u32 = 4;
-
-// How many entries a sweep of a run of its own looks at in a pass.
-const EVICTION_BATCH_SIZE: u32 = 384;
 
 // What is put: a value under a key, which comes with its hash by the engine's own hasher.
 #[derive(Drop)]
@@ -275,7 +269,7 @@ impl<
             return Ok(());
         }
         let (ticket, _) = self.engine.do_insert_with_own_hash(key, hash, value, now)?;
-        post(&mut self.engine, ticket, now, clock);
+        Self::post(&mut self.engine, ticket, now, clock);
         self.engine.invariant_holds();
         Ok(())
     }
@@ -381,13 +375,7 @@ impl<
         ensures counted { self.new.stats ≡ self.old.stats }
     {
         let hash = self.engine.hash(key);
-        let Some((value, told)) = self.take(key, hash, now, clock) else {
-            return Ok(None);
-        };
-        match told {
-            Ok(()) => Ok(Some(value)),
-            Err(error) => Err(NotTold { error, value }),
-        }
+        removed(self.take(key, hash, now, clock))
     }
 
     /// Takes a key out, expired or not, and drops its value. The listener, if one is set, is notified.
@@ -414,13 +402,7 @@ impl<
         ensures counted { self.new.stats ≡ self.old.stats }
     {
         let hash = self.engine.hash(key);
-        let Some((value, told)) = self.take(key, hash, now, clock) else {
-            return Ok(());
-        };
-        match told {
-            Ok(()) => Ok(()),
-            Err(error) => Err(NotTold { error, value }),
-        }
+        invalidated(self.take(key, hash, now, clock))
     }
 
     // Takes a key with its hash out: its value, and whether the listener was notified.
@@ -451,7 +433,7 @@ impl<
             return None;
         };
         let told = self.engine.notify_invalidate(&entry, now);
-        post(&mut self.engine, ticket, now, clock);
+        Self::post(&mut self.engine, ticket, now, clock);
         Some((entry.value, told))
     }
 
@@ -556,6 +538,45 @@ impl<
         match self.insert_made_hashed(Put { key, hash, value }, now, clock) {
             Ok(copy) => Ok(Ok(copy)),
             Err(refused) => Err(GetWithRefused::Insert(refused)),
+        }
+    }
+
+    // Makes the run that is due, if one is, and sends the operation; where the queue is full it is emptied by another
+    // run.
+    fn post<C: Clock>(
+        engine: &mut BaseCache<K, V, S, X, L, P, W>,
+        ticket: Ticket,
+        now: Instant,
+        clock: &mut C,
+    )
+    where
+        K: Drop,
+        V: Drop,
+        P: Drop,
+        requires waiting { (o : Operation) × (engine.old.state.outstanding ≡ finite.insert finite.empty ticket.0 o) }
+        requires enabled { is_disabled engine.old.state.capacity ≡ false }
+        ensures made { Makes (meaning_of K.eq L.tells P.says W.weighs C.reads X.created X.read X.updated)
+            (Posts now ticket) engine.old clock.old engine.new clock.new }
+        ensures sent { engine.new.state.outstanding ≡ finite.empty }
+        ensures holds { HoldsUnsent engine.old.state engine.new.state }
+        ensures hides { HidesNoMore engine.old.state engine.new.state }
+        ensures keeps { KeepsRecords engine.old.state engine.new.state }
+        ensures lasts { TakesOnlyExpired W.weighs [] now.0 engine.old.state engine.new.state }
+    {
+        engine.apply_reads_writes_if_needed(now, clock);
+        match engine.send(ticket) {
+            Ok(()) => {}
+            // The ticket is known, so the queue is full.
+            Err(_) => {
+                engine.run_pending_tasks(
+                    now,
+                    clock,
+                    None,
+                    MAX_LOG_SYNC_REPEATS,
+                    EVICTION_BATCH_SIZE,
+                );
+                let _sent = engine.send(ticket);
+            }
         }
     }
 
@@ -709,34 +730,28 @@ fn value_of<K: Drop, V>(
     }
 }
 
-// Makes the run that is due, if one is, and sends the operation; where the queue is full it is emptied by another run.
-fn post<
-    K: Eq + Hash + Drop,
-    V: Drop,
-    S: BuildHasher,
-    X: Expiry<K, V>,
-    L: Listener<K, V>,
-    P: PredicateFn<K, V> + Drop,
-    W: Weigher<K, V>,
-    C: Clock,
->(engine: &mut BaseCache<K, V, S, X, L, P, W>, ticket: Ticket, now: Instant, clock: &mut C)
-    requires waiting { (o : Operation) × (engine.old.state.outstanding ≡ finite.insert finite.empty ticket.0 o) }
-    requires enabled { is_disabled engine.old.state.capacity ≡ false }
-    ensures made { Makes (meaning_of K.eq L.tells P.says W.weighs C.reads X.created X.read X.updated)
-        (Posts now ticket) engine.old clock.old engine.new clock.new }
-    ensures sent { engine.new.state.outstanding ≡ finite.empty }
-    ensures holds { HoldsUnsent engine.old.state engine.new.state }
-    ensures hides { HidesNoMore engine.old.state engine.new.state }
-    ensures keeps { KeepsRecords engine.old.state engine.new.state }
-    ensures lasts { TakesOnlyExpired W.weighs [] now.0 engine.old.state engine.new.state }
+// What a removal answers: the value that was taken out, or, where the listener could not be notified, the error with it.
+fn removed<V>(taken: Option<(V, Result<(), OutOfMemory>)>) -> Result<Option<V>, NotTold<V>>
+    ensures { result ≡ removed taken }
 {
-    engine.apply_reads_writes_if_needed(now, clock);
-    match engine.send(ticket) {
-        Ok(()) => {}
-        // The ticket is known, so the queue is full.
-        Err(_) => {
-            engine.run_pending_tasks(now, clock, None, MAX_LOG_SYNC_REPEATS, EVICTION_BATCH_SIZE);
-            let _sent = engine.send(ticket);
-        }
+    let Some((value, told)) = taken else {
+        return Ok(None);
+    };
+    match told {
+        Ok(()) => Ok(Some(value)),
+        Err(error) => Err(NotTold { error, value }),
+    }
+}
+
+// What an invalidation answers: the same, but for a value that the listener was notified of.
+fn invalidated<V: Drop>(taken: Option<(V, Result<(), OutOfMemory>)>) -> Result<(), NotTold<V>>
+    ensures { result ≡ invalidated taken }
+{
+    let Some((value, told)) = taken else {
+        return Ok(());
+    };
+    match told {
+        Ok(()) => Ok(()),
+        Err(error) => Err(NotTold { error, value }),
     }
 }

@@ -1,10 +1,10 @@
 //! Entry calls that compute a key's value from the one that is there. moka: `ops::compute`, `sync::entry_selector`.
-ghost use Rattle.std.specs.Prelude.{◌≡◌, Option, Some, None, Result, Ok, Err, is_some, option_copied, option_map};
-ghost use Rattle.moka_parts.specs.Calls.{ContainsStep};
+ghost use Rattle.std.specs.Prelude.{◌≡◌, Option, Some, None, Result, Ok, Err, option_copied, option_map};
 ghost use Rattle.moka_parts.specs.Records.{record_of_key};
 ghost use Rattle.moka_parts.specs.declared.error.InsertRefused.{InsertRefused};
 ghost use Rattle.moka_parts.specs.declared.error.OutOfMemory.{OutOfMemory};
 ghost use Rattle.moka_drive.specs.Computing.{HandsOutComputedPut, HandsOutTaken, AndUpserts, AndComputes};
+ghost use Rattle.moka_drive.specs.Given.{Sees};
 ghost use Rattle.moka_parts.specs.Hashing.{key_hash};
 ghost use Rattle.moka_drive.specs.Synchronous.{InsertsMade, Makes, RemovesEntry, hears_clones, meaning_of};
 
@@ -34,15 +34,15 @@ pub enum Op<V> {
 /// What `compute_with` did. moka: `ops::compute::CompResult`.
 #[derive(Debug, Drop)]
 pub enum CompResult<K, V> {
-    /// The value was put, and none had been visible.
+    /// The value was put, and the closure had seen none.
     Inserted(CacheEntry<K, V>),
-    /// The value was put, and replaced another that was visible.
+    /// The value was put, and the closure had seen another.
     ReplacedWith(CacheEntry<K, V>),
     /// The key was taken out, with this value.
     Removed(CacheEntry<K, V>),
-    /// No value was there, and none was put. The key comes back.
+    /// No value was put, and none is there that could be taken out. The key comes back.
     StillNone(K),
-    /// The value that is there was left.
+    /// Nothing was done, and the closure had seen this value.
     Unchanged(CacheEntry<K, V>),
 }
 
@@ -113,7 +113,7 @@ impl<
         K: Clone + Drop,
         V: Clone + Drop,
         P: Drop,
-        requires callable { (seen : Option V) → ContainsStep P.says K.eq self.old.engine.state key now.0 (is_some seen)
+        requires callable { (seen : Option V) → Sees K.eq P.says V.is_clone self.old.engine.state key now.0 seen
             → F.pre f seen }
         ensures { AndUpserts (meaning_of K.eq L.tells P.says W.weighs C.reads X.created X.read X.updated)
             K.is_clone V.is_clone key
@@ -148,7 +148,7 @@ impl<
         V: Clone + Drop,
         P: Drop,
         requires callable { (seen : _)
-            → ContainsStep P.says K.eq self.old.engine.state key now.0 (is_some (option_copied seen)) → F.pre f seen }
+            → Sees K.eq P.says V.is_clone self.old.engine.state key now.0 (option_copied seen) → F.pre f seen }
         ensures { AndComputes (meaning_of K.eq (hears_clones K.is_clone V.is_clone L.tells) P.says W.weighs C.reads
             X.created X.read X.updated)
             K.is_clone V.is_clone key

@@ -1,6 +1,6 @@
 //! Makes calls one after the other.
 ghost use Rattle.std.specs.Prelude.{◌≡◌, length, List, IfOk, IfErr, OnErr};
-ghost use Rattle.moka_parts.specs.State.{Events};
+ghost use Rattle.moka_parts.specs.State.{Events, meaning_of};
 ghost use Rattle.moka_parts.specs.Surroundings.{Leads};
 ghost use Rattle.moka_parts.specs.Calls.{only_notices, KeyStep};
 ghost use Rattle.moka_parts.specs.Copies.{ClonesAreEqual};
@@ -8,7 +8,6 @@ ghost use Rattle.moka_parts.specs.Records.{Notice};
 ghost use Rattle.moka_parts.specs.Drives.{Drives};
 ghost use Rattle.moka_parts.specs.Runs.{Befalls};
 ghost use Rattle.moka_parts.specs.declared.calls.Reply.TheVariants.{Report};
-ghost use Rattle.moka_drive.specs.Meanings.{meaning_of};
 ghost use Rattle.moka_engine.specs.Makes.{Makes};
 ghost use Rattle.moka_drive.specs.Replies.{RemovesAndNotifies, NotifiesEntry, TellsPending};
 

@@ -26,7 +26,8 @@ pub struct CacheEntry<K, V> {
     pub value: V,
     /// Whether the call put the value.
     pub is_fresh: bool,
-    /// Whether the value that the call put replaced another that was visible.
+    /// Whether the look-up of a call that put the value saw another. A run of maintenance that the look-up started may
+    /// have removed that one before.
     pub is_old_value_replaced: bool,
 }
 

@@ -1,11 +1,12 @@
 //! Entry calls by moka's names: `cache.entry(key)` hands out a selector, and each of its methods is one call of the
 //! cache.
 //! moka: `sync::entry_selector`.
-ghost use Rattle.std.specs.Prelude.{◌≡◌, false, Option, None, Result, is_some, option_copied};
+ghost use Rattle.std.specs.Prelude.{◌≡◌, false, Option, None, Result, option_copied};
 ghost use Rattle.moka_parts.specs.Calls.{ContainsStep};
 ghost use Rattle.moka_parts.specs.declared.error.InsertRefused.{InsertRefused};
 ghost use Rattle.moka_drive.specs.Computing.{AndUpserts, AndComputes};
 ghost use Rattle.moka_drive.specs.Entries.{OrInserts, OrInsertsMade, OrInsertsIfMade, OrInsertsIfNoError};
+ghost use Rattle.moka_drive.specs.Given.{Sees};
 ghost use Rattle.moka_parts.specs.Hashing.{key_hash};
 ghost use Rattle.moka_drive.specs.Synchronous.{meaning_of, hears_clones};
 
@@ -181,7 +182,7 @@ impl<
         V: Clone + Drop,
         P: Drop,
         requires callable { (seen : Option V)
-            → ContainsStep P.says K.eq self.cache.now.engine.state self.key now.0 (is_some seen) → F.pre f seen }
+            → Sees K.eq P.says V.is_clone self.cache.now.engine.state self.key now.0 seen → F.pre f seen }
         ensures { AndUpserts (meaning_of K.eq L.tells P.says W.weighs C.reads X.created X.read X.updated)
             K.is_clone V.is_clone self.entry.key (key_hash S.BuildHasher S.Hasher.Hasher
             self.entry.cache.now.engine.hasher (K.hash_input self.entry.key)) now
@@ -207,7 +208,7 @@ impl<
         V: Clone + Drop,
         P: Drop,
         requires callable { (seen : _)
-            → ContainsStep P.says K.eq self.cache.now.engine.state self.key now.0 (is_some (option_copied seen))
+            → Sees K.eq P.says V.is_clone self.cache.now.engine.state self.key now.0 (option_copied seen)
             → F.pre f seen }
         ensures { AndComputes (meaning_of K.eq (hears_clones K.is_clone V.is_clone L.tells) P.says W.weighs C.reads
             X.created X.read X.updated)

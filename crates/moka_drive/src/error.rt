@@ -7,7 +7,9 @@ use std::fmt;
 /// and comes back.
 #[derive(Debug, Drop)]
 pub struct NotTold<V> {
+    /// Why the listener was not notified.
     pub error: OutOfMemory,
+    /// The value that was taken out.
     pub value: V,
 }
 

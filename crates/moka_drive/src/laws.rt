@@ -7,7 +7,7 @@ ghost use Rattle.moka_parts.specs.declared.policy.Instant.{Instant};
 ghost use Rattle.std.specs.Prelude.{ℕ};
 ghost use Rattle.moka_drive.specs.Synchronous.{meaning_of, hears_clones};
 ghost use Rattle.moka_drive.specs.Counted.{CountsCalls, AddsUp, SumsToLookUps};
-ghost use Rattle.moka_drive.specs.Meanings.{meaning_of as asking_meaning_of};
+ghost use Rattle.moka_parts.specs.State.{meaning_of as asking_meaning_of};
 ghost use Rattle.moka_drive.specs.Registering.{JoinsRegistrations};
 ghost use Rattle.moka_drive.specs.Laws.{GoesOn, KeepsPromises, AgesOut, HearsClones, HearsThemselves, InvalidateAllIsMade, SetMaxCapacityIsMade};
 
@@ -33,7 +33,7 @@ pub fn goes_on<
     ensures { GoesOn S (meaning_of K.eq L.tells P.says W.weighs C.reads X.created X.read X.updated) }
 {}
 
-/// What `invalidate_all` and `set_max_capacity` ensure is such a chain too, of one step, whatever the clock is: neither
+/// What `invalidate_all` and `set_max_capacity` ensure is a chain of one step (`Made`), whatever the clock is: neither
 /// reads it. So `goes_on` joins them with the calls before and after them.
 pub fn makes_one_step<
     K: Eq,
@@ -51,8 +51,9 @@ pub fn makes_one_step<
         (meaning_of K.eq L.tells P.says W.weighs C.reads X.created X.read X.updated) }
 {}
 
-/// Such chains and calls of `invalidate_entries_if` are one run too, in which identifiers are asked for (`MadeAsking`),
-/// and which keeps all that is promised of a list of calls; whether the listener hears of keys and values or of clones.
+/// Chains of steps (`Made`) and calls of `invalidate_entries_if` are one run, in which identifiers are asked for
+/// (`MadeAsking`), and which keeps all that is promised of a list of calls; whether the listener hears of keys and
+/// values or of clones.
 pub fn joins_registrations<
     K: Eq + Clone,
     V: Clone,
@@ -74,7 +75,7 @@ pub fn joins_registrations<
         X.created X.read X.updated) }
 {}
 
-/// It keeps all that is promised of a list of calls.
+/// The run that `goes_on` joins keeps all that is promised of a list of calls.
 pub fn keeps_promises<
     K: Eq,
     V,

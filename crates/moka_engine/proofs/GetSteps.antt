@@ -19,21 +19,16 @@ use Rattle.moka_parts.specs.Runs.{Engine, Befalls}
 use Rattle.moka_parts.specs.Settling.{IsValid}
 use Rattle.moka_parts.specs.State.{State, Settings, Events, is_disabled}
 use Rattle.moka_parts.specs.Surroundings.{Leads, IsAskedOnce}
-use Rattle.moka_parts.specs.Time.{is_same_duration}
 use Rattle.moka_parts.specs.Visibility.{has_lapsed, NoneCovers}
 use Rattle.moka_parts.proofs.Lookup.{record_of_key_empty, record_of_key_found, present_key}
-use Rattle.moka_parts.proofs.Maps.{itself_tested, get_inserted}
+use Rattle.moka_parts.proofs.Maps.{get_inserted}
 use Rattle.moka_parts.proofs.StepsKeep.{hit_valid, valid_with}
 use Rattle.moka_store.specs.Store.{Kept}
 use Rattle.moka_engine.specs.BaseCache.{IsCache, IsStocked, NoneExpires, expirations_of, expiring_by}
-use Rattle.moka_engine.proofs.Stocked.{stocked-touched, stays-unrenewed}
+use Rattle.moka_engine.proofs.Stocked.{stocked-touched, stays-unrenewed, same_duration}
 use Rattle.moka_inner.specs.Interior.{Interior, IsLocated}
 use Rattle.moka_engine.specs.Looks.{Touches, value_of}
 use Rattle.moka_engine.proofs.EngineSteps.{with_inner, befalls-quietly, befalls-listed, unexpiring-inserted, cache-inner, unexpiring-inside, number-inside, key-inside}
-
-same_duration : (d : Option ℕ) → is_same_duration d d ≡ true
-same_duration None = refl
-same_duration (Some d) = itself_tested d
 
 -- ---- what a hit makes of a record
 

@@ -2,6 +2,7 @@
 use Rattle.std.proofs.Common.{◌≡◌, refl, ℕ, Bool, true, false, ◌<◌, List, [], Option, Some, None, option_map, inl, inr, ap, sym, subst, ◌∙◌, arith, MatchBool}
 use Rattle.std.specs.Cmp.{IsEquivalence}
 use Rattle.std.specs.FinMap.{get}
+use Rattle.std.proofs.lemmas.Option.{same_Some}
 use Rattle.moka_parts.specs.declared.records.Operation.{Operation}
 use Rattle.moka_parts.specs.declared.records.Operation.TheVariants.{Removal}
 use Rattle.moka_parts.specs.declared.records.Record.{Record}
@@ -18,9 +19,6 @@ use Rattle.moka_parts.proofs.RunKeeps.{Keeps, keeps_itself, run_keeps}
 use Rattle.moka_store.proofs.Gets.{option-cases}
 use Rattle.moka_inner.specs.ReadNumber.{IsReadNumber}
 
-same_some : {A : Type 0} (x y : A) → Some x ≡ Some y → x ≡ y
-same_some x y e = cc
-
 module _ {K V X P W : Type 0} (eq : K → K → Bool) (laws : IsEquivalence eq) where
   -- the same of a state
   abbrev pub IsReadNumberIn : State K V X P W → K → ℕ → Type 0
@@ -31,7 +29,7 @@ module _ {K V X P W : Type 0} (eq : K → K → Bool) (laws : IsEquivalence eq) 
   read-number-found s h key r found = record {
     given = (h.numbered.numbered.numbered r.number r there).1;
     own = there ∙ sym found;
-    alone = λ n q at same. sym (h.numbered.numbered.numbered n q at).0 ∙ ap (λ (x : Record K V). x.number) (same_some q r (sym same ∙ found));
+    alone = λ n q at same. sym (h.numbered.numbered.numbered n q at).0 ∙ ap (λ (x : Record K V). x.number) (same_Some q r (sym same ∙ found));
     stays = λ generation waits. let tracked : IsTracked (IsWaiting s) r.number r (counted_of r.number s.access) = rw there at (h.consistent.sound r.number) in tracked.stays generation waits;
   }
     where
@@ -78,7 +76,7 @@ module _ {K V X P W : Type 0} (eq : K → K → Bool) (laws : IsEquivalence eq) 
     own : (o : Option (Record K V)) → get t.records r.number ≡ o → o ≡ record_of_key eq t.records key
     own (Some q) there =
         let old = left.keeps r.number q there in
-        let one : old.0 ≡ r = same_some old.0 r (sym old.1 ∙ before.own ∙ found) in
+        let one : old.0 ≡ r = same_Some old.0 r (sym old.1 ∙ before.own ∙ found) in
         let same : eq key q.key ≡ true = ap (λ (x : Record K V). eq key x.key) old.2.1 ∙ ap (λ (x : Record K V). eq key x.key) one ∙ asked in
         sym (present_key eq t.records key laws valid_after.numbered.numbered.one_each r.number q there same)
     own None gone = elim (option-cases (record_of_key eq t.records key)) [
@@ -100,4 +98,4 @@ module _ {K V X P W : Type 0} (eq : K → K → Bool) (laws : IsEquivalence eq) 
 -- a record with this number
 pub number_found : {K V : Type 0} (o : Option (Record K V)) (n : ℕ) → option_map (λ r. r.number) o ≡ Some n → (r : Record K V) × (o ≡ Some r) × (r.number ≡ n)
 number_found None n e = cc
-number_found (Some r) n e = (r, refl, same_some r.number n e)
+number_found (Some r) n e = (r, refl, same_Some r.number n e)

@@ -1,12 +1,12 @@
 -- Going along the members of a scene.
-use Rattle.std.proofs.Common.{◌≡◌, refl, ℕ, Bool, true, false, true≢false, ◌==◌, List, [], ◌∷◌, ◌++◌, append_assoc, Option, Some, None, IsSome, IfSome, option_map, ap, sym, subst, ◌∙◌, arith}
+use Rattle.std.proofs.Common.{◌≡◌, refl, ℕ, Bool, true, false, true≢false, ◌==◌, List, [], ◌∷◌, ◌++◌, append_assoc, Option, Some, None, IsSome, IfSome, option_map, ap, sym, subst, ◌∙◌}
 use Rattle.std.specs.Prelude.{slice_get, if◌then◌else◌}
 use Rattle.std.specs.FinMap.{get}
 use Rattle.std.specs.List.{IsDistinct, AllByRecursion}
 use Rattle.moka_parts.specs.declared.records.Member.{Member}
 use Rattle.moka_parts.specs.declared.records.Record.{Record}
 use Rattle.moka_parts.specs.Records.{counted_of, member, numbers_of}
-use Rattle.moka_parts.proofs.Maps.{itself_tested}
+use Rattle.moka_parts.proofs.Maps.{itself_tested, same_by_test}
 use Rattle.moka_store.specs.Store.{Kept, IsPlaced, member_after}
 use Rattle.moka_store.specs.declared.store.Handle.{Handle}
 use Rattle.moka_parts.specs.Expiry.{remaining}
@@ -42,9 +42,6 @@ from_first : (a : Member) (members : List Member) → AllByRecursion (λ y. (a.n
 from_first a [] apart = refl
 from_first a (b ∷ members) apart = rw (apart.0, itself_tested b.number) refl
 
-nat_eq_true : (a b : ℕ) → (a == b) ≡ true → a ≡ b
-nat_eq_true a b e = grind (arith, e)
-
 -- the members from the one of this number on are it and those from the next on
 pub from_next : (n : ℕ) (members : List Member) → IsDistinct (◌==◌) (numbers_of members) → IsSome (counted_of n members) → (a : Member) × (a.number ≡ n) × (members_from (Some n) members ≡ a ∷ members_from (option_map (λ (m : Member). m.number) (member_after n members)) members)
 unfolding IsDistinct
@@ -53,7 +50,7 @@ from_next n (a ∷ members) distinct is_in = go (a.number == n) refl (λ there. 
   where
     go : (t : Bool) → (a.number == n) ≡ t → (IsSome (counted_of n members) → (b : Member) × (b.number ≡ n) × (members_from (Some n) members ≡ b ∷ members_from (option_map (λ (m : Member). m.number) (member_after n members)) members))
         → (b : Member) × (b.number ≡ n) × (members_from (Some n) (a ∷ members) ≡ b ∷ members_from (option_map (λ (m : Member). m.number) (member_after n (a ∷ members))) (a ∷ members))
-    go true e later = (a, nat_eq_true a.number n e, rw e (ap (λ rest. a ∷ rest) (sym (from_first a members distinct.0))))
+    go true e later = (a, same_by_test a.number n e, rw e (ap (λ rest. a ∷ rest) (sym (from_first a members distinct.0))))
     go false e later = (let l = later (rw e at is_in) in
         (l.0, l.1, rw e (l.2 ∙ ap (λ rest. l.0 ∷ rest) (sym (from_later a members distinct.0 n (member_after n members) refl)))))
 

@@ -71,8 +71,3 @@ module _ {K V X L P W S : Type 0} {eq : K → K → Bool} {l : Option L} {s : St
   stocked-restored {read} stocked =
       let new : Record K V = record (first_record i.next_number item.key hash (record { value = item.value; now = item.last_modified; expires = item.expires; weight = w })) { read = item.last_accessed } in
       subst (λ (x : Interior K V S). IsStocked read s.settings x.kept) (sym step) (stocked-inserted (stocked-room before i rooms stocked) i.next_number new j.kept.places j.kept.room refl)
-
--- no record was found
-pub absent : {A : Type 0} (o : Option A) → is_some o ≡ false → o ≡ None
-absent None e = refl
-absent (Some x) e = absurd (true≢false e)

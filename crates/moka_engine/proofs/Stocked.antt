@@ -76,9 +76,10 @@ update_waits s h n r there update =
 
 -- ---- what a hit makes of an expiry that no hit renews
 
-same_time : (d : Option ℕ) → is_same_duration d d ≡ true
-same_time None = refl
-same_time (Some d) = itself_tested d
+-- a duration, or none, is the same as itself
+pub same_duration : (d : Option ℕ) → is_same_duration d d ≡ true
+same_duration None = refl
+same_duration (Some d) = itself_tested d
 
 module _ {K V X W : Type 0} (read : X → K → V → ℕ → Option ℕ → ℕ → Option ℕ) (settings : Settings X W) (r : Record K V) where
   told_again : (o : Option X) → NeverRenews read o → (at : ℕ) → answer_to_hit read settings o r at ≡ remaining settings r at
@@ -86,7 +87,7 @@ module _ {K V X W : Type 0} (read : X → K → V → ℕ → Option ℕ → ℕ
   told_again (Some x) never at = never x r.key r.value at (remaining settings r at) r.written.0 refl
 
   pub stays-unrenewed : NeverRenews read settings.expiry → (at : ℕ) → renewed settings r at (answer_to_hit read settings settings.expiry r at) ≡ r.expires
-  stays-unrenewed never at = rw (told_again settings.expiry never at, same_time) refl
+  stays-unrenewed never at = rw (told_again settings.expiry never at, same_duration) refl
 
 -- ---- a new store
 

@@ -40,3 +40,4 @@ pub use Rattle.moka_parts.specs.Laws
 pub use Rattle.moka_parts.specs.Drives
 pub use Rattle.moka_parts.specs.Texts
 pub use Rattle.moka_parts.specs.KeyTests
+pub use Rattle.moka_parts.specs.Hashing

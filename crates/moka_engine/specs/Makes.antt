@@ -7,7 +7,7 @@ use Rattle.moka_parts.specs.Listed.{ListedRun}
 use Rattle.moka_parts.specs.Runs.{Engine, Befalls, CallStep}
 use Rattle.moka_parts.specs.Maintenance.{Terms, Course}
 use Rattle.moka_parts.specs.Records.{Notice}
-use Rattle.moka_parts.specs.State.{State, Events, Meaning}
+use Rattle.moka_parts.specs.State.{State, Events, Meaning, meaning_of}
 
 module _ {K V X L P W : Type 0} (eq : K → K → Bool) (tells : L → K → V → RemovalCause → L → Type 0)
     (says : P → K → V → Bool → Type 0) (weighs : W → K → V → ℕ → Type 0)
@@ -15,17 +15,7 @@ module _ {K V X L P W : Type 0} (eq : K → K → Bool) (tells : L → K → V �
     (updated : X → K → V → ℕ → Option ℕ → Option ℕ) where
   -- what the parts of a cache mean; clock and source of identifiers are not the cache's
   abbrev pub meaning : Meaning K V X L P W (Unit {0}) (Unit {0})
-  meaning = record {
-    eq = eq;
-    tells = tells;
-    says = says;
-    weighs = weighs;
-    observes = λ _ _ _. ⊥;
-    gives = λ _ _ _. ⊥;
-    created = created;
-    read = read;
-    updated = updated;
-  }
+  meaning = meaning_of eq tells says weighs (λ _ _ _. ⊥) (λ _ _ _. ⊥) created read updated
 
 module _ {K V S X L P W : Type 0} (says : P → K → V → Bool → Type 0) (read : X → K → V → ℕ → Option ℕ → ℕ → Option ℕ)
     (tells : L → K → V → RemovalCause → L → Type 0) where

@@ -3,7 +3,7 @@ ghost use Rattle.std.specs.Prelude.{◌≡◌, ◌≤◌, ◌||◌, true, false,
 ghost use Rattle.std.specs.List.{AllZip};
 ghost use Rattle.std.specs.String.{string_bytes};
 ghost use Rattle.moka_parts.specs.Hashing.{key_hash};
-ghost use Rattle.moka_parts.specs.Calls.{no_events, only_notices, CapacityStep, InsertStep, SendStep, RemoveStep, ContainsStep, KeysStep};
+ghost use Rattle.moka_parts.specs.Calls.{entry_of, no_events, only_notices, CapacityStep, InsertStep, SendStep, RemoveStep, ContainsStep, KeysStep};
 ghost use Rattle.moka_parts.specs.Copies.{HandsOut, IsCopy, IsEntryCopy, NotifiesOfCopy};
 ghost use Rattle.moka_parts.specs.Housekeeper.{new_keeper};
 ghost use Rattle.moka_parts.specs.Order.{IsWriteList};
@@ -16,7 +16,7 @@ ghost use Rattle.moka_store.specs.Hashing.{IsIndexHash};
 ghost use Rattle.moka_parts.specs.declared.calls.Call.TheVariants as call;
 ghost use Rattle.moka_parts.specs.declared.calls.Reply.TheVariants as reply;
 ghost use Rattle.moka_parts.specs.declared.records.ReadOperation.TheVariants.{Hit};
-ghost use Rattle.moka_engine.specs.BaseCache.{IsServed, empty_engine, settings_of};
+ghost use Rattle.moka_engine.specs.BaseCache.{IsServed, empty_engine, expirations_of, settings_of};
 ghost use Rattle.moka_engine.specs.Makes.{Makes, meaning};
 
 use self::gets::Moments;
@@ -28,12 +28,13 @@ use moka_parts::housekeeper::{Clock, Housekeeper, HousekeeperConfig};
 use moka_parts::invalidator::Invalidator;
 use moka_parts::notification::{Listener, RemovalNotifier};
 use moka_parts::policy::{EvictionPolicy, ExpirationPolicy, Expiry, Instant, Policy};
-use moka_parts::records::ReadOperation;
+use moka_parts::records::{ReadOperation, Record};
 use moka_store::{IndexHash, Update};
 use std::alloc::Global;
 use std::hash::{BuildHasher, Hash};
 use std::marker::Model;
 
+mod by_key_test;
 mod causes;
 mod gets;
 mod inserts;
@@ -44,7 +45,6 @@ mod restores;
 mod runs;
 mod sights;
 mod snapshot;
-mod tested;
 
 pub use restores::{RestoreError, RestoreRefused, Restored};
 pub use sights::Sight;
@@ -214,7 +214,7 @@ impl<
     /// - `housekeeper_config`: the time limit, repeats and batch of the runs that the housekeeper starts.
     /// - `invalidator_enabled`: whether predicates can be registered.
     /// - `now`: the moment at which it is made. The housekeeper starts no run in the 300 milliseconds after it, unless
-    ///   64 operations are queued.
+    ///   64 writes or 64 reads are queued.
     /// - `first_ticket`: the ticket of the first operation, at least 1. The greater it is, the sooner inserts are
     ///   refused with `NumbersUsedUp`.
     ///
@@ -260,9 +260,7 @@ impl<
             ordered,
             timed,
         };
-        let Ok(inner) = Inner::new(alloc, build_hasher, first_ticket, layout) else {
-            return Err(OutOfMemory);
-        };
+        let inner = Inner::new(alloc, build_hasher, first_ticket, layout)?;
         let notifier = RemovalNotifier::new(eviction_listener);
         let housekeeper = Housekeeper::new(notifier.is_enabled(), housekeeper_config, now);
         Ok(BaseCache {
@@ -299,10 +297,7 @@ impl<
     pub fn name(&self) -> Option<&str>
         ensures { option_copied result ≡ self.now.name }
     {
-        match &self.name {
-            Some(name) => Some(name.as_str()),
-            None => None,
-        }
+        self.name.as_deref()
     }
 
     /// The cache's limits.
@@ -532,16 +527,10 @@ impl<
     {
         let (handle, _) = self.inner.find(key, own)?;
         let (record, ticket) = self.inner.remove(handle, own);
-        let entry = KvEntry {
-            key: record.key,
-            value: record.value,
-            last_modified: record.written,
-            last_accessed: record.read,
-        };
-        Some((entry, ticket))
+        Some((entry_of_record(record), ticket))
     }
 
-    /// Tells the listener of an entry that was removed: clones of its key and value, and that it had expired by its
+    /// Notifies the listener of an entry that was removed, with clones of its key and value: it had expired by its
     /// moments, or was removed explicitly. Without a listener nothing is cloned.
     ///
     /// # Errors
@@ -562,12 +551,7 @@ impl<
         if !self.is_removal_notifier_enabled() {
             return Ok(());
         }
-        let Ok(key) = entry.key.clone() else {
-            return Err(OutOfMemory);
-        };
-        let Ok(value) = entry.value.clone() else {
-            return Err(OutOfMemory);
-        };
+        let (key, value) = (entry.key.clone()?, entry.value.clone()?);
         let (written, read) = (entry.last_modified, entry.last_accessed);
         let cause = causes::cause_of_removal(&self.expiration_policy, written, read, now);
         self.notifier.notify(key, value, cause);
@@ -605,12 +589,22 @@ impl<
         requires own { IsIndexHash S.BuildHasher S.Hasher.Hasher self.now.hasher (K.hash_input key.now) own }
         ensures { ContainsStep P.says K.eq self.now.state key.now now.0 result }
     {
-        let moments = Moments {
+        let moments = self.moments(now);
+        gets::find_shown(&self.inner, &moments, &self.invalidator, (key, own)).is_some()
+    }
+
+    // What hides records at the moment `now`, but for predicates.
+    #[inline(always)]
+    fn moments(&self, now: Instant) -> Moments<'_, X>
+        ensures policy { result.policy.now ≡ expirations_of self.now.state.settings }
+        ensures valid_after { result.valid_after.now ≡ self.now.state.invalid_before }
+        ensures now { result.now ≡ now }
+    {
+        Moments {
             policy: &self.expiration_policy,
             valid_after: &self.valid_after,
             now,
-        };
-        gets::find_shown(&self.inner, &moments, &self.invalidator, (key, own)).is_some()
+        }
     }
 
     /// The key that the cache keeps for an equal one, visible or not. Nothing is recorded.
@@ -711,6 +705,19 @@ impl<
             now,
         };
         self.get_hashed(look, &mut NoTest, clock)
+    }
+}
+
+// What a removal hands out of the record that it took.
+#[inline]
+fn entry_of_record<K, V>(taken: Record<K, V>) -> KvEntry<K, V>
+    ensures { result ≡ entry_of taken }
+{
+    KvEntry {
+        key: taken.key,
+        value: taken.value,
+        last_modified: taken.written,
+        last_accessed: taken.read,
     }
 }
 

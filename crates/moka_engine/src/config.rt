@@ -233,8 +233,9 @@ impl<X, L, P, W> CacheConfig<X, L, P, W> {
         }
     }
 
-    /// The time limit, the repeats and the batch of the runs of maintenance that the cache starts itself, as
-    /// `run_pending_tasks` takes them. By default they are 100 milliseconds, 4 and 384.
+    /// Sets the limits of the runs that the housekeeper starts: the time limit, the repeats and the batch, as
+    /// `run_pending_tasks` takes them. By default they are 100 milliseconds, 4 and 384. `Cache::run_pending_tasks`, and
+    /// the run that empties a full queue, take no time limit and batches of 384.
     pub fn housekeeper_config(mut self, config: HousekeeperConfig) -> Self
         ensures { result ≡ record self {
           run_limit = as_nanos config.maintenance_task_timeout;

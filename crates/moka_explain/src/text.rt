@@ -186,6 +186,10 @@ impl fmt::Display for FateText {
             (Sight::Visible, Sight::Absent) if self.is_hit => {
                 f.write_str("removed, to make room, or expired or invalidated through the hit")
             }
+            // Nothing has to make room, so the run saw what the call's own moment does not show.
+            (Sight::Visible, Sight::Absent) if self.leaving.capacity.is_none() => {
+                f.write_str("removed, expired or invalidated at the moment of the run")
+            }
             (Sight::Visible, Sight::Absent) => f.write_str(match self.before.applied {
                 Some(true) => "evicted, to make room",
                 _ => self.leaving.reason(self.before.weight),

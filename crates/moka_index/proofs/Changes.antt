@@ -5,11 +5,12 @@ use Rattle.std.proofs.lemmas.List.{length-set}
 use Rattle.std.specs.Prelude.{slice_set}
 use Rattle.std.specs.FinMap.{FinMap, get, insert, remove, len}
 use Rattle.std.specs.Ordering.{nat_cmp}
+use Rattle.std.proofs.lemmas.Option.{same_Some}
 use Rattle.moka_index.specs.declared.group.Group.{Group}
 use Rattle.moka_index.specs.Group.{lane_hash, lane_place, entry_in, with_entry, without_lane, raised, home, HasLanes}
 use Rattle.moka_index.specs.Groups.{entry_at, group_at, pushed, with_reach, probe, distance, upto, entries_of, IsShaped, IsReached, IsGroups, IsExactAt, AreExactBut, IsTight}
 use Rattle.moka_index.proofs.Probes.{distance-probe}
-use Rattle.moka_index.proofs.Lanes.{entry-here, entry-free, entry-below, with-here, with-other, with-lanes, without-last, without-here, without-other, without-lanes, group-set, group-past_set, entry-inside, entry-at_lane, lane-group, some-same}
+use Rattle.moka_index.proofs.Lanes.{entry-here, entry-free, entry-below, with-here, with-other, with-lanes, without-last, without-here, without-other, without-lanes, group-set, group-past_set, entry-inside, entry-at_lane, lane-group}
 use Rattle.moka_index.proofs.Maps.{Becomes, becomes-insert_entry, becomes-removed, becomes-same, has-upto, found-upto, len-full}
 
 pub lanes-of : (groups : List Group) → IsGroups groups → (i : ℕ) → HasLanes (group_at groups i)
@@ -144,7 +145,7 @@ module _ (groups : List Group) (g : IsGroups groups) (first at step hash place :
   new-reached = record {
     within = λ q e h. elim (cases_eq q (7 * at + (group_at groups at).count)) as (λ _. distance (length groups) (home (length groups) e.1) (q / 7) ≤ (group_at new (home (length groups) e.1)).reach) [
       | inl s ↦
-          let e_is : e ≡ (place, hash) = some-same e (place, hash) (sym h ∙ ap (entry_at new) s ∙ here) in
+          let e_is : e ≡ (place, hash) = same_Some e (place, hash) (sym h ∙ ap (entry_at new) s ∙ here) in
           let begins : home (length groups) e.1 ≡ first = ap (λ (x : ℕ × ℕ). home (length groups) x.1) e_is ∙ sym from in
           let group_is : q / 7 ≡ at = ap (λ x. x / 7) s ∙ lane-group at (group_at groups at).count room in
           let far : distance (length groups) first at ≡ step = ap (distance (length groups) first) there ∙ distance-probe (length groups) first step first_in step_in in

@@ -2,13 +2,11 @@
 use Rattle.std.proofs.Common.{◌≡◌, ◌≢◌, ℕ, ◌+◌, ◌-◌, ◌*◌, ◌/◌, ◌%◌, ◌<◌, ◌≤◌, nat_lt, Some, None, List, length, inl, inr, sym, ap, ◌∙◌, arith}
 use Rattle.std.proofs.lemmas.Bool.{cases_lt, cond-true, cond-false, lt-ltb, le-ltb}
 use Rattle.std.proofs.lemmas.List.{get_or-set_same, get_or-set_other, get_or_past, length-set}
-use Rattle.std.specs.Prelude.{slice_set, unwrap_or}
+use Rattle.std.specs.Prelude.{slice_set}
+use Rattle.std.proofs.lemmas.Option.{same_Some}
 use Rattle.moka_index.specs.declared.group.Group.{Group}
 use Rattle.moka_index.specs.Group.{empty_group, lane_hash, lane_place, entry_in, with_entry, without_lane, HasLanes}
 use Rattle.moka_index.specs.Groups.{entry_at, group_at}
-
-pub some-same : (x y : ℕ × ℕ) → Some x ≡ Some y → x ≡ y
-some-same x y s = ap (λ o. unwrap_or o x) s
 
 -- ---- one group
 
@@ -30,7 +28,7 @@ pub entry-is : (g : Group) (lane p h : ℕ) → entry_in g lane ≡ Some (p, h) 
 entry-is g lane p h e =
     let l = entry-below g lane (p, h) e in
     let s : Some (lane_place g lane, lane_hash g lane) ≡ Some (p, h) = sym (entry-here g lane l) ∙ e in
-    let t = some-same (lane_place g lane, lane_hash g lane) (p, h) s in
+    let t = same_Some (lane_place g lane, lane_hash g lane) (p, h) s in
     (l, (ap (λ (e : ℕ × ℕ). e.0) t, ap (λ (e : ℕ × ℕ). e.1) t))
 
 module _ (g : Group) (lanes : HasLanes g) (hash place : ℕ) (room : g.count < 7) where

@@ -1,39 +1,33 @@
 -- The map that the lanes make, and how it follows a change of one lane.
-use Rattle.std.proofs.Common.{◌≡◌, ◌≢◌, ℕ, zero, suc, ◌+◌, ◌-◌, ◌<◌, ◌≤◌, true, false, Option, Some, None, ◌⊎◌, inl, inr, refl, sym, ap, subst, ◌∙◌, arith}
-use Rattle.std.proofs.lemmas.Bool.{cases_lt, cases_eq, cond-true, cond-false}
+use Rattle.std.proofs.Common.{◌≡◌, ◌≢◌, ℕ, zero, suc, ◌+◌, ◌-◌, ◌<◌, ◌≤◌, Option, Some, None, ◌⊎◌, inl, inr, refl, sym, ap, subst, ◌∙◌, arith}
+use Rattle.std.proofs.lemmas.Bool.{cases_lt, cases_eq, cond-true, cond-false, eq-eqb, ne_eqb}
 use Rattle.std.specs.Prelude.{is_some}
 use Rattle.std.specs.FinMap.{FinMap, get, insert, remove, empty, len, get-empty, get-insert, get-remove, same_map, nat_cmp-IsAntisymmetric, len-insert, len-remove, len-empty, empty_of_len}
 use Rattle.std.specs.Ordering.{nat_cmp, eq_by_cmp}
-use Rattle.std.specs.Cmp.{nat_cmp_total}
+use Rattle.std.specs.Cmp.{nat_cmp_total, unsigned_tied}
 use Rattle.moka_index.specs.Groups.{put_entry, upto, IsApart}
 
 pub option-cases : {X : Type 0} (o : Option X) → (o ≡ None) ⊎ ((x : X) × (o ≡ Some x))
 option-cases None = inl refl
 option-cases (Some x) = inr (x, refl)
 
-option-same : {X : Type 0} (a b : Option X) → ((x : X) → a ≡ Some x → b ≡ Some x) → ((x : X) → b ≡ Some x → a ≡ Some x) → a ≡ b
+pub option-same : {X : Type 0} (a b : Option X) → ((x : X) → a ≡ Some x → b ≡ Some x) → ((x : X) → b ≡ Some x → a ≡ Some x) → a ≡ b
 option-same None None p q = refl
 option-same None (Some y) p q = q y refl
 option-same (Some x) b p q = sym (p x refl)
 
-eq_self : (n : ℕ) → eq_by_cmp nat_cmp n n ≡ true
-eq_self n = grind arith
-
-eq_other : (q n : ℕ) → q ≢ n → eq_by_cmp nat_cmp q n ≡ false
-eq_other q n h = grind arith
-
 module _ {X : Type 0} where
   pub get-inserted : (m : FinMap nat_cmp X) (n : ℕ) (x : X) → get (insert m n x) n ≡ Some x
-  get-inserted m n x = get-insert nat_cmp_total m n x n ∙ cond-true (eq_by_cmp nat_cmp n n) (Some x) (get m n) (eq_self n)
+  get-inserted m n x = get-insert nat_cmp_total m n x n ∙ cond-true (eq_by_cmp nat_cmp n n) (Some x) (get m n) (unsigned_tied n n ∙ eq-eqb n n refl)
 
   pub get-past_insert : (m : FinMap nat_cmp X) (n : ℕ) (x : X) (q : ℕ) → q ≢ n → get (insert m n x) q ≡ get m q
-  get-past_insert m n x q h = get-insert nat_cmp_total m n x q ∙ cond-false (eq_by_cmp nat_cmp q n) (Some x) (get m q) (eq_other q n h)
+  get-past_insert m n x q h = get-insert nat_cmp_total m n x q ∙ cond-false (eq_by_cmp nat_cmp q n) (Some x) (get m q) (unsigned_tied q n ∙ ne_eqb q n h)
 
   pub get-removed : (m : FinMap nat_cmp X) (n : ℕ) → get (remove m n) n ≡ None
-  get-removed m n = get-remove nat_cmp_total m n n ∙ cond-true (eq_by_cmp nat_cmp n n) None (get m n) (eq_self n)
+  get-removed m n = get-remove nat_cmp_total m n n ∙ cond-true (eq_by_cmp nat_cmp n n) None (get m n) (unsigned_tied n n ∙ eq-eqb n n refl)
 
   pub get-past_remove : (m : FinMap nat_cmp X) (n q : ℕ) → q ≢ n → get (remove m n) q ≡ get m q
-  get-past_remove m n q h = get-remove nat_cmp_total m n q ∙ cond-false (eq_by_cmp nat_cmp q n) None (get m q) (eq_other q n h)
+  get-past_remove m n q h = get-remove nat_cmp_total m n q ∙ cond-false (eq_by_cmp nat_cmp q n) None (get m q) (unsigned_tied q n ∙ ne_eqb q n h)
 
   pub len-inserted : (m : FinMap nat_cmp X) (n : ℕ) (x : X) → get m n ≡ None → len (insert m n x) ≡ len m + 1
   len-inserted m n x h = len-insert nat_cmp_total m n x ∙ cond-false (is_some (get m n)) (len m) (len m + 1) (ap is_some h)

@@ -1,12 +1,13 @@
 -- What a search has seen so far.
 use Rattle.std.proofs.Common.{◌≡◌, ◌≢◌, ℕ, ◌+◌, ◌*◌, ◌-◌, ◌/◌, ◌%◌, ◌<◌, ◌≤◌, Some, List, length, ◌⊎◌, inl, inr, sym, ap, subst, ◌∙◌, arith}
 use Rattle.std.proofs.lemmas.Bool.{cases_eq}
+use Rattle.std.proofs.lemmas.Option.{same_Some}
 use Rattle.std_collections.specs.IndexTable.Group.{IsBitSet}
 use Rattle.moka_index.specs.declared.group.Group.{Group}
 use Rattle.moka_index.specs.Group.{entry_in, lane_hash, home}
 use Rattle.moka_index.specs.Groups.{group_at, entry_at, probe, distance, IsGroups, IsExactAt, AreExactBut, IsTight, StaysExact}
 use Rattle.moka_index.proofs.Probes.{home-lt, distance-lt, probe-distance}
-use Rattle.moka_index.proofs.Lanes.{entry-is, some-same}
+use Rattle.moka_index.proofs.Lanes.{entry-is}
 use Rattle.std_collections.proofs.IndexTableLemmas.Bits.{no_bit_zero}
 use Rattle.moka_index.proofs.Changes.{inside-of}
 
@@ -78,7 +79,7 @@ module _ (old mid : List Group) (group lane place hash first : ℕ) (len : lengt
   others-exact i ne = stays i (inl foreign) (tight.exact i)
     where
       foreign : (e : ℕ × ℕ) → entry_at old (7 * group + lane) ≡ Some e → home (length old) e.1 ≢ i
-      foreign e there = λ s. let same : e ≡ (place, hash) = some-same e (place, hash) (sym there ∙ at) in
+      foreign e there = λ s. let same : e ≡ (place, hash) = same_Some e (place, hash) (sym there ∙ at) in
           ne (sym s ∙ ap (λ (x : ℕ × ℕ). home (length old) x.1) same ∙ ap (λ n. home n hash) (sym len) ∙ sym first_is)
 
   -- that too, if it is 0 or ends in another group

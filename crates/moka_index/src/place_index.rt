@@ -1,5 +1,5 @@
 //! An index of places by the hashes of what lies there. It keeps no keys.
-ghost use Rattle.std.specs.Prelude.{◌≡◌, ℕ, ◌+◌, ◌*◌, ◌^◌, ◌<◌, ◌≤◌, min, true, false, IfSome, IfNone, OnOk, IsOk, None, Some, nat_eq};
+ghost use Rattle.std.specs.Prelude.{◌≡◌, ℕ, ◌+◌, ◌*◌, ◌^◌, ◌<◌, ◌≤◌, min, true, false, IfSome, IfNone, OnOk, OnErr, IsOk, None, Some, nat_eq};
 ghost use Rattle.std.specs.FinMap as finite;
 
 use crate::group::Group;
@@ -75,13 +75,15 @@ impl PlaceIndex {
         self.len() == 0
     }
 
-    /// Makes room for `additional` more places. If the index has to grow, it has afterwards room for twice as many
-    /// places as before, or for 2^34, so growth costs constant time a place. An error leaves the index as it was: there
-    /// is no memory, or the index would have more than 2^34 places.
+    /// Makes room for `additional` more places, and changes nothing where there is room. Where there is too little, the
+    /// places that fit are afterwards at least twice as many as before, or 2^34, so an index grows seldom as it fills.
+    /// An error leaves the index as it was: there is no memory, or the index would have more than 2^34 places.
     #[inline(always)]
     pub fn reserve(&mut self, additional: usize) -> Result<(), AllocError>
         ensures room { OnOk result (additional ≤ self.new.room) }
         ensures succeeds { additional ≤ self.old.room → IsOk result }
+        ensures enough { additional ≤ self.old.room → self.new ≡ self.old }
+        ensures err { OnErr result (self.new ≡ self.old) }
         ensures entries { self.new.entries ≡ self.old.entries }
         ensures kept { self.old.room ≤ self.new.room }
         ensures doubles { OnOk result (self.old.room < additional
@@ -100,6 +102,7 @@ impl PlaceIndex {
     fn grow(&mut self, additional: usize) -> Result<(), AllocError>
         requires { self.old.room < additional }
         ensures room { OnOk result (additional ≤ self.new.room) }
+        ensures err { OnErr result (self.new ≡ self.old) }
         ensures entries { self.new.entries ≡ self.old.entries }
         ensures kept { self.old.room ≤ self.new.room }
         ensures doubles { OnOk result (min (2 * (finite.len self.old.entries + self.old.room))

@@ -23,6 +23,7 @@ use Rattle.moka_parts.proofs.Waiting.{hands_out, waits_sent}
 use Rattle.moka_structures.specs.Pending.{Pending}
 use Rattle.moka_store.specs.Store.{Kept}
 use Rattle.moka_store.proofs.Gets.{after_insert, after_remove, get-inserted, get-past_insert, get-past_remove, len-kept, option-cases}
+use Rattle.moka_maintenance.proofs.Popped.{nothing_there}
 use Rattle.moka_maintenance.specs.declared.queued.PlacedWrite.{PlacedWrite}
 use Rattle.moka_maintenance.specs.declared.queued.QueuedWrite.{QueuedWrite}
 use Rattle.moka_maintenance.specs.declared.queued.QueuedRead.{QueuedRead}
@@ -351,8 +352,8 @@ inner-new {K} {V} kept out writes reads t records places items no_writes no_read
       located = record {
         given = λ k p there. absurd (nothing kept.places k p places there);
         handed = λ u w there. absurd (nothing out.items u w items there);
-        sent = λ q there. absurd (not_in_empty q there);
-        seen = λ q there. absurd (not_in_empty q there);
+        sent = λ q there. absurd (nothing_there q there);
+        seen = λ q there. absurd (nothing_there q there);
       };
       used = λ k p there. absurd (nothing kept.places k p places there);
       ticketed = λ u w there. absurd (nothing out.items u w items there);
@@ -366,6 +367,3 @@ inner-new {K} {V} kept out writes reads t records places items no_writes no_read
   where
     nothing : {X : Type 0} (m : FinMap nat_cmp X) (n : ℕ) (x : X) → m ≡ empty → get m n ≡ Some x → ⊥
     nothing {X} m n x e there = let none : get (empty {X = X} {R = nat_cmp}) n ≡ None = get-empty nat_cmp n in let same = ap (λ m. get m n) e in cc
-
-    not_in_empty : {A : Type 0} (q : A) → Contains [] q → ⊥
-    not_in_empty q h = (let lt = h.1 in omega arith)

@@ -21,12 +21,10 @@ use Rattle.moka_sketch.specs.Frequency.{Table}
 use Rattle.moka_maintenance.specs.Queues.{AreApplied, LeavesNoRowBy}
 use Rattle.moka_maintenance.specs.Steps.{Stock, AddsNoPlace, LeavesNoRow, IsStepped, contents_in, contents_with, stock_in}
 use Rattle.moka_maintenance.proofs.Seen.{steps-seen}
+use Rattle.moka_maintenance.proofs.Popped.{nothing_there}
 use Rattle.moka_inner.specs.Inner.{IsInner}
 use Rattle.moka_inner.specs.Interior.{operations_of}
 use Rattle.moka_inner.proofs.InnerLemmas.{inner-left}
-
-nothing_in : {A : Type 0} (q : A) → Contains [] q → ⊥
-nothing_in q h = (let lt = h.1 in omega arith)
 
 module _ {K V L S : Type 0} (tells : L → K → V → RemovalCause → L → Type 0) (kept after : Kept K V S) (out : Pending PlacedWrite) (writes : Buffer QueuedWrite) (reads : Buffer QueuedRead) (t n : ℕ) (h : IsInner kept out writes reads t n) (l m : Option L) where
   -- both queues were applied
@@ -35,7 +33,7 @@ module _ {K V L S : Type 0} (tells : L → K → V → RemovalCause → L → Ty
   inner-applied capacity policy sketch mid records places applied fewer rows =
       let keeps : Keeps mid.records after.records = subst (λ (c : Contents K V). Keeps mid.records c.records) (sym applied.led) (keeps_writes capacity policy (contents_with sketch mid) (writes_of writes.items) applied.moves) in
       let less : (k p : ℕ) → get after.places k ≡ Some p → get kept.places k ≡ Some p = λ k p there. subst (λ ps. get ps k ≡ Some p) places (fewer k p there) in
-      inner-left kept after out out writes reads t n h [] [] (λ q there. absurd (nothing_in q there)) (λ q there. absurd (nothing_in q there)) (omega arith) (omega arith) less
+      inner-left kept after out out writes reads t n h [] [] (λ q there. absurd (nothing_there q there)) (λ q there. absurd (nothing_there q there)) (omega arith) (omega arith) less
       (subst (λ (rs : Records K V). Keeps rs after.records) records keeps)
       (λ k p row gone.
       let before = rows k p row gone in

@@ -38,20 +38,17 @@ use moka_parts::policy::Instant;
 use moka_parts::record_ref::RecordRef;
 use moka_parts::records::{Operation, ReadOperation, Record};
 use moka_sketch::frequency_sketch::FrequencySketch;
-use moka_store::{Handle, IndexHash, Store, Update};
+use moka_store::{Handle, IndexHash, MOST_PLACES, Store, Update};
 use moka_structures::outstanding::Outstanding;
 use std::alloc::{AllocError, Global};
 use std::hash::{BuildHasher, Hash};
 use std::marker::Model;
 
+mod by_key_test;
 mod members;
-mod tested;
 
 // How many operations and how many reads can be queued. moka: `WRITE_LOG_SIZE`, `READ_LOG_SIZE`.
 const QUEUE_SIZE: usize = 384;
-
-// A row's place has 32 bits.
-const MOST_ROWS: usize = 1 << 32;
 
 /// What an inner part keeps beside its records, and for how many of them it has room at first.
 #[derive(Clone, Copy)]
@@ -196,13 +193,14 @@ impl<K: Eq + Hash, V, S: BuildHasher> Inner<K, V, S> {
         self.store.find_by_key(key, hash)
     }
 
-    /// Makes room for one more record with its operation and its removal.
+    /// Makes room for one more record with its operation and its removal, and changes nothing where there is room.
     #[inline(always)]
     pub fn reserve_record(&mut self) -> Result<(), InsertError>
         ensures used_up { (result ≡ Err NumbersUsedUp) ↔
             (2 ^ 64 ≤ self.old.next_ticket + finite.len self.old.kept.records + 1) }
         ensures rows { OnOk result (0 < self.new.kept.room) }
         ensures operations { OnOk result (1 < self.new.operation_room) }
+        ensures enough { 0 < self.old.kept.room → 1 < self.old.operation_room → self.new ≡ self.old }
         ensures rest { self.new ≡ record self.old {
           kept = record self.old.kept { room = self.new.kept.room };
           operation_room = self.new.operation_room;
@@ -218,12 +216,13 @@ impl<K: Eq + Hash, V, S: BuildHasher> Inner<K, V, S> {
         Ok(())
     }
 
-    /// Makes room for one more operation.
+    /// Makes room for one more operation, and changes nothing where there is room.
     #[inline(always)]
     pub fn reserve_operation(&mut self) -> Result<(), InsertError>
         ensures used_up { (result ≡ Err NumbersUsedUp) ↔
             (2 ^ 64 ≤ self.old.next_ticket + finite.len self.old.kept.records) }
         ensures operations { OnOk result (0 < self.new.operation_room) }
+        ensures enough { 0 < self.old.operation_room → self.new ≡ self.old }
         ensures rest { self.new ≡ record self.old { operation_room = self.new.operation_room } }
     {
         if !self.has_tickets(0) {
@@ -383,7 +382,8 @@ impl<K: Eq + Hash, V, S: BuildHasher> Inner<K, V, S> {
         } }
     {
         self.store.invariant_holds();
-        let place = (place % MOST_ROWS) as u32;
+        // A row's place has 32 bits.
+        let place = (place % MOST_PLACES) as u32;
         let _full = self.reads.try_push_back(QueuedRead::new(read, place));
     }
 
@@ -455,7 +455,7 @@ impl<K: Eq + Hash, V, S: BuildHasher> Inner<K, V, S> {
         ensures ran { IsRan L.tells P.says terms.tests C.reads (option_map as_nanos terms.limit)
             terms.batch self.old.kept.ordered
             invalidator.old invalidator.new (stock_in self.old.kept) (stock_in self.new.kept) notifier.old notifier.new
-            clock.old clock.new result.passes result.is_left }
+            clock.old clock.new result.passes result.has_more }
         ensures none { HasNoneDue terms.tests.now.0 self.new.kept }
         ensures timers { KeepsTimers self.old.kept self.new.kept }
         ensures rest { self.new ≡ record self.old { kept = self.new.kept; operation_room = self.new.operation_room } }

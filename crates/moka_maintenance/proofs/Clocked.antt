@@ -1,6 +1,7 @@
 -- The clock between passes.
 use Rattle.std.proofs.Common.{◌≡◌, refl, ℕ, zero, suc, ◌+◌, ◌-◌, Bool, true, false, true≢false, ◌||◌, nat_le, List, [], ◌∷◌, ◌++◌, length, take, slice_get, Option, Some, None, is_some, ap, sym, subst, ◌∙◌, arith}
 use Rattle.std.proofs.Math.Seq.{take-append_seam}
+use Rattle.std.proofs.Math.Bool.{or_assoc}
 use Rattle.std.specs.List.{list_any}
 use Rattle.moka_parts.specs.declared.policy.Instant.{Instant}
 use Rattle.moka_parts.specs.Surroundings.{Leads}
@@ -57,11 +58,7 @@ pub record IsChecked {C : Type 0} (reads : C → Instant → C → Type 0) (limi
 
 any-push : (f : Instant → Bool) (xs : List Instant) (x : Instant) → list_any f (xs ++ x ∷ []) ≡ (list_any f xs || f x)
 any-push f [] x = elim (f x) as (λ b. (b || false) ≡ (false || b)) [ true ↦ refl | false ↦ refl ]
-any-push f (y ∷ xs) x = ap (λ b. f y || b) (any-push f xs x) ∙ assoc (f y) (list_any f xs) (f x)
-  where
-    assoc : (a b c : Bool) → (a || (b || c)) ≡ ((a || b) || c)
-    assoc true b c = refl
-    assoc false b c = refl
+any-push f (y ∷ xs) x = ap (λ b. f y || b) (any-push f xs x) ∙ sym (or_assoc (f y) (list_any f xs) (f x))
 
 -- all but the last of these
 but_last : (xs : List Instant) (x : Instant) → take (length (xs ++ x ∷ []) - 1) (xs ++ x ∷ []) ≡ xs

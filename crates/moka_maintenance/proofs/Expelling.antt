@@ -1,5 +1,6 @@
 -- The front members leave, one after the other.
 use Rattle.std.proofs.Common.{◌≡◌, ◌≢◌, refl, ℕ, zero, suc, ◌-◌, ◌<◌, Bool, true, false, cond, not, ◌==◌, ◌&&◌, List, [], ◌∷◌, Option, Some, None, take, slice_get, ap, sym, subst, ◌∙◌, arith}
+use Rattle.std.proofs.lemmas.Bool.{and_parts}
 use Rattle.std.specs.Option.{option_map_or}
 use Rattle.std.specs.FinMap.{get, remove}
 use Rattle.std.specs.List.{IsDistinct, list_all}
@@ -11,13 +12,12 @@ use Rattle.moka_parts.specs.State.{Contents}
 use Rattle.moka_parts.specs.Writes.{left_with, without_victims}
 use Rattle.moka_parts.specs.Maintenance.{Removes, after_choice, left_by_choice}
 use Rattle.moka_parts.proofs.AccessList.{absent_taken_out, counted_taken_out, uncounted_taken_out}
-use Rattle.moka_parts.proofs.Counting.{front_once}
+use Rattle.moka_parts.proofs.Counting.{front_once, counted_front}
 use Rattle.moka_parts.proofs.Maps.{itself_tested}
 use Rattle.moka_store.proofs.Gets.{get-past_remove}
 use Rattle.moka_maintenance.specs.Chosen.{AreSettled}
 use Rattle.moka_maintenance.specs.Steps.{Told}
 use Rattle.moka_maintenance.proofs.Told.{told-on}
-use Rattle.moka_maintenance.proofs.Walk.{front_counted}
 
 -- of no members none is taken
 pub none_taken : (k : ℕ) (xs : List Member) → xs ≡ [] → take k xs ≡ []
@@ -40,19 +40,11 @@ front_leaves a (x ∷ xs) left once e some =
 -- one that is no member is another than the front
 pub not_front : (a : Member) (xs : List Member) (n : ℕ) → Some a ≡ slice_get xs 0 → counted_of n xs ≡ None → n ≢ a.number
 not_front a [] n e none same = cc
-not_front a (x ∷ xs) n e none same = (let is : x ≡ a = cc in let there = front_counted x xs in let at : counted_of x.number (x ∷ xs) ≡ None = subst (λ k. counted_of k (x ∷ xs) ≡ None) (same ∙ ap (λ (a : Member). a.number) (sym is)) none in cc)
+not_front a (x ∷ xs) n e none same = (let is : x ≡ a = cc in let there = counted_front x xs in let at : counted_of x.number (x ∷ xs) ≡ None = subst (λ k. counted_of k (x ∷ xs) ≡ None) (same ∙ ap (λ (a : Member). a.number) (sym is)) none in cc)
 
 module _ {K V : Type 0} (records : Records K V) (n : ℕ) where
   settled_past : (a : Member) → a.number ≢ n → is_settled (remove records n) a.number ≡ is_settled records a.number
   settled_past a other = ap (λ o. option_map_or is_applied o false) (get-past_remove records n a.number other)
-
-  right : (a b : Bool) → (a && b) ≡ true → b ≡ true
-  right true b e = e
-  right false b e = cc
-
-  left : (a b : Bool) → (a && b) ≡ true → a ≡ true
-  left true b e = refl
-  left false b e = e
 
   -- where a record leaves that is none of theirs, they stay settled
   pub settled_stay : (xs : List Member) (k : ℕ) → counted_of n xs ≡ None → list_all (λ a. is_settled records a.number) (take k xs) ≡ true → list_all (λ a. is_settled (remove records n) a.number) (take k xs) ≡ true
@@ -64,8 +56,8 @@ module _ {K V : Type 0} (records : Records K V) (n : ℕ) where
           → (is_settled (remove records n) x.number && list_all (λ a. is_settled (remove records n) a.number) (take k xs)) ≡ true
       go behind true e none = cc
       go behind false e none =
-          ap (λ b. b && list_all (λ a. is_settled (remove records n) a.number) (take k xs)) (settled_past x (λ same. (let is : (x.number == n) ≡ true = subst (λ m. (x.number == m) ≡ true) same (itself_tested x.number) in cc)) ∙ left (is_settled records x.number) (list_all (λ a. is_settled records a.number) (take k xs)) all)
-          ∙ behind none (right (is_settled records x.number) (list_all (λ a. is_settled records a.number) (take k xs)) all)
+          ap (λ b. b && list_all (λ a. is_settled (remove records n) a.number) (take k xs)) (settled_past x (λ same. (let is : (x.number == n) ≡ true = subst (λ m. (x.number == m) ≡ true) same (itself_tested x.number) in cc)) ∙ (and_parts (is_settled records x.number) (list_all (λ a. is_settled records a.number) (take k xs)) all).0)
+          ∙ behind none (and_parts (is_settled records x.number) (list_all (λ a. is_settled records a.number) (take k xs)) all).1
 
 module _ {K V : Type 0} (c d : Contents K V) (a : Member) (left : ℕ) (once : IsDistinct (◌==◌) (numbers_of c.access)) (first : Some a ≡ slice_get c.access 0) (some : 0 < left) (step : d ≡ after_choice c (Removes a.number Size)) where
   first_is : take left c.access ≡ a ∷ take (left - 1) (without_member a.number c.access)
@@ -90,8 +82,8 @@ module _ {K V : Type 0} (c d : Contents K V) (a : Member) (left : ℕ) (once : I
   victims_settled all =
       subst (λ (d : Contents K V). AreSettled d (take (left - 1) d.access)) (sym step)
       (settled_stay c.records a.number (without_member a.number c.access) (left - 1) (counted_taken_out a.number c.access)
-      (right c.records a.number (is_settled c.records a.number) (list_all (λ a. is_settled c.records a.number) (take (left - 1) (without_member a.number c.access)))
-      (subst (λ xs. list_all (λ a. is_settled c.records a.number) xs ≡ true) first_is all)))
+      (and_parts (is_settled c.records a.number) (list_all (λ a. is_settled c.records a.number) (take (left - 1) (without_member a.number c.access)))
+      (subst (λ xs. list_all (λ a. is_settled c.records a.number) xs ≡ true) first_is all)).1)
 
   -- a number that is no member stays outside, with its record
   pub outside_stays : (n : ℕ) → counted_of n c.access ≡ None → (counted_of n d.access ≡ None) × (get d.records n ≡ get c.records n)

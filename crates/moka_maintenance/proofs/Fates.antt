@@ -17,7 +17,7 @@ use Rattle.moka_parts.specs.Writes.{AreMoves, Fate, Ignored, Overtaken, Counted,
 use Rattle.moka_parts.specs.Maintenance.{Removes, after_choice}
 use Rattle.moka_parts.specs.Order.{IsListOf, written_after_fate}
 use Rattle.moka_parts.proofs.AccessList.{absent_taken_out}
-use Rattle.moka_store.proofs.Gets.{none-of}
+use Rattle.moka_store.proofs.Gets.{none_by_test}
 use Rattle.moka_store.proofs.Members.{absent_to_back}
 use Rattle.moka_maintenance.specs.Steps.{Told}
 use Rattle.moka_maintenance.specs.Queues.{IsApplied, IsCompared}
@@ -108,7 +108,7 @@ module _ {K V L : Type 0} (tells : L → K → V → RemovalCause → L → Type
 
         go : (b : Bool) → is_member number c.access ≡ b → IsApplied tells capacity policy ordered c d ns ms (Upsert number generation weight hash) l m
         go true there = by_fate [] Overtaken (fate_older seen ∙ ap older there) (inl refl) led listed (none same)
-        go false there = by_fate [] Ignored (fate_older seen ∙ ap older there) (inl refl) (led ∙ ap (λ xs. record c { access = xs }) (absent_to_back number c.access (none-of (counted_of number c.access) there))) (λ kept. listed kept ∙ unmoved kept there) (none same)
+        go false there = by_fate [] Ignored (fate_older seen ∙ ap older there) (inl refl) (led ∙ ap (λ xs. record c { access = xs }) (absent_to_back number c.access (none_by_test (counted_of number c.access) there))) (λ kept. listed kept ∙ unmoved kept there) (none same)
 
     -- its member goes to the back with the new weight
     pub applied-counted : r.applied < generation → is_member number c.access ≡ true → d ≡ entered number generation weight r (record c { access = without_member number c.access }) → (ordered ≡ true → ms ≡ number_to_back number ns) → m ≡ l → IsApplied tells capacity policy ordered c d ns ms (Upsert number generation weight hash) l m

@@ -1,17 +1,15 @@
 -- A map whose keys are all in another one has no more of them.
-use Rattle.std.proofs.Common.{◌≡◌, ℕ, zero, suc, ◌≤◌, true, List, [], ◌∷◌, length, Some, refl, ap, ◌∙◌, arith}
+use Rattle.std.proofs.Common.{◌≡◌, ℕ, zero, suc, ◌≤◌, List, [], ◌∷◌, length, Some, refl, ap, ◌∙◌, arith}
 use Rattle.std.proofs.lemmas.Bool.{cond-true}
 use Rattle.std.specs.Ordering.{nat_cmp, eq_by_cmp}
 use Rattle.std.specs.FinMap.{FinMap, entries, find, get, remove, len, get-entries, len-entries}
 use Rattle.moka_store.proofs.Gets.{after_remove, get-past_remove}
+use Rattle.moka_parts.proofs.Maps.{itself_ordered}
 use Rattle.moka_parts.proofs.Values.{len_removed}
 
 -- each key of the second is one of the first
 pub record AreKeysOf {X : Type 0} (old new : FinMap nat_cmp X) : Type 0 where
   pub key : (n : ℕ) (x : X) → get new n ≡ Some x → (y : X) × (get old n ≡ Some y)
-
-itself : (n : ℕ) → eq_by_cmp nat_cmp n n ≡ true
-itself n = grind arith
 
 module _ {X : Type 0} where
   -- a map that is not empty has a key
@@ -20,7 +18,7 @@ module _ {X : Type 0} where
     where
       at : (es : List (ℕ × X)) → entries m ≡ es → (n : ℕ) × (x : X) × (get m n ≡ Some x)
       at [] is = (let e = len-entries m ∙ ap length is in absurd (omega arith))
-      at (e ∷ es) is = (e.0, e.1, get-entries m e.0 ∙ ap (find nat_cmp e.0) is ∙ cond-true (eq_by_cmp nat_cmp e.0 e.0) (Some e.1) (find nat_cmp e.0 es) (itself e.0))
+      at (e ∷ es) is = (e.0, e.1, get-entries m e.0 ∙ ap (find nat_cmp e.0) is ∙ cond-true (eq_by_cmp nat_cmp e.0 e.0) (Some e.1) (find nat_cmp e.0 es) (itself_ordered e.0))
 
   without-both : (old new : FinMap nat_cmp X) (n : ℕ) → AreKeysOf old new → AreKeysOf (remove old n) (remove new n)
   without-both old new n h = record {

@@ -9,13 +9,13 @@ use Rattle.moka_parts.specs.State.{Contents}
 use Rattle.moka_parts.specs.Visibility.{SomeCovers, is_expired, is_written_before, is_read_before}
 use Rattle.moka_parts.specs.Maintenance as parts
 use Rattle.moka_parts.specs.Maintenance.{Choice, Removes, MovesToBack, Drops, HasGround, HasCause, after_choice, after_choices, is_past_read, is_past_write}
-use Rattle.moka_parts.specs.Grounds.{Ground, ByTimer, ByWrite, ByRead, ByPredicate, BySurplus, AreTaken, FollowsGrounds, LeavesBy, MayTake, grounds_of, grounds_of_pass, is_batched, is_sweep}
+use Rattle.moka_parts.specs.Grounds.{Ground, ByTimer, ByWrite, ByRead, ByPredicate, BySurplus, AreTaken, EndsStep, FollowsGrounds, LeavesBy, MayTake, grounds_of, grounds_of_pass, is_batched, is_sweep}
 use Rattle.moka_maintenance.specs.declared.sweep.Tests.{Tests}
 use Rattle.moka_maintenance.specs.declared.sweep.Sweep.{Sweep}
 use Rattle.moka_maintenance.specs.declared.sweep.Sweep.TheVariants.{Written, Read, Surplus}
 use Rattle.moka_maintenance.specs.Scanning.{MayScan}
 use Rattle.moka_maintenance.specs.Steps.{Stock, MayAll, MayRun, after_step, after_steps, contents_of}
-use Rattle.moka_maintenance.specs.Sweeps.{MayExpire, MayTurn, ground_of, tests_in}
+use Rattle.moka_maintenance.specs.Sweeps.{IsDone, MayExpire, MayTurn, ground_of, tests_in}
 use Rattle.moka_maintenance.proofs.Dropping.{choices-append}
 
 -- ---- the cause that a step tells fits the record
@@ -152,8 +152,8 @@ module _ {K V : Type 0} (Covered : Record K V → Type 0) (q : parts.Tests) wher
   all_taken May ground takes c (Drops i ∷ xs) may = (takes c (Drops i) may.0, all_taken May ground takes c xs may.1)
 
   -- those of one ground
-  pub grounds-one : (batch : ℕ) (May : Stock K V → Choice → Type 0) (ground : Ground) → ((c : Stock K V) (x : Choice) → May c x → MayTake Covered q ground (contents_of c) x) → (c : Stock K V) (xs : List Choice) → MayAll May c xs → (is_batched ground ≡ true → length xs ≤ batch) → FollowsGrounds Covered q batch (ground ∷ []) (contents_of c) xs
-  grounds-one batch May ground takes c xs may few = (xs, [], sym (append-nil xs), all_taken May ground takes c xs may, few, refl)
+  pub grounds-one : (batch : ℕ) (May : Stock K V → Choice → Type 0) (ground : Ground) → ((c : Stock K V) (x : Choice) → May c x → MayTake Covered q ground (contents_of c) x) → (c : Stock K V) (xs : List Choice) → MayAll May c xs → (is_batched ground ≡ true → length xs ≤ batch) → EndsStep q ground batch (length xs) (after_choices (contents_of c) xs) → FollowsGrounds Covered q batch (ground ∷ []) (contents_of c) xs
+  grounds-one batch May ground takes c xs may few ends = (xs, [], sym (append-nil xs), all_taken May ground takes c xs may, (few, ends), refl)
 
   grounds-append : (batch : ℕ) (gs hs : List Ground) (c : Contents K V) (xs ys : List Choice) → FollowsGrounds Covered q batch gs c xs → FollowsGrounds Covered q batch hs (after_choices c xs) ys → FollowsGrounds Covered q batch (gs ++ hs) c (xs ++ ys)
   grounds-append batch [] hs c xs ys none later =
@@ -198,6 +198,13 @@ module _ {K V : Type 0} (Covered : Record K V → Type 0) (q : parts.Tests) wher
   choices_sketched sketch c (MovesToBack n ∷ xs) = choices_sketched sketch (after_choice c (MovesToBack n)) xs
   choices_sketched sketch c (Drops i ∷ xs) = choices_sketched sketch c xs
 
+  ends_sketched : (ground : Ground) (batch choices : ℕ) (sketch : Option Table) (c : Contents K V) → EndsStep q ground batch choices c → EndsStep q ground batch choices (record c { sketch = sketch })
+  ends_sketched ByTimer batch choices sketch c h = h
+  ends_sketched ByWrite batch choices sketch c h = h
+  ends_sketched ByRead batch choices sketch c h = h
+  ends_sketched ByPredicate batch choices sketch c h = h
+  ends_sketched BySurplus batch choices sketch c h = h
+
   pub grounds-sketched : (batch : ℕ) (sketch : Option Table) (gs : List Ground) (c : Contents K V) (xs : List Choice) → FollowsGrounds Covered q batch gs c xs → FollowsGrounds Covered q batch gs (record c { sketch = sketch }) xs
   grounds-sketched batch sketch [] c xs h = h
   grounds-sketched batch sketch (g ∷ gs) c xs h = (
@@ -205,9 +212,21 @@ module _ {K V : Type 0} (Covered : Record K V → Type 0) (q : parts.Tests) wher
     h.1,
     h.2,
     taken_sketched g sketch c h.0 h.3,
-    h.4,
+    (h.4.0, subst (λ d. EndsStep q g batch (length h.0) d) (sym (choices_sketched sketch c h.0)) (ends_sketched g batch (length h.0) sketch (after_choices c h.0) h.4.1)),
     subst (λ d. FollowsGrounds Covered q batch gs d h.1) (sym (choices_sketched sketch c h.0)) (grounds-sketched batch sketch gs (after_choices c h.0) h.1 h.5),
   )
+
+-- where a sweep of the passes ended is where the step is to end
+ends_done : {K V : Type 0} (q : Tests) (sweep : Sweep) (batch turns : ℕ) (c : Stock K V) → IsDone q sweep batch turns c → EndsStep (tests_in q) (ground_of sweep) batch turns (contents_of c)
+ends_done q Written batch turns c h = tt
+ends_done q Read batch turns c (inl stopped) = inl stopped.0
+ends_done q Read batch turns c (inr spent) = inr spent
+ends_done q Surplus batch turns c (inl stopped) = inl stopped.0
+ends_done q Surplus batch turns c (inr spent) = inr spent
+
+pub ends-swept : {K V : Type 0} (q : Tests) (sweep : Sweep) (batch : ℕ) (a b : Stock K V) (xs : List Choice) → b ≡ after_steps a xs → IsDone q sweep batch (length xs) b → EndsStep (tests_in q) (ground_of sweep) batch (length xs) (after_choices (contents_of a) xs)
+ends-swept q sweep batch a b xs led h =
+    subst (λ d. EndsStep (tests_in q) (ground_of sweep) batch (length xs) d) (ap contents_of led ∙ stock_after (λ _. ⊥) (tests_in q) a xs) (ends_done q sweep batch (length xs) b h)
 
 -- one pass more
 last_pass : (passes : ℕ) → grounds_of (suc passes) ≡ grounds_of passes ++ grounds_of_pass

@@ -1,6 +1,6 @@
 -- The steps of a pass joined, and passes one after the other.
 use Rattle.std.proofs.Common.{◌≡◌, refl, ℕ, ◌+◌, ◌*◌, ◌<◌, ◌≤◌, ◌⊎◌, Bool, true, false, true≢false, not, ◌&&◌, ◌||◌, List, [], ◌∷◌, ◌++◌, length, Option, Some, None, is_some, inl, inr, ap, sym, subst, ◌∙◌, arith, append_assoc, if◌then◌else◌}
-use Rattle.std.proofs.lemmas.Bool.{cases_eq}
+use Rattle.std.proofs.lemmas.Bool.{cases_eq, or_parts, and_parts}
 use Rattle.std.proofs.lemmas.List.Folds.{list_all-append}
 use Rattle.std.specs.List.{list_all}
 use Rattle.std.specs.Duration.{as_nanos}
@@ -23,10 +23,10 @@ use Rattle.moka_maintenance.specs.declared.sweep.Sweep.{Sweep}
 use Rattle.moka_maintenance.specs.declared.sweep.Sweep.TheVariants.{Written, Read, Surplus}
 use Rattle.moka_maintenance.specs.Scanning.{MayScan, AreDropped, IsScanned}
 use Rattle.moka_maintenance.specs.Steps.{Stock, MayLeave, MayRun, MayAll, AreAllMembers, HasNoSettled, HasUnsettled, IsStepped, after_step, after_steps, contents_of, is_timely, makes_room, stock_in}
-use Rattle.moka_maintenance.specs.Sweeps.{tests_in, ground_of, IsAtRest, IsDone, AreAllTurns, MayTurn, MayExpire, IsSwept, ExpiresDue}
-use Rattle.moka_maintenance.specs.Passes.{is_taken, sweeps_reads, sweeps_writes, IsPass}
+use Rattle.moka_maintenance.specs.Sweeps.{tests_in, ground_of, is_taken, sweeps_reads, sweeps_writes, HasStopped, IsAtRest, IsDone, AreAllTurns, MayTurn, MayExpire, IsSwept, ExpiresDue}
+use Rattle.moka_maintenance.specs.Passes.{IsPass}
 use Rattle.moka_maintenance.proofs.Fronts.{within-not_over}
-use Rattle.moka_maintenance.proofs.Grounded.{expiry_takes, grounds-on, grounds-one, scan_takes, take_runs, turn_takes}
+use Rattle.moka_maintenance.proofs.Grounded.{ends-swept, expiry_takes, grounds-on, grounds-one, scan_takes, take_runs, turn_takes}
 use Rattle.moka_maintenance.proofs.Rounds.{each_unsettled, none_settled, still_there}
 use Rattle.moka_maintenance.proofs.Scanned.{dropped-later}
 use Rattle.moka_maintenance.proofs.Stepped.{length-on, may-also, members-steps, none-steps, removed-on, removed-few, run_leaves, scan_runs, shrinks, stepped-none, stepped-on, stepped-also}
@@ -34,16 +34,16 @@ use Rattle.moka_maintenance.proofs.Stepped.{length-on, may-also, members-steps, 
 -- ---- a step that is not taken
 
 module _ {K V L : Type 0} (tells : L → K → V → RemovalCause → L → Type 0) (q : Tests) where
-  pub swept-none : (sweep : Sweep) (batch : ℕ) (c : Stock K V) (l : Option L) → IsAtRest q sweep c → IsSwept tells q sweep batch c c l l 0 false
+  pub swept-none : (sweep : Sweep) (batch : ℕ) (c : Stock K V) (l : Option L) → HasStopped q sweep c → IsSwept tells q sweep batch c c l l 0 false
   unfolding stepped-none
-  swept-none sweep batch c l rest = record {
+  swept-none sweep batch c l stopped = record {
     by = stepped-none tells (MayTurn q sweep) c l;
     few = omega arith;
-    turns = inr rest;
+    turns = inr stopped;
     count = refl;
     full = λ is. absurd (true≢false (sym is));
     more = λ used some. absurd (omega arith);
-    rest = λ _. inr rest;
+    rest = λ _. inr stopped.0;
   }
 
   -- one that is taken with a batch of 0
@@ -57,8 +57,8 @@ module _ {K V L : Type 0} (tells : L → K → V → RemovalCause → L → Type
       all : (s a : ℕ) → s + a ≡ batch → a ≡ 0 → batch ≤ s
       all s a e none = omega arith
 
-      go : AreAllTurns q batch (length h.by.steps) b ⊎ IsAtRest q sweep b → IsDone q sweep batch (length h.by.steps) b
-      go (inr rest) = inl rest
+      go : AreAllTurns q batch (length h.by.steps) b ⊎ HasStopped q sweep b → IsDone q sweep batch (length h.by.steps) b
+      go (inr stopped) = inl stopped
       go (inl (rounds, made, inr none)) = inr (inl none)
       go (inl (rounds, made, inl none)) = inr (inr (all (length h.by.steps) (rounds * length b.access) made (ap (λ r. r * length b.access) none ∙ omega arith)))
 
@@ -71,17 +71,16 @@ no_bound : (o : Option Instant) (t : ℕ) → is_some o ≡ false → is_before 
 no_bound None t e = refl
 no_bound (Some i) t e = cc
 
-neither : (a b : Bool) → (a || b) ≡ false → (a ≡ false) × (b ≡ false)
-neither true b e = cc
-neither false b e = (refl, e)
-
 three : (a b c : Bool) → (a || b || c) ≡ false → (a ≡ false) × (c ≡ false)
-three a b c e = (let both = neither (a || b) c e in ((neither a b both.0).0, both.1))
+three a b c e = (let both = or_parts (a || b) c e in ((or_parts a b both.0).0, both.1))
 
-pub not_taken : {K V : Type 0} (q : Tests) (sweep : Sweep) (c : Stock K V) → is_taken q sweep c.access ≡ false → IsAtRest q sweep c
-not_taken q Read c e = λ n r front there. (let both = neither (is_some q.time_to_idle) (is_some q.valid_after) e in (no_duration as_nanos q.time_to_idle r.read.0 q.now.0 both.0, no_bound q.valid_after r.read.0 both.1))
-not_taken q Written c e = λ n r front there. (let both = three (is_some q.time_to_live) (is_some q.time_to_idle) (is_some q.valid_after) e in (no_duration as_nanos q.time_to_live r.written.0 q.now.0 both.0, no_bound q.valid_after r.written.0 both.1))
-not_taken q Surplus c e = within-not_over q.capacity c.access e
+at_rest : {K V : Type 0} (q : Tests) (sweep : Sweep) (c : Stock K V) → is_taken q sweep c.access ≡ false → IsAtRest q sweep c
+at_rest q Read c e = λ n r front there. (let both = or_parts (is_some q.time_to_idle) (is_some q.valid_after) e in (no_duration as_nanos q.time_to_idle r.read.0 q.now.0 both.0, no_bound q.valid_after r.read.0 both.1))
+at_rest q Written c e = λ n r front there. (let both = three (is_some q.time_to_live) (is_some q.time_to_idle) (is_some q.valid_after) e in (no_duration as_nanos q.time_to_live r.written.0 q.now.0 both.0, no_bound q.valid_after r.written.0 both.1))
+at_rest q Surplus c e = within-not_over q.capacity c.access e
+
+pub not_taken : {K V : Type 0} (q : Tests) (sweep : Sweep) (c : Stock K V) → is_taken q sweep c.access ≡ false → HasStopped q sweep c
+not_taken q sweep c e = (at_rest q sweep c e, λ is. absurd (true≢false (sym is ∙ e)))
 
 -- ---- steps by moments
 
@@ -149,11 +148,7 @@ all_scanned says ps c (MovesToBack n ∷ xs) may = absurd may.0
 all_scanned says ps c (Drops i ∷ xs) may = absurd may.0
 
 pub both_make_room : (xs ys : List Choice) → list_all makes_room (xs ++ ys) ≡ true → (list_all makes_room xs ≡ true) × (list_all makes_room ys ≡ true)
-both_make_room xs ys all = go (list_all makes_room xs) (list_all makes_room ys) (sym (list_all-append makes_room xs ys) ∙ all)
-  where
-    go : (a b : Bool) → (a && b) ≡ true → (a ≡ true) × (b ≡ true)
-    go true b e = (refl, e)
-    go false b e = cc
+both_make_room xs ys all = and_parts (list_all makes_room xs) (list_all makes_room ys) (sym (list_all-append makes_room xs ys) ∙ all)
 
 empty_list : {A : Type 0} (xs : List A) → length xs ≤ 0 → xs ≡ []
 empty_list [] h = refl
@@ -230,7 +225,7 @@ module _ {K V L P : Type 0} (tells : L → K → V → RemovalCause → L → Ty
 -- ---- a pass
 
 -- done after more turns
-still_done : {K V : Type 0} (q : Tests) (sweep : Sweep) (batch some more : ℕ) (c : Stock K V) → some ≤ more → IsDone q sweep batch some c → IsDone q sweep batch more c
+pub still_done : {K V : Type 0} (q : Tests) (sweep : Sweep) (batch some more : ℕ) (c : Stock K V) → some ≤ more → IsDone q sweep batch some c → IsDone q sweep batch more c
 still_done q sweep batch some more c le (inl rest) = inl rest
 still_done q sweep batch some more c le (inr (inl none)) = inr (inl none)
 still_done q sweep batch some more c le (inr (inr all)) = inr (inr (omega arith))
@@ -342,9 +337,9 @@ module _ {K V L P S : Type 0} (tells : L → K → V → RemovalCause → L → 
   -- the steps one after the other, each with its own causes
   ordered_moments : FollowsGrounds Covered (tests_in q) batch (ByTimer ∷ ByWrite ∷ ByRead ∷ []) (contents_of a) moments.by.steps
   ordered_moments =
-      let timers = grounds-one Covered (tests_in q) batch (MayExpire q) ByTimer (expiry_takes says ps q) a by_timers.by.steps by_timers.by.may (λ e. absurd (true≢false (sym e))) in
-      let writes = grounds-one Covered (tests_in q) batch (MayTurn q Written) ByWrite (turn_takes says ps q Written) b by_write.by.steps by_write.by.may (λ _. by_write.few) in
-      let reads = grounds-one Covered (tests_in q) batch (MayTurn q Read) ByRead (turn_takes says ps q Read) c by_read.by.steps by_read.by.may (λ _. by_read.few) in
+      let timers = grounds-one Covered (tests_in q) batch (MayExpire q) ByTimer (expiry_takes says ps q) a by_timers.by.steps by_timers.by.may (λ e. absurd (true≢false (sym e))) tt in
+      let writes = grounds-one Covered (tests_in q) batch (MayTurn q Written) ByWrite (turn_takes says ps q Written) b by_write.by.steps by_write.by.may (λ _. by_write.few) (ends-swept q Written batch b c by_write.by.steps by_write.by.led (swept-done tells q Written batch b c m n wrote x by_write)) in
+      let reads = grounds-one Covered (tests_in q) batch (MayTurn q Read) ByRead (turn_takes says ps q Read) c by_read.by.steps by_read.by.may (λ _. by_read.few) (ends-swept q Read batch c d by_read.by.steps by_read.by.led (swept-done tells q Read batch c d n o read y by_read)) in
       let both = grounds-on Covered (tests_in q) batch (ByTimer ∷ []) (ByWrite ∷ []) a b by_timers.by.steps by_write.by.steps by_timers.by.led timers writes in
       subst (λ xs. FollowsGrounds Covered (tests_in q) batch (ByTimer ∷ ByWrite ∷ ByRead ∷ []) (contents_of a) xs) (sym moments_are)
       (grounds-on Covered (tests_in q) batch (ByTimer ∷ ByWrite ∷ []) (ByRead ∷ []) a c first.by.steps by_read.by.steps first.by.led (subst (λ xs. FollowsGrounds Covered (tests_in q) batch (ByTimer ∷ ByWrite ∷ []) (contents_of a) xs) (sym first_are) both) reads)
@@ -352,8 +347,8 @@ module _ {K V L P S : Type 0} (tells : L → K → V → RemovalCause → L → 
   ordered : FollowsGrounds Covered (tests_in q) batch grounds_of_pass (contents_of a) (scanned.by.steps ++ last.steps)
   unfolding last stepped-also
   ordered =
-      let scan = grounds-one Covered (tests_in q) batch (MayScan says ps) ByPredicate (scan_takes says ps (tests_in q)) d by_scan.by.steps by_scan.by.may (λ _. (let few = by_scan.few in let most = by_scan.goes.most in omega arith)) in
-      let last_of = grounds-one Covered (tests_in q) batch (MayTurn q Surplus) BySurplus (turn_takes says ps q Surplus) f surplus.by.steps surplus.by.may (λ _. surplus.few) in
+      let scan = grounds-one Covered (tests_in q) batch (MayScan says ps) ByPredicate (scan_takes says ps (tests_in q)) d by_scan.by.steps by_scan.by.may (λ _. (let few = by_scan.few in let most = by_scan.goes.most in omega arith)) tt in
+      let last_of = grounds-one Covered (tests_in q) batch (MayTurn q Surplus) BySurplus (turn_takes says ps q Surplus) f surplus.by.steps surplus.by.may (λ _. surplus.few) (ends-swept q Surplus batch f e surplus.by.steps surplus.by.led (swept-done tells q Surplus batch f e u p room z surplus)) in
       let four = grounds-on Covered (tests_in q) batch (ByTimer ∷ ByWrite ∷ ByRead ∷ []) (ByPredicate ∷ []) a d moments.by.steps by_scan.by.steps moments.by.led ordered_moments scan in
       grounds-on Covered (tests_in q) batch (ByTimer ∷ ByWrite ∷ ByRead ∷ ByPredicate ∷ []) (BySurplus ∷ []) a f scanned.by.steps surplus.by.steps scanned.by.led (subst (λ xs. FollowsGrounds Covered (tests_in q) batch (ByTimer ∷ ByWrite ∷ ByRead ∷ ByPredicate ∷ []) (contents_of a) xs) (sym scanned_are) four) last_of
 
@@ -369,8 +364,19 @@ module _ {K V L P S : Type 0} (tells : L → K → V → RemovalCause → L → 
     λ is. subst (λ s. HasUnsettled s ⊎ IsAtRest q Written s) first.by.led (by_write.rest (first_left is)),
   )
 
-  reads_done : IsDone q Read batch (length moments.by.steps) (after_steps a moments.by.steps)
-  reads_done = subst (λ s. IsDone q Read batch (length moments.by.steps) s) moments.by.led (still_done q Read batch (length by_read.by.steps) (length moments.by.steps) d read_steps (swept-done tells q Read batch c d n o read y by_read))
+  second_left : (x || y || z) ≡ false → y ≡ false
+  second_left = go x y
+    where
+      go : (t u : Bool) → (t || u || z) ≡ false → u ≡ false
+      go true u is = cc
+      go false true is = cc
+      go false false is = refl
+
+  reads_done : IsDone q Read batch (length moments.by.steps) (after_steps a moments.by.steps) × ((x || y || z) ≡ false → HasUnsettled (after_steps a moments.by.steps) ⊎ IsAtRest q Read (after_steps a moments.by.steps))
+  reads_done = (
+    subst (λ s. IsDone q Read batch (length moments.by.steps) s) moments.by.led (still_done q Read batch (length by_read.by.steps) (length moments.by.steps) d read_steps (swept-done tells q Read batch c d n o read y by_read)),
+    λ is. subst (λ s. HasUnsettled s ⊎ IsAtRest q Read s) moments.by.led (by_read.rest (second_left is)),
+  )
 
   used_last : IsDone q Surplus batch (length (scanned.by.steps ++ last.steps)) e
   used_last = still_done q Surplus batch (length surplus.by.steps) (length (scanned.by.steps ++ last.steps)) e (let all = many_steps in omega arith) (swept-done tells q Surplus batch f e u p room z surplus)
@@ -424,7 +430,7 @@ module _ {K V L P S : Type 0} (tells : L → K → V → RemovalCause → L → 
     turned = used_up;
     used = used_last;
     writes_swept = (first.by.steps, by_read.by.steps ++ (by_scan.by.steps ++ last.steps), ap (λ zs. zs ++ last.steps) (scanned_are ∙ ap (λ zs. zs ++ by_scan.by.steps) moments_are) ∙ append_assoc (first.by.steps ++ by_read.by.steps) by_scan.by.steps last.steps ∙ append_assoc first.by.steps by_read.by.steps (by_scan.by.steps ++ last.steps), writes_done.0, writes_done.1);
-    reads_swept = (moments.by.steps, by_scan.by.steps ++ last.steps, ap (λ zs. zs ++ last.steps) scanned_are ∙ append_assoc moments.by.steps by_scan.by.steps last.steps, reads_done);
+    reads_swept = (moments.by.steps, by_scan.by.steps ++ last.steps, ap (λ zs. zs ++ last.steps) scanned_are ∙ append_assoc moments.by.steps by_scan.by.steps last.steps, reads_done.0, reads_done.1);
     idle = λ none.
         ap (λ t. t || y || z) (wrote_due none) ∙ ap (λ t. sweeps_writes q || t || z) (read_due none) ∙ ap (λ t. sweeps_writes q || sweeps_reads q || t) (over none ∙ ap (is_over q.capacity) (unmoved none))
         ∙ idle_sweeps (is_some q.time_to_live) (is_some q.time_to_idle) (is_some q.valid_after) (is_over q.capacity e.access);

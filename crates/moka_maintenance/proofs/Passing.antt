@@ -1,5 +1,6 @@
 -- Passes one after the other.
 use Rattle.std.proofs.Common.{◌≡◌, refl, ℕ, ◌+◌, ◌-◌, ◌*◌, ◌/◌, ◌≤◌, ◌⊎◌, Bool, true, false, true≢false, nat_lt, ◌&&◌, ◌||◌, List, [], ◌++◌, Contains, length, Option, inl, inr, ap, sym, subst, ◌∙◌, arith, append_assoc, if◌then◌else◌}
+use Rattle.std.proofs.Math.Bool.{or-false, or-true}
 use Rattle.std.proofs.lemmas.Nat.{div-mul-add}
 use Rattle.std.specs.FinMap.{get}
 use Rattle.std.specs.List.{list_all}
@@ -22,7 +23,7 @@ use Rattle.moka_maintenance.proofs.Grounded.{grounds-also, grounds-next, grounds
 use Rattle.moka_maintenance.proofs.Rounds.{still_there}
 use Rattle.moka_maintenance.proofs.Scanned.{covers_fewer, dropped-later, dropped-none, dropped-on, kept_there, nothing_kept}
 use Rattle.moka_maintenance.proofs.Stepped.{fewer_run, may-also, members-steps, steps-append, length-on, removed-on, run_leaves, shrinks, stepped-also, stepped-none, stepped-on}
-use Rattle.moka_maintenance.proofs.PassSteps.{both_make_room}
+use Rattle.moka_maintenance.proofs.PassSteps.{both_make_room, still_done}
 use Rattle.moka_maintenance.proofs.Clocked.{Clocked, IsChecked, clocked_ends}
 
 -- another pass is due where more is left and a record was removed
@@ -106,11 +107,7 @@ module _ {K V L P : Type 0} (tells : L → K → V → RemovalCause → L → Ty
 
   -- without predicates the sweeps alone leave more
   by_sweeps : ps ≡ [] → (more || scan) ≡ true → more ≡ true
-  by_sweeps none is = sym (ap (λ b. more || b) (p.unregistered (none_yet none)) ∙ or_false more) ∙ is
-    where
-      or_false : (b : Bool) → (b || false) ≡ b
-      or_false true = refl
-      or_false false = refl
+  by_sweeps none is = sym (ap (λ b. more || b) (p.unregistered (none_yet none)) ∙ or-false more) ∙ is
 
   -- each record is still a settled member, and there are no more of them
   pub predicates_gone : ordered ≡ true → length first.access ≤ batch → AreAllMembers first → qs ≡ []
@@ -142,30 +139,35 @@ module _ {K V L P : Type 0} (tells : L → K → V → RemovalCause → L → Ty
   turned_all none sweep c turns more e (inr (inl unsettled)) = inr (inl unsettled)
   turned_all none sweep c turns more e (inr (inr all)) = inr (inr (one_more passes batch (length h.by.steps) turns more (h.turned none) all e))
 
-  used_all : ps ≡ [] → IsDone q Surplus ((passes + 1) * batch) (length (h.by.steps ++ p.by.steps)) next
-  used_all none = turned_all none Surplus next (length p.by.steps) (length (h.by.steps ++ p.by.steps)) (length-on h.by.steps p.by.steps) p.used
+  -- the turns of the last pass are among all
+  turned_once : (sweep : Sweep) (c : Stock K V) (turns more : ℕ) → more ≡ length h.by.steps + turns → IsDone q sweep batch turns c → IsDone q sweep batch more c
+  turned_once sweep c turns more e done = still_done q sweep batch turns more c (omega arith) done
 
-  read_all : (xs ys : List Choice) × (h.by.steps ++ p.by.steps ≡ xs ++ ys) × (ps ≡ [] → IsDone q Read ((passes + 1) * batch) (length xs) (after_steps first xs))
-  read_all =
-      let at = p.reads_swept in
+  used_all : IsDone q Surplus batch (length (h.by.steps ++ p.by.steps)) next × (ps ≡ [] → IsDone q Surplus ((passes + 1) * batch) (length (h.by.steps ++ p.by.steps)) next)
+  used_all =
+      let both = length-on h.by.steps p.by.steps in (
+        turned_once Surplus next (length p.by.steps) (length (h.by.steps ++ p.by.steps)) both p.used,
+        λ none. turned_all none Surplus next (length p.by.steps) (length (h.by.steps ++ p.by.steps)) both p.used,
+      )
+
+  -- where the last sweep of that kind came to, after some steps of the last pass
+  swept_all : (sweep : Sweep) → (xs ys : List Choice) × (p.by.steps ≡ xs ++ ys) × IsDone q sweep batch (length xs) (after_steps now xs) × (more ≡ false → HasUnsettled (after_steps now xs) ⊎ IsAtRest q sweep (after_steps now xs)) →
+      (xs ys : List Choice) × (h.by.steps ++ p.by.steps ≡ xs ++ ys) × IsDone q sweep batch (length xs) (after_steps first xs) × (ps ≡ [] → IsDone q sweep ((passes + 1) * batch) (length xs) (after_steps first xs)) × (more ≡ false → HasUnsettled (after_steps first xs) ⊎ IsAtRest q sweep (after_steps first xs))
+  swept_all sweep at =
       let met : after_steps now at.0 ≡ after_steps first (h.by.steps ++ at.0) = ap (λ c. after_steps c at.0) h.by.led ∙ sym (steps-append first h.by.steps at.0) in (
         h.by.steps ++ at.0,
         at.1,
         ap (λ zs. h.by.steps ++ zs) at.2 ∙ sym (append_assoc h.by.steps at.0 at.1),
-        λ none. subst (λ c. IsDone q Read ((passes + 1) * batch) (length (h.by.steps ++ at.0)) c) met (turned_all none Read (after_steps now at.0) (length at.0) (length (h.by.steps ++ at.0)) (length-on h.by.steps at.0) at.3),
+        subst (λ c. IsDone q sweep batch (length (h.by.steps ++ at.0)) c) met (turned_once sweep (after_steps now at.0) (length at.0) (length (h.by.steps ++ at.0)) (length-on h.by.steps at.0) at.3),
+        λ none. subst (λ c. IsDone q sweep ((passes + 1) * batch) (length (h.by.steps ++ at.0)) c) met (turned_all none sweep (after_steps now at.0) (length at.0) (length (h.by.steps ++ at.0)) (length-on h.by.steps at.0) at.3),
+        λ is. subst (λ c. HasUnsettled c ⊎ IsAtRest q sweep c) met (at.4 is),
       )
 
-  -- where the last sweep by the last write came to
-  wrote_all : (xs ys : List Choice) × (h.by.steps ++ p.by.steps ≡ xs ++ ys) × (ps ≡ [] → IsDone q Written ((passes + 1) * batch) (length xs) (after_steps first xs)) × (more ≡ false → HasUnsettled (after_steps first xs) ⊎ IsAtRest q Written (after_steps first xs))
-  wrote_all =
-      let at = p.writes_swept in
-      let met : after_steps now at.0 ≡ after_steps first (h.by.steps ++ at.0) = ap (λ c. after_steps c at.0) h.by.led ∙ sym (steps-append first h.by.steps at.0) in (
-        h.by.steps ++ at.0,
-        at.1,
-        ap (λ zs. h.by.steps ++ zs) at.2 ∙ sym (append_assoc h.by.steps at.0 at.1),
-        λ none. subst (λ c. IsDone q Written ((passes + 1) * batch) (length (h.by.steps ++ at.0)) c) met (turned_all none Written (after_steps now at.0) (length at.0) (length (h.by.steps ++ at.0)) (length-on h.by.steps at.0) at.3),
-        λ is. subst (λ c. HasUnsettled c ⊎ IsAtRest q Written c) met (at.4 is),
-      )
+  wrote_all : (xs ys : List Choice) × (h.by.steps ++ p.by.steps ≡ xs ++ ys) × IsDone q Written batch (length xs) (after_steps first xs) × (ps ≡ [] → IsDone q Written ((passes + 1) * batch) (length xs) (after_steps first xs)) × (more ≡ false → HasUnsettled (after_steps first xs) ⊎ IsAtRest q Written (after_steps first xs))
+  wrote_all = swept_all Written p.writes_swept
+
+  read_all : (xs ys : List Choice) × (h.by.steps ++ p.by.steps ≡ xs ++ ys) × IsDone q Read batch (length xs) (after_steps first xs) × (ps ≡ [] → IsDone q Read ((passes + 1) * batch) (length xs) (after_steps first xs)) × (more ≡ false → HasUnsettled (after_steps first xs) ⊎ IsAtRest q Read (after_steps first xs))
+  read_all = swept_all Read p.reads_swept
 
   module _ {C : Type 0} (reads : C → Instant → C → Type 0) (limit : Option ℕ) (started : Option Instant) (c d e : C) where
     -- the last pass, after which the clock is not read
@@ -185,31 +187,23 @@ module _ {K V L P : Type 0} (tells : L → K → V → RemovalCause → L → Ty
       untimed = k.untimed;
       ends = clocked_ends k;
       whole = λ _ some is. p.scan_more (sym (ap (λ b. b || scan) (swept some)) ∙ is);
-      unfinished = λ order _ some there. elim (p.unfinished order some there) [ inl is ↦ inl (ap (λ b. more || b) is ∙ or_true more) | inr none ↦ inr none ];
+      unfinished = λ order _ some there. elim (p.unfinished order some there) [ inl is ↦ inl (ap (λ b. more || b) is ∙ or-true more) | inr none ↦ inr none ];
       cut = λ late. absurd (true≢false (sym late ∙ k.early));
       removing = λ late. absurd (true≢false (sym late ∙ k.early));
       rest = λ _ some. p.rest (swept some);
       used = used_all;
-      writes_swept = (wrote_all.0, wrote_all.1, wrote_all.2, wrote_all.3, λ _ some. wrote_all.4 (swept some));
-      reads_swept = read_all;
+      writes_swept = (wrote_all.0, wrote_all.1, wrote_all.2, wrote_all.3, wrote_all.4, λ _ some. wrote_all.5 (swept some));
+      reads_swept = (read_all.0, read_all.1, read_all.2, read_all.3, read_all.4, λ _ some. read_all.5 (swept some));
       exact = λ _ some none all.
           (let rooms = both_make_room h.by.steps p.by.steps all in
           let total = counted_all rooms.1 ∙ ap (λ k. k + removed) (h.exact none rooms.0) in
           let whole = ap (λ k. k / batch) total ∙ div-mul-add passes batch removed (p.fewer (swept some) some rooms.1) in
           sym (ap (λ k. k + 1) whole));
-      idle = λ none. ap (λ b. more || b) (p.scan_idle none) ∙ or_false more ∙ p.idle none;
+      idle = λ none. ap (λ b. more || b) (p.scan_idle none) ∙ or-false more ∙ p.idle none;
       batch_used = λ late. absurd (true≢false (sym late ∙ k.early));
       predicates = predicates_gone;
     }
       where
-        or_true : (b : Bool) → (b || true) ≡ true
-        or_true true = refl
-        or_true false = refl
-
-        or_false : (b : Bool) → (b || false) ≡ b
-        or_false true = refl
-        or_false false = refl
-
         -- the sweeps leave nothing
         swept : 1 ≤ batch → more ≡ false
         swept some = decide more refl
@@ -240,18 +234,14 @@ module _ {K V L P : Type 0} (tells : L → K → V → RemovalCause → L → Ty
       removing = λ _. (let f = h.few in let c = counted in omega arith);
       rest = λ early. absurd (true≢false (sym k.lateness ∙ early));
       used = used_all;
-      writes_swept = (wrote_all.0, wrote_all.1, wrote_all.2, wrote_all.3, λ early. absurd (true≢false (sym k.lateness ∙ early)));
-      reads_swept = read_all;
+      writes_swept = (wrote_all.0, wrote_all.1, wrote_all.2, wrote_all.3, wrote_all.4, λ early. absurd (true≢false (sym k.lateness ∙ early)));
+      reads_swept = (read_all.0, read_all.1, read_all.2, read_all.3, read_all.4, λ early. absurd (true≢false (sym k.lateness ∙ early)));
       exact = λ early. absurd (true≢false (sym k.lateness ∙ early));
-      idle = λ none. sym is ∙ ap (λ b. more || b) (p.scan_idle none) ∙ or_false more ∙ p.idle none;
+      idle = λ none. sym is ∙ ap (λ b. more || b) (p.scan_idle none) ∙ or-false more ∙ p.idle none;
       batch_used = λ _ one none all. first_batch none (omega arith) all;
       predicates = predicates_gone;
     }
       where
-        or_false : (b : Bool) → (b || false) ≡ b
-        or_false true = refl
-        or_false false = refl
-
         first_batch : ps ≡ [] → passes ≡ 0 → list_all makes_room (h.by.steps ++ p.by.steps) ≡ true → length (removed_by (h.by.steps ++ p.by.steps)) ≡ batch
         first_batch unregistered start all =
             let none = h.none start in

@@ -1,9 +1,7 @@
 -- What is taken from the front of a list.
 use Rattle.std.proofs.Common.{◌≡◌, ◌<◌, ◌⊎◌, ℕ, zero, suc, List, [], ◌∷◌, None, length, slice_get, get_or, Contains, inl, inr, refl, sym, subst, arith}
 use Rattle.std.proofs.lemmas.List.Elements.{Contains-append_right}
-
-first_of_cons : {A : Type 0} (x : A) (xs : List A) → Contains (x ∷ xs) x
-first_of_cons x xs = (0, omega arith, refl)
+use Rattle.moka_store.proofs.Nodes.{here}
 
 at_cases : {A : Type 0} (x y : A) (xs : List A) (k : ℕ) → k < length (x ∷ xs) → get_or (x ∷ xs) k y ≡ y → (x ≡ y) ⊎ Contains xs y
 at_cases x y xs zero lt e = inl e
@@ -24,13 +22,8 @@ nothing_there x h = (let lt = h.1 in omega arith)
 
 -- the first of a list that is split is in it
 pub first_is : {A : Type 0} (xs : List A) (x : A) (rest : List A) → xs ≡ x ∷ rest → Contains xs x
-first_is xs x rest e = subst (λ ys. Contains ys x) (sym e) (first_of_cons x rest)
+first_is xs x rest e = subst (λ ys. Contains ys x) (sym e) (here x rest)
 
 -- and so is what is behind it
 pub behind_in : {A : Type 0} (xs : List A) (x y : A) (rest : List A) → xs ≡ x ∷ rest → Contains rest y → Contains xs y
 behind_in xs x y rest e there = subst (λ ys. Contains ys y) (sym e) (Contains-append_right (x ∷ []) rest y there)
-
--- a list of no length is empty
-pub nothing_in : {A : Type 0} (xs : List A) → length xs ≡ 0 → xs ≡ []
-nothing_in [] e = refl
-nothing_in (a ∷ xs) e = absurd (omega (arith, e))

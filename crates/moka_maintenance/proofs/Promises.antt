@@ -1,5 +1,6 @@
 -- What applying the queues and the passes make of a state is a run of the reference cache that keeps its promises.
-use Rattle.std.proofs.Common.{◌≡◌, refl, ℕ, ◌+◌, ◌-◌, ◌*◌, ◌/◌, ◌<◌, ◌≤◌, ◌++◌, Bool, true, false, true≢false, not, ◌==◌, ◌&&◌, ◌||◌, List, [], ◌∷◌, length, ◌⊎◌, inl, inr, Option, Some, None, is_some, option_map, ap, sym, subst, ◌∙◌, arith, append-nil, append_assoc, eqb→eq, if◌then◌else◌}
+use Rattle.std.proofs.Common.{◌≡◌, refl, ℕ, ◌+◌, ◌-◌, ◌*◌, ◌/◌, ◌<◌, ◌≤◌, ◌++◌, Bool, true, false, true≢false, not, ◌==◌, ◌&&◌, ◌||◌, List, [], ◌∷◌, length, ◌⊎◌, inl, inr, Option, Some, None, is_some, ap, sym, subst, ◌∙◌, arith, append-nil, append_assoc, eqb→eq, if◌then◌else◌}
+use Rattle.std.proofs.lemmas.Bool.{or_right}
 use Rattle.std.specs.Bool.{passes}
 use Rattle.std.specs.Prelude.{Contains, take}
 use Rattle.std.specs.List.{list_all, list_any}
@@ -20,13 +21,14 @@ use Rattle.moka_parts.specs.Writes.{left_by_writes}
 use Rattle.moka_parts.specs.Candidates.{prefix}
 use Rattle.moka_parts.specs.Maintenance as parts
 use Rattle.moka_parts.specs.Maintenance.{Choice, Terms, Course, Freedom, after_choices, left_by_choices, after_queued_reads, before_steps, at_end, after_run, left_in_run, is_over, is_cut, is_late, is_timed, tests_of, kept_by_choices, AreJustified, AreFree}
-use Rattle.moka_parts.specs.Bounds.{removed_by, IsPlainSurplus, IsBounded}
+use Rattle.moka_parts.specs.Bounds.{removed_by, IsPlainSurplus, EndsSweep, IsBounded}
 use Rattle.moka_parts.specs.Exact.{IsExact, IsWithin}
 use Rattle.moka_parts.specs.Settling.{IsAllSent, IsWaitingIn, IsWhole, IsConsistent, IsConsistentState, IsSound, IsValid, LeavesBehind, NeverRenewsOnRead, Settles, leaves_more_idle}
 use Rattle.moka_parts.specs.Listed.{LeavesList, ListedRun}
 use Rattle.moka_parts.specs.Order.{ComesToRest, IsAtRestByWrite, write_list_at_end, write_list_before_steps, written_after_choices, written_after_writes}
-use Rattle.moka_parts.specs.Grounds.{AreDrops, FollowsGrounds, grounds_of}
-use Rattle.moka_parts.proofs.Maps.{same_or_apart}
+use Rattle.moka_parts.specs.Grounds.{AreDrops, FollowsGrounds, IsAtRestByRead, grounds_of}
+use Rattle.moka_parts.proofs.Maps.{same_by_order}
+use Rattle.moka_parts.proofs.Options.{mapped_is_some}
 use Rattle.moka_parts.proofs.RunKeeps.{run_keeps}
 use Rattle.moka_parts.proofs.RunKeepsSound.{run_kept}
 use Rattle.moka_parts.proofs.StepsKeep.{run_valid}
@@ -37,11 +39,12 @@ use Rattle.moka_parts.proofs.AtEnd.{exact_when_nothing_waits, nothing_waits, all
 use Rattle.moka_parts.proofs.RunReturns.{IsPromised}
 use Rattle.moka_parts.proofs.Surplus.{removes_enough, removes_first, removes_for_size_alone, leaves_settled}
 use Rattle.moka_maintenance.specs.declared.sweep.Tests.{Tests}
-use Rattle.moka_maintenance.specs.declared.sweep.Sweep.TheVariants.{Written}
+use Rattle.moka_maintenance.specs.declared.sweep.Sweep.{Sweep}
+use Rattle.moka_maintenance.specs.declared.sweep.Sweep.TheVariants.{Written, Read, Surplus}
 use Rattle.moka_maintenance.specs.Steps.{Stock, stock_of, contents_of, after_steps, left_by_steps, MayLeave, MayRun, MayAll, HasUnsettled, Told, makes_room}
 use Rattle.moka_maintenance.specs.Queues.{ArePrepared}
-use Rattle.moka_maintenance.specs.Sweeps.{tests_in, IsAtRest, IsDone}
-use Rattle.moka_maintenance.specs.Passes.{IsRan, sweeps_writes}
+use Rattle.moka_maintenance.specs.Sweeps.{tests_in, sweeps_writes, IsAtRest, IsDone}
+use Rattle.moka_maintenance.specs.Passes.{IsRan}
 use Rattle.moka_maintenance.proofs.Told.{told_same, told-on}
 use Rattle.moka_maintenance.proofs.Dropping.{choices-append, drops_remove_none, drops_silent, drops_stay, drops_unlisted, gone-append, kept-append, written-append}
 use Rattle.moka_maintenance.proofs.Fewer.{len-fewer}
@@ -63,25 +66,14 @@ some_unsettled : {K V : Type 0} (records : Records K V) (access : List Member) (
 some_unsettled records [] n there waiting = cc
 some_unsettled records (a ∷ access) n there waiting = at (λ later. some_unsettled records access n later waiting) (a.number == n) refl there
   where
-    behind : (b c : Bool) → c ≡ true → (b || c) ≡ true
-    behind true c e = refl
-    behind false c e = e
-
     at : (is_member n access ≡ true → list_any (λ a. not (is_settled records a.number)) access ≡ true) → (b : Bool) → (a.number == n) ≡ b → is_some (if b then Some a.counted else counted_of n access) ≡ true → (not (is_settled records a.number) || list_any (λ a. not (is_settled records a.number)) access) ≡ true
     at later true same there = ap (λ k. not (is_settled records k) || list_any (λ a. not (is_settled records a.number)) access) (eqb→eq a.number n (passes _ same)) ∙ ap (λ b. not b || list_any (λ a. not (is_settled records a.number)) access) waiting
-    at later false same there = behind (not (is_settled records a.number)) (list_any (λ a. not (is_settled records a.number)) access) (later there)
+    at later false same there = or_right (not (is_settled records a.number)) (list_any (λ a. not (is_settled records a.number)) access) (later there)
 
 -- where nothing waits, a record in the map is a settled member
-same_by_order : (a b : ℕ) → a ≤ b → (a < b → ⊥) → (a == b) ≡ true
-same_by_order a b le differ = elim (same_or_apart a b) [ inl e ↦ grind (arith, e) | inr apart ↦ let d = apart.forth in absurd (differ (grind (arith, le, d))) ]
-
 record_settled : {K V : Type 0} (Waits : Operation → Type 0) (none : (o : Operation) → Waits o → ⊥) (k : ℕ) (r : Record K V) (counted : Option ℕ) → IsSound Waits k (Some r) counted → (is_some counted ≡ true) × (is_applied r ≡ true)
 record_settled Waits none k r None s = let p = s.pending (s.outside refl) in absurd (none (Upsert k r.generation r.weight p.0) p.1)
 record_settled Waits none k r (Some w) s = (refl, same_by_order r.applied r.generation s.applied (λ below. let p = s.pending below in none (Upsert k r.generation r.weight p.0) p.1))
-
-mapped_is_some : {A B : Type 0} (f : A → B) (o : Option A) → is_some (option_map f o) ≡ is_some o
-mapped_is_some f None = refl
-mapped_is_some f (Some x) = refl
 
 -- the tests that leave more with a batch of 0
 joined : (live idle invalid over a b c d : Bool) → live ≡ a → idle ≡ b → invalid ≡ c → over ≡ d → ((live || idle || invalid) || over) ≡ (a || b || c || d)
@@ -192,12 +184,8 @@ module _ {K V X P W L C : Type 0} {tells : L → K → V → RemovalCause → L 
   order_kept : 0 < length qs → keeps_write_list s.settings ≡ true
   order_kept some = go s.settings.invalidator refl
     where
-      or_true : (b c : Bool) → c ≡ true → (b || c) ≡ true
-      or_true true c e = refl
-      or_true false c e = e
-
       go : (b : Bool) → s.settings.invalidator ≡ b → keeps_write_list s.settings ≡ true
-      go true is = or_true (is_some s.settings.time_to_live) s.settings.invalidator is
+      go true is = or_right (is_some s.settings.time_to_live) s.settings.invalidator is
       go false is = absurd (not_empty qs (nothing_kept s.predicates qs ran.dropped.steps (simple.unsupported is) ran.dropped.drops ran.dropped.kept) some)
 
   same_capacity : q.capacity ≡ s.capacity
@@ -251,29 +239,109 @@ module _ {K V X P W L C : Type 0} {tells : L → K → V → RemovalCause → L 
       listed-seen c d ms ks ran.by.steps ran.by.led ∙ ap (λ xs. written_after_choices xs ran.by.steps) (list_before kept)
       ∙ sym (drops_unlisted ran.dropped.steps ran.dropped.drops (written_after_choices (write_list_before_steps s ns choices) ran.by.steps)) ∙ sym (written-append (write_list_before_steps s ns choices) ran.by.steps ran.dropped.steps)
 
-  -- it came to rest by the write list
-  comes_to_rest : IsWhole s terms course → IsAllSent s → keeps_write_list s.settings ≡ true → ComesToRest s ns choices terms.now
-  comes_to_rest whole all kept = elim (swept.4 (sym cut_late ∙ whole.0) whole.1) [
-    | inl some ↦
-        let may = may-second MayLeave (stock_of c ms) swept.0 swept.1 (subst (MayAll MayLeave (stock_of c ms)) swept.2 each_leaves) in
-        let last = unsettled-steps (after_steps (stock_of c ms) swept.0) swept.1 may some in
-        let same : after_steps (after_steps (stock_of c ms) swept.0) swept.1 ≡ stock_of d ks = sym (steps-append (stock_of c ms) swept.0 swept.1) ∙ sym (ap (after_steps (stock_of c ms)) swept.2) ∙ sym ran.by.led in
-        absurd (none_unsettled all (subst (λ e. HasUnsettled e) same last))
-    | inr rest ↦ (swept.0, swept.1 ++ ran.dropped.steps, ap (λ xs. xs ++ ran.dropped.steps) swept.2 ∙ append_assoc swept.0 swept.1 ran.dropped.steps, at_front rest)
-  ]
-    where
-      swept : (first second : List Choice) × (ran.by.steps ≡ first ++ second) × (s.predicates ≡ [] → IsDone q Written (passes * terms.batch) (length first) (after_steps (stock_of c ms) first)) × (is_late (if s.settings.listening then terms.limit else None) ran.readings ≡ false → 1 ≤ terms.batch → HasUnsettled (after_steps (stock_of c ms) first) ⊎ IsAtRest q Written (after_steps (stock_of c ms) first))
-      swept = ran.writes_swept
+  -- a sweep of the last pass stands after some of the run's steps, and unsettled members do not end it
+  split_all : (first second : List Choice) → ran.by.steps ≡ first ++ second → ran.by.steps ++ ran.dropped.steps ≡ first ++ (second ++ ran.dropped.steps)
+  split_all first second split = ap (λ xs. xs ++ ran.dropped.steps) split ∙ append_assoc first second ran.dropped.steps
 
-      at_front : IsAtRest q Written (after_steps (stock_of c ms) swept.0) → IsAtRestByWrite (tests_of s terms.now) (after_choices (before_steps s choices) swept.0).records (written_after_choices (write_list_before_steps s ns choices) swept.0)
-      at_front rest =
-          subst (λ t. IsAtRestByWrite t (after_choices (before_steps s choices) swept.0).records (written_after_choices (write_list_before_steps s ns choices) swept.0)) by_state
-          (subst (λ b. IsAtRestByWrite (tests_in q) (after_choices b swept.0).records (written_after_choices (write_list_before_steps s ns choices) swept.0)) (sym before_same)
-          (subst (λ xs. IsAtRestByWrite (tests_in q) (after_choices c swept.0).records (written_after_choices xs swept.0)) (list_before kept)
-          (subst (λ (e : Stock K V). IsAtRestByWrite (tests_in q) e.records e.written) (steps-seen c ms swept.0) rest)))
+  -- what is left after the first steps, as the passes see it
+  seen_after : (first : List Choice) → stock_of (after_choices (before_steps s choices) first) (written_after_choices ms first) ≡ after_steps (stock_of c ms) first
+  seen_after first = ap (λ b. stock_of (after_choices b first) (written_after_choices ms first)) before_same ∙ sym (steps-seen c ms first)
+
+  -- once everything was sent, no member is unsettled after some of the steps either
+  none_between : IsAllSent s → (first second : List Choice) → ran.by.steps ≡ first ++ second → HasUnsettled (after_steps (stock_of c ms) first) → ⊥
+  none_between all first second split some =
+      let may = may-second MayLeave (stock_of c ms) first second (subst (MayAll MayLeave (stock_of c ms)) split each_leaves) in
+      let last = unsettled-steps (after_steps (stock_of c ms) first) second may some in
+      let same : after_steps (after_steps (stock_of c ms) first) second ≡ stock_of d ks = sym (steps-append (stock_of c ms) first second) ∙ sym (ap (after_steps (stock_of c ms)) split) ∙ sym ran.by.led in
+      none_unsettled all (subst (λ e. HasUnsettled e) same last)
+
+  -- where the sweep of the last pass ended, as the reference cache tells it
+  ended : (sweep : Sweep) (Rests : Contents K V → Type 0) (first second : List Choice) → ran.by.steps ≡ first ++ second
+      → (IsAtRest q sweep (after_steps (stock_of c ms) first) → Rests (after_choices (before_steps s choices) first))
+      → IsDone q sweep terms.batch (length first) (after_steps (stock_of c ms) first) → (s.predicates ≡ [] → IsDone q sweep (passes * terms.batch) (length first) (after_steps (stock_of c ms) first))
+      → (is_late (if s.settings.listening then terms.limit else None) ran.readings ≡ false → 1 ≤ terms.batch → HasUnsettled (after_steps (stock_of c ms) first) ⊎ IsAtRest q sweep (after_steps (stock_of c ms) first))
+      → EndsSweep s terms course Rests (after_choices (before_steps s choices) first) (length first)
+  ended sweep Rests first second split rests once each whole_rest = record {
+    used = spent terms.batch once;
+    all_used = λ none. spent (passes * terms.batch) (each none);
+    rest = λ whole settled. elim (whole_rest (sym cut_late ∙ whole.0) whole.1) [
+      | inl some ↦ absurd (none_left some settled)
+      | inr rest ↦ rests rest
+    ];
+  }
+    where
+      after : Contents K V
+      after = after_choices (before_steps s choices) first
+
+      spent : (turns : ℕ) → IsDone q sweep turns (length first) (after_steps (stock_of c ms) first) → Rests after ⊎ ((settled_members after.records after.access ≡ []) ⊎ (turns ≤ length first))
+      spent turns (inl stopped) = inl (rests stopped.0)
+      spent turns (inr (inl none)) = inr (inl (subst (λ (e : Stock K V). settled_members e.records e.access ≡ []) (sym (seen_after first)) none))
+      spent turns (inr (inr all)) = inr (inr all)
+
+      none_left : HasUnsettled (after_steps (stock_of c ms) first) → IsAllSent s ⊎ (list_any (λ a. not (is_settled after.records a.number)) after.access ≡ false) → ⊥
+      none_left some (inl all) = none_between all first second split some
+      none_left some (inr none) =
+          let there = subst (λ (e : Stock K V). HasUnsettled e) (sym (seen_after first)) some in
+          true≢false (sym (some_unsettled after.records after.access there.number there.is_in there.unsettled) ∙ none)
+
+  -- it came to rest by the write list
+  written_front : keeps_write_list s.settings ≡ true → (first : List Choice) → IsAtRest q Written (after_steps (stock_of c ms) first) → IsAtRestByWrite (tests_of s terms.now) (after_choices (before_steps s choices) first).records (written_after_choices (write_list_before_steps s ns choices) first)
+  written_front kept first rest =
+      subst (λ t. IsAtRestByWrite t (after_choices (before_steps s choices) first).records (written_after_choices (write_list_before_steps s ns choices) first)) by_state
+      (subst (λ xs. IsAtRestByWrite (tests_in q) (after_choices (before_steps s choices) first).records (written_after_choices xs first)) (list_before kept)
+      (subst (λ (e : Stock K V). IsAtRestByWrite (tests_in q) e.records e.written) (sym (seen_after first)) rest))
+
+  comes_to_rest : IsWhole s terms course → IsAllSent s → keeps_write_list s.settings ≡ true → ComesToRest s ns choices terms.now
+  comes_to_rest whole all kept =
+      let swept = ran.writes_swept in
+      elim (swept.5 (sym cut_late ∙ whole.0) whole.1) [
+        | inl some ↦ absurd (none_between all swept.0 swept.1 swept.2 some)
+        | inr rest ↦ (swept.0, swept.1 ++ ran.dropped.steps, split_all swept.0 swept.1 swept.2, written_front kept swept.0 rest)
+      ]
+
+  -- and where it ended
+  writes_ended : keeps_write_list s.settings ≡ true → (first second : List Choice) × (ran.by.steps ++ ran.dropped.steps ≡ first ++ second)
+      × EndsSweep s terms course (λ e. IsAtRestByWrite (tests_of s terms.now) e.records (written_after_choices (write_list_before_steps s ns choices) first)) (after_choices (before_steps s choices) first) (length first)
+  writes_ended kept =
+      let swept = ran.writes_swept in
+      let Rests : Contents K V → Type 0 = λ e. IsAtRestByWrite (tests_of s terms.now) e.records (written_after_choices (write_list_before_steps s ns choices) swept.0) in
+      (swept.0, swept.1 ++ ran.dropped.steps, split_all swept.0 swept.1 swept.2, ended Written Rests swept.0 swept.1 swept.2 (written_front kept swept.0) swept.3 swept.4 swept.5)
+
+  -- and by the access list
+  read_front : (first : List Choice) → IsAtRest q Read (after_steps (stock_of c ms) first) → IsAtRestByRead (tests_of s terms.now) (after_choices (before_steps s choices) first)
+  read_front first rest =
+      subst (λ t. IsAtRestByRead t (after_choices (before_steps s choices) first)) by_state
+      (subst (λ (e : Stock K V). IsAtRest q Read e) (sym (seen_after first)) rest)
+
+  reads_ended : (first second : List Choice) × (ran.by.steps ++ ran.dropped.steps ≡ first ++ second) × EndsSweep s terms course (IsAtRestByRead (tests_of s terms.now)) (after_choices (before_steps s choices) first) (length first)
+  reads_ended =
+      let swept = ran.reads_swept in
+      (swept.0, swept.1 ++ ran.dropped.steps, split_all swept.0 swept.1 swept.2, ended Read (IsAtRestByRead (tests_of s terms.now)) swept.0 swept.1 swept.2 (read_front swept.0) swept.3 swept.4 swept.5)
+
+  -- the surplus is swept last, and dropping predicates changes nothing of it
+  surplus_ended : EndsSweep s terms course (λ e. IsWithin s.capacity e.access) (at_end s choices) (length (ran.by.steps ++ ran.dropped.steps))
+  surplus_ended = record {
+    used = spent terms.batch ran.used.0;
+    all_used = λ none. spent (passes * terms.batch) (ran.used.1 none);
+    rest = λ whole settled. elim (at_rest whole) [
+      | inl some ↦ absurd (none_left some settled)
+      | inr within ↦ subst (λ (e : Contents K V). IsWithin s.capacity e.access) (sym end_same) within
+    ];
+  }
+    where
+      spent : (turns : ℕ) → IsDone q Surplus turns (length ran.by.steps) (stock_of d ks) → IsWithin s.capacity (at_end s choices).access ⊎ ((settled_members (at_end s choices).records (at_end s choices).access ≡ []) ⊎ (turns ≤ length (ran.by.steps ++ ran.dropped.steps)))
+      spent turns (inl stopped) = inl (subst (λ (e : Contents K V). IsWithin s.capacity e.access) (sym end_same) (subst (λ o. IsWithin o d.access) same_capacity stopped.0))
+      spent turns (inr (inl none)) = inr (inl (subst (λ (e : Contents K V). settled_members e.records e.access ≡ []) (sym end_same) none))
+      spent turns (inr (inr all)) = inr (inr (let both = length-on ran.by.steps ran.dropped.steps in omega arith))
+
+      none_left : HasUnsettled (stock_of d ks) → IsAllSent s ⊎ (list_any (λ a. not (is_settled (at_end s choices).records a.number)) (at_end s choices).access ≡ false) → ⊥
+      none_left some (inl all) = none_unsettled all some
+      none_left some (inr none) =
+          let settled = subst (λ (e : Contents K V). list_any (λ a. not (is_settled e.records a.number)) e.access ≡ false) end_same none in
+          true≢false (sym (some_unsettled d.records d.access some.number some.is_in some.unsettled) ∙ settled)
 
   leaves_list : LeavesList ns ks s terms choices course
-  leaves_list = record { list = list_after; rests = comes_to_rest }
+  leaves_list = record { list = list_after; rests = comes_to_rest; swept = writes_ended }
 
   module _ (read : X → K → V → ℕ → Option ℕ → ℕ → Option ℕ) (lasts : IsAllSent s → NeverRenewsOnRead read s → (k : ℕ) (r : Record K V) → get d.records k ≡ Some r → is_expired r terms.now ≡ false) where
     justified : AreJustified says (tests_of s terms.now) (before_steps s choices) s.predicates (ran.by.steps ++ ran.dropped.steps)
@@ -308,11 +376,7 @@ module _ {K V X P W L C : Type 0} {tells : L → K → V → RemovalCause → L 
     -- with a batch for all records, no predicate is left
     no_predicate : IsAllSent s → s.settings.invalidator ≡ true → len s.records ≤ terms.batch → qs ≡ []
     no_predicate all supported enough =
-        ran.predicates (or_true (is_some s.settings.time_to_live) s.settings.invalidator supported) (few_members all enough) (λ k r there. members_at_first all k r there)
-      where
-        or_true : (b c : Bool) → c ≡ true → (b || c) ≡ true
-        or_true true c e = refl
-        or_true false c e = e
+        ran.predicates (or_right (is_some s.settings.time_to_live) s.settings.invalidator supported) (few_members all enough) (λ k r there. members_at_first all k r there)
 
     settles : Settles says read s terms course left_state
     settles = record {
@@ -376,6 +440,8 @@ module _ {K V X P W L C : Type 0} {tells : L → K → V → RemovalCause → L 
       ends = ends_by_terms s.settings.listening refl ran.ends;
       in_order = (ran.by.steps, ran.dropped.steps, refl, ran.dropped.drops, ordered);
       full = λ none. (let full = ran.full none in let both = length-on ran.by.steps ran.dropped.steps in omega arith);
+      reads_swept = reads_ended;
+      surplus_swept = surplus_ended;
       needed = all_needed;
       surplus = just_surplus;
       cut_surplus = first_batch;

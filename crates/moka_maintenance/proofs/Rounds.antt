@@ -1,6 +1,7 @@
 -- A scan's walk from the cursor to the end, and then from the front on.
-use Rattle.std.proofs.Common.{◌≡◌, ◌≢◌, refl, ℕ, suc, ◌+◌, ◌-◌, ◌≤◌, ◌<◌, ◌⊎◌, Bool, true, false, true≢false, cond, not, ◌==◌, ◌||◌, List, [], ◌∷◌, ◌++◌, length, Option, Some, None, is_some, is_none, slice_get, inl, inr, ap, sym, subst, ◌∙◌, arith, append_assoc, append-nil}
+use Rattle.std.proofs.Common.{◌≡◌, ◌≢◌, refl, ℕ, suc, ◌+◌, ◌-◌, ◌≤◌, nat_le, ◌<◌, ◌⊎◌, Bool, true, false, true≢false, cond, not, ◌==◌, ◌||◌, List, [], ◌∷◌, ◌++◌, length, Option, Some, None, is_some, is_none, slice_get, inl, inr, ap, sym, subst, ◌∙◌, arith, append_assoc, append-nil}
 use Rattle.std.proofs.lemmas.Bool.{ne_eqb, cond-true, cond-false}
+use Rattle.std.proofs.lemmas.List.{length-map}
 use Rattle.std.proofs.lemmas.List.Sorted.{IsPermutation-append_comm}
 use Rattle.std.proofs.lemmas.Map.Keys.{IsDistinct-IsPermutation}
 use Rattle.std.specs.FinMap.{get}
@@ -14,8 +15,9 @@ use Rattle.moka_parts.specs.Maintenance.{Choice, Removes, MovesToBack, Drops}
 use Rattle.moka_parts.specs.Order.{IsListOf}
 use Rattle.moka_parts.specs.Scan.{AreUncovered}
 use Rattle.moka_parts.proofs.Maps.{itself_tested, same_by_test, same_or_apart}
-use Rattle.moka_parts.proofs.Scanned.{uncovered-append, uncovered-kept}
-use Rattle.moka_parts.proofs.WriteList.{listed_past_taken_out}
+use Rattle.moka_parts.proofs.Conserved.{still_within}
+use Rattle.moka_parts.proofs.Scanned.{uncovered-append, uncovered-kept, listed_append}
+use Rattle.moka_parts.proofs.WriteList.{listed_past_taken_out, unlisted_all}
 use Rattle.moka_store.specs.Store.{Kept}
 use Rattle.moka_store.proofs.Gets.{after_remove}
 use Rattle.moka_store.proofs.Members.{counted-without}
@@ -24,20 +26,12 @@ use Rattle.moka_maintenance.proofs.Upkeep.{untimed-on}
 use Rattle.moka_maintenance.specs.Scanning.{from_cursor, before_cursor, round_from, LeavesSome, MayScan, IsWalked, GoesRound, IsRound}
 use Rattle.moka_maintenance.specs.Steps.{Stock, after_step, after_steps, stock_in}
 use Rattle.moka_maintenance.proofs.Stepped.{length-on, length-removed, stepped-on}
-use Rattle.moka_maintenance.proofs.Walked.{all_mid, none_looked, settled-append, settled-same, settled_few, some-append, stands_still, unlisted_all}
+use Rattle.moka_maintenance.proofs.Walked.{all_mid, none_looked, settled-append, settled-same, settled_few, some-append, stands_still}
 
 -- ---- lists
 
 later_listed : (m n : ℕ) (ns : List ℕ) → is_listed n ns ≡ true → ((m == n) || is_listed n ns) ≡ true
 later_listed m n ns e = elim (m == n) as (λ b. (b || is_listed n ns) ≡ true) [ true ↦ refl | false ↦ e ]
-
-listed_joined : (n : ℕ) (xs ys : List ℕ) → is_listed n (xs ++ ys) ≡ true → (is_listed n xs ≡ true) ⊎ (is_listed n ys ≡ true)
-listed_joined n [] ys e = inr e
-listed_joined n (x ∷ xs) ys e = go (x == n) (listed_joined n xs ys) e
-  where
-    go : (b : Bool) → (is_listed n (xs ++ ys) ≡ true → (is_listed n xs ≡ true) ⊎ (is_listed n ys ≡ true)) → (b || is_listed n (xs ++ ys)) ≡ true → ((b || is_listed n xs) ≡ true) ⊎ (is_listed n ys ≡ true)
-    go true later e = inl refl
-    go false later e = later e
 
 listed_first : (n : ℕ) (xs ys : List ℕ) → is_listed n xs ≡ true → is_listed n (xs ++ ys) ≡ true
 listed_first n [] ys e = absurd (true≢false (sym e))
@@ -71,13 +65,10 @@ pub none_settled : {K V : Type 0} (records : Records K V) (access : List Member)
 none_settled records [] all = refl
 none_settled records (a ∷ access) all =
     cond-false (is_settled records a.number) (a ∷ settled_members records access) (settled_members records access) (all a.number (first a access))
-    ∙ none_settled records access (λ n there. all n (later a access n there))
+    ∙ none_settled records access (λ n there. all n (still_within a access n there))
   where
     first : (a : Member) (access : List Member) → is_member a.number (a ∷ access) ≡ true
     first a access = ap (λ b. is_some (cond b (Some a.counted) (counted_of a.number access))) (itself_tested a.number)
-
-    later : (a : Member) (access : List Member) (n : ℕ) → is_member n access ≡ true → is_member n (a ∷ access) ≡ true
-    later a access n there = elim (a.number == n) as (λ b. is_some (cond b (Some a.counted) (counted_of n access)) ≡ true) [ true ↦ refl | false ↦ there ]
 
 pub each_unsettled : {K V : Type 0} (records : Records K V) (access : List Member) → settled_members records access ≡ [] → (n : ℕ) → is_member n access ≡ true → is_settled records n ≡ false
 each_unsettled records [] none n there = absurd (true≢false (sym there))
@@ -206,13 +197,9 @@ numbered n (a ∷ access) = elim (a.number == n) as (λ b. (b || is_listed n (nu
   | false ↦ numbered n access
 ]
 
-length_numbers : (access : List Member) → length (numbers_of access) ≡ length access
-length_numbers [] = refl
-length_numbers (a ∷ access) = ap suc (length_numbers access)
-
 -- members none of which stands twice are no more than the numbers in the order of writing
 members_few : (access : List Member) (ns : List ℕ) → IsDistinct (◌==◌) (numbers_of access) → IsListOf access ns → length access ≤ length ns
-members_few access ns once h = subst (λ i. i ≤ length ns) (length_numbers access) (distinct_few (numbers_of access) ns once (λ n there. h.1 n ∙ sym (numbered n access) ∙ there))
+members_few access ns once h = subst (λ i. i ≤ length ns) (length-map access (λ (a : Member). a.number)) (distinct_few (numbers_of access) ns once (λ n there. h.1 n ∙ sym (numbered n access) ∙ there))
 
 none_left : (ns : List ℕ) → length ns ≤ 0 → ns ≡ []
 none_left [] few = refl
@@ -229,6 +216,13 @@ nothing_ahead (n ∷ ns) next at none = absurd (true≢false (sym none ∙ ap is
 some_ahead : (ns : List ℕ) (next : Option ℕ) → next ≡ slice_get ns 0 → is_none next ≡ false → 1 ≤ length ns
 some_ahead [] next at some = absurd (true≢false (sym (ap is_none at) ∙ some))
 some_ahead (n ∷ ns) next at some = omega arith
+
+-- a list is as long as another, or shorter
+is_through : (a b : ℕ) → a ≤ b → nat_le a b ≡ true
+is_through a b h = grind arith
+
+is_short : (a b : ℕ) → b < a → nat_le a b ≡ false
+is_short a b h = grind arith
 
 -- what a store says of both its orders
 pub record IsKnown {K V S : Type 0} (s : Kept K V S) : Type 0 where
@@ -291,9 +285,11 @@ module _ {K V L P S : Type 0} (tells : L → K → V → RemovalCause → L → 
         list_now = h.list ∙ sym (append_assoc before h.kept h.ahead)
 
     pub round-part : SetsNoTimer old mid → (end : Bool) → end ≡ false → IsRound tells says ps batch old mid l m looked end
+    unfolding goes-part
     round-part keeps end part = record {
       by = h.by;
       goes = goes-part;
+      ended = part ∙ sym (is_short (length rest) (length h.walked) (let all = ap length h.split ∙ length-on h.walked h.ahead in let more = some_ahead h.ahead mid.cursor h.at on in omega arith));
       few = h.few;
       unlooked = λ ordered some none. elim stopped [ inl all ↦ absurd (beyond all) | inr used ↦ absurd (omega arith) ];
       whole = λ ordered large. elim stopped [ inl all ↦ absurd (beyond all) | inr used ↦ absurd (beyond (let f = fewer in omega arith)) ];
@@ -394,7 +390,7 @@ module _ {K V L P S : Type 0} (tells : L → K → V → RemovalCause → L → 
     ]
       where
         all_by : part.left ≡ [] → is_listed n (h.walked ++ j.walked) ≡ true
-        all_by none = elim (listed_joined n before rest (ap (is_listed n) (sym list) ∙ there)) [
+        all_by none = elim (listed_append n before rest (ap (is_listed n) (sym list) ∙ there)) [
           | inl early ↦ listed_second n h.walked j.walked (ap (is_listed n) (sym (part.longer ∙ ap (λ zs. j.walked ++ zs) none ∙ append-nil j.walked)) ∙ early)
           | inr late ↦ listed_first n h.walked j.walked (ap (is_listed n) (sym all_walked) ∙ late)
         ]
@@ -404,6 +400,7 @@ module _ {K V L P S : Type 0} (tells : L → K → V → RemovalCause → L → 
     round-whole keeps then_keeps end over_all = record {
       by = stepped-on tells (MayScan says ps) (stock_in old) (stock_in mid) (stock_in new) l m k h.by j.by;
       goes = goes-whole;
+      ended = over_all ∙ sym (is_through (length rest) (length (h.walked ++ j.walked)) (let same = ap length all_walked in let both = length-on h.walked j.walked in omega arith));
       few = (let both = length-on h.by.steps j.by.steps in let f = h.few in let g = j.few in omega arith);
       unlooked = λ ordered some none. none_settled old.records old.access (λ n member.
           none_looked old.records (h.walked ++ j.walked) (sym goes-whole.looks ∙ none) n (all_passed (inl (omega arith)) ordered n ((known.listed ordered).1 n ∙ member)));

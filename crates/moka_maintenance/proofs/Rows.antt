@@ -1,8 +1,9 @@
 -- Turns in a row that removed nothing, along either order.
 use Rattle.std.proofs.Common.{◌≡◌, refl, ℕ, ◌+◌, ◌⊎◌, Bool, true, false, true≢false, not, ◌==◌, ◌&&◌, ◌||◌, List, [], ◌∷◌, ◌++◌, length, Some, None, is_some, slice_get, inl, inr, ap, sym, subst, ◌∙◌, arith, append_assoc, append-nil, if◌then◌else◌}
-use Rattle.std.proofs.lemmas.Bool.{cond-true, cond-false}
+use Rattle.std.proofs.lemmas.Bool.{cond-true, cond-false, and_parts}
+use Rattle.std.proofs.lemmas.List.{length-map, nil_from_length}
 use Rattle.std.proofs.lemmas.List.Folds.{list_all-append}
-use Rattle.std.specs.List.{IsDistinct, AllByRecursion, list_all}
+use Rattle.std.specs.List.{IsDistinct, list_all}
 use Rattle.moka_parts.specs.declared.records.Member.{Member}
 use Rattle.moka_parts.specs.Records.{Records, counted_of, is_listed, is_member, is_settled, numbers_of, number_to_back, settled_members, to_back, without_member, without_number}
 use Rattle.moka_parts.specs.declared.notification.RemovalCause.TheVariants.{Expired}
@@ -11,7 +12,7 @@ use Rattle.moka_parts.specs.Order.{IsListOf}
 use Rattle.moka_parts.proofs.AccessList.{distinct_taken_out}
 use Rattle.moka_parts.proofs.Maps.{same_by_test, itself_tested}
 use Rattle.moka_parts.proofs.OrderedList.{choice_listed}
-use Rattle.moka_parts.proofs.WriteList.{unlisted_taken_out}
+use Rattle.moka_parts.proofs.WriteList.{unlisted_taken_out, unlisted_all}
 use Rattle.moka_maintenance.specs.declared.sweep.Tests.{Tests}
 use Rattle.moka_maintenance.specs.declared.sweep.Sweep.{Sweep}
 use Rattle.moka_maintenance.specs.declared.sweep.Sweep.TheVariants.{Written, Read, Surplus}
@@ -50,17 +51,6 @@ along-step Written c (MovesToBack n) once (inr is) = inr (choice_listed (content
 along-step Written c (Drops i) once h = h
 
 -- ---- lists of the same numbers
-
-turned : (a b : ℕ) → (a == b) ≡ false → (b == a) ≡ false
-turned a b e = go (b == a) refl
-  where
-    go : (t : Bool) → (b == a) ≡ t → (b == a) ≡ false
-    go true is = absurd (true≢false (sym (ap (λ x. a == x) (same_by_test b a is) ∙ itself_tested a) ∙ e))
-    go false is = is
-
-unlisted_all : (n : ℕ) (ms : List ℕ) → AllByRecursion (λ y. (n == y) ≡ false) ms → is_listed n ms ≡ false
-unlisted_all n [] all = refl
-unlisted_all n (m ∷ ms) all = ap (λ b. b || is_listed n ms) (turned n m all.0) ∙ unlisted_all n ms all.1
 
 first_unlisted : (n : ℕ) (ns : List ℕ) → IsDistinct (◌==◌) (n ∷ ns) → is_listed n ns ≡ false
 unfolding IsDistinct
@@ -132,14 +122,6 @@ numbers_push : (xs : List Member) (a : Member) → numbers_of (xs ++ a ∷ []) �
 numbers_push [] a = refl
 numbers_push (x ∷ xs) a = ap (λ ns. x.number ∷ ns) (numbers_push xs a)
 
-as_many_numbers : (xs : List Member) → length (numbers_of xs) ≡ length xs
-as_many_numbers [] = refl
-as_many_numbers (a ∷ xs) = let rest = as_many_numbers xs in omega arith
-
-no_members : (xs : List Member) → length xs ≡ 0 → xs ≡ []
-no_members [] e = refl
-no_members (a ∷ xs) e = absurd (omega arith)
-
 module _ {K V : Type 0} (sweep : Sweep) (c : Stock K V) (once : IsDistinct (◌==◌) (numbers_of c.access)) (order : IsAlong sweep c) where
   -- where none of all numbers is settled, no member is
   none_along : (along sweep c ≡ [] → c.access ≡ []) → are_waiting c.records (along sweep c) ≡ true → HasNoSettled c
@@ -156,13 +138,13 @@ module _ {K V : Type 0} (sweep : Sweep) (c : Stock K V) (once : IsDistinct (◌=
   row-whole many h all = go h.before h.split
     where
       as_many : (s : Sweep) → IsAlong s c → (along s c ≡ []) ⊎ (length (along s c) ≡ length c.access)
-      as_many Read o = inr (as_many_numbers c.access)
-      as_many Surplus o = inr (as_many_numbers c.access)
+      as_many Read o = inr (length-map c.access (λ (a : Member). a.number))
+      as_many Surplus o = inr (length-map c.access (λ (a : Member). a.number))
       as_many Written (inl none) = inl none
       as_many Written (inr is) = inr (sym (same_length c.records c.written c.access once is))
 
       go : (xs : List ℕ) → along sweep c ≡ xs ++ h.end → HasNoSettled c
-      go [] e = none_along (λ bare. (let none = ap length (sym bare ∙ e) in let count = h.count in no_members c.access (omega arith))) (ap (are_waiting c.records) e ∙ h.none)
+      go [] e = none_along (λ bare. (let none = ap length (sym bare ∙ e) in let count = h.count in nil_from_length c.access (omega arith))) (ap (are_waiting c.records) e ∙ h.none)
       go (x ∷ xs) e = elim (as_many sweep order) [
         | inl none ↦ (let bad : [] ≡ x ∷ xs ++ h.end = sym none ∙ e in cc)
         | inr same ↦ (let more : length (along sweep c) ≡ length (x ∷ xs) + length h.end = ap length e ∙ length-on (x ∷ xs) h.end in let count = h.count in absurd (omega arith))
@@ -178,10 +160,6 @@ module _ {K V : Type 0} (sweep : Sweep) (c : Stock K V) (once : IsDistinct (◌=
     heads : Heads n
     heads = (let h = go sweep order next in record { behind = h.0; split = h.1; moved = h.2 })
       where
-        left : (a b : Bool) → (a && b) ≡ true → a ≡ true
-        left true b e = refl
-        left false b e = cc
-
         accessed : is_front n c.access ≡ true → (behind : List ℕ) × (numbers_of c.access ≡ n ∷ behind) × (numbers_of (to_back n c.access) ≡ behind ++ n ∷ [])
         accessed is =
             let f = front_of n c.access once is in (
@@ -199,7 +177,7 @@ module _ {K V : Type 0} (sweep : Sweep) (c : Stock K V) (once : IsDistinct (◌=
 
         go : (s : Sweep) → IsAlong s c → IsNext q s c n → (behind : List ℕ) × (along s c ≡ n ∷ behind) × (along s (after_step c (MovesToBack n)) ≡ behind ++ n ∷ [])
         go Read o is = accessed is
-        go Surplus o is = accessed (left (is_front n c.access) (is_over q.capacity c.access) is)
+        go Surplus o is = accessed (and_parts (is_front n c.access) (is_over q.capacity c.access) is).0
         go Written (inl none) is = (let bad : slice_get [] 0 ≡ Some n = ap (λ ns. slice_get ns 0) (sym none) ∙ is in cc)
         go Written (inr o) is = wrote c.written refl o is
 

@@ -1,5 +1,6 @@
 -- A scan, from a walk round and the drop of predicates behind it.
-use Rattle.std.proofs.Common.{◌≡◌, refl, ℕ, zero, suc, ◌<◌, ◌≤◌, ◌⊎◌, Bool, true, false, true≢false, not, ◌==◌, List, [], ◌∷◌, ◌++◌, length, Option, Some, remove, Contains, inl, inr, ap, sym, subst, ◌∙◌, arith, append-nil}
+use Rattle.std.proofs.Common.{◌≡◌, refl, ℕ, zero, suc, ◌<◌, nat_lt, ◌≤◌, ◌⊎◌, Bool, true, false, true≢false, not, ◌&&◌, ◌==◌, List, [], ◌∷◌, ◌++◌, length, Option, Some, remove, Contains, MatchBool, inl, inr, ap, sym, subst, ◌∙◌, arith, append-nil}
+use Rattle.std.proofs.Math.Bool.{and-false}
 use Rattle.std.proofs.lemmas.List.Elements.{Contains-append_right}
 use Rattle.std.specs.FinMap.{get}
 use Rattle.std.specs.List.{IsDistinct}
@@ -100,6 +101,20 @@ covers_fewer {K} {V} {P} says ps (q ∷ qs) less r covered = elim covered [
 
 -- ---- the scan
 
+both_more : (m n : ℕ) → (nat_lt 0 m && nat_lt 0 n) ≡ true → (1 ≤ m) × (0 < n)
+both_more m n e = go (nat_lt 0 m) (nat_lt 0 n) refl refl e
+  where
+    go : (a b : Bool) → nat_lt 0 m ≡ a → nat_lt 0 n ≡ b → (a && b) ≡ true → (1 ≤ m) × (0 < n)
+    go true true f g e = (grind (arith, f), grind (arith, g))
+    go true false f g e = absurd (true≢false (sym e))
+    go false b f g e = absurd (true≢false (sym e))
+
+more_both : (m n : ℕ) → 1 ≤ m → 0 < n → (nat_lt 0 m && nat_lt 0 n) ≡ true
+more_both m n some more = ap (λ b. b && nat_lt 0 n) (is_more m some) ∙ is_more n more
+  where
+    is_more : (k : ℕ) → 1 ≤ k → nat_lt 0 k ≡ true
+    is_more k some = grind arith
+
 module _ {K V L P S : Type 0} (tells : L → K → V → RemovalCause → L → Type 0) (says : P → K → V → Bool → Type 0) (batch : ℕ) (old : Kept K V S) (ps : List (Registered P)) (l : Option L) where
   -- nothing is passed
   goes-none : length ps ≡ 0 → GoesRound says ps batch old old 0
@@ -125,21 +140,31 @@ module _ {K V L P S : Type 0} (tells : L → K → V → RemovalCause → L → 
     dropped = dropped-none says (contents_in old) ps ps refl;
     looked = 0;
     goes = goes-none none;
+    drops = either {A = AllDropped says (contents_in old) ps ps} _ (record { dropped = dropped-none says (contents_in old) ps ps refl; used = λ p there. (let lt = there.1 in absurd (omega arith)) }) refl;
     few = omega arith;
     unregistered = λ e. (refl, refl);
     idle = λ e. refl;
+    leaves = refl;
     more = λ is. absurd (true≢false (sym is));
     unfinished = λ ordered some more. absurd (omega arith);
     whole = λ ordered large all. nothing ps none;
     upkeep = untimed-none old;
   }
     where
+      either : {A B : Type 0} (b : Bool) → A → B → MatchBool b A B
+      either true a b = a
+      either false a b = b
+
       nothing : (ps : List (Registered P)) → length ps ≡ 0 → ps ≡ []
       nothing [] e = refl
       nothing (p ∷ ps) e = absurd (omega arith)
 
   module _ (new : Kept K V S) (k : Option L) (looked : ℕ) (end : Bool) (h : IsRound tells says ps batch old new l k looked end) (known : old.ordered ≡ true → IsListOf old.access old.written) (some : 1 ≤ length ps)
-      (qs : List (Registered P)) (left : Bool) (met : left ≡ true → 1 ≤ looked) (more : left ≡ true → 0 < length qs) (further : 1 ≤ looked → 0 < length qs → left ≡ true) where
+      (qs : List (Registered P)) (left : Bool) (leaves : left ≡ (nat_lt 0 looked && nat_lt 0 (length qs))) where
+    -- a member was looked at, and a predicate is left
+    both : left ≡ true → (1 ≤ looked) × (0 < length qs)
+    both is = both_more looked (length qs) (sym leaves ∙ is)
+
     settled_none : looked ≡ 0 → HasNoSettled (stock_in old) → HasNoSettled (stock_in new)
     settled_none none = subst HasNoSettled (sym (h.by.led ∙ ap (after_steps (stock_in old)) (no_steps h.by.steps (let f = h.few in omega arith))))
 
@@ -148,47 +173,46 @@ module _ {K V L P S : Type 0} (tells : L → K → V → RemovalCause → L → 
       where
         go : (n : ℕ) → looked ≡ n → (left ≡ true) ⊎ HasNoSettled (stock_in new)
         go zero none = inr (settled_none none (h.unlooked ordered batched none))
-        go (suc n) is = inl (further (omega arith) there)
+        go (suc n) is = inl (leaves ∙ more_both looked (length qs) (omega arith) there)
 
     still : batch ≡ 0 → left ≡ false
     still none = go left refl
       where
         go : (b : Bool) → left ≡ b → left ≡ false
-        go true is = (let m = met is in let n = h.goes.most in absurd (omega arith))
+        go true is = (let m = (both is).0 in let n = h.goes.most in absurd (omega arith))
         go false is = is
 
-    joined : AreDropped says (contents_in new) ps qs → (old.ordered ≡ true → length old.access ≤ batch → AreAllMembers (stock_in old) → qs ≡ []) → IsScanned tells says ps batch old new qs l k left
-    joined dropped whole = record {
+    joined : AreDropped says (contents_in new) ps qs → (old.ordered ≡ true → length old.access ≤ batch → AreAllMembers (stock_in old) → qs ≡ []) → MatchBool end (AllDropped says (contents_in new) ps qs) (qs ≡ ps) → IsScanned tells says ps batch old new qs l k left
+    joined dropped whole over = record {
       by = h.by;
       dropped = dropped;
       looked = looked;
       goes = h.goes;
+      drops = subst (λ b. MatchBool b (AllDropped says (contents_in new) ps qs) (qs ≡ ps)) h.ended over;
       few = h.few;
       unregistered = λ none. (let empty = ap length none in absurd (omega arith));
       idle = still;
-      more = more;
+      leaves = leaves;
+      more = λ is. (both is).1;
       unfinished = decide;
       whole = whole;
       upkeep = h.upkeep;
     }
 
     -- the end was reached, and what covers nothing has left, or it was not
-    pub scanned : AllDropped says (contents_in new) ps qs ⊎ ((end ≡ false) × (qs ≡ ps)) → IsScanned tells says ps batch old new qs l k left
-    scanned (inr part) = joined (dropped-none says (contents_in new) ps qs part.1) (λ ordered large all. absurd (true≢false (sym (h.whole ordered large).1 ∙ part.0)))
-    scanned (inl d) = joined d.dropped (λ ordered large all. nothing_left qs (λ p there.
-        (let used = d.used p there in
-        let is = all used.0 used.1 (still_there (stock_in old) h.by.steps used.0 used.1 (sym (ap (λ (c : Stock K V). get c.records used.0) h.by.led) ∙ used.2)) in
-        let none = (h.whole ordered large).0.settled used.0 used.1 ((known ordered).1 used.0 ∙ is.1) used.2 is.0 in
-        not_one_covers says ps p used.1 none (kept_there ps d.dropped.steps p (subst (λ rs. Contains rs p) d.dropped.kept there)) used.3)))
-
--- a test that failed, and one that did not
-pub not_true : (b : Bool) → not b ≡ true → b ≡ false
-not_true true e = sym e
-not_true false e = refl
-
-pub not_false : (b : Bool) → not b ≡ false → b ≡ true
-not_false true e = refl
-not_false false e = sym e
+    pub scanned : MatchBool end (AllDropped says (contents_in new) ps qs) (qs ≡ ps) → IsScanned tells says ps batch old new qs l k left
+    scanned over = go end refl over
+      where
+        go : (b : Bool) → end ≡ b → MatchBool b (AllDropped says (contents_in new) ps qs) (qs ≡ ps) → IsScanned tells says ps batch old new qs l k left
+        go false part same = joined (dropped-none says (contents_in new) ps qs same) (λ ordered large all. absurd (true≢false (sym (h.whole ordered large).1 ∙ part))) over
+        go true is d =
+            joined d.dropped
+            (λ ordered large all. nothing_left qs (λ p there.
+            (let used = d.used p there in
+            let is = all used.0 used.1 (still_there (stock_in old) h.by.steps used.0 used.1 (sym (ap (λ (c : Stock K V). get c.records used.0) h.by.led) ∙ used.2)) in
+            let none = (h.whole ordered large).0.settled used.0 used.1 ((known ordered).1 used.0 ∙ is.1) used.2 is.0 in
+            not_one_covers says ps p used.1 none (kept_there ps d.dropped.steps p (subst (λ rs. Contains rs p) d.dropped.kept there)) used.3)))
+            over
 
 -- whether a list is empty, and how long it is
 pub none_there : (n : ℕ) → true ≡ (n == 0) → n ≡ 0
@@ -198,10 +222,7 @@ pub some_there : (n : ℕ) → false ≡ (n == 0) → 1 ≤ n
 some_there zero e = absurd (true≢false (sym (itself_tested 0) ∙ sym e))
 some_there (suc n) e = omega arith
 
-pub left_more : (b : Bool) (n : ℕ) → b ≡ (n == 0) → not b ≡ true → 0 < n
-left_more true n e is = absurd (true≢false (sym is))
-left_more false n e is = some_there n e
-
-pub left_further : (b : Bool) (n : ℕ) → b ≡ (n == 0) → 0 < n → not b ≡ true
-left_further true n e more = (let none = none_there n e in absurd (omega arith))
-left_further false n e more = refl
+-- more is left where some were looked at
+pub left_more : (b : Bool) (m n : ℕ) → b ≡ (n == 0) → 1 ≤ m → not b ≡ (nat_lt 0 m && nat_lt 0 n)
+left_more true m n e some = sym (ap (λ k. nat_lt 0 m && nat_lt 0 k) (none_there n e) ∙ and-false (nat_lt 0 m))
+left_more false m n e some = sym (more_both m n some (some_there n e))

@@ -1,6 +1,6 @@
 -- Steps one after the other, what they tell, and what they leave.
-use Rattle.std.proofs.Common.{◌≡◌, ◌≢◌, refl, ℕ, ◌+◌, ◌≤◌, Bool, true, false, true≢false, cond, not, ◌==◌, ◌&&◌, List, [], ◌∷◌, ◌++◌, length, Option, Some, None, is_some, inl, inr, ap, sym, subst, ◌∙◌, arith, append_assoc, append-nil}
-use Rattle.std.proofs.lemmas.Bool.{ne_eqb, cond-false}
+use Rattle.std.proofs.Common.{◌≡◌, ◌≢◌, refl, ℕ, ◌+◌, ◌≤◌, Bool, true, false, true≢false, cond, not, ◌==◌, List, [], ◌∷◌, ◌++◌, length, Option, Some, None, is_some, inl, inr, ap, sym, subst, ◌∙◌, arith, append_assoc, append-nil}
+use Rattle.std.proofs.lemmas.Bool.{ne_eqb, cond-false, and_parts}
 use Rattle.std.specs.Option.{option_map, option_map_or}
 use Rattle.std.specs.Prelude.{option_to_list}
 use Rattle.moka_parts.specs.declared.notification.RemovalCause.{RemovalCause}
@@ -34,10 +34,6 @@ removed-few (Removes n cause ∷ xs) = let h = removed-few xs in omega arith
 removed-few (MovesToBack n ∷ xs) = let h = removed-few xs in omega arith
 removed-few (Drops i ∷ xs) = let h = removed-few xs in omega arith
 
-right : (a b : Bool) → (a && b) ≡ true → b ≡ true
-right true b e = e
-right false b e = cc
-
 module _ {K V : Type 0} where
   pub steps-append : (c : Stock K V) (xs ys : List Choice) → after_steps c (xs ++ ys) ≡ after_steps (after_steps c xs) ys
   steps-append c [] ys = refl
@@ -60,10 +56,6 @@ module _ {K V : Type 0} where
     pub may-also : (Other : Stock K V → Choice → Type 0) → ((c : Stock K V) (x : Choice) → May c x → Other c x) → (c : Stock K V) (xs : List Choice) → MayAll May c xs → MayAll Other c xs
     may-also Other also c [] may = tt
     may-also Other also c (x ∷ xs) may = (also c x may.0, may-also Other also (after_step c x) xs may.1)
-
-first : (a b : Bool) → (a && b) ≡ true → a ≡ true
-first true b e = refl
-first false b e = cc
 
 -- ---- each removal makes the access list shorter
 
@@ -91,7 +83,7 @@ length-back n xs e = let less = length-removed n xs e in let plus = length-on (w
 
 pub shrinks : {K V : Type 0} (c : Stock K V) (xs : List Choice) → MayAll MayLeave c xs → length (after_steps c xs).access + length (removed_by xs) ≤ length c.access
 shrinks c [] may = omega arith
-shrinks c (Removes n cause ∷ xs) may = let rest = shrinks (after_step c (Removes n cause)) xs may.1 in let less = length-removed n c.access (first (is_member n c.access) (is_settled c.records n) may.0.2) in omega arith
+shrinks c (Removes n cause ∷ xs) may = let rest = shrinks (after_step c (Removes n cause)) xs may.1 in let less = length-removed n c.access (and_parts (is_member n c.access) (is_settled c.records n) may.0.2).0 in omega arith
 shrinks c (MovesToBack n ∷ xs) may = let rest = shrinks (after_step c (MovesToBack n)) xs may.1 in let less = length-back n c.access may.0.0 in omega arith
 shrinks c (Drops i ∷ xs) may = absurd may.0
 
@@ -129,7 +121,7 @@ module _ {K V : Type 0} where
   -- a member that is not settled stays
   pub unsettled-step : (c : Stock K V) (x : Choice) → MayLeave c x → HasUnsettled c → HasUnsettled (after_step c x)
   unsettled-step c (Removes n cause) may u =
-      let other = apart {n = n} {m = u.number} c (right (is_member n c.access) (is_settled c.records n) may.2) u.unsettled in
+      let other = apart {n = n} {m = u.number} c (and_parts (is_member n c.access) (is_settled c.records n) may.2).1 u.unsettled in
       record {
         number = u.number;
         is_in = ap is_some (counted-without n u.number c.access ∙ cond-false (u.number == n) None (counted_of u.number c.access) (ne_eqb u.number n other)) ∙ u.is_in;
@@ -163,7 +155,7 @@ module _ {K V : Type 0} where
 
   -- where no member is settled, none leaves, and none is later
   none-step : (c : Stock K V) (x : Choice) → MayLeave c x → ((n : ℕ) → is_member n c.access ≡ true → is_settled c.records n ≡ false) → (n : ℕ) → is_member n (after_step c x).access ≡ true → is_settled (after_step c x).records n ≡ false
-  none-step c (Removes m cause) may none n there = absurd (true≢false (sym (right (is_member m c.access) (is_settled c.records m) may.2) ∙ none m (first (is_member m c.access) (is_settled c.records m) may.2)))
+  none-step c (Removes m cause) may none n there = absurd (true≢false (sym (and_parts (is_member m c.access) (is_settled c.records m) may.2).1 ∙ none m (and_parts (is_member m c.access) (is_settled c.records m) may.2).0))
   none-step c (MovesToBack m) may none n there = none n (sym (ap is_some (counted-to_back m n c.access)) ∙ there)
   none-step c (Drops i) may none n there = absurd may
 

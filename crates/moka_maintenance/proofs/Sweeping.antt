@@ -1,5 +1,6 @@
 -- Where a sweep stands between two turns.
 use Rattle.std.proofs.Common.{◌≡◌, refl, ℕ, ◌+◌, ◌*◌, ◌/◌, ◌%◌, ◌<◌, ◌≤◌, ◌⊎◌, Bool, true, false, true≢false, ◌==◌, ◌&&◌, [], ◌∷◌, ◌++◌, length, Option, inl, inr, ap, sym, subst, ◌∙◌, arith}
+use Rattle.std.proofs.lemmas.Bool.{and_parts}
 use Rattle.std.proofs.lemmas.Nat.{div-add-mod'}
 use Rattle.std.specs.List.{IsDistinct}
 use Rattle.moka_parts.specs.declared.notification.RemovalCause.{RemovalCause}
@@ -16,14 +17,6 @@ use Rattle.moka_maintenance.proofs.Told.{told-none}
 use Rattle.moka_maintenance.proofs.Stepped.{length-on, removed-on, stepped-none, stepped-one, stepped-on, unsettled-step, unsettled-passed}
 use Rattle.moka_maintenance.proofs.Fronts.{length-to_back, none-to_back, none_settled}
 use Rattle.moka_maintenance.proofs.Rows.{along, IsAlong, EndsUnsettled, row-start, row-whole, row-passed, along-step}
-
-left : (a b : Bool) → (a && b) ≡ true → a ≡ true
-left true b e = refl
-left false b e = cc
-
-right : (a b : Bool) → (a && b) ≡ true → b ≡ true
-right true b e = e
-right false b e = cc
 
 -- where a sweep stands that has so many turns left, after so many in a row that removed nothing
 pub record Sweeping {K V L : Type 0} (tells : L → K → V → RemovalCause → L → Type 0) (q : Tests) (sweep : Sweep) (batch : ℕ) (first now : Stock K V) (l m : Option L) (removed turns passed : ℕ) (all : Bool) : Type 0 where
@@ -68,7 +61,7 @@ module _ {K V L : Type 0} (tells : L → K → V → RemovalCause → L → Type
     where
       go : (h.rounds ≡ 0) ⊎ HasNoSettled now → length h.by.steps + turns ≡ batch
       go (inl none) = (let made = h.made in let gone : h.rounds * length now.access ≡ 0 = ap (λ r. r * length now.access) none ∙ omega arith in omega arith)
-      go (inr none) = absurd (true≢false (sym (right (is_member n now.access) (is_settled now.records n) is) ∙ none_settled now.records n now.access none (left (is_member n now.access) (is_settled now.records n) is)))
+      go (inr none) = absurd (true≢false (sym (and_parts (is_member n now.access) (is_settled now.records n) is).1 ∙ none_settled now.records n now.access none (and_parts (is_member n now.access) (is_settled now.records n) is).0))
 
   pub sweeping-removed : (less : ℕ) → turns ≡ less + 1 → TakesTurn tells q sweep now next m k Removed → Sweeping tells q sweep batch first next l k (removed + 1) less 0 all
   unfolding stepped-on stepped-one
@@ -117,12 +110,12 @@ module _ {K V L : Type 0} (tells : L → K → V → RemovalCause → L → Type
   -- it comes to rest
   pub sweeping-ended : 1 ≤ turns → TakesTurn tells q sweep now next m k Ended → IsSwept tells q sweep batch first next l k removed false
   sweeping-ended some t =
-      subst (λ x. IsSwept tells q sweep batch first x l k removed false) (sym t.1)
-      (subst (λ k. IsSwept tells q sweep batch first now l k removed false) (sym t.2)
+      subst (λ x. IsSwept tells q sweep batch first x l k removed false) (sym t.2)
+      (subst (λ k. IsSwept tells q sweep batch first now l k removed false) (sym t.3)
       (record {
         by = h.by;
         few = at_most (length h.by.steps) turns (h.rounds * length now.access) h.made;
-        turns = inr t.0;
+        turns = inr (t.0, λ _. t.1);
         count = h.count;
         full = λ is. absurd (true≢false (sym is));
         more = λ used _. (let most = h.most in absurd (omega arith));

@@ -1,14 +1,16 @@
 -- Lists of members as the choice walks over them: what was met and what is ahead decide the victims together.
 use Rattle.std.proofs.Common.{◌≡◌, refl, ℕ, ◌+◌, ◌-◌, ◌<◌, ◌≤◌, Bool, true, false, cond, not, ◌==◌, ◌||◌, nat_le, List, [], ◌∷◌, ◌++◌, Option, Some, None, is_some, option_map, option_to_list, slice_get, ap, sym, subst, ◌∙◌, arith, append_assoc, append-nil, if◌then◌else◌, take}
 use Rattle.std.proofs.Math.Numerals.{one-add}
+use Rattle.std.proofs.Math.Bool.{or-false}
 use Rattle.std.specs.List.{IsDistinct, before_first, last_or, position_or_len}
 use Rattle.std.proofs.lemmas.List.Elements.{filter-append}
 use Rattle.moka_parts.specs.declared.records.Member.{Member}
 use Rattle.moka_parts.specs.Records.{Records, counted_of, is_member, is_settled, member, numbers_of, settled_members, to_back, without_member}
 use Rattle.moka_parts.specs.Candidates.{prefix, has_six_unsettled}
 use Rattle.moka_parts.proofs.AccessList.{absent_taken_out}
-use Rattle.moka_parts.proofs.Counting.{front_once, rest_once}
+use Rattle.moka_parts.proofs.Counting.{front_once, rest_once, counted_front}
 use Rattle.moka_parts.proofs.Maps.{itself_tested, same_by_test}
+use Rattle.moka_parts.proofs.Surplus.{prefix_of_none}
 use Rattle.moka_store.specs.Store.{member_after}
 
 -- ---- the victims
@@ -16,11 +18,6 @@ use Rattle.moka_store.specs.Store.{member_after}
 -- what is ahead decides which front of all is heavy enough, where so much was met
 abbrev pub GoesOn : List Member → List Member → ℕ → ℕ → Type 0
 GoesOn met ahead weight so_far = prefix (met ++ ahead) weight ≡ option_map (λ f. met ++ f) (prefix ahead (weight - so_far))
-
--- no weight needs no members
-prefix_of_none : (members : List Member) (w : ℕ) → w ≡ 0 → prefix members w ≡ Some []
-prefix_of_none [] w e = rw e refl
-prefix_of_none (a ∷ members) w e = rw e refl
 
 join : (met : List Member) (a : Member) (o : Option (List Member)) → option_map (λ f. met ++ f) (option_map (λ f. a ∷ f) o) ≡ option_map (λ f. (met ++ a ∷ []) ++ f) o
 join met a None = refl
@@ -101,13 +98,9 @@ module _ {K V : Type 0} (records : Records K V) where
       ∙ ap (λ b. if b then has_six_unsettled records 0 ahead else (nat_le 5 row || has_six_unsettled records (row + 1) ahead)) is
       ∙ ap (λ b. b || has_six_unsettled records (row + 1) ahead) (one_more row)
 
-  or_false : (b : Bool) → (b || false) ≡ b
-  or_false true = refl
-  or_false false = refl
-
   -- no six stand side by side in what was walked over
   pub stands_below : (walked : List Member) (row : ℕ) → row < 6 → StandsBefore walked row → has_six_unsettled records 0 walked ≡ false
-  stands_below walked row few h = ap (has_six_unsettled records 0) (sym (append-nil walked)) ∙ h [] ∙ or_false (nat_le 6 row) ∙ below row few
+  stands_below walked row few h = ap (has_six_unsettled records 0) (sym (append-nil walked)) ∙ h [] ∙ or-false (nat_le 6 row) ∙ below row few
 
   -- six do, whatever is ahead
   pub six_stand : (walked ahead : List Member) (row : ℕ) → 6 ≤ row → StandsBefore walked row → has_six_unsettled records 0 (walked ++ ahead) ≡ true
@@ -143,9 +136,6 @@ pub distinct_back : (xs ys : List Member) → IsDistinct (◌==◌) (numbers_of 
 distinct_back [] ys once = once
 distinct_back (x ∷ xs) ys once = distinct_back xs ys (rest_once x (xs ++ ys) once)
 
-pub front_counted : (a : Member) (xs : List Member) → counted_of a.number (a ∷ xs) ≡ Some a.counted
-front_counted a xs = ap (λ b. cond b (Some a.counted) (counted_of a.number xs)) (itself_tested a.number)
-
 counted_past : (n : ℕ) (xs ys : List Member) → counted_of n xs ≡ None → counted_of n (xs ++ ys) ≡ counted_of n ys
 counted_past n [] ys none = refl
 counted_past n (x ∷ xs) ys none = go (counted_past n xs ys) (x.number == n) none
@@ -164,18 +154,18 @@ after_apart (x ∷ front) back a none = at (after_apart front back a) (x.number 
     at behind false none = behind none
 
 pub after_middle : (front back : List Member) (a : Member) → IsDistinct (◌==◌) (numbers_of (front ++ a ∷ back)) → member_after a.number (front ++ a ∷ back) ≡ slice_get back 0
-after_middle front back a once = after_apart front back a (apart_front front (a ∷ back) a.number once (ap is_some (front_counted a back)))
+after_middle front back a once = after_apart front back a (apart_front front (a ∷ back) a.number once (ap is_some (counted_front a back)))
 
 -- one in the middle goes to the back
 pub middle_to_back : (front back : List Member) (a : Member) → IsDistinct (◌==◌) (numbers_of (front ++ a ∷ back)) → to_back a.number (front ++ a ∷ back) ≡ front ++ (back ++ a ∷ [])
 middle_to_back front back a once =
-    let away = apart_front front (a ∷ back) a.number once (ap is_some (front_counted a back)) in
+    let away = apart_front front (a ∷ back) a.number once (ap is_some (counted_front a back)) in
     let gone : counted_of a.number back ≡ None = front_once a back (distinct_back front (a ∷ back) once) in
     let out : without_member a.number (a ∷ back) ≡ back = ap (λ b. cond (not b) (a ∷ without_member a.number back) (without_member a.number back)) (itself_tested a.number) ∙ absent_taken_out a.number back gone in
     let left : without_member a.number (front ++ a ∷ back) ≡ front ++ back =
     filter-append (λ (b : Member). not (b.number == a.number)) front (a ∷ back) ∙ ap (λ xs. xs ++ without_member a.number (a ∷ back)) (absent_taken_out a.number front away) ∙ ap (λ xs. front ++ xs) out in
     ap (λ xs. xs ++ option_to_list (option_map (member a.number) (counted_of a.number (front ++ a ∷ back)))) left
-    ∙ ap (λ o. (front ++ back) ++ option_to_list (option_map (member a.number) o)) (counted_past a.number front (a ∷ back) away ∙ front_counted a back)
+    ∙ ap (λ o. (front ++ back) ++ option_to_list (option_map (member a.number) o)) (counted_past a.number front (a ∷ back) away ∙ counted_front a back)
     ∙ append_assoc front back (a ∷ [])
 
 -- what stands before a number that is not in the front
@@ -213,7 +203,7 @@ module _ {K V : Type 0} (records : Records K V) where
       one : ((w : ℕ) (f : List Member) → (w == 0) ≡ false → prefix (settled_members records members) w ≡ Some f → Last members f) → (w : ℕ) (b : Bool) → (w == 0) ≡ b → (f : List Member) → prefix (settled_members records members) w ≡ Some f → a ∷ f ≡ victims → Last (a ∷ members) victims
       one ih w true none f is same =
           let empty : [] ≡ f = (let e = sym (prefix_of_none (settled_members records members) w (same_by_test w 0 none)) ∙ is in cc) in
-          subst (Last (a ∷ members)) (ap (λ f. a ∷ f) empty ∙ same) (record { last = a; ends = λ o. refl; is_in = ap is_some (front_counted a members) })
+          subst (Last (a ∷ members)) (ap (λ f. a ∷ f) empty ∙ same) (record { last = a; ends = λ o. refl; is_in = ap is_some (counted_front a members) })
       one ih w false light f is same =
           let last = ih w f light is in
           subst (Last (a ∷ members)) same (record { last = last.last; ends = λ o. last.ends (Some a); is_in = in_more last.last.number a members last.is_in })

@@ -14,7 +14,7 @@ use Rattle.moka_parts.specs.Visibility.{NoneCovers}
 use Rattle.moka_parts.specs.Maintenance.{Choice, Removes, MovesToBack, Drops}
 use Rattle.moka_parts.proofs.Maps.{itself_tested, same_by_test, same_or_apart}
 use Rattle.moka_parts.proofs.Scanned.{uncovered-none, uncovered-push, uncovered-kept}
-use Rattle.moka_parts.proofs.WriteList.{listed_taken_out, listed_past_taken_out, unlisted_taken_out}
+use Rattle.moka_parts.proofs.WriteList.{listed_taken_out, listed_past_taken_out, unlisted_taken_out, unlisted_all}
 use Rattle.moka_store.specs.Store.{Kept, number_after}
 use Rattle.moka_store.proofs.Gets.{after_remove, get-past_remove}
 use Rattle.moka_maintenance.specs.Scanning.{LeavesSome, settled_numbers, MayScan, LooksAt, IsWalked}
@@ -26,16 +26,6 @@ use Rattle.moka_maintenance.proofs.Stepped.{length-on, stepped-none, stepped-one
 pub all_mid : (P : ℕ → Type 0) (xs ys : List ℕ) (n : ℕ) → AllByRecursion P (xs ++ n ∷ ys) → P n
 all_mid P [] ys n h = h.0
 all_mid P (x ∷ xs) ys n h = all_mid P xs ys n h.1
-
-other : (a b : ℕ) → (a == b) ≡ false → (b == a) ≡ false
-other a b e = elim (same_or_apart a b) [
-  | inl same ↦ absurd (true≢false (sym (itself_tested b) ∙ sym (ap (λ x. x == b) same) ∙ e))
-  | inr apart ↦ apart.back
-]
-
-pub unlisted_all : (n : ℕ) (ns : List ℕ) → AllByRecursion (λ y. (n == y) ≡ false) ns → is_listed n ns ≡ false
-unlisted_all n [] h = refl
-unlisted_all n (m ∷ ns) h = ap (λ b. b || is_listed n ns) (other n m h.0) ∙ unlisted_all n ns h.1
 
 pub after_split : (xs ys : List ℕ) (n : ℕ) → IsDistinct (◌==◌) (xs ++ n ∷ ys) → number_after n (xs ++ n ∷ ys) ≡ slice_get ys 0
 unfolding IsDistinct

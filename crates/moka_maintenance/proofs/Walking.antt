@@ -4,6 +4,7 @@ use Rattle.std.specs.Bool.{passes}
 use Rattle.std.specs.Option.{option_map_or}
 use Rattle.std.specs.List.{IsDistinct, before_first, last_or, list_all, position_or_len}
 use Rattle.std.proofs.Math.Seq.{take-append_seam}
+use Rattle.std.proofs.Math.Bool.{and-false, and-true}
 use Rattle.std.proofs.lemmas.List.Folds.{list_all-append}
 use Rattle.std.proofs.lemmas.List.Sums.{sum_by-append, sum_by_push}
 use Rattle.moka_sketch.specs.Frequency.{frequency}
@@ -14,12 +15,13 @@ use Rattle.moka_parts.specs.Candidates.{prefix, before_last_of, has_six_unsettle
 use Rattle.moka_parts.specs.Writes.{Preferred, Refused, fate_by_frequency}
 use Rattle.moka_parts.proofs.AccessList.{distinct-all_to_back}
 use Rattle.moka_parts.proofs.Maps.{itself_tested}
+use Rattle.moka_parts.proofs.Counting.{counted_front}
 use Rattle.moka_store.specs.Store.{member_after}
 use Rattle.moka_maintenance.specs.Chosen.{Chooses}
 use Rattle.moka_maintenance.proofs.Fronts.{settled-append, settled-pushed, settled-behind, first_unsettled}
 use Rattle.moka_maintenance.proofs.Popped.{none_first}
 use Rattle.moka_maintenance.proofs.Stepped.{length-on}
-use Rattle.moka_maintenance.proofs.Walk.{GoesOn, goes_none, goes_on, is_enough, is_none, is_longer, still_light, StandsBefore, stands_none, stands_settled, stands_unsettled, stands_below, six_stand, apart_front, after_middle, middle_to_back, before_ahead, last_victim, front_counted}
+use Rattle.moka_maintenance.proofs.Walk.{GoesOn, goes_none, goes_on, is_enough, is_none, is_longer, still_light, StandsBefore, stands_none, stands_settled, stands_unsettled, stands_below, six_stand, apart_front, after_middle, middle_to_back, before_ahead, last_victim}
 
 -- the first member of a list, if it is this one
 pub record Starts (a : Member) (members : List Member) : Type 0 where
@@ -55,14 +57,6 @@ last_append o (x ∷ xs) ys = last_append (Some x) xs ys
 -- what stands before the first of a list
 before_front : (a : Member) (xs : List Member) → before_first (λ b. b.number == a.number) (a ∷ xs) ≡ []
 before_front a xs = ap (λ t. take (if not t then 1 + position_or_len (λ (b : Member). b.number == a.number) xs else 0) (a ∷ xs)) (itself_tested a.number)
-
-and_false : (b : Bool) → (b && false) ≡ false
-and_false true = refl
-and_false false = refl
-
-and_true : (b : Bool) → (b && true) ≡ b
-and_true true = refl
-and_true false = refl
 
 module _ {K V : Type 0} (c : Contents K V) (weight hash : ℕ) where
   -- the walk goes over the members that stood there at the start: it met the settled ones of those behind it, and the
@@ -160,7 +154,7 @@ module _ {K V : Type 0} (c : Contents K V) (weight hash : ℕ) where
       before_it : (more : List Member) → c.access ≡ g.walked ++ a ∷ more → before_first (λ b. b.number == a.number) c.access ≡ g.walked
       before_it more whole =
           ap (before_first (λ b. b.number == a.number)) whole
-          ∙ before_ahead g.walked (a ∷ more) a.number (apart_front g.walked (a ∷ more) a.number (subst (λ xs. IsDistinct (◌==◌) (numbers_of xs)) whole once) (ap is_some (front_counted a more)))
+          ∙ before_ahead g.walked (a ∷ more) a.number (apart_front g.walked (a ∷ more) a.number (subst (λ xs. IsDistinct (◌==◌) (numbers_of xs)) whole once) (ap is_some (counted_front a more)))
           ∙ ap (λ xs. g.walked ++ xs) (before_front a more) ∙ append-nil g.walked
 
       -- over a settled member
@@ -320,7 +314,7 @@ module _ {K V : Type 0} (c : Contents K V) (weight hash : ℕ) where
           let heavy' : weight ≤ total_weight walk.met = subst (λ w. weight ≤ w) walk.weighs heavy in
           ap (fate_by_frequency c hash) (ap (λ xs. prefix xs weight) (all_settled walk.met walk.ahead next row left g) ∙ is_enough walk.met (settled_members c.records g.rest) weight (total_weight walk.met) heavy' g.goes)
           ∙ ap (λ b. if nat_lt (frequency_of_all c walk.met) (frequency c.sketch hash) && not b then Preferred walk.met else Refused) (g.apart heavy')
-          ∙ ap (λ b. if b then Preferred walk.met else Refused) (and_true (nat_lt (frequency_of_all c walk.met) (frequency c.sketch hash)))
+          ∙ ap (λ b. if b then Preferred walk.met else Refused) (and-true (nat_lt (frequency_of_all c walk.met) (frequency c.sketch hash)))
           ∙ ap (λ f. if nat_lt f (frequency c.sketch hash) then Preferred walk.met else Refused) (sym walk.seen)
           ∙ ap (λ xs. if nat_lt frequencies (frequency c.sketch hash) then Preferred xs else Refused) (sym front_is)
 
@@ -351,7 +345,7 @@ module _ {K V : Type 0} (c : Contents K V) (weight hash : ℕ) where
           ∙ ap (before_first (λ a. a.number == last.last.number)) g.split
           ∙ before_ahead g.walked g.rest last.last.number (apart_front g.walked g.rest last.last.number (subst (λ xs. IsDistinct (◌==◌) (numbers_of xs)) g.split once) last.is_in) in
           let six_are : has_six_unsettled c.records 0 (before_last_of (walk.met ++ more) c.access) ≡ true = ap (has_six_unsettled c.records 0) before ∙ six_stand c.records g.walked (before_first (λ a. a.number == last.last.number) g.rest) row six g.stands in
-          ap (λ b. nat_lt (frequency_of_all c (walk.met ++ more)) (frequency c.sketch hash) && not b) six_are ∙ and_false (nat_lt (frequency_of_all c (walk.met ++ more)) (frequency c.sketch hash))))
+          ap (λ b. nat_lt (frequency_of_all c (walk.met ++ more)) (frequency c.sketch hash) && not b) six_are ∙ and-false (nat_lt (frequency_of_all c (walk.met ++ more)) (frequency c.sketch hash))))
 
     chosen_fate : (weight ≤ weights) ⊎ ((frequency c.sketch hash < frequencies) ⊎ ((6 ≤ row) ⊎ (next ≡ None))) → fate_by_frequency c hash (victims_for c weight) ≡ (if nat_le weight weights && nat_lt frequencies (frequency c.sketch hash) then Preferred (take victims now) else Refused)
     chosen_fate over = by_weight (nat_le weight weights) refl walk.phase over

@@ -3,7 +3,6 @@ use Rattle.std.specs.Prelude.{◌≡◌, ℕ, ◌+◌, ◌-◌, ◌*◌, ◌/◌
 use Rattle.std.specs.List.{list_all}
 use Rattle.moka_parts.specs.declared.notification.RemovalCause.{RemovalCause}
 use Rattle.moka_parts.specs.declared.policy.Instant.{Instant}
-use Rattle.moka_parts.specs.declared.records.Member.{Member}
 use Rattle.moka_parts.specs.declared.records.Registered.{Registered}
 use Rattle.moka_parts.specs.Surroundings.{Leads}
 use Rattle.moka_parts.specs.Exact.{IsWithin}
@@ -12,11 +11,10 @@ use Rattle.moka_parts.specs.Visibility.{SomeCovers}
 use Rattle.moka_parts.specs.Bounds.{removed_by}
 use Rattle.moka_parts.specs.Grounds.{FollowsGrounds, grounds_of, grounds_of_pass}
 use Rattle.moka_maintenance.specs.declared.sweep.Tests.{Tests}
-use Rattle.moka_maintenance.specs.declared.sweep.Sweep.{Sweep}
 use Rattle.moka_maintenance.specs.declared.sweep.Sweep.TheVariants.{Written, Read, Surplus}
 use Rattle.moka_maintenance.specs.Scanning.{AreDropped}
 use Rattle.moka_maintenance.specs.Steps.{Stock, MayRun, AreAllMembers, HasNoSettled, HasUnsettled, IsStepped, after_steps, contents_of, makes_room}
-use Rattle.moka_maintenance.specs.Sweeps.{tests_in, IsAtRest, IsDone}
+use Rattle.moka_maintenance.specs.Sweeps.{tests_in, sweeps_writes, IsAtRest, IsDone}
 
 module _ {C : Type 0} (reads : C → Instant → C → Type 0) where
   -- the clock is read once where a limit is given
@@ -29,20 +27,6 @@ module _ {C : Type 0} (reads : C → Instant → C → Type 0) where
   Checks None limit c late d = (late ≡ false) × (d ≡ c)
   Checks (Some first) None c late d = (late ≡ false) × (d ≡ c)
   Checks (Some first) (Some limit) c late d = (r : Instant) × reads c r d × (late ≡ nat_le limit (r.0 - first.0))
-
--- a sweep by the last write is made
-abbrev pub sweeps_writes : Tests → Bool
-sweeps_writes q = is_some q.time_to_live || is_some q.time_to_idle || is_some q.valid_after
-
--- a sweep by the last read is made
-abbrev pub sweeps_reads : Tests → Bool
-sweeps_reads q = is_some q.time_to_idle || is_some q.valid_after
-
--- the step is taken
-abbrev pub is_taken : Tests → Sweep → List Member → Bool
-is_taken q Written access = sweeps_writes q
-is_taken q Read access = sweeps_reads q
-is_taken q Surplus access = is_over q.capacity access
 
 module _ {K V L P : Type 0} (tells : L → K → V → RemovalCause → L → Type 0)
     (says : P → K → V → Bool → Type 0) (q : Tests) where
@@ -72,9 +56,10 @@ module _ {K V L P : Type 0} (tells : L → K → V → RemovalCause → L → Ty
     pub writes_swept : (first second : List Choice) × (by.steps ≡ first ++ second)
         × IsDone q Written batch (length first) (after_steps before first)
         × (left ≡ false → HasUnsettled (after_steps before first) ⊎ IsAtRest q Written (after_steps before first))
-    -- after more of its steps, the sweep by the last read is done
+    -- after more of its steps, the sweep by the last read is so too
     pub reads_swept : (first second : List Choice) × (by.steps ≡ first ++ second)
         × IsDone q Read batch (length first) (after_steps before first)
+        × (left ≡ false → HasUnsettled (after_steps before first) ⊎ IsAtRest q Read (after_steps before first))
     -- with a batch of 0 more is left wherever a sweep is made
     pub idle : batch ≡ 0 → left ≡ (sweeps_writes q || is_over q.capacity after.access)
     -- without predicates, or with a batch of 0, the scan leaves nothing
@@ -114,16 +99,21 @@ module _ {K V L P : Type 0} (tells : L → K → V → RemovalCause → L → Ty
       -- each pass of a run that was cut removed a record
       pub removing : is_late limit readings ≡ true → passes ≤ length (removed_by by.steps)
       pub rest : is_late limit readings ≡ false → 1 ≤ batch → HasUnsettled after ⊎ IsWithin q.capacity after.access
-      -- without predicates, unsettled members are passed over up to the last turn of each pass
-      pub used : ps ≡ [] → IsDone q Surplus (passes * batch) (length by.steps) after
+      -- unsettled members are passed over up to the last turn of the last pass and, without predicates, of each
+      pub used : IsDone q Surplus batch (length by.steps) after
+          × (ps ≡ [] → IsDone q Surplus (passes * batch) (length by.steps) after)
       -- after some of its steps, the last sweep by the last write is done, and came to rest in a whole run
       pub writes_swept : (first second : List Choice) × (by.steps ≡ first ++ second)
+          × IsDone q Written batch (length first) (after_steps before first)
           × (ps ≡ [] → IsDone q Written (passes * batch) (length first) (after_steps before first))
           × (is_late limit readings ≡ false → 1 ≤ batch → HasUnsettled (after_steps before first)
           ⊎ IsAtRest q Written (after_steps before first))
-      -- after more of its steps, the last sweep by the last read is done
+      -- after more of its steps, the last sweep by the last read is so too
       pub reads_swept : (first second : List Choice) × (by.steps ≡ first ++ second)
+          × IsDone q Read batch (length first) (after_steps before first)
           × (ps ≡ [] → IsDone q Read (passes * batch) (length first) (after_steps before first))
+          × (is_late limit readings ≡ false → 1 ≤ batch → HasUnsettled (after_steps before first)
+          ⊎ IsAtRest q Read (after_steps before first))
       -- with a batch of 0 more is left wherever a sweep is made
       pub idle : batch ≡ 0 → left ≡ (sweeps_writes q || is_over q.capacity after.access)
       -- where all its steps make room, each pass but the last of a whole run removed a batch

@@ -1,6 +1,6 @@
 -- A scan along the order of writing for what registered predicates cover, and the drop of predicates that cover
 -- nothing.
-use Rattle.std.specs.Prelude.{◌≡◌, ℕ, ◌≤◌, ◌<◌, Bool, true, false, ◌&&◌, ◌⊎◌, ◌==◌, if◌then◌else◌, List, [], ◌∷◌, ◌++◌, length, Option, Some, None, is_none, slice_get, Contains}
+use Rattle.std.specs.Prelude.{◌≡◌, ℕ, ◌≤◌, nat_le, ◌<◌, nat_lt, Bool, true, false, ◌&&◌, ◌⊎◌, ◌==◌, if◌then◌else◌, List, [], ◌∷◌, ◌++◌, length, Option, Some, None, is_none, slice_get, Contains, MatchBool}
 use Rattle.std.specs.FinMap.{get}
 use Rattle.std.specs.List.{IsDistinct, filter}
 use Rattle.moka_parts.specs.declared.notification.RemovalCause.{RemovalCause}
@@ -130,6 +130,8 @@ module _ {K V L P : Type 0} (tells : L → K → V → RemovalCause → L → Ty
       (end : Bool) : Type 0 where
     pub by : IsStepped tells (MayScan says ps) (stock_in old) (stock_in new) l m
     pub goes : GoesRound says ps batch old new looked
+    -- the end is reached where all from the cursor on are passed
+    pub ended : end ≡ nat_le (length (from_cursor old.cursor old.written)) (length goes.walked)
     pub few : length by.steps ≤ looked
     pub unlooked : old.ordered ≡ true → 1 ≤ batch → looked ≡ 0 → HasNoSettled (stock_in old)
     -- with a batch for all members it is a whole one
@@ -144,12 +146,17 @@ module _ {K V L P : Type 0} (tells : L → K → V → RemovalCause → L → Ty
     pub dropped : AreDropped says (contents_in new) ps qs
     pub looked : ℕ
     pub goes : GoesRound says ps batch old new looked
+    -- once all from the cursor on are passed, the predicates that cover no record leave, and before that none does
+    pub drops : MatchBool (nat_le (length (from_cursor old.cursor old.written)) (length goes.walked))
+        (AllDropped says (contents_in new) ps qs) (qs ≡ ps)
     -- each member that leaves was looked at
     pub few : length by.steps ≤ looked
     -- without predicates nothing is done
     pub unregistered : ps ≡ [] → (by.steps ≡ []) × (left ≡ false)
     pub idle : batch ≡ 0 → left ≡ false
-    -- more is left only where a predicate is, and wherever one is left beside a settled member
+    -- more is left exactly where a member was looked at and a predicate is left
+    pub leaves : left ≡ (nat_lt 0 looked && nat_lt 0 (length qs))
+    -- so only where a predicate is left, and wherever one is beside a settled member
     pub more : left ≡ true → 0 < length qs
     pub unfinished : old.ordered ≡ true → 1 ≤ batch → 0 < length qs → (left ≡ true) ⊎ HasNoSettled (stock_in new)
     -- with a batch for all members, no predicate is left once every record is settled

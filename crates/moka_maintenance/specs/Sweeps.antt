@@ -1,11 +1,13 @@
 -- Sweeps along the orders of writing and of access, and timers that are due.
-use Rattle.std.specs.Prelude.{◌≡◌, ℕ, ◌+◌, ◌*◌, Bool, true, false, ◌&&◌, ◌≤◌, ◌⊎◌, length, Option, Some, option_map, slice_get}
+use Rattle.std.specs.Prelude.{◌≡◌, ℕ, ◌+◌, ◌*◌, Bool, true, false, ◌&&◌, ◌||◌, ◌≤◌, ◌⊎◌, List, length, Option, Some, is_some, option_map, slice_get}
 use Rattle.std.specs.Duration.{as_nanos}
 use Rattle.std.specs.FinMap.{get}
 use Rattle.moka_parts.specs.declared.notification.RemovalCause.{RemovalCause}
+use Rattle.moka_parts.specs.declared.records.Member.{Member}
 use Rattle.moka_parts.specs.declared.records.Record.{Record}
 use Rattle.moka_parts.specs.Exact.{IsWithin}
 use Rattle.moka_parts.specs.Order.{IsAtRestByWrite}
+use Rattle.moka_parts.specs.Records.{is_settled}
 use Rattle.moka_parts.specs.Visibility.{is_read_before}
 use Rattle.moka_parts.specs.Maintenance as parts
 use Rattle.moka_parts.specs.Maintenance.{Choice, Removes, MovesToBack, Drops, is_front, is_over, is_past_read}
@@ -34,6 +36,20 @@ ground_of Written = ByWrite
 ground_of Read = ByRead
 ground_of Surplus = BySurplus
 
+-- a sweep by the last write is made
+abbrev pub sweeps_writes : Tests → Bool
+sweeps_writes q = is_some q.time_to_live || is_some q.time_to_idle || is_some q.valid_after
+
+-- a sweep by the last read is made
+abbrev pub sweeps_reads : Tests → Bool
+sweeps_reads q = is_some q.time_to_idle || is_some q.valid_after
+
+-- the sweep is made
+abbrev pub is_taken : Tests → Sweep → List Member → Bool
+is_taken q Written access = sweeps_writes q
+is_taken q Read access = sweeps_reads q
+is_taken q Surplus access = is_over q.capacity access
+
 module _ {K V : Type 0} (q : Tests) where
   -- the number is that of the front to which the sweep has come
   abbrev pub IsNext : Sweep → Stock K V → ℕ → Type 0
@@ -47,6 +63,14 @@ module _ {K V : Type 0} (q : Tests) where
   IsAtRest Read c = (n : ℕ) (r : Record K V) → is_front n c.access ≡ true → get c.records n ≡ Some r
       → (is_past_read (tests_in q) r ≡ false) × (is_read_before q.valid_after r ≡ false)
   IsAtRest Surplus c = IsWithin q.capacity c.access
+
+  -- the front to which the sweep has come, if there is one, is settled
+  abbrev pub HasSettledNext : Sweep → Stock K V → Type 0
+  HasSettledNext sweep c = (n : ℕ) → IsNext sweep c n → is_settled c.records n ≡ true
+
+  -- the front is none that the sweep removes, and none that it would pass over if it is made
+  abbrev pub HasStopped : Sweep → Stock K V → Type 0
+  HasStopped sweep c = IsAtRest sweep c × (is_taken q sweep c.access ≡ true → HasSettledNext sweep c)
 
   -- the sweep removes the record, to which it has come, and tells this cause
   abbrev pub LeavesIn : Sweep → Stock K V → ℕ → Record K V → RemovalCause → Type 0
@@ -70,9 +94,9 @@ module _ {K V : Type 0} (q : Tests) where
   AreAllTurns batch turns c = (rounds : ℕ) × (turns + rounds * length c.access ≡ batch)
       × ((rounds ≡ 0) ⊎ HasNoSettled c)
 
-  -- the sweep came to rest, or no member is settled, or all turns of the batch were made
+  -- the sweep has stopped, or no member is settled, or all turns of the batch were made
   abbrev pub IsDone : Sweep → ℕ → ℕ → Stock K V → Type 0
-  IsDone sweep batch turns c = IsAtRest sweep c ⊎ (HasNoSettled c ⊎ (batch ≤ turns))
+  IsDone sweep batch turns c = HasStopped sweep c ⊎ (HasNoSettled c ⊎ (batch ≤ turns))
 
 module _ {K V L : Type 0} (tells : L → K → V → RemovalCause → L → Type 0) (q : Tests) where
   -- one turn of a sweep
@@ -81,15 +105,16 @@ module _ {K V L : Type 0} (tells : L → K → V → RemovalCause → L → Type
       × (after ≡ after_step before (Removes n cause)) × Told tells l (left_by_step before (Removes n cause)) m
   TakesTurn sweep before after l m Passed = (n : ℕ) × MayTurn q sweep before (MovesToBack n)
       × (after ≡ after_step before (MovesToBack n)) × (m ≡ l)
-  TakesTurn sweep before after l m Ended = IsAtRest q sweep before × (after ≡ before) × (m ≡ l)
+  TakesTurn sweep before after l m Ended = IsAtRest q sweep before × HasSettledNext q sweep before × (after ≡ before)
+      × (m ≡ l)
 
   -- a sweep of so many turns: what it removed, and whether it left more
   pub record IsSwept (sweep : Sweep) (batch : ℕ) (before after : Stock K V) (l m : Option L) (removed : ℕ)
       (left : Bool) : Type 0 where
     pub by : IsStepped tells (MayTurn q sweep) before after l m
     pub few : length by.steps ≤ batch
-    -- it makes all its turns, or comes to rest
-    pub turns : AreAllTurns q batch (length by.steps) after ⊎ IsAtRest q sweep after
+    -- it makes all its turns, or stops
+    pub turns : AreAllTurns q batch (length by.steps) after ⊎ HasStopped q sweep after
     pub count : removed ≡ length (removed_by by.steps)
     -- each of all its turns removed a record
     pub full : left ≡ true → removed ≡ batch

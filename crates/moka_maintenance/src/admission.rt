@@ -17,7 +17,7 @@ ghost use Rattle.moka_maintenance.specs.Queued.{IsAt, IsReadAt, IsRenewed, IsRen
 ghost use Rattle.moka_maintenance.specs.Handles.{IsOutside};
 ghost use Rattle.moka_maintenance.specs.Queues.{AppliesReads, AppliesUpsert, AppliesWrite, AppliesWrites, IsCompared, LeavesNoRowAfter};
 ghost use Rattle.moka_maintenance.specs.Steps.{contents_in, contents_with, Told};
-ghost use Rattle.moka_maintenance.specs.Timers.{Serves};
+ghost use Rattle.moka_maintenance.specs.Timers.{StandsAtExpiry, Serves};
 ghost use Rattle.moka_maintenance.specs.Upkeep.{Upkeep};
 
 use crate::bounds::Bounds;
@@ -72,10 +72,8 @@ fn count_reads(sketch: &mut FrequencySketch, reads: &[QueuedRead])
     if sketch.table_len() == 0 {
         return;
     }
-    let mut rest = reads;
-    while let Some((read, behind)) = rest.split_first() {
+    for read in reads {
         sketch.increment(read.hash);
-        rest = behind;
     }
 }
 
@@ -123,10 +121,8 @@ fn apply_each_read<K: Eq + Hash, V, S: BuildHasher>(
     requires { (q : QueuedRead) → Contains reads.now q → IsReadAt store.old.places q.place (read_of q) }
     ensures { AppliesReads reads.now store.old store.new }
 {
-    let mut rest = reads;
-    while let Some((read, behind)) = rest.split_first() {
+    for read in reads {
         apply_read(store, *read);
-        rest = behind;
     }
 }
 
@@ -146,7 +142,7 @@ fn apply_read<K: Eq + Hash, V, S: BuildHasher>(store: &mut Store<K, V, S>, queue
     let handle = Handle { number, place };
     store.invariant_holds();
     if store.find(handle).is_some() {
-        pass_read(store, handle, is_renewed);
+        move_after_read(store, handle, is_renewed);
     }
 }
 
@@ -183,10 +179,8 @@ fn apply_each_write<K: Eq + Hash + Drop, V: Drop, S: BuildHasher, L: Listener<K,
     ensures { AppliesWrites L.tells bounds sketch.now store.old store.new (writes_of writes.now)
         notifier.old notifier.new }
 {
-    let mut rest = writes;
-    while let Some((sent, behind)) = rest.split_first() {
+    for sent in writes {
         apply_write(store, sketch, notifier, bounds, sent.write);
-        rest = behind;
     }
 }
 
@@ -242,7 +236,7 @@ fn apply_upsert<K: Eq + Hash + Drop, V: Drop, S: BuildHasher, L: Listener<K, V>>
         return;
     };
     if found.applied() >= upsert.generation {
-        pass(store, handle);
+        move_to_back(store, handle);
     } else if store.is_member(handle) {
         store.set_applied(handle, upsert.generation);
         store.recount(handle, upsert.weight);
@@ -345,7 +339,7 @@ fn reject<K: Eq + Hash + Drop, V: Drop, S: BuildHasher, L: Listener<K, V>>(
 }
 
 // The member of this number, if there is one, comes to the back of both orders, and its timer is set again.
-fn pass<K: Eq + Hash, V, S: BuildHasher>(store: &mut Store<K, V, S>, handle: Handle)
+fn move_to_back<K: Eq + Hash, V, S: BuildHasher>(store: &mut Store<K, V, S>, handle: Handle)
     requires { IsHandle store.old handle }
     ensures step { store.new ≡ record store.old {
       access = to_back handle.number store.old.access;
@@ -353,6 +347,7 @@ fn pass<K: Eq + Hash, V, S: BuildHasher>(store: &mut Store<K, V, S>, handle: Han
       timers = store.new.timers;
       cursor = cursor_past handle.number store.old.written store.old.cursor;
     } }
+    ensures timer { StandsAtExpiry handle.number store.new }
     ensures upkeep { Upkeep store.old store.new }
 {
     if store.is_member(handle) {
@@ -363,7 +358,7 @@ fn pass<K: Eq + Hash, V, S: BuildHasher>(store: &mut Store<K, V, S>, handle: Han
 
 // The member of this number, if there is one, comes to the back of the access list alone. Its timer is set again where
 // the read renewed its expiry.
-fn pass_read<K: Eq + Hash, V, S: BuildHasher>(
+fn move_after_read<K: Eq + Hash, V, S: BuildHasher>(
     store: &mut Store<K, V, S>,
     handle: Handle,
     renewed: bool,

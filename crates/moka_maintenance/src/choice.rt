@@ -50,8 +50,9 @@ pub(crate) fn choose<K: Eq + Hash, V, S: BuildHasher>(
     let mut frequencies = 0u32;
     store.invariant_holds();
     let mut next = store.front();
-    // How many members were not looked at yet, and how many in a row were not settled.
+    // How many members were not looked at yet: only the proof that the walk ends reads it.
     let mut ahead = store.member_count();
+    // How many in a row were not settled.
     let mut unsettled = 0;
     while weights < weight && frequencies <= frequency && unsettled < MOST_UNSETTLED {
         let Some((handle, counted)) = next else {

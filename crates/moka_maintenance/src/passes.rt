@@ -4,8 +4,8 @@
 ghost use Rattle.std.specs.Prelude.{◌≡◌, ◌+◌, ◌&&◌, ◌||◌, Some, nat_lt, option_map};
 ghost use Rattle.std.specs.Duration.{as_nanos};
 ghost use Rattle.moka_maintenance.specs.Steps.{stock_in};
-ghost use Rattle.moka_maintenance.specs.Sweeps.{IsSwept};
-ghost use Rattle.moka_maintenance.specs.Passes.{Starts, Checks, is_taken, IsPass, IsRan};
+ghost use Rattle.moka_maintenance.specs.Sweeps.{is_taken, IsSwept};
+ghost use Rattle.moka_maintenance.specs.Passes.{Starts, Checks, IsPass, IsRan};
 ghost use Rattle.moka_maintenance.specs.Upkeep.{SetsNoTimer, UpkeepAt};
 
 use crate::due::expire_due;
@@ -39,7 +39,7 @@ pub struct Ran {
     /// How many passes were made.
     pub passes: u64,
     /// Whether the last pass left more.
-    pub is_left: bool,
+    pub has_more: bool,
 }
 
 // What a pass came to.
@@ -48,38 +48,44 @@ struct Pass {
     // How many records left, but for those that the scan removed.
     removed: u64,
     // Whether a sweep left more.
-    is_left: bool,
+    has_more: bool,
     // Whether the scan did.
-    is_scan_left: bool,
+    scan_has_more: bool,
 }
 
 impl Pass {
     // Sums up the steps of a pass. The one by timers never leaves work over.
-    fn joined(due: u32, by_write: Swept, by_read: Swept, is_scan_left: bool, surplus: Swept) -> Self
+    fn joined(
+        due: u32,
+        by_write: Swept,
+        by_read: Swept,
+        scan_has_more: bool,
+        surplus: Swept,
+    ) -> Self
         ensures { result ≡ record {
           removed = due + by_write.removed + by_read.removed + surplus.removed;
-          is_left = by_write.is_left || by_read.is_left || surplus.is_left;
-          is_scan_left = is_scan_left;
+          has_more = by_write.has_more || by_read.has_more || surplus.has_more;
+          scan_has_more = scan_has_more;
         } }
     {
         let by_moment = u64::from(due) + u64::from(by_write.removed) + u64::from(by_read.removed);
         Pass {
             removed: by_moment + u64::from(surplus.removed),
-            is_left: by_write.is_left || by_read.is_left || surplus.is_left,
-            is_scan_left,
+            has_more: by_write.has_more || by_read.has_more || surplus.has_more,
+            scan_has_more,
         }
     }
 
     // Whether it left more.
     fn leaves_more(self) -> bool
-        ensures { result ≡ (self.is_left || self.is_scan_left) }
+        ensures { result ≡ (self.has_more || self.scan_has_more) }
     {
-        self.is_left || self.is_scan_left
+        self.has_more || self.scan_has_more
     }
 
     // Whether another pass is due.
     fn goes_on(self) -> bool
-        ensures { result ≡ ((self.is_left || self.is_scan_left) && nat_lt 0 self.removed) }
+        ensures { result ≡ ((self.has_more || self.scan_has_more) && nat_lt 0 self.removed) }
     {
         self.leaves_more() && self.removed > 0
     }
@@ -103,7 +109,7 @@ pub fn make_passes<
     ensures ran { IsRan L.tells P.says terms.tests C.reads (option_map as_nanos terms.limit) terms.batch
         store.old.ordered invalidator.old invalidator.new (stock_in store.old)
         (stock_in store.new) notifier.old notifier.new clock.old clock.new
-        result.passes result.is_left }
+        result.passes result.has_more }
     ensures kept { UpkeepAt terms.tests.now.0 store.old store.new }
 {
     // There are no more passes than members, and one.
@@ -114,12 +120,12 @@ pub fn make_passes<
         passes += 1;
         let pass = make_pass(store, notifier, invalidator, terms);
         if !pass.goes_on() {
-            let is_left = pass.leaves_more();
-            return Ran { passes, is_left };
+            let has_more = pass.leaves_more();
+            return Ran { passes, has_more };
         }
         if is_late(started, terms.limit, clock) {
-            let is_left = true;
-            return Ran { passes, is_left };
+            let has_more = true;
+            return Ran { passes, has_more };
         }
     }
 }
@@ -134,16 +140,16 @@ fn make_pass<K: Eq + Hash + Drop, V: Drop, S: BuildHasher, L: Listener<K, V>, P:
 where
     P: PredicateFn<K, V>,
     ensures pass { IsPass L.tells P.says terms.tests terms.batch store.old.ordered invalidator.old invalidator.new
-        (stock_in store.old) (stock_in store.new) notifier.old notifier.new result.removed result.is_left
-        result.is_scan_left }
+        (stock_in store.old) (stock_in store.new) notifier.old notifier.new result.removed result.has_more
+        result.scan_has_more }
     ensures kept { UpkeepAt terms.tests.now.0 store.old store.new }
 {
     let due = expire_due(store, notifier, terms.tests);
     let by_write = take_step(store, notifier, terms, Sweep::Written);
     let by_read = take_step(store, notifier, terms, Sweep::Read);
-    let is_scan_left = scan(store, notifier, invalidator, terms.batch);
+    let scan_has_more = scan(store, notifier, invalidator, terms.batch);
     let surplus = take_step(store, notifier, terms, Sweep::Surplus);
-    Pass::joined(due, by_write, by_read, is_scan_left, surplus)
+    Pass::joined(due, by_write, by_read, scan_has_more, surplus)
 }
 
 // A step of a pass, where it is to be taken.
@@ -155,14 +161,14 @@ fn take_step<K: Eq + Hash + Drop, V: Drop, S: BuildHasher, L: Listener<K, V>>(
 ) -> Swept
     ensures swept { IsSwept L.tells terms.tests sweep terms.batch (stock_in store.old)
         (stock_in store.new) notifier.old notifier.new
-        result.removed result.is_left }
-    ensures idle { terms.batch ≡ 0 → result.is_left ≡ is_taken terms.tests sweep store.old.access }
+        result.removed result.has_more }
+    ensures idle { terms.batch ≡ 0 → result.has_more ≡ is_taken terms.tests sweep store.old.access }
     ensures upkeep { SetsNoTimer store.old store.new }
 {
     if !is_taken(store, terms.tests, sweep) {
         return Swept {
             removed: 0,
-            is_left: false,
+            has_more: false,
         };
     }
     read_ahead(store, terms, sweep);
@@ -218,21 +224,8 @@ fn start<C: Clock>(limit: Option<Duration>, clock: &mut C) -> Option<Instant>
 fn is_late<C: Clock>(started: Option<Instant>, limit: Option<Duration>, clock: &mut C) -> bool
     ensures { Checks C.reads started (option_map as_nanos limit) clock.old result clock.new }
 {
-    match started {
-        Some(first) => has_passed(first, limit, clock),
-        None => false,
-    }
-}
-
-// Reads the clock, where a limit is given. Whether so much time has passed.
-fn has_passed<C: Clock>(first: Instant, limit: Option<Duration>, clock: &mut C) -> bool
-    ensures { Checks C.reads (Some first) (option_map as_nanos limit) clock.old result clock.new }
-{
-    match limit {
-        Some(limit) => {
-            let now = clock.now();
-            now.saturating_duration_since(first).as_nanos() >= limit.as_nanos()
-        }
-        None => false,
-    }
+    let (Some(first), Some(limit)) = (started, limit) else {
+        return false;
+    };
+    clock.now().saturating_duration_since(first).as_nanos() >= limit.as_nanos()
 }

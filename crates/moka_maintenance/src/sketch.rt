@@ -39,11 +39,10 @@ pub fn enable_frequency_sketch<K: Eq + Hash, V, S: BuildHasher>(
 fn is_due(sketch: &FrequencySketch, capacity: u64, policy: EvictionPolicy, weight: u128) -> bool
     ensures { result ≡ is_sketch_due (Some capacity) policy sketch.now weight }
 {
-    let is_tiny_lfu = match policy {
-        EvictionPolicy::TinyLfu => true,
-        EvictionPolicy::Lru => false,
-    };
-    is_tiny_lfu && sketch.table_len() == 0 && capacity != 0 && u128::from(capacity / 2) <= weight
+    matches!(policy, EvictionPolicy::TinyLfu)
+        && sketch.table_len() == 0
+        && capacity != 0
+        && u128::from(capacity / 2) <= weight
 }
 
 // The size that is asked for: as many entries as find room at their mean weight, which is 1 without a weigher.

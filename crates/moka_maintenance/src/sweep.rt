@@ -110,7 +110,7 @@ pub(crate) struct Swept {
     /// How many records it removed.
     pub removed: u32,
     /// Whether each of all its turns removed one.
-    pub is_left: bool,
+    pub has_more: bool,
 }
 
 /// Makes `batch` turns, or as many as there are to make.
@@ -122,8 +122,8 @@ pub(crate) fn sweep_along<K: Eq + Hash + Drop, V: Drop, S: BuildHasher, L: Liste
     batch: u32,
 ) -> Swept
     ensures swept { IsSwept L.tells tests sweep batch (stock_in store.old)
-        (stock_in store.new) notifier.old notifier.new result.removed result.is_left }
-    ensures left { result.removed ≡ batch → result.is_left ≡ true }
+        (stock_in store.new) notifier.old notifier.new result.removed result.has_more }
+    ensures left { result.removed ≡ batch → result.has_more ≡ true }
     ensures upkeep { SetsNoTimer store.old store.new }
 {
     let mut turns = batch as usize;
@@ -136,8 +136,8 @@ pub(crate) fn sweep_along<K: Eq + Hash + Drop, V: Drop, S: BuildHasher, L: Liste
         turns -= 1;
         match take_turn(store, notifier, tests, sweep) {
             Turn::Ended => {
-                let is_left = false;
-                return Swept { removed, is_left };
+                let has_more = false;
+                return Swept { removed, has_more };
             }
             Turn::Removed => {
                 removed += 1;
@@ -153,8 +153,8 @@ pub(crate) fn sweep_along<K: Eq + Hash + Drop, V: Drop, S: BuildHasher, L: Liste
             }
         }
     }
-    let is_left = is_all_settled;
-    Swept { removed, is_left }
+    let has_more = is_all_settled;
+    Swept { removed, has_more }
 }
 
 // One turn: a settled front leaves if the sweep has a cause to remove it, and one that is not settled goes to the back.
@@ -191,7 +191,8 @@ fn next_of<K: Eq + Hash, V, S: BuildHasher>(
     tests: Tests,
     sweep: Sweep,
 ) -> Option<Handle>
-    ensures { MatchOption result (IsAtRest tests sweep (stock_in store.now))
+    ensures { MatchOption result (IsAtRest tests sweep (stock_in store.now)
+        × ((n : ℕ) → IsNext tests sweep (stock_in store.now) n → ⊥))
         (λ h. IsMemberAt store.now h × IsNext tests sweep (stock_in store.now) h.number) }
 {
     match sweep {
@@ -206,10 +207,8 @@ fn first_of<K: Eq + Hash, V, S: BuildHasher>(store: &Store<K, V, S>) -> Option<H
     ensures { MatchOption result (store.now.access ≡ [])
         (λ h. IsMemberAt store.now h × (is_front h.number store.now.access ≡ true)) }
 {
-    match store.front() {
-        Some((handle, _)) => Some(handle),
-        None => None,
-    }
+    let (handle, _) = store.front()?;
+    Some(handle)
 }
 
 // The front of the access list, while the capacity is exceeded.
@@ -231,8 +230,5 @@ fn first_over<K: Eq + Hash, V, S: BuildHasher>(
 pub(crate) fn is_over(capacity: Option<u64>, weight: u128) -> bool
     ensures { (members : List Member) → weight ≡ total_weight members → result ≡ is_over capacity members }
 {
-    match capacity {
-        Some(capacity) => weight > u128::from(capacity),
-        None => false,
-    }
+    capacity.is_some_and(|capacity| weight > u128::from(capacity))
 }

@@ -130,8 +130,3 @@ distinct-to_back n xs h = go (counted_of n xs)
 pub distinct-all_to_back : (ns : List ℕ) (xs : List Member) → IsDistinct (◌==◌) (numbers_of xs) → IsDistinct (◌==◌) (numbers_of (all_to_back ns xs))
 distinct-all_to_back [] xs h = h
 distinct-all_to_back (n ∷ ns) xs h = distinct-all_to_back ns (to_back n xs) (distinct-to_back n xs h)
-
--- where members leave
-pub distinct_without : (gone xs : List Member) → IsDistinct (◌==◌) (numbers_of xs) → IsDistinct (◌==◌) (numbers_of (without_members gone xs))
-distinct_without [] xs h = h
-distinct_without (a ∷ gone) xs h = distinct_without gone (without_member a.number xs) (distinct_taken_out a.number xs h)

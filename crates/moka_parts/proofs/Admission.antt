@@ -1,5 +1,6 @@
 -- What an admission by TinyLFU shows.
-use Rattle.std.proofs.Common.{◌≡◌, refl, ℕ, ◌+◌, ◌-◌, ◌<◌, ◌≤◌, Bool, true, false, ◌&&◌, nat_lt, ◌==◌, List, [], ◌∷◌, Option, Some, None, option_map, ap, subst, unwrap_or, arith, ltb→lt, eqb→eq, if◌then◌else◌, zero-le}
+use Rattle.std.proofs.Common.{◌≡◌, refl, ℕ, ◌+◌, ◌-◌, ◌<◌, ◌≤◌, Bool, true, false, nat_lt, ◌==◌, List, [], ◌∷◌, Option, Some, None, option_map, ap, subst, unwrap_or, arith, ltb→lt, eqb→eq, if◌then◌else◌, zero-le}
+use Rattle.std.proofs.lemmas.Bool.{and_parts}
 use Rattle.std.proofs.lemmas.List.Sums.{sum_by-cons}
 use Rattle.std.specs.Bool.{passes}
 use Rattle.moka_parts.specs.declared.records.Member.{Member}
@@ -32,10 +33,6 @@ prefix_weighs (a ∷ members) w front e = go (λ f. prefix_weighs members (w - a
     go more true z e = let zero_is : w ≡ 0 = eqb→eq w 0 (passes _ z) in rw zero_is zero-le
     go more false z e = weighs_behind a members w (prefix members (w - a.counted)) front more e
 
-left_true : (a b : Bool) → (a && b) ≡ true → a ≡ true
-left_true true b e = refl
-left_true false b e = e
-
 module _ {K V : Type 0} (c : Contents K V) where
   chosen : (w hash : ℕ) (o : Option (List Member)) (victims : List Member) → victims_for c w ≡ o → fate_by_frequency c hash o ≡ Preferred victims → (frequency_of_all c victims < frequency c.sketch hash) × (w ≤ total_weight victims)
   chosen w hash None victims f e = cc
@@ -46,7 +43,7 @@ module _ {K V : Type 0} (c : Contents K V) where
       go true p e =
           let same : v ≡ victims = cc in
           subst (λ x. (frequency_of_all c x < frequency c.sketch hash) × (w ≤ total_weight x)) same
-          (ltb→lt _ _ (passes _ (left_true (nat_lt (frequency_of_all c v) (frequency c.sketch hash)) _ p)), prefix_weighs _ w v f)
+          (ltb→lt _ _ (passes _ (and_parts (nat_lt (frequency_of_all c v) (frequency c.sketch hash)) _ p).0), prefix_weighs _ w v f)
 
   -- what TinyLFU admits
   pub admits_well : (w hash : ℕ) (victims : List Member) → AdmitsWell c w hash victims

@@ -1,6 +1,6 @@
 -- From a state in order, a run that leaves a front of the write list that is not past its time leaves no record that
 -- is.
-use Rattle.std.proofs.Common.{◌≡◌, refl, ℕ, ◌+◌, ◌<◌, ◌≤◌, Bool, true, false, ◌==◌, ◌||◌, min, nat_le, List, [], ◌∷◌, ◌++◌, map, Option, Some, None, is_some, ap, sym, ◌∙◌, subst, inl, inr, arith, true≢false, if◌then◌else◌}
+use Rattle.std.proofs.Common.{◌≡◌, refl, ℕ, ◌+◌, ◌≤◌, Bool, true, false, ◌==◌, ◌||◌, min, nat_le, List, [], ◌∷◌, ◌++◌, map, Option, Some, None, is_some, ap, sym, ◌∙◌, subst, arith, true≢false, if◌then◌else◌}
 use Rattle.std.specs.FinMap.{get}
 use Rattle.moka_parts.specs.declared.records.Record.{Record}
 use Rattle.moka_parts.specs.declared.records.Operation.{Operation}
@@ -12,7 +12,7 @@ use Rattle.moka_parts.specs.Visibility.{is_past_live, is_written_before}
 use Rattle.moka_parts.specs.Maintenance.{Terms, Course, Freedom, AreFree, after_run, tests_of}
 use Rattle.moka_parts.specs.Settling.{IsSound, IsConsistent, IsConsistentState, IsWaitingIn, AreRising, IsWhole, IsAllSent}
 use Rattle.moka_parts.specs.Order.{waiting_by_ticket, IsInOrder, AgesOut, write_list_at_end, IsAtRestByWrite}
-use Rattle.moka_parts.proofs.Maps.{same_or_apart, same_by_test, itself_tested}
+use Rattle.moka_parts.proofs.Maps.{same_by_test, itself_tested, same_by_order}
 use Rattle.moka_parts.proofs.RunKeepsSound.{run_kept}
 use Rattle.moka_parts.proofs.AtEnd.{nothing_waits}
 use Rattle.moka_parts.proofs.Rises.{Rises}
@@ -21,14 +21,11 @@ use Rattle.moka_parts.proofs.OrderedStates.{rises_from, run_in_order}
 
 -- ---- where nothing waits, all is settled
 
-all_applied : (a b : ℕ) → a ≤ b → (a < b → ⊥) → (a == b) ≡ true
-all_applied a b le differ = elim (same_or_apart a b) [ inl e ↦ grind (arith, e) | inr apart ↦ let d = apart.forth in absurd (differ (grind (arith, le, d))) ]
-
 module _ {K V : Type 0} (Waits : Operation → Type 0) (none : (o : Operation) → Waits o → ⊥) where
   -- a record in the map is a settled member
   record_settled : (n : ℕ) (r : Record K V) (counted : Option ℕ) → IsSound Waits n (Some r) counted → (is_applied r ≡ true) × (is_some counted ≡ true)
   record_settled n r None s = let p = s.pending (s.outside refl) in absurd (none (Upsert n r.generation r.weight p.0) p.1)
-  record_settled n r (Some w) s = (all_applied r.applied r.generation s.applied (λ below. let p = s.pending below in none (Upsert n r.generation r.weight p.0) p.1), refl)
+  record_settled n r (Some w) s = (same_by_order r.applied r.generation s.applied (λ below. let p = s.pending below in none (Upsert n r.generation r.weight p.0) p.1), refl)
 
 -- ---- moments behind the first
 

@@ -78,7 +78,8 @@ module _ {K V : Type 0} where
 abbrev AreMembersOf : List Member → List Member → Type 0
 AreMembersOf xs ys = AllByRecursion (λ a. is_member a.number xs ≡ true) ys
 
-still_within : (a : Member) (xs : List Member) (m : ℕ) → is_member m xs ≡ true → is_member m (a ∷ xs) ≡ true
+-- with a member more, those that stood there do
+pub still_within : (a : Member) (xs : List Member) (m : ℕ) → is_member m xs ≡ true → is_member m (a ∷ xs) ≡ true
 still_within a xs m h = elim (a.number == m) as (λ b. is_some (cond b (Some a.counted) (counted_of m xs)) ≡ true) [ true ↦ refl | false ↦ h ]
 
 wider : (a : Member) (xs ys : List Member) → AreMembersOf xs ys → AreMembersOf (a ∷ xs) ys

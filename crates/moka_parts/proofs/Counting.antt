@@ -11,6 +11,7 @@ use Rattle.moka_parts.specs.declared.records.Member.{Member}
 use Rattle.moka_parts.specs.Records.{Records, counted_of, is_member, numbers_of, total_weight}
 use Rattle.moka_parts.specs.Exact.{AreExactMembers, weight_of_records}
 use Rattle.moka_parts.proofs.Maps.{AreApart, same_or_apart, itself_tested, get_removed, get_past_remove}
+use Rattle.moka_parts.proofs.Options.{none_by_test}
 use Rattle.moka_parts.proofs.Values.{values_removed, len_removed, empty_map, values-empty}
 
 -- a number that differs from all is not counted
@@ -31,24 +32,21 @@ pub rest_once : (a : Member) (xs : List Member) → IsDistinct (◌==◌) (numbe
 unfolding IsDistinct
 rest_once a xs h = h.1
 
-counted_front : (a : Member) (xs : List Member) → counted_of a.number (a ∷ xs) ≡ Some a.counted
+-- the first is counted with its own weight
+pub counted_front : (a : Member) (xs : List Member) → counted_of a.number (a ∷ xs) ≡ Some a.counted
 counted_front a xs = ap (λ b. cond b (Some a.counted) (counted_of a.number xs)) (itself_tested a.number)
 
 counted_behind : (a : Member) (xs : List Member) (k : ℕ) → AreApart k a.number → counted_of k (a ∷ xs) ≡ counted_of k xs
 counted_behind a xs k apart = ap (λ b. cond b (Some a.counted) (counted_of k xs)) apart.back
 
 module _ {K V : Type 0} where
-  has_none : (o : Option (Record K V)) → is_some o ≡ false → o ≡ None
-  has_none None e = refl
-  has_none (Some r) e = cc
-
   has_some : (o : Option (Record K V)) → is_some o ≡ true → (r : Record K V) × (o ≡ Some r)
   has_some None e = cc
   has_some (Some r) e = (r, refl)
 
   -- as many members as records
   pub same_numbers : (records : Records K V) (access : List Member) → IsDistinct (◌==◌) (numbers_of access) → ((n : ℕ) → is_some (get records n) ≡ is_member n access) → length access ≡ len records
-  same_numbers records [] once same = sym (ap len (empty_map records (λ n. has_none (get records n) (same n))) ∙ len-empty nat_cmp (Record K V))
+  same_numbers records [] once same = sym (ap len (empty_map records (λ n. none_by_test (get records n) (same n))) ∙ len-empty nat_cmp (Record K V))
   same_numbers records (a ∷ access) once same =
       let first = has_some (get records a.number) (same a.number ∙ ap is_some (counted_front a access)) in
       let rest : length access ≡ len (remove records a.number) = same_numbers (remove records a.number) access (rest_once a access once) (λ k. elim (same_or_apart k a.number) [

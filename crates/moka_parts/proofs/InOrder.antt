@@ -1,6 +1,7 @@
 -- Records, members, the write list and what waits, in the order of writing: kept by each operation applied and each
 -- step of a run.
 use Rattle.std.proofs.Common.{◌≡◌, refl, ℕ, ◌<◌, Bool, true, false, not, ◌==◌, ◌||◌, List, [], ◌∷◌, ◌++◌, map, Option, Some, None, is_some, ap, sym, ◌∙◌, subst, ◌⊎◌, inl, inr, if◌then◌else◌}
+use Rattle.std.proofs.lemmas.Bool.{or_right}
 use Rattle.std.specs.Prelude.{Contains, ⊤, option_and_then}
 use Rattle.std.specs.Option.{option_map_or}
 use Rattle.std.specs.List.{IsDistinct, AllByRecursion}
@@ -48,16 +49,12 @@ module _ (ns : List ℕ) (access : List Member) (h : AreMembers ns access) where
     | inr apart ↦ listed_pushed k n ns ∙ not_last (is_listed k ns) (n == k) apart.back ∙ h k ∙ sym (ap is_some (counted_past_pushed n w k access apart))
   ]
     where
-      is_last : (a b : Bool) → b ≡ true → (a || b) ≡ true
-      is_last true b e = refl
-      is_last false b e = e
-
       not_last : (a b : Bool) → b ≡ false → (a || b) ≡ a
       not_last true b e = refl
       not_last false b e = e
 
       last : is_listed n (ns ++ n ∷ []) ≡ true
-      last = listed_pushed n n ns ∙ is_last (is_listed n ns) (n == n) (itself_tested n)
+      last = listed_pushed n n ns ∙ or_right (is_listed n ns) (n == n) (itself_tested n)
 
 pub members_without : (gone : List Member) (ns : List ℕ) (access : List Member) → AreMembers ns access → AreMembers (without_numbers gone ns) (without_members gone access)
 members_without [] ns access h = h

@@ -1,4 +1,5 @@
 pub mod Maps
+pub mod Options
 pub mod Values
 pub mod AccessList
 pub mod Counting

@@ -1,5 +1,5 @@
 -- Numbers as keys of finite maps: what is found after a change.
-use Rattle.std.proofs.Common.{◌≡◌, refl, ℕ, Bool, true, false, cond, length, [], Some, None, ap, sym, ◌∙◌, ◌⊎◌, inl, inr, ◌==◌, eqb→eq, true≢false, arith}
+use Rattle.std.proofs.Common.{◌≡◌, refl, ℕ, ◌<◌, ◌≤◌, Bool, true, false, cond, length, [], Some, None, ap, sym, ◌∙◌, ◌⊎◌, inl, inr, ◌==◌, eqb→eq, true≢false, arith}
 use Rattle.std.specs.Bool.{passes}
 use Rattle.std.specs.Ordering.{nat_cmp, is_eq, eq_by_cmp}
 use Rattle.std.specs.declared.cmp.Ordering.{Ordering}
@@ -13,7 +13,8 @@ pub record AreApart (a b : ℕ) : Type 0 where
   pub forth : (a == b) ≡ false
   pub back : (b == a) ≡ false
 
-is_Equal : (r : Ordering) → is_eq r ≡ true → r ≡ Equal
+-- an order that tests equal is
+pub is_Equal : (r : Ordering) → is_eq r ≡ true → r ≡ Equal
 is_Equal Less e = cc
 is_Equal Equal e = refl
 is_Equal Greater e = cc
@@ -47,6 +48,21 @@ same_or_apart a b = go (eq_by_cmp nat_cmp a b) refl
     go false e =
         let differ : a ≡ b → ⊥ = λ (s : a ≡ b). true≢false (sym (itself_ordered b) ∙ sym (ap (λ x. eq_by_cmp nat_cmp x b) s) ∙ e) in
         inr (record { ordered = e; forth = apart (a == b) a b refl differ; back = apart (b == a) b a refl (λ s. differ (sym s)) })
+
+-- numbers that differ, differ the other way round
+pub apart_turned : (a b : ℕ) → (a == b) ≡ false → (b == a) ≡ false
+apart_turned a b e = elim (same_or_apart a b) [
+  | inl same ↦ absurd (true≢false (sym (itself_tested b) ∙ sym (ap (λ x. x == b) same) ∙ e))
+  | inr apart ↦ apart.back
+]
+
+-- a number differs from a greater one
+pub apart_below : (a b : ℕ) → a < b → (a == b) ≡ false
+apart_below a b less = grind (arith, less)
+
+-- numbers of which none is below the other are the same
+pub same_by_order : (a b : ℕ) → a ≤ b → (a < b → ⊥) → (a == b) ≡ true
+same_by_order a b le differ = elim (same_or_apart a b) [ inl e ↦ grind (arith, e) | inr apart ↦ let d = apart.forth in absurd (differ (grind (arith, le, d))) ]
 
 module _ {X : Type 0} where
   -- at the key that was put in

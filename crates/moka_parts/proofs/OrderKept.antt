@@ -1,8 +1,9 @@
 -- The order of writing is kept by each operation applied and each step of a run.
-use Rattle.std.proofs.Common.{◌≡◌, refl, ℕ, ◌<◌, Bool, true, false, ◌==◌, nat_lt, List, [], ◌∷◌, ◌++◌, map, Option, Some, None, is_some, ap, sym, ◌∙◌, subst, ◌⊎◌, inl, inr, arith, append_assoc, if◌then◌else◌}
+use Rattle.std.proofs.Common.{◌≡◌, refl, ℕ, ◌<◌, Bool, true, false, ◌==◌, List, [], ◌∷◌, ◌++◌, map, Option, Some, None, is_some, ap, sym, ◌∙◌, subst, ◌⊎◌, inl, inr, arith, append_assoc, if◌then◌else◌}
 use Rattle.std.specs.Prelude.{Contains, option_and_then, remove as remove_at}
 use Rattle.std.specs.Option.{option_map_or}
 use Rattle.std.specs.List.{IsDistinct, AllByRecursion}
+use Rattle.std.proofs.lemmas.Bool.{lt-ltb}
 use Rattle.std.proofs.lemmas.List.{map-append}
 use Rattle.std.proofs.lemmas.List.Elements.{All-from_recursion, All-contains, Contains-append_left, Contains-append_right, Contains-push}
 use Rattle.std.specs.FinMap.{get, remove}
@@ -24,6 +25,7 @@ use Rattle.moka_parts.specs.Candidates.{victims_for, is_preferred}
 use Rattle.moka_parts.specs.Writes.{Fate, Ignored, Overtaken, Counted, Admitted, TooHeavy, Preferred, Refused, with_applied, without_records, fate_by_frequency, fate_by_policy, fate_of_newcomer, fate_of_record, after_fate, after_write, after_writes}
 use Rattle.moka_parts.specs.Order.{written_if, written_by, IsNewer, written_after_fate, written_after_write, written_after_writes, written_after_choices, write_list_at_end}
 use Rattle.moka_parts.proofs.Maps.{same_or_apart, get_inserted, get_past_insert, get_removed, get_past_remove}
+use Rattle.moka_parts.proofs.Options.{none_by_test}
 use Rattle.moka_parts.proofs.AccessList.{counted_taken_out, counted-all_to_back, uncounted_without}
 use Rattle.moka_parts.proofs.RunKeeps.{Keeps, keeps_fate, keeps_remove}
 use Rattle.moka_parts.proofs.Rises.{Rises, Thins, thins_behind, thins_without_first, thins_each, thins_all}
@@ -108,13 +110,6 @@ gone_or_same (a ∷ gone) records k = elim (gone_or_same gone (remove records a.
   ]
 ]
 
-absent : (o : Option ℕ) → is_some o ≡ false → o ≡ None
-absent None e = refl
-absent (Some w) e = cc
-
-lt_tested : (a b : ℕ) → a < b → nat_lt a b ≡ true
-lt_tested a b lt = grind (arith, lt)
-
 module _ {K V : Type 0} (capacity : Option ℕ) (policy : EvictionPolicy) (c : Contents K V) (ns : List ℕ) (h : Ticketed) (ws : List Ticketed) (moved : List ℕ) (o : IsOrdered c.records c.access ns (h ∷ ws)) where
   -- a removal
   removal_ordered : (n g : ℕ) → IsOrdered c.records (without_member n c.access) (without_number n ns) ws
@@ -157,7 +152,7 @@ module _ {K V : Type 0} (capacity : Option ℕ) (policy : EvictionPolicy) (c : C
 
     module _ (out : is_member n c.access ≡ false) where
       uncounted : counted_of n c.access ≡ None
-      uncounted = absent (counted_of n c.access) out
+      uncounted = none_by_test (counted_of n c.access) out
 
       unlisted : is_listed n ns ≡ false
       unlisted = o.members n ∙ out
@@ -209,7 +204,7 @@ module _ {K V : Type 0} (capacity : Option ℕ) (policy : EvictionPolicy) (c : C
     upsert_ordered : Follows (fate_of_record capacity policy c n g w x r)
     upsert_ordered =
         let newer : IsNewer c.records (Upsert n g w x) = subst (IsNewer c.records) is (o.newer h (first_of h ws)) in
-        subst (λ b. Follows (if b then (if is_member n c.access then Counted else fate_of_newcomer capacity policy c w x) else (if is_member n c.access then Overtaken else Ignored))) (sym (lt_tested r.applied g (newer r there)))
+        subst (λ b. Follows (if b then (if is_member n c.access then Counted else fate_of_newcomer capacity policy c w x) else (if is_member n c.access then Overtaken else Ignored))) (sym (lt-ltb r.applied g (newer r there)))
         (elim (is_member n c.access) as (λ b. is_member n c.access ≡ b → Follows (if b then Counted else fate_of_newcomer capacity policy c w x)) [
           | true ↦ counted_ordered
           | false ↦ newcomer_ordered

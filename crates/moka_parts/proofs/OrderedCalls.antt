@@ -15,7 +15,7 @@ use Rattle.moka_parts.specs.State.{State}
 use Rattle.moka_parts.specs.Settling.{IsWaiting, IsTracked, IsValid, WaitsAt}
 use Rattle.moka_parts.specs.Order.{waiting_by_ticket, written_if, written_by, IsNewer, IsInOrder}
 use Rattle.moka_parts.specs.Calls.{handing_out, new_record, inserted, updated_record, replaced, hit_record, after_hit}
-use Rattle.moka_parts.proofs.Maps.{same_or_apart, itself_tested, get_inserted, get_past_insert, get_removed, get_past_remove}
+use Rattle.moka_parts.proofs.Maps.{same_or_apart, itself_tested, get_inserted, get_past_insert, get_removed, get_past_remove, apart_below}
 use Rattle.moka_parts.proofs.RunKeeps.{keeps_remove}
 use Rattle.moka_parts.proofs.Rising.{waits_at}
 use Rattle.moka_parts.proofs.Rises.{thins_each, thins_all}
@@ -42,12 +42,9 @@ module _ {K V X P W : Type 0} (s : State K V X P W) (ns : List ℕ) (o : IsInOrd
         (last : (k : ℕ) (r : Record K V) → get s.records k ≡ Some r → r.written.0 ≤ q.written.0) where
       put_settled : (k : ℕ) → (settled_at (insert s.records n q) k ≡ settled_at s.records k) ⊎ (settled_at (insert s.records n q) k ≡ None)
       put_settled k = elim (same_or_apart k n) [
-        | inl same ↦ inr (ap (settled_at (insert s.records n q)) same ∙ ap settled_moment (get_inserted s.records n q) ∙ ap (λ b. if b then Some q.written.0 else None) (unapplied q.applied q.generation (subst (λ i. q.applied < i) (sym present) fresh)))
+        | inl same ↦ inr (ap (settled_at (insert s.records n q)) same ∙ ap settled_moment (get_inserted s.records n q) ∙ ap (λ b. if b then Some q.written.0 else None) (apart_below q.applied q.generation (subst (λ i. q.applied < i) (sym present) fresh)))
         | inr apart ↦ inl (ap settled_moment (get_past_insert s.records n q k apart))
       ]
-        where
-          unapplied : (a b : ℕ) → a < b → (a == b) ≡ false
-          unapplied a b lt = grind (arith, lt)
 
       put_waiting : (p : Operation) (t : ℕ) → Contains (waiting_by_ticket s) (record { ticket = t; operation = p }) → (written_by (insert s.records n q) p ≡ written_by s.records p) ⊎ (written_by (insert s.records n q) p ≡ None)
       put_waiting (Removal m k) t wait = inl refl

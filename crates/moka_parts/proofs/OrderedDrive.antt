@@ -115,11 +115,6 @@ module _ {K V X L P W C I : Type 0} (m : Meaning K V X L P W C I) where
             | inr as_before ↦ subst (λ ns. IsListedIn s.settings ns x.after) (sym (step.1 as_before.0)) as_before.1
           ]
 
-  -- their runs keep their promises
-  pub listed_steps_promised : (s : State K V X P W) (before last : List ℕ) (xs : List (Step K V X P W)) → AreListedSteps m s before xs last → AreSteps m (PromisedRun m.says m.read) s xs
-  listed_steps_promised s before last [] done = tt
-  listed_steps_promised s before last (x ∷ xs) (after, step, rest) = (listed_call_promised s before after x step, listed_steps_promised x.after after last xs rest)
-
   -- in the order of time, from a state in order, they also remove what is past its time
   pub listed_steps_orderly : (s : State K V X P W) (before last : List ℕ) (xs : List (Step K V X P W)) → IsEquivalence m.eq → IsValid m.eq s → (keeps_write_list s.settings ≡ true → IsInOrder s before) → AreOrderly s xs → AreListedSteps m s before xs last →
       AreSteps m (OrderlyRun m.says m.read) s xs

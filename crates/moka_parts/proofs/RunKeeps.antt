@@ -1,11 +1,10 @@
 -- A run keeps every field of the records that stay, except the applied generation.
-use Rattle.std.proofs.Common.{◌≡◌, refl, ℕ, Bool, true, false, cond, List, [], ◌∷◌, Option, Some, None, ap, sym, ◌∙◌, subst, ◌⊎◌, inl, inr, ◌==◌, unwrap_or, if◌then◌else◌}
-use Rattle.std.specs.Ordering.{nat_cmp, is_eq, eq_by_cmp}
-use Rattle.std.specs.declared.cmp.Ordering.{Ordering}
-use Rattle.std.specs.declared.cmp.Ordering.TheVariants.{Less, Equal, Greater}
+use Rattle.std.proofs.Common.{◌≡◌, refl, ℕ, Bool, true, false, cond, List, [], ◌∷◌, Option, Some, None, ap, sym, ◌∙◌, subst, ◌⊎◌, inl, inr, ◌==◌, if◌then◌else◌}
+use Rattle.std.specs.Ordering.{nat_cmp, eq_by_cmp}
 use Rattle.std.specs.Cmp.{nat_cmp_total}
 use Rattle.std.specs.Option.{option_map_or}
 use Rattle.std.specs.FinMap.{get, remove, get-insert, get-remove, nat_cmp-IsAntisymmetric}
+use Rattle.std.proofs.lemmas.Option.{same_Some}
 use Rattle.moka_parts.specs.declared.policy.EvictionPolicy.{EvictionPolicy}
 use Rattle.moka_parts.specs.declared.records.Record.{Record}
 use Rattle.moka_parts.specs.declared.records.Member.{Member}
@@ -19,26 +18,19 @@ use Rattle.moka_parts.specs.State.{State, Contents, contents}
 use Rattle.moka_parts.specs.Reads.{after_read, after_reads}
 use Rattle.moka_parts.specs.Writes.{Fate, Ignored, Overtaken, Counted, Admitted, TooHeavy, Preferred, Refused, fate, with_applied, without_records, rejected, after_fate, after_write, after_writes}
 use Rattle.moka_parts.specs.Maintenance.{Choice, Removes, MovesToBack, Drops, Freedom, after_choice, after_choices, at_end, before_steps, after_queued_reads}
+use Rattle.moka_parts.proofs.Maps.{is_Equal}
 
 -- each new record is an old one but for the applied generation
 abbrev pub Keeps : {K V : Type 0} → Records K V → Records K V → Type 0
 Keeps {K} {V} old new = (n : ℕ) (q : Record K V) → get new n ≡ Some q → (r : Record K V) × (get old n ≡ Some r) × ((g : ℕ) × (q ≡ record r { applied = g }))
 
-same_some : {A : Type 0} (x y : A) → Some x ≡ Some y → x ≡ y
-same_some x y e = ap (λ o. unwrap_or o x) e
-
 found_in : {A : Type 0} (b : Bool) (v x : A) (o : Option A) → cond b (Some v) o ≡ Some x → ((b ≡ true) × (v ≡ x)) ⊎ (o ≡ Some x)
-found_in true v x o e = inl (refl, same_some v x e)
+found_in true v x o e = inl (refl, same_Some v x e)
 found_in false v x o e = inr e
 
 left_in : {A : Type 0} (b : Bool) (x : A) (o : Option A) → cond b None o ≡ Some x → o ≡ Some x
 left_in true x o e = cc
 left_in false x o e = e
-
-is_Equal : (r : Ordering) → is_eq r ≡ true → r ≡ Equal
-is_Equal Less e = cc
-is_Equal Equal e = refl
-is_Equal Greater e = cc
 
 module _ {K V : Type 0} where
   pub keeps_itself : (old : Records K V) → Keeps old old

@@ -20,6 +20,7 @@ use Rattle.moka_parts.specs.Writes.{Fate, Ignored, Overtaken, Counted, Admitted,
 use Rattle.moka_parts.specs.Maintenance.{Choice, Removes, MovesToBack, Drops, Freedom, after_choice, after_choices, after_queued_reads, before_steps, after_run}
 use Rattle.moka_parts.specs.Settling.{IsConsistent, IsConsistentState, IsWaitingIn}
 use Rattle.moka_parts.proofs.AccessList.{counted-all_to_back, uncounted_without}
+use Rattle.moka_parts.proofs.Options.{none_by_test}
 use Rattle.moka_parts.proofs.Waiting.{TakesIn, takes_front}
 use Rattle.moka_parts.proofs.Consistent.{leave_kept, back_kept, all_back_kept, victims_kept}
 use Rattle.moka_parts.proofs.Applied.{removal_kept, late_kept, overtaken_kept, counted_kept, entered_kept, rejected_kept}
@@ -33,10 +34,6 @@ Known Admitted applied generation counted = (applied < generation) × (counted �
 Known TooHeavy applied generation counted = (applied < generation) × (counted ≡ None)
 Known (Preferred victims) applied generation counted = (applied < generation) × (counted ≡ None)
 Known Refused applied generation counted = (applied < generation) × (counted ≡ None)
-
-absent : (o : Option ℕ) → is_some o ≡ false → o ≡ None
-absent None e = refl
-absent (Some w) e = cc
 
 not_newer : (a b : ℕ) → nat_lt a b ≡ false → b ≤ a
 not_newer a b e = grind arith
@@ -67,7 +64,7 @@ module _ {K V : Type 0} (capacity : Option ℕ) (policy : EvictionPolicy) (c : C
       newer : (b : Bool) → nat_lt r.applied generation ≡ b → (m : Bool) → is_member number c.access ≡ m →
           Known (if b then (if m then Counted else fate_of_newcomer capacity policy c weight hash) else (if m then Overtaken else Ignored)) r.applied generation (counted_of number c.access)
       newer true e true f = ltb→lt _ _ (passes _ e)
-      newer true e false f = newcomer_known r.applied generation (counted_of number c.access) (ltb→lt _ _ (passes _ e), absent (counted_of number c.access) f)
+      newer true e false f = newcomer_known r.applied generation (counted_of number c.access) (ltb→lt _ _ (passes _ e), none_by_test (counted_of number c.access) f)
       newer false e true f = not_newer r.applied generation e
       newer false e false f = not_newer r.applied generation e
 

@@ -1,5 +1,6 @@
 -- A run of the reference cache goes on by one call.
-use Rattle.std.proofs.Common.{ℕ, Bool, MatchBool, true, false, ◌≡◌, refl, List, [], ◌∷◌, ◌++◌, map, Option, Some, None, ap, sym, ◌∙◌, append_assoc, append-nil, flat_map}
+use Rattle.std.proofs.Common.{ℕ, Bool, MatchBool, true, false, ◌≡◌, refl, List, [], ◌∷◌, ◌++◌, Option, Some, None, ap, sym, ◌∙◌, append_assoc, append-nil, flat_map}
+use Rattle.std.proofs.lemmas.List.{map_push}
 use Rattle.moka_parts.specs.declared.calls.Call.{Call}
 use Rattle.moka_parts.specs.declared.calls.Reply.{Reply}
 use Rattle.moka_parts.specs.declared.notification.RemovalCause.{RemovalCause}
@@ -8,8 +9,7 @@ use Rattle.moka_parts.specs.State.{State, Meaning, is_disabled}
 use Rattle.moka_parts.specs.Maintenance.{Terms, Course, Freedom, RunsBy, DoesNothing, MaintenanceRun}
 use Rattle.moka_parts.specs.Bounds.{IsBounded}
 use Rattle.moka_parts.specs.Surroundings.{Leads, NoticeStep, Heard}
-use Rattle.moka_parts.specs.Order.{IsOrderly}
-use Rattle.moka_parts.specs.Runs.{PromisedRun, Engine, Befalls, Step, CallStep, AreSteps, AreOrderly, MakesCalls, passes_after, last_passes, last_state, notices_of, readings_of, ids_of}
+use Rattle.moka_parts.specs.Runs.{PromisedRun, Engine, Befalls, Step, CallStep, AreSteps, MakesCalls, passes_after, last_passes, last_state, notices_of, readings_of, ids_of}
 
 -- steps after steps
 pub Leads-append : {S A : Type 0} (step : S → A → S → Type 0) (a b c : S) (xs ys : List A) → Leads step a xs b → Leads step b ys c → Leads step a (xs ++ ys) c
@@ -25,10 +25,6 @@ Heard-append tells None (Some b) c xs ys h k = absurd h
 Heard-append tells (Some a) None c xs ys h k = absurd h
 Heard-append tells (Some a) (Some b) None xs ys h k = absurd k
 
-map_push : {A B : Type 0} (f : A → B) (xs : List A) (x : A) → map f (xs ++ x ∷ []) ≡ map f xs ++ f x ∷ []
-map_push f [] x = refl
-map_push f (y ∷ xs) x = ap (λ zs. f y ∷ zs) (map_push f xs x)
-
 flat_map_push : {A B : Type 0} (f : A → List B) (xs : List A) (x : A) → flat_map f (xs ++ x ∷ []) ≡ flat_map f xs ++ f x
 flat_map_push f [] x = append-nil (f x)
 flat_map_push f (y ∷ xs) x = ap (λ zs. f y ++ zs) (flat_map_push f xs x) ∙ sym (append_assoc (f y) (flat_map f xs) (f x))
@@ -41,11 +37,6 @@ module _ {K V X P W : Type 0} where
   last_passes_push : (before : ℕ) (xs : List (Step K V X P W)) (x : Step K V X P W) → last_passes before (xs ++ x ∷ []) ≡ passes_after (last_passes before xs) x.events.passes
   last_passes_push before [] x = refl
   last_passes_push before (y ∷ xs) x = last_passes_push (passes_after before y.events.passes) xs x
-
-  -- of steps in the order of time, those before the last are, and so is the last call
-  pub orderly_front : (s : State K V X P W) (xs : List (Step K V X P W)) (x : Step K V X P W) → AreOrderly s (xs ++ x ∷ []) → AreOrderly s xs × IsOrderly (last_state s xs) x.call
-  orderly_front s [] x h = (tt, h.0)
-  orderly_front s (y ∷ xs) x h = let rest = orderly_front y.after xs x h.1 in ((h.0, rest.0), rest.1)
 
 module _ {K V X L P W C I : Type 0} (m : Meaning K V X L P W C I) (Runs : State K V X P W → Terms → Course → List (Notice K V) → State K V X P W → Type 0) where
   -- one more step
@@ -65,8 +56,8 @@ MakesCalls_push m Runs calls replies steps old mid new c1 c2 c3 i1 i2 i3 x h k s
     let passes : new.passes ≡ last_passes old.passes (steps ++ x ∷ []) = befalls.passes ∙ ap (λ p. passes_after p x.events.passes) (ap (λ c. c.passes) h.ends) ∙ sym (last_passes_push old.passes steps x) in
     let after : new.state ≡ last_state old.state (steps ++ x ∷ []) = sym same ∙ sym (last_state_push old.state steps x) in
     record {
-      calls_made = map_push (λ x. x.call) steps x ∙ ap (λ cs. cs ++ x.call ∷ []) h.calls_made;
-      replies_given = map_push (λ x. x.reply) steps x ∙ ap (λ rs. rs ++ x.reply ∷ []) h.replies_given;
+      calls_made = map_push (λ (x : Step _ _ _ _ _). x.call) steps x ∙ ap (λ cs. cs ++ x.call ∷ []) h.calls_made;
+      replies_given = map_push (λ (x : Step _ _ _ _ _). x.reply) steps x ∙ ap (λ rs. rs ++ x.reply ∷ []) h.replies_given;
       are_steps = AreSteps_push m Runs old.state steps x h.are_steps (rw (← state) k);
       ends = befalls.kept ∙ ap (λ n. record mid { name = n; state = new.state; listener = new.listener; write_list = new.write_list; passes = new.passes; room = new.room }) name ∙ ap (λ h. record old { hasher = h; state = new.state; listener = new.listener; write_list = new.write_list; passes = new.passes; room = new.room }) hasher ∙ ap (λ s. record old { state = s; listener = new.listener; write_list = new.write_list; passes = new.passes; room = new.room }) after ∙ ap (λ p. record old { state = last_state old.state (steps ++ x ∷ []); listener = new.listener; write_list = new.write_list; passes = p; room = new.room }) passes;
       heard = rw (flat_map_push (λ x. x.events.notices) steps x) (Heard-append m.tells old.listener mid.listener new.listener (notices_of steps) x.events.notices h.heard befalls.heard);

@@ -1,9 +1,10 @@
 -- A scan of the predicates, stretch by stretch: over a list `before ++ stretch ++ after` it says what stands in the
 -- stretch, a whole round is `before ++ stretch`, and what leaves the map in between takes nothing back.
-use Rattle.std.proofs.Common.{◌≡◌, ℕ, Bool, true, false, ◌||◌, ◌==◌, List, [], ◌∷◌, ◌++◌, Some, ap, sym, ◌∙◌, ◌⊎◌, inl, inr, ⊎_elim, true≢false}
+use Rattle.std.proofs.Common.{◌≡◌, ℕ, Bool, true, false, ◌==◌, List, [], ◌∷◌, ◌++◌, Some, ap, sym, ◌∙◌, ◌⊎◌, ⊎_elim, true≢false}
 use Rattle.std.specs.Prelude.{Contains}
 use Rattle.std.specs.FinMap.{get}
 use Rattle.std.specs.List.{All}
+use Rattle.std.proofs.lemmas.Bool.{or_cases}
 use Rattle.std.proofs.lemmas.List.Elements.{All-nil, All-cons, All-contains}
 use Rattle.std.proofs.lemmas.List.Folds.{list_any-append}
 use Rattle.moka_parts.specs.declared.records.Record.{Record}
@@ -14,12 +15,8 @@ use Rattle.moka_parts.specs.Scan.{AreUncovered}
 use Rattle.moka_parts.proofs.Maps.{same_by_test}
 
 -- what stands in two lists joined stands in one of them
-either : (a b : Bool) → (a || b) ≡ true → (a ≡ true) ⊎ (b ≡ true)
-either true b e = inl e
-either false b e = inr e
-
-listed_append : (n : ℕ) (xs ys : List ℕ) → is_listed n (xs ++ ys) ≡ true → (is_listed n xs ≡ true) ⊎ (is_listed n ys ≡ true)
-listed_append n xs ys e = either (is_listed n xs) (is_listed n ys) (sym (list_any-append (λ m. m == n) xs ys) ∙ e)
+pub listed_append : (n : ℕ) (xs ys : List ℕ) → is_listed n (xs ++ ys) ≡ true → (is_listed n xs ≡ true) ⊎ (is_listed n ys ≡ true)
+listed_append n xs ys e = or_cases (is_listed n xs) (is_listed n ys) (sym (list_any-append (λ m. m == n) xs ys) ∙ e)
 
 module _ {K V P : Type 0} (says : P → K → V → Bool → Type 0) (ps : List (Registered P)) where
   -- before the first member
@@ -37,7 +34,7 @@ module _ {K V P : Type 0} (says : P → K → V → Bool → Type 0) (ps : List 
   pub uncovered-push : (records : Records K V) (xs : List ℕ) (n : ℕ) → ((r : Record K V) → get records n ≡ Some r → is_applied r ≡ true → NoneCovers says ps r) → AreUncovered says ps records xs → AreUncovered says ps records (xs ++ n ∷ [])
   uncovered-push records xs n found so_far = uncovered-append records xs (n ∷ []) so_far (record {
     settled = λ m r listed at applied.
-        ⊎_elim (λ e. found r (ap (get records) (same_by_test n m e) ∙ at) applied) (λ e. absurd (true≢false (sym e))) (either (n == m) false listed);
+        ⊎_elim (λ e. found r (ap (get records) (same_by_test n m e) ∙ at) applied) (λ e. absurd (true≢false (sym e))) (or_cases (n == m) false listed);
   })
 
   -- after records left the map

@@ -1,5 +1,6 @@
 -- Every call step, and so every list of calls, keeps what holds of a state at every moment.
-use Rattle.std.proofs.Common.{◌≡◌, refl, ℕ, ◌<◌, Bool, true, false, List, [], ◌∷◌, ◌++◌, length, Option, Some, None, option_map, Result, Ok, Err, ap, sym, ◌∙◌, subst, ◌⊎◌, inl, inr, arith, true≢false, MatchBool, ◌||◌}
+use Rattle.std.proofs.Common.{◌≡◌, refl, ℕ, ◌<◌, Bool, true, false, List, [], ◌∷◌, ◌++◌, length, Option, Some, None, option_map, Result, Ok, Err, ap, sym, ◌∙◌, subst, ◌⊎◌, inl, inr, arith, true≢false, MatchBool}
+use Rattle.std.proofs.lemmas.Bool.{or_parts}
 use Rattle.std.specs.Prelude.{Contains}
 use Rattle.std.specs.Cmp.{IsEquivalence}
 use Rattle.std.proofs.lemmas.List.Elements.{Contains-push_cases}
@@ -199,11 +200,6 @@ module _ {K V X P W : Type 0} (eq : K → K → Bool) where
 
 -- ---- lists of calls
 
--- neither capacity is 0
-neither : (a b : Bool) → (a || b) ≡ false → b ≡ false
-neither true b e = cc
-neither false b e = e
-
 module _ {K V X L P W C I : Type 0} (m : Meaning K V X L P W C I) (laws : IsEquivalence m.eq) where
   removes_keep : (s t : State K V X P W) (key : K) (a : Option (KvEntry K V × Ticket)) → IsValid m.eq s → RemoveStep m.eq s key a t → IsValid m.eq t
   removes_keep s t key a h step = remove_keeps m.eq s t key a h step
@@ -213,7 +209,7 @@ module _ {K V X L P W C I : Type 0} (m : Meaning K V X L P W C I) (laws : IsEqui
   predicates_keep s t predicate now (Err refused) ids h (back, why, same) = subst (IsValid m.eq) (sym same) h
 
   capacity_keeps : (s t : State K V X P W) (capacity : Option ℕ) (a : Result (Unit {0}) CapacityError) → IsValid m.eq s → CapacityStep s capacity a t → IsValid m.eq t
-  capacity_keeps s t capacity (Ok u) h (neither_zero, same) = subst (IsValid m.eq) (sym same) (valid_with_capacity m.eq s capacity (neither (is_disabled s.capacity) (is_disabled capacity) neither_zero) h)
+  capacity_keeps s t capacity (Ok u) h (neither_zero, same) = subst (IsValid m.eq) (sym same) (valid_with_capacity m.eq s capacity (or_parts (is_disabled s.capacity) (is_disabled capacity) neither_zero).1 h)
   capacity_keeps s t capacity (Err refused) h (zero, same) = subst (IsValid m.eq) (sym same) h
 
   -- one call

@@ -4,6 +4,7 @@ use Rattle.std.proofs.Common.{◌≡◌, refl, ℕ, ◌+◌, ◌-◌, ◌≤◌,
 use Rattle.std.specs.Prelude.{slice_get, take}
 use Rattle.std.specs.Option.{option_map_or}
 use Rattle.std.specs.List.{IsDistinct, list_all}
+use Rattle.std.proofs.lemmas.Bool.{and_parts}
 use Rattle.std.proofs.lemmas.List.Sums.{sum_by-cons}
 use Rattle.std.specs.FinMap as finite
 use Rattle.std.specs.Ordering.{nat_cmp}
@@ -25,7 +26,7 @@ use Rattle.moka_parts.proofs.Counting.{front_once, rest_once}
 use Rattle.moka_parts.proofs.Maps.{AreApart, same_or_apart, itself_tested, same_by_test, get_removed, get_past_remove}
 
 -- a front that is no weight
-prefix_of_none : (members : List Member) (w : ℕ) → w ≡ 0 → prefix members w ≡ Some []
+pub prefix_of_none : (members : List Member) (w : ℕ) → w ≡ 0 → prefix members w ≡ Some []
 prefix_of_none [] w e = rw e refl
 prefix_of_none (a ∷ members) w e = rw e refl
 
@@ -37,13 +38,14 @@ prefix_of_some a members front w some behind = ap (λ b. if b then Some [] else 
 rest_left : (a : Member) (xs : List Member) → IsDistinct (◌==◌) (numbers_of (a ∷ xs)) → without_member a.number (a ∷ xs) ≡ xs
 rest_left a xs once = ap (λ b. cond (not b) (a ∷ without_member a.number xs) (without_member a.number xs)) (itself_tested a.number) ∙ absent_taken_out a.number xs (front_once a xs once)
 
-parts : (a b c d e : Bool) → (a || b || c || d || e) ≡ false → (a ≡ false) × (b ≡ false) × (c ≡ false) × (d ≡ false) × (e ≡ false)
-parts false false false false false h = (refl, refl, refl, refl, refl)
-parts true b c d e h = cc
-parts false true c d e h = cc
-parts false false true d e h = cc
-parts false false false true e h = cc
-parts false false false false true h = cc
+-- of five tests of which none is passed
+pub none_of_five : (a b c d e : Bool) → (a || b || c || d || e) ≡ false → (a ≡ false) × (b ≡ false) × (c ≡ false) × (d ≡ false) × (e ≡ false)
+none_of_five false false false false false h = (refl, refl, refl, refl, refl)
+none_of_five true b c d e h = cc
+none_of_five false true c d e h = cc
+none_of_five false false true d e h = cc
+none_of_five false false false true e h = cc
+none_of_five false false false false true h = cc
 
 none_of_three : (a b c : Bool) → a ≡ false → b ≡ false → c ≡ false → (a || b || c) ≡ true → ⊥
 none_of_three false false false p q r h = absurd (true≢false (sym h))
@@ -56,21 +58,13 @@ none_of_two false b false d p q h = absurd (true≢false (sym h))
 none_of_two true b c d p q h = absurd (true≢false p)
 none_of_two false b true d p q h = absurd (true≢false q)
 
-left : (a b : Bool) → (a && b) ≡ true → a ≡ true
-left true b h = refl
-left false b h = cc
-
-right : (a b : Bool) → (a && b) ≡ true → b ≡ true
-right true b h = h
-right false b h = cc
-
 -- where all are settled, each member is
 settled_member : {K V : Type 0} (records : Records K V) (members : List Member) (n : ℕ) → list_all (λ a. is_settled records a.number) members ≡ true → is_member n members ≡ true → is_settled records n ≡ true
 settled_member records [] n all there = absurd (true≢false (sym there))
-settled_member records (a ∷ members) n all there = go (λ there. settled_member records members n (right (is_settled records a.number) (list_all (λ a. is_settled records a.number) members) all) there) (a.number == n) refl there
+settled_member records (a ∷ members) n all there = go (λ there. settled_member records members n (and_parts (is_settled records a.number) (list_all (λ a. is_settled records a.number) members) all).1 there) (a.number == n) refl there
   where
     go : (is_member n members ≡ true → is_settled records n ≡ true) → (b : Bool) → (a.number == n) ≡ b → is_some (if b then Some a.counted else counted_of n members) ≡ true → is_settled records n ≡ true
-    go behind true e there = ap (is_settled records) (sym (same_by_test a.number n e)) ∙ left (is_settled records a.number) (list_all (λ a. is_settled records a.number) members) all
+    go behind true e there = ap (is_settled records) (sym (same_by_test a.number n e)) ∙ (and_parts (is_settled records a.number) (list_all (λ a. is_settled records a.number) members) all).0
     go behind false e there = behind there
 
 -- where weight is the only ground, over or not
@@ -101,9 +95,9 @@ module _ {K V X P W : Type 0} (says : P → K → V → Bool → Type 0) (s : St
   only_size : (c : Contents K V) → IsPlain s now c → (x : Choice) → IsJustified says (tests_of s now) c [] x → (n : ℕ) × (x ≡ Removes n Size) × ((is_front n c.access && is_over s.capacity c.access) ≡ true)
   only_size c h (Removes n Size) may = (n, refl, may.3)
   only_size c h (Removes n Replaced) may = absurd may.3
-  only_size c h (Removes n Expired) may = (let p = parts (is_expired may.0 now) (is_past_live s.settings may.0 now) (is_past_idle s.settings may.0 now) (is_written_before s.invalid_before may.0) (is_read_before s.invalid_before may.0) (h.fresh n may.0 may.1) in absurd (none_of_three (is_expired may.0 now) (is_past_live s.settings may.0 now) (is_past_idle s.settings may.0 now) p.0 p.1 p.2 may.3))
+  only_size c h (Removes n Expired) may = (let p = none_of_five (is_expired may.0 now) (is_past_live s.settings may.0 now) (is_past_idle s.settings may.0 now) (is_written_before s.invalid_before may.0) (is_read_before s.invalid_before may.0) (h.fresh n may.0 may.1) in absurd (none_of_three (is_expired may.0 now) (is_past_live s.settings may.0 now) (is_past_idle s.settings may.0 now) p.0 p.1 p.2 may.3))
   only_size c h (Removes n Explicit) may = elim may.3 [
-    | inl bad ↦ (let p = parts (is_expired may.0 now) (is_past_live s.settings may.0 now) (is_past_idle s.settings may.0 now) (is_written_before s.invalid_before may.0) (is_read_before s.invalid_before may.0) (h.fresh n may.0 may.1) in absurd (none_of_two (is_written_before s.invalid_before may.0) (not (is_past_live s.settings may.0 now)) (is_read_before s.invalid_before may.0) (not (is_past_idle s.settings may.0 now)) p.3 p.4 bad))
+    | inl bad ↦ (let p = none_of_five (is_expired may.0 now) (is_past_live s.settings may.0 now) (is_past_idle s.settings may.0 now) (is_written_before s.invalid_before may.0) (is_read_before s.invalid_before may.0) (h.fresh n may.0 may.1) in absurd (none_of_two (is_written_before s.invalid_before may.0) (not (is_past_live s.settings may.0 now)) (is_read_before s.invalid_before may.0) (not (is_past_idle s.settings may.0 now)) p.3 p.4 bad))
     | inr covered ↦ absurd covered
   ]
   only_size c h (MovesToBack n) may = absurd (true≢false (sym (h.settled n may.0) ∙ may.1))
@@ -136,7 +130,7 @@ module _ {K V X P W : Type 0} (says : P → K → V → Bool → Type 0) (s : St
   takes_front : (c : Contents K V) (x : Choice) (xs : List Choice) → IsPlain s now c → AreJustified says (tests_of s now) c [] (x ∷ xs) → TakesFront c x xs
   takes_front c x xs h may =
       let only = only_size c h x may.0 in
-      let it = front_is only.0 c.access (left (is_front only.0 c.access) (is_over s.capacity c.access) only.2) in
+      let it = front_is only.0 c.access (and_parts (is_front only.0 c.access) (is_over s.capacity c.access) only.2).0 in
       let once = subst (λ (ys : List Member). IsDistinct (◌==◌) (numbers_of ys)) it.are h.once in
       let step : x ≡ Removes it.first.number Size = only.1 ∙ ap (λ n. Removes n Size) (sym it.number) in
       let after : after_choice c x ≡ record c { records = finite.remove c.records it.first.number; access = it.rest } =
@@ -145,7 +139,7 @@ module _ {K V X P W : Type 0} (says : P → K → V → Bool → Type 0) (s : St
         first = it.first;
         rest = it.rest;
         are = it.are;
-        over = right (is_front only.0 c.access) (is_over s.capacity c.access) only.2;
+        over = (and_parts (is_front only.0 c.access) (is_over s.capacity c.access) only.2).1;
         step = step;
         after = after;
         plain = subst (IsPlain s now) (sym after) (plain_on c it.first it.rest h it.are);

@@ -1,23 +1,21 @@
 -- Lists of numbers after a change: which stand there, and that none stands twice.
 use Rattle.std.proofs.Common.{◌≡◌, refl, ℕ, Bool, true, false, cond, not, ◌==◌, ◌||◌, List, [], ◌∷◌, ◌++◌, ap, sym, ◌∙◌, inl, inr, if◌then◌else◌}
+use Rattle.std.proofs.Math.Bool.{or-false, or-true}
 use Rattle.std.specs.List.{IsDistinct, AllByRecursion}
 use Rattle.moka_parts.specs.declared.records.Member.{Member}
 use Rattle.moka_parts.specs.Records.{is_listed, without_number, without_numbers, number_to_back}
-use Rattle.moka_parts.proofs.Maps.{AreApart, same_or_apart, same_by_test, itself_tested}
+use Rattle.moka_parts.proofs.Maps.{AreApart, same_or_apart, same_by_test, itself_tested, apart_turned}
 
 -- ---- which stand there
 
-or_false : (a : Bool) → (a || false) ≡ a
-or_false true = refl
-or_false false = refl
-
-or_true : (a : Bool) → (a || true) ≡ true
-or_true true = refl
-or_true false = refl
+-- a number that differs from all does not stand there
+pub unlisted_all : (n : ℕ) (ns : List ℕ) → AllByRecursion (λ y. (n == y) ≡ false) ns → is_listed n ns ≡ false
+unlisted_all n [] h = refl
+unlisted_all n (m ∷ ns) h = ap (λ b. b || is_listed n ns) (apart_turned n m h.0) ∙ unlisted_all n ns h.1
 
 -- what is put at the back
 pub listed_pushed : (k n : ℕ) (ns : List ℕ) → is_listed k (ns ++ n ∷ []) ≡ (is_listed k ns || (n == k))
-listed_pushed k n [] = or_false (n == k)
+listed_pushed k n [] = or-false (n == k)
 listed_pushed k n (m ∷ ns) = elim (m == k) as (λ b. (b || is_listed k (ns ++ n ∷ [])) ≡ ((b || is_listed k ns) || (n == k))) [ true ↦ refl | false ↦ listed_pushed k n ns ]
 
 -- what is taken out
@@ -62,8 +60,8 @@ listed_moved n k ns = go (is_listed n ns) refl
     go : (b : Bool) → is_listed n ns ≡ b → is_listed k (if b then without_number n ns ++ n ∷ [] else ns) ≡ is_listed k ns
     go false e = refl
     go true e = listed_pushed k n (without_number n ns) ∙ elim (same_or_apart k n) [
-      | inl same ↦ ap (λ b. is_listed k (without_number n ns) || b) (ap (λ x. n == x) same ∙ itself_tested n) ∙ or_true (is_listed k (without_number n ns)) ∙ sym e ∙ sym (ap (λ x. is_listed x ns) same)
-      | inr apart ↦ ap (λ b. is_listed k (without_number n ns) || b) apart.back ∙ or_false (is_listed k (without_number n ns)) ∙ listed_past_taken_out n k ns apart
+      | inl same ↦ ap (λ b. is_listed k (without_number n ns) || b) (ap (λ x. n == x) same ∙ itself_tested n) ∙ or-true (is_listed k (without_number n ns)) ∙ sym e ∙ sym (ap (λ x. is_listed x ns) same)
+      | inr apart ↦ ap (λ b. is_listed k (without_number n ns) || b) apart.back ∙ or-false (is_listed k (without_number n ns)) ∙ listed_past_taken_out n k ns apart
     ]
 
 -- ---- none twice

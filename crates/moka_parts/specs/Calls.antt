@@ -1,4 +1,4 @@
--- One relation a call: what it may answer, tell and ask for, and the state that it leaves.
+-- One relation per call: what it may answer, tell and ask for, and the state that it leaves.
 use Rattle.std.specs.Prelude.{◌≡◌, ℕ, Bool, true, false, ◌==◌, ◌||◌, ◌+◌, ◌<◌, ◌≤◌, ◌^◌, nat_lt, nat_le, List, [], ◌∷◌, ◌++◌, length, map, Option, Some, None, Result, Ok, Err, ◌⊎◌, MatchBool, IsPermutation, slice_get, if◌then◌else◌}
 use Rattle.std.specs.List.{AllByRecursion}
 use Rattle.std.specs.FinMap as finite

@@ -1,12 +1,13 @@
 -- The grounds on which a pass removes records: the cause that each tells, and their order.
-use Rattle.std.specs.Prelude.{◌≡◌, ℕ, zero, suc, Bool, true, false, ◌&&◌, ◌≤◌, List, [], ◌∷◌, ◌++◌, length, Option, Some, None, if◌then◌else◌}
+use Rattle.std.specs.Prelude.{◌≡◌, ℕ, zero, suc, Bool, true, false, ◌&&◌, ◌≤◌, ◌⊎◌, List, [], ◌∷◌, ◌++◌, length, Option, Some, None, if◌then◌else◌}
 use Rattle.std.specs.FinMap.{get}
 use Rattle.moka_parts.specs.declared.notification.RemovalCause.{RemovalCause}
 use Rattle.moka_parts.specs.declared.notification.RemovalCause.TheVariants.{Expired, Explicit, Size}
 use Rattle.moka_parts.specs.declared.records.Record.{Record}
-use Rattle.moka_parts.specs.Records.{is_member, is_settled}
+use Rattle.moka_parts.specs.Records.{is_member, is_settled, settled_members}
 use Rattle.moka_parts.specs.State.{Contents}
 use Rattle.moka_parts.specs.Visibility.{is_expired, is_written_before, is_read_before}
+use Rattle.moka_parts.specs.Exact.{IsWithin}
 use Rattle.moka_parts.specs.Maintenance.{Choice, Removes, MovesToBack, Drops, Tests, after_choice, after_choices, is_front, is_over, is_past_read, is_past_write}
 
 -- the step of a pass in which a record leaves
@@ -60,6 +61,22 @@ module _ {K V : Type 0} (q : Tests) where
   cause_by_read r = if is_past_read q r then Some Expired
       else (if is_read_before q.invalid_before r then Some Explicit else None)
 
+  -- the record at the front of the access list is not past its time to idle, nor read before the invalidation of all
+  abbrev pub IsAtRestByRead : Contents K V → Type 0
+  IsAtRestByRead c = (n : ℕ) (r : Record K V) → is_front n c.access ≡ true → get c.records n ≡ Some r
+      → (is_past_read q r ≡ false) × (is_read_before q.invalid_before r ≡ false)
+
+  -- where the step ended, if it went along the access list: it came to rest, or no member is settled, or it made all
+  -- its choices
+  abbrev pub EndsStep : Ground → ℕ → ℕ → Contents K V → Type 0
+  EndsStep ByTimer batch choices c = Unit {0}
+  EndsStep ByWrite batch choices c = Unit {0}
+  EndsStep ByRead batch choices c = IsAtRestByRead c
+      ⊎ ((settled_members c.records c.access ≡ []) ⊎ (batch ≤ choices))
+  EndsStep ByPredicate batch choices c = Unit {0}
+  EndsStep BySurplus batch choices c = IsWithin q.capacity c.access
+      ⊎ ((settled_members c.records c.access ≡ []) ⊎ (batch ≤ choices))
+
 -- `Covered` says which records are covered by a predicate
 module _ {K V : Type 0} (Covered : Record K V → Type 0) (q : Tests) where
   -- the step removes the record, and tells this cause
@@ -87,7 +104,8 @@ module _ {K V : Type 0} (Covered : Record K V → Type 0) (q : Tests) where
     abbrev pub FollowsGrounds : List Ground → Contents K V → List Choice → Type 0
     FollowsGrounds [] c xs = xs ≡ []
     FollowsGrounds (g ∷ gs) c xs = (first later : List Choice) × (xs ≡ first ++ later) × AreTaken g c first
-        × (is_batched g ≡ true → length first ≤ batch) × FollowsGrounds gs (after_choices c first) later
+        × ((is_batched g ≡ true → length first ≤ batch) × EndsStep q g batch (length first) (after_choices c first))
+        × FollowsGrounds gs (after_choices c first) later
 
 -- each choice drops a predicate
 abbrev pub AreDrops : List Choice → Type 0

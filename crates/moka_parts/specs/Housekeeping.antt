@@ -7,7 +7,7 @@ use Rattle.moka_parts.specs.Time.{plus}
 pub record Housekeeping : Type 0 where
   -- from this moment on a run is due by time
   pub run_after : Instant
-  -- the last run left more to evict
+  -- the last run left more
   pub more : Bool
   -- runs start by themselves
   pub automatic : Bool

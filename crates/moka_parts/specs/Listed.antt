@@ -1,11 +1,11 @@
 -- Runs of maintenance and calls, with the write list before and after them.
-use Rattle.std.specs.Prelude.{◌≡◌, ℕ, Bool, true, List, [], ◌∷◌, Option, None}
+use Rattle.std.specs.Prelude.{◌≡◌, ℕ, Bool, true, List, [], ◌∷◌, ◌++◌, length, Option, None}
 use Rattle.moka_parts.specs.Records.{Notice}
 use Rattle.moka_parts.specs.State.{State, Meaning, is_disabled, keeps_write_list}
-use Rattle.moka_parts.specs.Maintenance.{Freedom, Terms, Course, RunsWith}
+use Rattle.moka_parts.specs.Maintenance.{Choice, Freedom, Terms, Course, RunsWith, after_choices, before_steps, tests_of}
 use Rattle.moka_parts.specs.Settling.{IsWhole, IsAllSent}
-use Rattle.moka_parts.specs.Bounds.{IsBounded}
-use Rattle.moka_parts.specs.Order.{ComesToRest, write_list_at_end}
+use Rattle.moka_parts.specs.Bounds.{IsBounded, EndsSweep}
+use Rattle.moka_parts.specs.Order.{ComesToRest, IsAtRestByWrite, write_list_at_end, write_list_before_steps, written_after_choices}
 use Rattle.moka_parts.specs.Runs.{EndsWell, CallStep, Step}
 
 -- what a run by these choices makes of the write list, where it is kept
@@ -15,6 +15,11 @@ pub record LeavesList {K V X P W : Type 0} (before after : List ℕ) (s : State 
   -- a whole run with all sent comes to rest by the write list
   pub rests : IsWhole s terms course → IsAllSent s → keeps_write_list s.settings ≡ true →
       ComesToRest s before ch terms.now
+  -- where the last sweep by the write list ended, after some of the choices
+  pub swept : keeps_write_list s.settings ≡ true → (first second : List Choice) × (ch.steps ≡ first ++ second)
+      × EndsSweep s terms course (λ c. IsAtRestByWrite (tests_of s terms.now) c.records
+      (written_after_choices (write_list_before_steps s before ch) first)) (after_choices (before_steps s ch) first)
+      (length first)
 
 module _ {K V X P W : Type 0} (says : P → K → V → Bool → Type 0) (read : X → K → V → ℕ → Option ℕ → ℕ → Option ℕ)
     (before after : List ℕ) where

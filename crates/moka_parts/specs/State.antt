@@ -74,6 +74,24 @@ pub record Meaning (K V X L P W C I : Type 0) : Type 1 where
   pub read : X → K → V → ℕ → Option ℕ → ℕ → Option ℕ
   pub updated : X → K → V → ℕ → Option ℕ → Option ℕ
 
+module _ {K V X L P W C I : Type 0} (eq : K → K → Bool) (tells : L → K → V → RemovalCause → L → Type 0)
+    (says : P → K → V → Bool → Type 0) (weighs : W → K → V → ℕ → Type 0)
+    (observes : C → Instant → C → Type 0) (gives : I → Uuid → I → Type 0) (created : X → K → V → ℕ → Option ℕ)
+    (read : X → K → V → ℕ → Option ℕ → ℕ → Option ℕ) (updated : X → K → V → ℕ → Option ℕ → Option ℕ) where
+  -- how keys compare, and how listener, predicates, weigher, clock, source of identifiers and expiry answer
+  abbrev pub meaning_of : Meaning K V X L P W C I
+  meaning_of = record {
+    eq = eq;
+    tells = tells;
+    says = says;
+    weighs = weighs;
+    observes = observes;
+    gives = gives;
+    created = created;
+    read = read;
+    updated = updated;
+  }
+
 -- the notices, readings of the clock and identifiers of a call, and the passes of the run in it, if one was made
 pub record Events (K V : Type 0) : Type 0 where
   pub notices : List (Notice K V)

@@ -4,7 +4,7 @@ use Rattle.std.specs.Prelude.{◌≡◌, Bool, false, List, [], ◌∷◌, Optio
 use Rattle.moka_parts.specs.declared.notification.RemovalCause.{RemovalCause}
 use Rattle.moka_parts.specs.Records.{Notice}
 
--- the steps of an object, one an item, lead from the first state to the second
+-- the steps of an object, one per item, lead from the first state to the second
 abbrev pub Leads : {S A : Type 0} → (S → A → S → Type 0) → S → List A → S → Type 0
 Leads step before [] after = after ≡ before
 Leads {S} step before (x ∷ xs) after = (mid : S) × step before x mid × Leads step mid xs after
@@ -13,7 +13,7 @@ Leads {S} step before (x ∷ xs) after = (mid : S) × step before x mid × Leads
 abbrev pub NoticeStep : {K V L : Type 0} → (L → K → V → RemovalCause → L → Type 0) → L → Notice K V → L → Type 0
 NoticeStep tells before n after = tells before n.0 n.1 n.2 after
 
--- the listener's own steps, one a notice; without one there is nothing to hear
+-- the listener's own steps, one per notice; without one there is nothing to hear
 abbrev pub Heard : {K V L : Type 0} → (L → K → V → RemovalCause → L → Type 0) → Option L → List (Notice K V) →
     Option L → Type 0
 Heard tells None notices None = notices ≡ []

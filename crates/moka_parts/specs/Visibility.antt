@@ -28,7 +28,7 @@ is_written_before bound r = is_before r.written.0 (moment_of bound)
 abbrev pub is_read_before : {K V : Type 0} → Option Instant → Record K V → Bool
 is_read_before bound r = is_before r.read.0 (moment_of bound)
 
--- one of the four tests by moments hides it
+-- one of the five tests by moments hides it
 abbrev pub has_lapsed : {K V X W : Type 0} → Settings X W → Option Instant → Record K V → ℕ → Bool
 has_lapsed settings bound r now = is_expired r now || is_past_live settings r now || is_past_idle settings r now
     || is_written_before bound r || is_read_before bound r

@@ -119,6 +119,7 @@ impl<K, V, R, F: PairFn<K, V, R>> Model for ByClosure<K, V, R, F> {
 }
 
 impl<K, V, R, F: PairFn<K, V, R>> ByClosure<K, V, R, F> {
+    /// A weigher or a predicate that asks the closure.
     pub fn new(closure: F) -> Self
         requires callable { CanAlwaysAsk (F.can_ask closure) }
         requires functional { HasOneAnswer (F.answers closure) }

@@ -3,7 +3,7 @@ use std::alloc::AllocError;
 use std::error::Error;
 use std::fmt;
 
-/// Memory for a growth or for a clone was refused. Nothing has changed.
+/// Memory was refused, or a record would need a place of more than 32 bits. Each call says what has changed then.
 #[derive(Clone, Copy, Debug, PartialEq, Eq)]
 pub struct OutOfMemory;
 
@@ -31,7 +31,7 @@ impl From<AllocError> for OutOfMemory {
 pub enum SendError {
     /// No operation waits under this ticket.
     UnknownTicket,
-    /// The queue of writes is full; a run of the pending tasks empties it.
+    /// The queue of writes is full; a run of maintenance empties it.
     QueueFull,
 }
 
@@ -54,9 +54,9 @@ impl Error for SendError {}
 /// Why an insert was refused.
 #[derive(Clone, Copy, Debug, PartialEq, Eq)]
 pub enum InsertError {
-    /// Memory for a growth or for a clone was refused.
+    /// Memory was refused, or a record would need a place of more than 32 bits. Each call says what has changed then.
     OutOfMemory,
-    /// There are not enough tickets left.
+    /// The tickets are used up, but for those that are kept for the removals of records.
     NumbersUsedUp,
 }
 
@@ -76,11 +76,14 @@ impl fmt::Display for InsertError {
 
 impl Error for InsertError {}
 
-/// A refused insert hands back the key and the value. Nothing has changed.
+/// A refused insert, with the key and the value. Nothing was inserted.
 #[derive(Debug, Drop)]
 pub struct InsertRefused<K, V> {
+    /// Why it was refused.
     pub error: InsertError,
+    /// The key that was handed in.
     pub key: K,
+    /// The value that was handed in.
     pub value: V,
 }
 
@@ -100,8 +103,7 @@ impl<K: fmt::Debug + Drop, V: fmt::Debug + Drop> Error for InsertRefused<K, V> {
 /// Why a predicate was not registered. moka: `common::error::PredicateError`.
 #[derive(Clone, Copy, Debug, PartialEq, Eq)]
 pub enum PredicateError {
-    /// This cache does not have the configuration to support invalidating
-    /// entries by a predicate.
+    /// The cache was built without `support_invalidation_closures`.
     InvalidationClosuresDisabled,
     /// One identifier after the other was asked for, and all were taken.
     NoFreeId,
@@ -130,7 +132,9 @@ impl Error for PredicateError {}
 /// A refused predicate is handed back. Nothing has changed.
 #[derive(Debug, Drop)]
 pub struct PredicateRefused<P> {
+    /// Why it was refused.
     pub error: PredicateError,
+    /// The predicate that was handed in.
     pub predicate: P,
 }
 

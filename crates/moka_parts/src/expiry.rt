@@ -114,11 +114,7 @@ pub fn renewed(
     ensures changed { result.1
         ≡ not (is_same_duration (option_map as_nanos answer) (option_map as_nanos left)) }
 {
-    let is_same = match (answer, left) {
-        (Some(answer), Some(left)) => answer.as_nanos() == left.as_nanos(),
-        (None, None) => true,
-        _ => false,
-    };
+    let is_same = answer.map(|time| time.as_nanos()) == left.map(|time| time.as_nanos());
     if is_same {
         (expires, false)
     } else {

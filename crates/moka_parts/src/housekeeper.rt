@@ -14,6 +14,14 @@ const WRITE_LOG_FLUSH_POINT: usize = 64;
 /// How long maintenance waits after a run, in milliseconds.
 const LOG_SYNC_INTERVAL_MILLIS: u64 = 300;
 
+/// How often a run may go back to its queues, where a caller sets nothing else.
+/// moka: `common::concurrent::constants::MAX_LOG_SYNC_REPEATS`.
+pub const MAX_LOG_SYNC_REPEATS: u32 = 4;
+
+/// How many entries each step of a pass looks at, where a caller sets nothing else.
+/// moka: `common::concurrent::constants::EVICTION_BATCH_SIZE`.
+pub const EVICTION_BATCH_SIZE: u32 = 384;
+
 /// Tells moments, which may go back.
 pub trait Clock {
     ghost use Rattle.moka_parts.specs.declared.policy.Instant.{Instant};
@@ -69,11 +77,11 @@ pub trait InnerSync {
 /// What the housekeeper gives to each run. moka: `common::HousekeeperConfig`.
 #[derive(Clone, Copy, Debug)]
 pub struct HousekeeperConfig {
-    /// How long a run may go on, where a listener is set.
+    /// After this time a run makes no further pass. It applies only if a listener is set.
     pub maintenance_task_timeout: Duration,
-    /// How often a run may go back to its queues.
+    /// How often a run may go back to its queues. With one owner it has no effect.
     pub max_log_sync_repeats: u32,
-    /// How many entries each step of a run may evict.
+    /// How many entries each step of a pass looks at, except the step by entries' own expiries.
     pub eviction_batch_size: u32,
 }
 
@@ -90,8 +98,8 @@ impl Default for HousekeeperConfig {
     fn default() -> Self {
         HousekeeperConfig {
             maintenance_task_timeout: Duration::from_millis(100),
-            max_log_sync_repeats: 4,
-            eviction_batch_size: 384,
+            max_log_sync_repeats: MAX_LOG_SYNC_REPEATS,
+            eviction_batch_size: EVICTION_BATCH_SIZE,
         }
     }
 }
@@ -104,7 +112,7 @@ pub struct Housekeeper {
     more_entries_to_evict: bool,
     auto_run_enabled: bool,
     is_eviction_listener_enabled: bool,
-    // Below this length of a queue no run is due before `run_after`: 0 while more is left to evict, else 64.
+    // Below this length of a queue no run is due before `run_after`: 0 while more is left, else 64.
     due_length: usize,
     config: HousekeeperConfig,
 }
@@ -237,7 +245,7 @@ impl Housekeeper {
         true
     }
 
-    /// From now on runs start only where more is left to evict.
+    /// From now on runs start by themselves only where more is left.
     pub fn disable_auto_run(&mut self)
         ensures { self.new
             ≡ record self.old { housekeeping = without_automatic self.old.housekeeping } }

@@ -2,7 +2,7 @@
 //! each is a law, and whoever calls it may rely on that.
 ghost use Rattle.std.specs.Prelude.{ℕ, List};
 ghost use Rattle.moka_parts.specs.declared.records.Member.{Member};
-ghost use Rattle.moka_parts.specs.State.{State, Contents};
+ghost use Rattle.moka_parts.specs.State.{State, Contents, meaning_of};
 ghost use Rattle.moka_parts.specs.Maintenance.{Freedom};
 ghost use Rattle.moka_parts.specs.Runs.{PromisedRun};
 ghost use Rattle.moka_parts.specs.Listed.{ListedRun};
@@ -33,17 +33,7 @@ pub fn stays_hidden<
     C: Clock,
     I: IdSource,
 >()
-    ensures { StaysHidden (record {
-      eq = K.eq;
-      tells = L.tells;
-      says = P.says;
-      weighs = W.weighs;
-      observes = C.reads;
-      gives = I.gives;
-      created = X.created;
-      read = X.read;
-      updated = X.updated;
-    }) }
+    ensures { StaysHidden (meaning_of K.eq L.tells P.says W.weighs C.reads I.gives X.created X.read X.updated) }
 {}
 
 /// A run drops a predicate only when it covers no record of the map.
@@ -63,17 +53,7 @@ pub fn predicates_leave_idle<
     C: Clock,
     I: IdSource,
 >()
-    ensures { PredicatesLeaveIdle (record {
-      eq = K.eq;
-      tells = L.tells;
-      says = P.says;
-      weighs = W.weighs;
-      observes = C.reads;
-      gives = I.gives;
-      created = X.created;
-      read = X.read;
-      updated = X.updated;
-    }) }
+    ensures { PredicatesLeaveIdle (meaning_of K.eq L.tells P.says W.weighs C.reads I.gives X.created X.read X.updated) }
 {}
 
 /// A removal hands out the entry of its key, visible or hidden, and every other key's record stays.
@@ -91,7 +71,8 @@ pub fn peeks_quietly<K: Eq, V, X: Expiry<K, V>, P: PredicateFn<K, V>, W>()
     ensures { PeeksQuietly W K.eq P.says X.read }
 {}
 
-/// Where a listener is set, it is told of each value that leaves the map other than by a caller's removal, once.
+/// Where a listener is set, it is notified exactly once of each value that leaves the map other than by a caller's
+/// removal.
 pub fn tells_each_once<
     K: Eq,
     V,
@@ -102,17 +83,7 @@ pub fn tells_each_once<
     C: Clock,
     I: IdSource,
 >()
-    ensures { TellsEachOnce (record {
-      eq = K.eq;
-      tells = L.tells;
-      says = P.says;
-      weighs = W.weighs;
-      observes = C.reads;
-      gives = I.gives;
-      created = X.created;
-      read = X.read;
-      updated = X.updated;
-    }) }
+    ensures { TellsEachOnce (meaning_of K.eq L.tells P.says W.weighs C.reads I.gives X.created X.read X.updated) }
 {}
 
 /// What holds of a state at every moment holds of a new cache.
@@ -131,17 +102,7 @@ pub fn stays_valid<
     C: Clock,
     I: IdSource,
 >()
-    ensures { StaysValid (record {
-      eq = K.eq;
-      tells = L.tells;
-      says = P.says;
-      weighs = W.weighs;
-      observes = C.reads;
-      gives = I.gives;
-      created = X.created;
-      read = X.read;
-      updated = X.updated;
-    }) }
+    ensures { StaysValid (meaning_of K.eq L.tells P.says W.weighs C.reads I.gives X.created X.read X.updated) }
 {}
 
 /// Where the write list is kept, calls in the order of time keep a state in the order of writing.
@@ -155,17 +116,7 @@ pub fn stays_in_order<
     C: Clock,
     I: IdSource,
 >()
-    ensures { StaysInOrder (record {
-      eq = K.eq;
-      tells = L.tells;
-      says = P.says;
-      weighs = W.weighs;
-      observes = C.reads;
-      gives = I.gives;
-      created = X.created;
-      read = X.read;
-      updated = X.updated;
-    }) }
+    ensures { StaysInOrder (meaning_of K.eq L.tells P.says W.weighs C.reads I.gives X.created X.read X.updated) }
 {}
 
 /// A run that begins with every operation sent ends with count and weight exactly the records'.
@@ -201,17 +152,7 @@ pub fn is_of_reference<
     C: Clock,
     I: IdSource,
 >()
-    ensures { IsOfReference S (record {
-      eq = K.eq;
-      tells = L.tells;
-      says = P.says;
-      weighs = W.weighs;
-      observes = C.reads;
-      gives = I.gives;
-      created = X.created;
-      read = X.read;
-      updated = X.updated;
-    }) }
+    ensures { IsOfReference S (meaning_of K.eq L.tells P.says W.weighs C.reads I.gives X.created X.read X.updated) }
 {}
 
 /// A run that `BaseCache` promises is one of the reference cache.
@@ -230,17 +171,7 @@ pub fn steps_are_of_reference<
     C: Clock,
     I: IdSource,
 >()
-    ensures { StepsAreOfReference (record {
-      eq = K.eq;
-      tells = L.tells;
-      says = P.says;
-      weighs = W.weighs;
-      observes = C.reads;
-      gives = I.gives;
-      created = X.created;
-      read = X.read;
-      updated = X.updated;
-    }) }
+    ensures { StepsAreOfReference (meaning_of K.eq L.tells P.says W.weighs C.reads I.gives X.created X.read X.updated) }
 {}
 
 /// Calls that lead from one write list to the next are steps of the reference cache, so every law holds of them.
@@ -254,17 +185,7 @@ pub fn lists_are_of_reference<
     C: Clock,
     I: IdSource,
 >()
-    ensures { ListsAreOfReference (record {
-      eq = K.eq;
-      tells = L.tells;
-      says = P.says;
-      weighs = W.weighs;
-      observes = C.reads;
-      gives = I.gives;
-      created = X.created;
-      read = X.read;
-      updated = X.updated;
-    }) }
+    ensures { ListsAreOfReference (meaning_of K.eq L.tells P.says W.weighs C.reads I.gives X.created X.read X.updated) }
 {}
 
 /// From a state in the order of writing, a whole run with every operation sent leaves no record past its time to live,
@@ -290,20 +211,11 @@ pub fn calls_keep_order<
     C: Clock,
     I: IdSource,
 >()
-    ensures { CallsKeepOrder (record {
-      eq = K.eq;
-      tells = L.tells;
-      says = P.says;
-      weighs = W.weighs;
-      observes = C.reads;
-      gives = I.gives;
-      created = X.created;
-      read = X.read;
-      updated = X.updated;
-    }) }
+    ensures { CallsKeepOrder (meaning_of K.eq L.tells P.says W.weighs C.reads I.gives X.created X.read X.updated) }
 {}
 
-/// The same of a list of calls, with the write list that the last of them leaves.
+/// Where the write list is kept, a list of calls in the order of time keeps a state in the order of writing, with the
+/// write list that the last of them leaves.
 pub fn lists_keep_order<
     K: Eq,
     V,
@@ -314,15 +226,5 @@ pub fn lists_keep_order<
     C: Clock,
     I: IdSource,
 >()
-    ensures { ListsKeepOrder (record {
-      eq = K.eq;
-      tells = L.tells;
-      says = P.says;
-      weighs = W.weighs;
-      observes = C.reads;
-      gives = I.gives;
-      created = X.created;
-      read = X.read;
-      updated = X.updated;
-    }) }
+    ensures { ListsKeepOrder (meaning_of K.eq L.tells P.says W.weighs C.reads I.gives X.created X.read X.updated) }
 {}

@@ -76,6 +76,7 @@ impl<L> RemovalNotifier<L> {
     ghost use Rattle.std.specs.Prelude.{◌≡◌, is_some, option_copied};
     ghost use Rattle.moka_parts.specs.Notification.{HearsOnce};
 
+    /// A notifier of the listener, if one is given.
     pub fn new(listener: Option<L>) -> Self
         ensures { result ≡ listener }
     {

@@ -15,7 +15,7 @@ pub use expire_after::{
     ExpireAfter, ExpireAfterCreate, ExpireAfterRead, ExpireAfterUpdate, NoExpiry,
 };
 
-/// A moment, in nanoseconds after any fixed one. moka: `common::time::Instant`.
+/// A point in time, in nanoseconds since an arbitrary fixed origin. moka: `common::time::Instant`.
 #[derive(Clone, Copy, Debug, PartialEq, Eq, PartialOrd, Ord)]
 pub struct Instant(pub u64);
 
@@ -32,7 +32,7 @@ impl Instant {
         Instant(self.0.saturating_add(nanos))
     }
 
-    /// The time since an earlier moment, none of it where that moment lies later.
+    /// The time since an earlier moment, zero if `earlier` is later.
     pub fn saturating_duration_since(self, earlier: Instant) -> Duration
         ensures { as_nanos result ≡ self.0 - earlier.0 }
     {
@@ -63,6 +63,7 @@ impl Model for Policy {
 }
 
 impl Policy {
+    /// A policy with these limits; `None` for one that is not set.
     pub fn new(
         max_capacity: Option<u64>,
         time_to_live: Option<Duration>,
@@ -88,7 +89,7 @@ impl Policy {
         self.max_capacity
     }
 
-    /// The number of the cache's segments.
+    /// How many segments the cache has: always 1.
     pub fn num_segments(&self) -> usize
         ensures { result ≡ 1 }
     {
@@ -113,7 +114,8 @@ impl Policy {
 /// How a cache that is full chooses what stays. moka: `policy::EvictionPolicy`.
 #[derive(Clone, Copy)]
 pub enum EvictionPolicy {
-    /// An entry is admitted if it was requested more often than the entries that it would evict, together.
+    /// An entry is admitted if the sketch estimates that it was requested more often than the entries that it would
+    /// evict, together; estimates stop at 15 for each.
     TinyLfu,
     /// The least recently used entries go.
     Lru,
@@ -165,10 +167,10 @@ impl fmt::Debug for EvictionPolicy {
 
 /// Decides when an entry expires. moka: `policy::Expiry`.
 ///
-/// The meanings, `created`, `read` and `updated`, count moments and durations in nanoseconds. They
-/// tell the answers that a type gives which leaves them out: none at a creation, and at a read or
-/// an update the time that is left. Such a type still writes those answers down, or stands as a
-/// part of `ExpireAfter` beside `NoExpiry`.
+/// The meanings, `created`, `read` and `updated`, count moments and durations in nanoseconds. Their
+/// defaults are the answers of a type that sets no expiry: none at a creation, and the time that is
+/// left at a read or an update. A type that keeps a default still writes the method, or is a part of
+/// `ExpireAfter` beside `NoExpiry`.
 pub trait Expiry<K, V> {
     ghost use Rattle.std.specs.Prelude.{◌≡◌, ℕ, Option, None, option_map};
     ghost use Rattle.std.specs.Duration.{as_nanos};

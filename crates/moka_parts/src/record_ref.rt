@@ -15,6 +15,7 @@ pub struct Hot<K, V> {
     pub key: K,
     /// The hash that came with the first insert.
     pub hash: u64,
+    /// The value of the last insert.
     pub value: V,
     /// When it was last inserted or read.
     pub read: Instant,
@@ -41,6 +42,7 @@ pub struct Cold {
 /// A record but for its cold part and its number.
 #[derive(Drop)]
 pub struct Front<K, V> {
+    /// What look-ups read of it.
     pub hot: Hot<K, V>,
     /// Whether it expires by itself.
     pub expiring: bool,
@@ -174,7 +176,7 @@ impl<'a, K, V> RecordRef<'a, K, V> {
 fn expiry_of(expiring: bool, moment: Instant) -> Option<Instant>
     ensures { result ≡ expiry_of expiring moment }
 {
-    if expiring { Some(moment) } else { None }
+    expiring.then_some(moment)
 }
 
 /// The moment that is kept of an expiry.
@@ -182,10 +184,7 @@ fn expiry_of(expiring: bool, moment: Instant) -> Option<Instant>
 pub fn moment_of(expires: Option<Instant>) -> Instant
     ensures { expiry_of (is_some expires) result ≡ expires }
 {
-    match expires {
-        Some(moment) => moment,
-        None => Instant(0),
-    }
+    expires.unwrap_or(Instant(0))
 }
 
 /// The parts of a record, but for its number.

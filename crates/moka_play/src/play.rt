@@ -1,5 +1,5 @@
 //! Makes the calls of a script on a cache.
-ghost use Rattle.std.specs.Prelude.{◌≡◌, is_some, IfOk};
+ghost use Rattle.std.specs.Prelude.{◌≡◌, is_some, IfOk, None};
 ghost use Rattle.std.specs.Duration.{as_nanos};
 ghost use Rattle.moka_script.specs.Notices.{told_of, listener_for};
 ghost use Rattle.moka_script.specs.Script.{text_of};
@@ -103,6 +103,7 @@ pub fn new_cache(
     ensures state { IfOk result
         (λ cache. cache.state ≡ first_state (record { settings = settings; rules = rules.items })) }
     ensures listener { IfOk result (λ cache. cache.listener ≡ listener) }
+    ensures name { IfOk result (λ cache. cache.name ≡ None) }
 {
     let first = match settings.first {
         Some(ticket) => ticket.number(),

@@ -1,5 +1,6 @@
 -- One line more of a script.
-use Rattle.std.proofs.Common.{◌≡◌, ◌==◌, Bool, true, false, ◌||◌, refl, [], ◌∷◌, take, ℕ, ◌+◌, ◌<◌, ◌≤◌, ◌∙◌, List, length, drop, get_or, ap, sym, Result, Ok, Err, IsErrAnd, Some, None, arith}
+use Rattle.std.proofs.Common.{◌≡◌, ◌==◌, true, false, ◌||◌, refl, [], ◌∷◌, take, ℕ, ◌+◌, ◌<◌, ◌≤◌, ◌∙◌, List, length, drop, get_or, ap, sym, Result, Ok, Err, IsErrAnd, Some, None, arith}
+use Rattle.std.proofs.Math.Bool.{or-true}
 use Rattle.std.specs.Option.{option_map_or}
 use Rattle.std.proofs.lemmas.List.{at_drop_more, at_drop_all}
 use Rattle.std.proofs.lemmas.List.Splits.{length-slice_split}
@@ -37,10 +38,6 @@ length-lines_of-le text = omega (arith, length-slice_split (λ byte. byte == 10)
 
 -- ---- memory
 
-or_true : (b : Bool) → (b || true) ≡ true
-or_true true = refl
-or_true false = refl
-
 -- the next line is kept, or it is right and one that follows is
 module _ (n : ℕ) (script : ScriptText) (lines : List (List ℕ)) (line : List ℕ) (t : IsLineAt lines line n) where
   keeps_some-turn : keeps_some script (drop n lines) ≡ (is_kept (asked_in line) || option_map_or (λ more. keeps_some more (drop (n + 1) lines)) (with_line script line) false)
@@ -52,7 +49,7 @@ module _ (n : ℕ) (script : ScriptText) (lines : List (List ℕ)) (line : List 
 
   -- it is right
   pub keeps_some_more : (more : ScriptText) → with_line script line ≡ Some more → keeps_some more (drop (n + 1) lines) ≡ true → keeps_some script (drop n lines) ≡ true
-  keeps_some_more more right later = keeps_some-turn ∙ (ap (λ o. is_kept (asked_in line) || option_map_or (λ more. keeps_some more (drop (n + 1) lines)) o false) right ∙ (ap (λ b. is_kept (asked_in line) || b) later ∙ or_true (is_kept (asked_in line))))
+  keeps_some_more more right later = keeps_some-turn ∙ (ap (λ o. is_kept (asked_in line) || option_map_or (λ more. keeps_some more (drop (n + 1) lines)) o false) right ∙ (ap (λ b. is_kept (asked_in line) || b) later ∙ or-true (is_kept (asked_in line))))
 
 -- reading stops where a line does
 pub stops_at : (n : ℕ) (script : ScriptText) (text line : List ℕ) (failure : Failure) (new : ScriptText) → IsLineAt (lines_of text) line n → IsAdded (n + 1) script line (Err failure) new → lines_read (n + 1) script (drop n (lines_of text)) ≡ script_of text → (keeps_some script (drop n (lines_of text)) ≡ true → asks_for_memory text ≡ true) → IsParseOf text (Err failure)

@@ -1,6 +1,7 @@
 -- What calls leave of the keys of a segment: those that it held, and those that were inserted.
 use Rattle.std.proofs.Common.{◌≡◌, refl, ℕ, Bool, true, false, List, [], ◌∷◌, Option, Some, None, Result, Ok, Err, ap, sym, subst, ◌∙◌, inl, inr, MatchBool}
 use Rattle.std.specs.FinMap.{get, insert, remove}
+use Rattle.std.proofs.lemmas.Option.{same_Some}
 use Rattle.moka_parts.specs.declared.policy.Instant.{Instant}
 use Rattle.moka_parts.specs.declared.records.Record.{Record}
 use Rattle.moka_parts.specs.declared.records.ReadOperation.{ReadOperation}
@@ -32,9 +33,6 @@ use Rattle.moka_segments.specs.Keys.{EachKey, HoldNone, InsertsOnly, KeysBelong}
 use Rattle.moka_segments.specs.Routing.{Routing}
 use Rattle.moka_segments.specs.Segmented.{Segmented}
 
-same_some : {A : Type 0} (x y : A) → Some x ≡ Some y → x ≡ y
-same_some x y e = cc
-
 module _ {K V : Type 0} (Is : K → Type 0) (records : Records K V) (held : EachKey Is records) where
   -- no record came
   pub keys_kept : (others : Records K V) → Keeps records others → EachKey Is others
@@ -45,7 +43,7 @@ module _ {K V : Type 0} (Is : K → Type 0) (records : Records K V) (held : Each
   -- a record was put
   pub keys_put : (n : ℕ) (r : Record K V) → Is r.key → EachKey Is (insert records n r)
   keys_put n r here k q there = elim (same_or_apart k n) [
-    | inl e ↦ subst (λ (x : Record K V). Is x.key) (same_some r q (sym (ap (get (insert records n r)) e ∙ get_inserted records n r) ∙ there)) here
+    | inl e ↦ subst (λ (x : Record K V). Is x.key) (same_Some r q (sym (ap (get (insert records n r)) e ∙ get_inserted records n r) ∙ there)) here
     | inr apart ↦ held k q (sym (get_past_insert records n r k apart) ∙ there)
   ]
 

@@ -45,12 +45,27 @@ impl<
         let mut segments = Vec::new(alloc);
         for index in 0..router.count() {
             let config = with_share(&router, make(index), max_capacity, index);
-            let segment = build_segment(&router, config, alloc, now)?;
+            let segment = Self::build_segment(&router, config, alloc, now)?;
             let Ok(()) = segments.push(segment) else {
                 return Err(OutOfMemory);
             };
         }
         Ok(SegmentedCache::from_parts(router, segments))
+    }
+
+    // A segment with this configuration.
+    fn build_segment(
+        router: &Router<S>,
+        config: CacheConfig<X, L, P, W>,
+        alloc: Global,
+        now: Instant,
+    ) -> Result<Cache<K, V, X, L, P, W, S>, OutOfMemory>
+        ensures { IfOk result (λ s. IsSegment router.now S.is_clone now.0 config s) }
+    {
+        let Ok(hasher) = router.hasher().clone() else {
+            return Err(OutOfMemory);
+        };
+        Cache::build_with_hasher(config, alloc, hasher, now)
     }
 }
 
@@ -100,27 +115,4 @@ fn with_share<S, X, L, P, W>(
         Some(whole) => config.max_capacity(router.share(whole, index)),
         None => config,
     }
-}
-
-// A segment with this configuration.
-fn build_segment<
-    K: Eq + Hash + Drop,
-    V: Drop,
-    X: Expiry<K, V> + Drop,
-    L: Listener<K, V> + Drop,
-    P: PredicateFn<K, V> + Drop,
-    W: Weigher<K, V> + Drop,
-    S: BuildHasher + Clone + Drop,
->(
-    router: &Router<S>,
-    config: CacheConfig<X, L, P, W>,
-    alloc: Global,
-    now: Instant,
-) -> Result<Cache<K, V, X, L, P, W, S>, OutOfMemory>
-    ensures { IfOk result (λ s. IsSegment router.now S.is_clone now.0 config s) }
-{
-    let Ok(hasher) = router.hasher().clone() else {
-        return Err(OutOfMemory);
-    };
-    Cache::build_with_hasher(config, alloc, hasher, now)
 }

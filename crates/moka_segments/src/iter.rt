@@ -34,33 +34,28 @@ impl<
             AllListed (ListsOwn P.says V.is_clone K.eq K.is_clone now.0) self.now.segments (into_iter_items found)) }
     {
         let mut found = Vec::new(*self.segments.allocator());
-        list_each(&self.segments, now, &mut found)?;
+        Self::list_each(&self.segments, now, &mut found)?;
         Ok(found.into_iter())
     }
-}
 
-// Appends the visible entries of each.
-fn list_each<
-    K: Eq + Hash + Clone + Drop,
-    V: Clone + Drop,
-    X: Expiry<K, V>,
-    L: Listener<K, V>,
-    P: PredicateFn<K, V>,
-    W: Weigher<K, V>,
-    S: BuildHasher,
->(
-    segments: &[Cache<K, V, X, L, P, W, S>],
-    now: Instant,
-    found: &mut Vec<(K, V)>,
-) -> Result<(), OutOfMemory>
-    ensures { IfOk result (λ _. (listed : List _) × (found.new.items ≡ found.old.items ++ listed)
-        × AllListed (ListsOwn P.says V.is_clone K.eq K.is_clone now.0) segments.now listed) }
-{
-    let Some((first, rest)) = segments.split_first() else {
-        return Ok(());
-    };
-    let Ok(()) = found.extend(first.iter(now)?) else {
-        return Err(OutOfMemory);
-    };
-    list_each(rest, now, found)
+    // Appends the visible entries of each.
+    fn list_each(
+        segments: &[Cache<K, V, X, L, P, W, S>],
+        now: Instant,
+        found: &mut Vec<(K, V)>,
+    ) -> Result<(), OutOfMemory>
+    where
+        K: Clone + Drop,
+        V: Clone + Drop,
+        ensures { IfOk result (λ _. (listed : List _) × (found.new.items ≡ found.old.items ++ listed)
+            × AllListed (ListsOwn P.says V.is_clone K.eq K.is_clone now.0) segments.now listed) }
+    {
+        let Some((first, rest)) = segments.split_first() else {
+            return Ok(());
+        };
+        let Ok(()) = found.extend(first.iter(now)?) else {
+            return Err(OutOfMemory);
+        };
+        Self::list_each(rest, now, found)
+    }
 }

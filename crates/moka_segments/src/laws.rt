@@ -77,7 +77,7 @@ pub fn calls_by_key_keep_keys<
         K.is_clone V.is_clone }
 {}
 
-/// So does `get_with`, by a maker of this type.
+/// `get_with` leaves keys in the segments that they belong to, for a maker of type `F`.
 pub fn get_with_keeps_keys<
     K: Eq + Hash,
     V: Clone,
@@ -94,7 +94,8 @@ pub fn get_with_keeps_keys<
         V.is_clone F.post }
 {}
 
-/// So does each call that concerns all segments; `registering_keeps_keys` speaks of predicates.
+/// Each call that concerns all segments leaves keys in the segments that they belong to; `registering_keeps_keys` speaks
+/// of predicates.
 pub fn calls_of_all_keep_keys<
     K: Eq + Hash,
     V,
@@ -109,7 +110,7 @@ pub fn calls_of_all_keep_keys<
         (meaning_of K.eq L.tells P.says W.weighs C.reads X.created X.read X.updated) }
 {}
 
-/// So does `invalidate_entries_if`, by a maker of this type.
+/// `invalidate_entries_if` leaves keys in the segments that they belong to, for a maker of type `F`.
 pub fn registering_keeps_keys<
     K: Eq + Hash,
     V,

@@ -56,7 +56,7 @@ impl<
     ghost invariant = { λ c. length c.segments.items ≡ c.router.count };
 }
 
-// A cache that is let go notifies nobody.
+// A cache that is dropped notifies nobody.
 impl<
     K: Eq + Hash + Drop,
     V: Drop,
@@ -101,7 +101,7 @@ impl<
         (router, segments)
     }
 
-    /// Which keys are whose.
+    /// The router, which names the segment of each key.
     pub fn router(&self) -> &Router<S>
         ensures { result.now ≡ self.now.routing }
     {
@@ -136,7 +136,7 @@ impl<
         self.segments[index].contains_key(key, now)
     }
 
-    /// Puts a value under a key at the moment `now`. A segment of capacity 0 lets both go.
+    /// Puts a value under a key at the moment `now`. A segment of capacity 0 drops both.
     ///
     /// # Errors
     /// `NumbersUsedUp` and `OutOfMemory`, with key and value; nothing has changed.
@@ -189,7 +189,7 @@ impl<
         segment.get(key, now, clock)
     }
 
-    /// Takes a key out, and hands its value out, expired or not. The listener, if one is set, is told.
+    /// Takes a key out, and hands its value out, expired or not. The listener, if one is set, is notified.
     ///
     /// # Errors
     /// `NotTold`, with the value, where a listener is set and memory for a clone is refused. The entry is gone all the

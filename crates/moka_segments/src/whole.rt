@@ -25,28 +25,28 @@ impl<
     pub fn entry_count(&self) -> u64
         ensures { result ≡ total (λ s. s.engine.state.count) self.now.segments }
     {
-        entries_of(&self.segments)
+        Self::entries_of(&self.segments)
     }
 
     /// The weight that the last runs of maintenance counted, saturating.
     pub fn weighted_size(&self) -> u64
         ensures { result ≡ total (λ s. s.engine.state.weight) self.now.segments }
     {
-        weight_of(&self.segments)
+        Self::weight_of(&self.segments)
     }
 
     /// Hits, misses and loads of all segments since they were made, each saturating.
     pub fn stats(&self) -> Stats
         ensures { result ≡ total_stats self.now.segments }
     {
-        stats_of(&self.segments)
+        Self::stats_of(&self.segments)
     }
 
     /// The sum of the segments' capacities, saturating; `None` if one of them has no bound.
     pub fn max_capacity(&self) -> Option<u64>
         ensures { result ≡ saturated (whole_capacity self.now.segments) }
     {
-        capacity_of(&self.segments)
+        Self::capacity_of(&self.segments)
     }
 
     /// Invalidates all entries that were written or read before the moment `now`, also where that is earlier than
@@ -55,7 +55,7 @@ impl<
         ensures routing { self.new.routing ≡ self.old.routing }
         ensures each { AllZip (Hides L.tells now) self.old.segments self.new.segments }
     {
-        hide_all(&mut self.segments, now);
+        Self::hide_all(&mut self.segments, now);
     }
 
     /// Runs maintenance of each segment in turn, without a time limit. The answer tells whether more is left of any.
@@ -72,61 +72,104 @@ impl<
             result clock.new self.old.segments self.new.segments }
         ensures within { IsWithinWhole (whole_capacity self.new.segments) self.new.segments }
     {
-        run_all(&mut self.segments, now, clock)
+        Self::run_all(&mut self.segments, now, clock)
     }
-}
 
-// How many entries the last runs counted, saturating.
-fn entries_of<
-    K: Eq + Hash,
-    V,
-    X: Expiry<K, V>,
-    L: Listener<K, V>,
-    P: PredicateFn<K, V>,
-    W: Weigher<K, V>,
-    S: BuildHasher,
->(segments: &[Cache<K, V, X, L, P, W, S>]) -> u64
-    ensures { result ≡ total (λ s. s.engine.state.count) segments.now }
-{
-    match segments.split_first() {
-        None => 0,
-        Some((first, rest)) => first.entry_count().saturating_add(entries_of(rest)),
+    // How many entries the last runs counted, saturating.
+    fn entries_of(segments: &[Cache<K, V, X, L, P, W, S>]) -> u64
+        ensures { result ≡ total (λ s. s.engine.state.count) segments.now }
+    {
+        match segments.split_first() {
+            None => 0,
+            Some((first, rest)) => first.entry_count().saturating_add(Self::entries_of(rest)),
+        }
     }
-}
 
-// The weight that the last runs counted, saturating.
-fn weight_of<
-    K: Eq + Hash,
-    V,
-    X: Expiry<K, V>,
-    L: Listener<K, V>,
-    P: PredicateFn<K, V>,
-    W: Weigher<K, V>,
-    S: BuildHasher,
->(segments: &[Cache<K, V, X, L, P, W, S>]) -> u64
-    ensures { result ≡ total (λ s. s.engine.state.weight) segments.now }
-{
-    match segments.split_first() {
-        None => 0,
-        Some((first, rest)) => first.weighted_size().saturating_add(weight_of(rest)),
+    // The weight that the last runs counted, saturating.
+    fn weight_of(segments: &[Cache<K, V, X, L, P, W, S>]) -> u64
+        ensures { result ≡ total (λ s. s.engine.state.weight) segments.now }
+    {
+        match segments.split_first() {
+            None => 0,
+            Some((first, rest)) => first.weighted_size().saturating_add(Self::weight_of(rest)),
+        }
     }
-}
 
-// Hits, misses and loads, each saturating.
-fn stats_of<
-    K: Eq + Hash,
-    V,
-    X: Expiry<K, V>,
-    L: Listener<K, V>,
-    P: PredicateFn<K, V>,
-    W: Weigher<K, V>,
-    S: BuildHasher,
->(segments: &[Cache<K, V, X, L, P, W, S>]) -> Stats
-    ensures { result ≡ total_stats segments.now }
-{
-    match segments.split_first() {
-        None => Stats::new(),
-        Some((first, rest)) => both_stats(first.stats(), stats_of(rest)),
+    // Hits, misses and loads, each saturating.
+    fn stats_of(segments: &[Cache<K, V, X, L, P, W, S>]) -> Stats
+        ensures { result ≡ total_stats segments.now }
+    {
+        match segments.split_first() {
+            None => Stats::new(),
+            Some((first, rest)) => both_stats(first.stats(), Self::stats_of(rest)),
+        }
+    }
+
+    // The sum of the capacities, saturating, if each has one.
+    fn capacity_of(segments: &[Cache<K, V, X, L, P, W, S>]) -> Option<u64>
+        ensures { result ≡ saturated (whole_capacity segments.now) }
+    {
+        match segments.split_first() {
+            None => Some(0),
+            Some((first, rest)) => both(first.policy().max_capacity(), Self::capacity_of(rest)),
+        }
+    }
+
+    // Hides what was written or read before the moment, in each.
+    fn hide_each(segments: &mut [Cache<K, V, X, L, P, W, S>], now: Instant)
+        ensures { AllZip (Hides L.tells now) segments.old segments.new }
+    {
+        let Some((first, rest)) = segments.split_first_mut() else {
+            return;
+        };
+        first.invalidate_all(now);
+        Self::hide_each(rest, now);
+    }
+
+    // The same of a whole vector.
+    fn hide_all(segments: &mut Vec<Cache<K, V, X, L, P, W, S>>, now: Instant)
+        ensures each { AllZip (Hides L.tells now) segments.old.items segments.new.items }
+        ensures as_many { length segments.new.items ≡ length segments.old.items }
+    {
+        Self::hide_each(segments, now);
+    }
+
+    // Runs maintenance of each, and tells whether more is left of any.
+    fn run_each<C: Clock>(
+        segments: &mut [Cache<K, V, X, L, P, W, S>],
+        now: Instant,
+        clock: &mut C,
+    ) -> bool
+    where
+        K: Drop,
+        V: Drop,
+        P: Drop,
+        ensures { AllRan (meaning_of K.eq L.tells P.says W.weighs C.reads X.created X.read X.updated) now clock.old
+            result clock.new segments.old segments.new }
+    {
+        let Some((first, rest)) = segments.split_first_mut() else {
+            return false;
+        };
+        let more = first.run_pending_tasks(now, clock);
+        let others = Self::run_each(rest, now, clock);
+        more | others
+    }
+
+    // The same of a whole vector.
+    fn run_all<C: Clock>(
+        segments: &mut Vec<Cache<K, V, X, L, P, W, S>>,
+        now: Instant,
+        clock: &mut C,
+    ) -> bool
+    where
+        K: Drop,
+        V: Drop,
+        P: Drop,
+        ensures each { AllRan (meaning_of K.eq L.tells P.says W.weighs C.reads X.created X.read X.updated) now clock.old
+            result clock.new segments.old.items segments.new.items }
+        ensures as_many { length segments.new.items ≡ length segments.old.items }
+    {
+        Self::run_each(segments, now, clock)
     }
 }
 
@@ -141,24 +184,6 @@ fn both_stats(one: Stats, other: Stats) -> Stats
     }
 }
 
-// The sum of the capacities, saturating, if each has one.
-fn capacity_of<
-    K: Eq + Hash,
-    V,
-    X: Expiry<K, V>,
-    L: Listener<K, V>,
-    P: PredicateFn<K, V>,
-    W: Weigher<K, V>,
-    S: BuildHasher,
->(segments: &[Cache<K, V, X, L, P, W, S>]) -> Option<u64>
-    ensures { result ≡ saturated (whole_capacity segments.now) }
-{
-    match segments.split_first() {
-        None => Some(0),
-        Some((first, rest)) => both(first.policy().max_capacity(), capacity_of(rest)),
-    }
-}
-
 // The sum of two capacities, saturating, if both are set.
 fn both(one: Option<u64>, other: Option<u64>) -> Option<u64>
     ensures { result ≡ saturated (both one other) }
@@ -167,79 +192,4 @@ fn both(one: Option<u64>, other: Option<u64>) -> Option<u64>
         (Some(one), Some(other)) => Some(one.saturating_add(other)),
         _ => None,
     }
-}
-
-// Hides what was written or read before the moment, in each.
-fn hide_each<
-    K: Eq + Hash,
-    V,
-    X: Expiry<K, V>,
-    L: Listener<K, V>,
-    P: PredicateFn<K, V>,
-    W: Weigher<K, V>,
-    S: BuildHasher,
->(segments: &mut [Cache<K, V, X, L, P, W, S>], now: Instant)
-    ensures { AllZip (Hides L.tells now) segments.old segments.new }
-{
-    let Some((first, rest)) = segments.split_first_mut() else {
-        return;
-    };
-    first.invalidate_all(now);
-    hide_each(rest, now);
-}
-
-// Runs maintenance of each, and tells whether more is left of any.
-fn run_each<
-    K: Eq + Hash + Drop,
-    V: Drop,
-    X: Expiry<K, V>,
-    L: Listener<K, V>,
-    P: PredicateFn<K, V> + Drop,
-    W: Weigher<K, V>,
-    S: BuildHasher,
-    C: Clock,
->(segments: &mut [Cache<K, V, X, L, P, W, S>], now: Instant, clock: &mut C) -> bool
-    ensures { AllRan (meaning_of K.eq L.tells P.says W.weighs C.reads X.created X.read X.updated) now clock.old result
-        clock.new segments.old segments.new }
-{
-    let Some((first, rest)) = segments.split_first_mut() else {
-        return false;
-    };
-    let more = first.run_pending_tasks(now, clock);
-    let others = run_each(rest, now, clock);
-    more | others
-}
-
-// The same of a whole vector.
-fn hide_all<
-    K: Eq + Hash,
-    V,
-    X: Expiry<K, V>,
-    L: Listener<K, V>,
-    P: PredicateFn<K, V>,
-    W: Weigher<K, V>,
-    S: BuildHasher,
->(segments: &mut Vec<Cache<K, V, X, L, P, W, S>>, now: Instant)
-    ensures each { AllZip (Hides L.tells now) segments.old.items segments.new.items }
-    ensures as_many { length segments.new.items ≡ length segments.old.items }
-{
-    hide_each(segments, now);
-}
-
-// The same of a whole vector.
-fn run_all<
-    K: Eq + Hash + Drop,
-    V: Drop,
-    X: Expiry<K, V>,
-    L: Listener<K, V>,
-    P: PredicateFn<K, V> + Drop,
-    W: Weigher<K, V>,
-    S: BuildHasher,
-    C: Clock,
->(segments: &mut Vec<Cache<K, V, X, L, P, W, S>>, now: Instant, clock: &mut C) -> bool
-    ensures each { AllRan (meaning_of K.eq L.tells P.says W.weighs C.reads X.created X.read X.updated) now clock.old
-        result clock.new segments.old.items segments.new.items }
-    ensures as_many { length segments.new.items ≡ length segments.old.items }
-{
-    run_each(segments, now, clock)
 }

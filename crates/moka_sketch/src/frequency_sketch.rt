@@ -17,7 +17,8 @@ const LONGEST: u64 = 1 << 30;
 /// A count for each hash, kept in four small counters that hashes share.
 ///
 /// A sketch is off until `ensure_capacity` makes its table: every frequency is then 0, and increments do nothing.
-/// Counts grow stale: each time that the table has taken ten increments a word, all of them are halved.
+/// Counts grow stale, so all of them are halved once ten increments per word have raised a counter, and then after each
+/// five more per word.
 ///
 /// moka: `common::frequency_sketch::FrequencySketch`, with factors of its own.
 pub struct FrequencySketch {

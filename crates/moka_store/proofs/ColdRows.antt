@@ -17,7 +17,8 @@ use Rattle.moka_store.specs.Slots.{counted_as}
 use Rattle.moka_store.specs.States.{touched, rewritten}
 use Rattle.moka_store.specs.Updates.{updated}
 use Rattle.moka_store.specs.declared.store.Update.{Update}
-use Rattle.moka_store.proofs.TableMaps.{option-cases, some_is, row_at-within}
+use Rattle.moka_index.proofs.Maps.{option-cases}
+use Rattle.moka_store.proofs.TableMaps.{some_is, row_at-within}
 use Rattle.moka_store.proofs.TableCalls.{shows-empty, stored_row, member_row, count-with_stored, numbered-with_stored}
 
 cond-same : {X : Type 0} (b : Bool) → ◌≡◌ {A = Option X} (cond b None None) None

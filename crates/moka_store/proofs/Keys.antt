@@ -4,7 +4,8 @@ use Rattle.std.proofs.lemmas.Bool.{cases_eq}
 use Rattle.std.specs.Cmp.{IsEquivalence}
 use Rattle.std.specs.FinMap.{get, insert, remove}
 use Rattle.std.specs.Option.{option_map}
-use Rattle.moka_store.proofs.Gets.{some_same, get-inserted, get-past_insert, get-removed, get-past_remove}
+use Rattle.std.proofs.lemmas.Option.{same_Some}
+use Rattle.moka_store.proofs.Gets.{get-inserted, get-past_insert, get-removed, get-past_remove}
 use Rattle.moka_store.specs.StoreTies.{KeyIndex, IsIndex}
 
 module _ {K : Type 0} (eq : K → K → Bool) (a b : ℕ → Option K) (index : KeyIndex K) (i : IsIndex eq a index) where
@@ -29,14 +30,14 @@ module _ {K : Type 0} (eq : K → K → Bool) (a b : ℕ → Option K) (index : 
         | inl pe ↦ elim (cases_eq q place) as (λ _. p ≡ q) [
           | inl qe ↦ pe ∙ sym qe
           | inr qn ↦
-              let same : key ≡ x = some_same (sym now ∙ ap b (sym pe) ∙ px) in
+              let same : key ≡ x = same_Some _ _ (sym now ∙ ap b (sym pe) ∙ px) in
               let apart = fresh q y (sym (others q qn) ∙ qy) in
               let bad : true ≡ false = sym e ∙ ap (λ k. eq k y) (sym same) ∙ apart in
               cc
         ]
         | inr pn ↦ elim (cases_eq q place) as (λ _. p ≡ q) [
           | inl qe ↦
-              let same : key ≡ y = some_same (sym now ∙ ap b (sym qe) ∙ qy) in
+              let same : key ≡ y = same_Some _ _ (sym now ∙ ap b (sym qe) ∙ qy) in
               let apart = fresh p x (sym (others p pn) ∙ px) in
               let bad : true ≡ false = sym e ∙ laws.symm x y ∙ ap (λ k. eq k x) (sym same) ∙ apart in
               cc

@@ -6,7 +6,8 @@ use Rattle.std.specs.List.{IsDistinct, AllByRecursion}
 use Rattle.std.specs.Map.{keys_of}
 use Rattle.std.specs.Option.{option_map, option_and_then}
 use Rattle.moka_store.proofs.TableCalls.{get-places, placed_row}
-use Rattle.moka_store.proofs.TableMaps.{option-cases, remove-none}
+use Rattle.moka_index.proofs.Maps.{option-cases}
+use Rattle.moka_store.proofs.TableMaps.{remove-none}
 use Rattle.moka_store.specs.declared.table.membership.Membership.{Membership}
 use Rattle.moka_store.specs.RecordTable.{Row}
 use Rattle.moka_store.specs.RecordTable.{row_at, number_at, places_of}
@@ -22,17 +23,15 @@ use Rattle.moka_store.specs.Listing.{Listing, IsCursor}
 use Rattle.moka_store.specs.StoreRows.{written_in, member_at, written_of, cursor_of}
 use Rattle.moka_store.specs.StoreTies.{KeyIndex, IsTied, IsWritten, IsTimed, kept_of}
 use Rattle.moka_parts.specs.declared.records.Record.{Record}
+use Rattle.moka_parts.proofs.Maps.{apart_turned}
 use Rattle.moka_parts.proofs.WriteList.{unlisted_taken_out}
 use Rattle.moka_parts.specs.Order.{IsListOf}
 use Rattle.moka_parts.specs.Records.{is_listed, without_number, is_member}
 
-apart-back : (a b : ℕ) → (a == b) ≡ false → (b == a) ≡ false
-apart-back a b h = ne_eqb b a (λ e. true≢false (sym (eq-eqb a b (sym e)) ∙ h))
-
 module _ (g : ℕ × ℕ → ℕ) where
   all-apart : (m : ℕ × ℕ) (nodes : List (ℕ × ℕ)) → ((k : ℕ × ℕ) → Contains nodes k → (g k == g m) ≡ nat_eq m.0 k.0) → AllByRecursion (λ y. nat_eq m.0 y ≡ false) (keys_of nodes) → AllByRecursion (λ y. (g m == y) ≡ false) (map g nodes)
   all-apart m [] h a = tt
-  all-apart m (k ∷ nodes) h a = (apart-back (g k) (g m) (h k (here k nodes) ∙ a.0), all-apart m nodes (λ x c. h x (later k x nodes c)) a.1)
+  all-apart m (k ∷ nodes) h a = (apart_turned (g k) (g m) (h k (here k nodes) ∙ a.0), all-apart m nodes (λ x c. h x (later k x nodes c)) a.1)
 
   -- nodes in distinct slots, of which just the same one has the same number
   numbers-distinct : (nodes : List (ℕ × ℕ)) → IsDistinct nat_eq (keys_of nodes) → ((m k : ℕ × ℕ) → Contains nodes m → Contains nodes k → (g k == g m) ≡ nat_eq m.0 k.0) → IsDistinct (◌==◌) (map g nodes)

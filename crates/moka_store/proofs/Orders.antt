@@ -1,12 +1,13 @@
 -- The order of writing and the timers of a store after each of its calls.
 use Rattle.std.proofs.Common.{◌≡◌, ◌≢◌, ℕ, ◌<◌, ◌≤◌, Bool, true, false, ◌&&◌, ◌⊎◌, map, count_by, arith, List, [], ◌∷◌, ◌++◌, Option, Some, None, IsSome, is_some, inl, inr, refl, sym, ap, subst, ◌∙◌, nat_eq, cond}
-use Rattle.std.proofs.lemmas.Bool.{cases_eq, false≢true}
+use Rattle.std.proofs.lemmas.Bool.{cases_eq, false≢true, and_parts}
 use Rattle.std.specs.FinMap.{FinMap, get, remove, empty, get-empty, len}
 use Rattle.std.specs.Map.{lookup, remove_entry}
 use Rattle.std.specs.Option.{option_map, option_and_then, option_map_or}
 use Rattle.std.specs.Ordering.{nat_cmp}
 use Rattle.std.specs.Prelude.{IfSome, IfNone}
-use Rattle.moka_store.proofs.TableMaps.{option-cases, remove-none}
+use Rattle.moka_index.proofs.Maps.{option-cases}
+use Rattle.moka_store.proofs.TableMaps.{remove-none}
 use Rattle.moka_store.proofs.TableCalls.{get-places}
 use Rattle.moka_store.specs.declared.table.membership.Membership.{Membership}
 use Rattle.moka_store.specs.RecordTable.{Row}
@@ -123,6 +124,11 @@ pub slot-there : {K V : Type 0} (rows : List (Option (Row (Record K V)))) (list 
 slot-there rows list w place row at_is None is = tt
 slot-there rows list w place row at_is (Some s) is = ap is_some (node-of written_in rows list.nodes w.listed place row at_is s is)
 
+-- where there is no slot, the nodes stay
+nodes-kept : (list after : Listing) (slot : Option ℕ) → IfNone slot (after ≡ list) → IfNone slot (after.nodes ≡ list.nodes)
+nodes-kept list after None h = ap (λ (l : Listing). l.nodes) h
+nodes-kept list after (Some s) h = h
+
 pub record Moves {K V : Type 0} (rows : List (Option (Row (Record K V)))) (list after : Listing) (number : ℕ) : Type 0 where
   pub written : IsWritten rows after
   pub written_is : written_of rows after.nodes ≡ number_to_back number (written_of rows list.nodes)
@@ -145,13 +151,9 @@ module _ {K V : Type 0} (rows : List (Option (Row (Record K V)))) (list after : 
       cursor = cursor;
       all = λ kept. w.all (sym (ap (λ (l : Listing). l.ordered) rest) ∙ kept);
     };
-    written_is = written-moved rows list.nodes w.listed d place row at_is slot after.nodes is some (none-nodes slot none);
+    written_is = written-moved rows list.nodes w.listed d place row at_is slot after.nodes is some (nodes-kept list after slot none);
     cursor_is = ap (λ (l : Listing). cursor_of rows l.cursor) rest ∙ cursor-past rows list.nodes w.listed d place row at_is slot list.cursor is w.cursor;
   }
-    where
-      none-nodes : (slot : Option ℕ) → IfNone slot (after ≡ list) → IfNone slot (after.nodes ≡ list.nodes)
-      none-nodes None h = ap (λ (l : Listing). l.nodes) h
-      none-nodes (Some s) h = h
 
 -- ---- a member enters or leaves
 
@@ -194,10 +196,6 @@ module _ {K V : Type 0} (rows new : List (Option (Row (Record K V)))) (list afte
         listed-added written_in rows list.nodes w.listed s place after.nodes new (read-other written_in (row_at rows) (row_at new) place (Some row) c)
         (ap (option_and_then written_in) at_is ∙ ap (option_and_then (λ (m : Membership). m.written)) alone) (ap (option_and_then written_in) c.changed ∙ is) fresh nodes lookups
 
-    none-nodes : (slot : Option ℕ) → IfNone slot (after ≡ list) → IfNone slot (after.nodes ≡ list.nodes)
-    none-nodes None h = ap (λ (l : Listing). l.nodes) h
-    none-nodes (Some s) h = h
-
     pub enters : Enters
     unfolding row
     enters = record {
@@ -216,7 +214,7 @@ module _ {K V : Type 0} (rows new : List (Option (Row (Record K V)))) (list afte
         | inr ne ↦ ap is_some (other-member row c p ne) ∙ some
       ]);
       written_is =
-          written-pushed new list.nodes list.ordered m.written place was.number after.nodes kept nodes (none-nodes m.written none) (number-of new place row c.changed)
+          written-pushed new list.nodes list.ordered m.written place was.number after.nodes kept nodes (nodes-kept list after m.written none) (number-of new place row c.changed)
           ∙ ap (entered_by list.ordered was.number) (written-same rows new list.nodes w.listed (λ p _. numbers-kept row c refl p));
       cursor_is = ap (λ (l : Listing). cursor_of new l.cursor) rest ∙ cursor-same rows new list.nodes w.listed (λ p _. numbers-kept row c refl p) list.cursor w.cursor;
       timers_is = timers-kept rows new timers t (same-timer row c refl) d e (λ p _. numbers-kept row c refl p);
@@ -250,10 +248,6 @@ module _ {K V : Type 0} (rows new : List (Option (Row (Record K V)))) (list afte
         listed-removed written_in rows list.nodes w.listed s place after.nodes new (read-other written_in (row_at rows) (row_at new) place (Some bare) c)
         (ap (option_and_then written_in) at_is ∙ slot-was ∙ is) (ap (option_and_then written_in) c.changed) nodes lookups
 
-    gone-nodes : (slot : Option ℕ) → IfNone slot (after ≡ list) → IfNone slot (after.nodes ≡ list.nodes)
-    gone-nodes None h = ap (λ (l : Listing). l.nodes) h
-    gone-nodes (Some s) h = h
-
     left-numbers : written_of new after.nodes ≡ written_of rows after.nodes
     unfolding written_of bare
     left-numbers = map-all (λ (m : ℕ × ℕ). number_at new m.1) (λ m. number_at rows m.1) after.nodes (λ m. numbers-kept bare c refl m.1)
@@ -281,7 +275,7 @@ module _ {K V : Type 0} (rows new : List (Option (Row (Record K V)))) (list afte
       ]);
       written_is =
           left-numbers
-          ∙ written-removed rows list.nodes w.listed d place was at_is m.written after.nodes slot-was nodes (gone-nodes m.written none);
+          ∙ written-removed rows list.nodes w.listed d place was at_is m.written after.nodes slot-was nodes (nodes-kept list after m.written none);
       cursor_is =
           left-cursor
           ∙ ap (λ (l : Listing). cursor_of rows l.cursor) rest ∙ cursor-past rows list.nodes w.listed d place was at_is m.written list.cursor slot-was w.cursor;
@@ -334,7 +328,7 @@ module _ {K V : Type 0} (rows new : List (Option (Row (Record K V)))) (list : Li
       let s = stays-timed rows new place was at_is slot c list w in
       let own : IfSome slot (λ s. (was.timer ≡ Some s) ⊎ (get timers s ≡ None)) = subst (λ o. IfSome slot (λ s. (o ≡ Some s) ⊎ (get timers s ≡ None))) was_is fresh in
       let u : (other : ℕ) → get after other ≡ timer_after timers was.timer slot place at other = λ other. lookups other ∙ ap (λ o. timer_after timers o slot place at other) was_is in
-      let some : IsSome slot → IsSome at = λ h. both timed (is_some at) (sym kept ∙ h) in
+      let some : IsSome slot → IsSome at = λ h. (and_parts timed (is_some at) (sym kept ∙ h)).1 in
       record {
         written = s.written;
         timed_is = timed-set rows new timers after t place was at_is slot at c own u some (λ _. member);
@@ -343,10 +337,6 @@ module _ {K V : Type 0} (rows new : List (Option (Row (Record K V)))) (list : Li
         timers_is = timers-set rows new timers after t place was at_is slot at c own u some d e ∙ shown timed at (is_some slot) kept none;
       }
     where
-      both : (a b : Bool) → (a && b) ≡ true → b ≡ true
-      both true b h = h
-      both false b h = absurd (false≢true h)
-
       present : (o : Option ℕ) → cond (is_some o) o None ≡ o
       present None = refl
       present (Some x) = refl

@@ -10,7 +10,8 @@ use Rattle.std.specs.Ordering.{nat_cmp}
 use Rattle.moka_store.specs.declared.table.membership.Membership.{Membership}
 use Rattle.moka_store.specs.RecordTable.{Row}
 use Rattle.moka_store.specs.RecordTable.{row_at, stored_at, membership_at, stored_if, find_at, with_stored, counted_in, records_of, counted_of, places_of, IsNumbered, ChangesAt}
-use Rattle.moka_store.proofs.TableMaps.{row_at-within, option-cases, some_is, get-map, map-found, numbered-set, map-set, map-unset, map-kept, numbered-added, map-added, map-not_added, numbered-gone, map-gone, map-not_gone}
+use Rattle.moka_index.proofs.Maps.{option-cases}
+use Rattle.moka_store.proofs.TableMaps.{row_at-within, some_is, get-map, map-found, numbered-set, map-set, map-unset, map-kept, numbered-added, map-added, map-not_added, numbered-gone, map-gone, map-not_gone}
 
 -- no number stands in two rows, and these are the maps
 pub record Shows {R : Type 0} (rows : List (Option (Row R))) (records : FinMap nat_cmp R) (counted places : FinMap nat_cmp ℕ) : Type 0 where

@@ -1,41 +1,14 @@
 -- What the maps of a table answer, and how they follow a change of one row.
-use Rattle.std.proofs.Common.{◌≡◌, ◌≢◌, ℕ, zero, suc, ◌<◌, ◌≤◌, true, false, List, Option, Some, None, length, ◌⊎◌, inl, inr, refl, sym, ap, subst, ◌∙◌, arith}
+use Rattle.std.proofs.Common.{◌≡◌, ◌≢◌, ℕ, zero, suc, ◌<◌, ◌≤◌, true, false, List, Option, Some, None, length, inl, inr, refl, sym, ap, subst, ◌∙◌, arith}
 use Rattle.std.proofs.lemmas.List.{get_or_past}
-use Rattle.std.proofs.lemmas.Bool.{cases_lt, cases_eq, cond-true, cond-false, false≢true}
+use Rattle.std.proofs.lemmas.Bool.{cases_lt, cases_eq, false≢true}
 use Rattle.std.specs.Prelude.{slice_index_or, IsSome}
-use Rattle.std.specs.FinMap.{FinMap, get, insert, remove, get-empty, get-insert, get-remove, same_map, nat_cmp-IsAntisymmetric}
-use Rattle.std.specs.Ordering.{nat_cmp, eq_by_cmp}
+use Rattle.std.specs.FinMap.{FinMap, get, insert, remove, get-empty, same_map, nat_cmp-IsAntisymmetric}
+use Rattle.std.specs.Ordering.{nat_cmp}
 use Rattle.std.specs.Cmp.{nat_cmp_total}
+use Rattle.moka_index.proofs.Maps.{option-cases, option-same, get-inserted, get-past_insert, get-removed, get-past_remove}
 use Rattle.moka_store.specs.RecordTable.{Row}
 use Rattle.moka_store.specs.RecordTable.{put_some, put_row, upto, map_of, row_at, IsNumbered, ChangesAt}
-
-pub option-cases : {X : Type 0} (o : Option X) → (o ≡ None) ⊎ ((x : X) × (o ≡ Some x))
-option-cases None = inl refl
-option-cases (Some x) = inr (x, refl)
-
-pub option-same : {X : Type 0} (a b : Option X) → ((x : X) → a ≡ Some x → b ≡ Some x) → ((x : X) → b ≡ Some x → a ≡ Some x) → a ≡ b
-option-same None None p q = refl
-option-same None (Some y) p q = q y refl
-option-same (Some x) b p q = sym (p x refl)
-
-eq_self : (n : ℕ) → eq_by_cmp nat_cmp n n ≡ true
-eq_self n = grind arith
-
-eq_other : (q n : ℕ) → q ≢ n → eq_by_cmp nat_cmp q n ≡ false
-eq_other q n h = grind arith
-
-module _ {X : Type 0} where
-  pub get-inserted : (m : FinMap nat_cmp X) (n : ℕ) (x : X) → get (insert m n x) n ≡ Some x
-  get-inserted m n x = get-insert nat_cmp_total m n x n ∙ cond-true (eq_by_cmp nat_cmp n n) (Some x) (get m n) (eq_self n)
-
-  pub get-past_insert : (m : FinMap nat_cmp X) (n : ℕ) (x : X) (q : ℕ) → q ≢ n → get (insert m n x) q ≡ get m q
-  get-past_insert m n x q h = get-insert nat_cmp_total m n x q ∙ cond-false (eq_by_cmp nat_cmp q n) (Some x) (get m q) (eq_other q n h)
-
-  pub get-removed : (m : FinMap nat_cmp X) (n : ℕ) → get (remove m n) n ≡ None
-  get-removed m n = get-remove nat_cmp_total m n n ∙ cond-true (eq_by_cmp nat_cmp n n) None (get m n) (eq_self n)
-
-  pub get-past_remove : (m : FinMap nat_cmp X) (n q : ℕ) → q ≢ n → get (remove m n) q ≡ get m q
-  get-past_remove m n q h = get-remove nat_cmp_total m n q ∙ cond-false (eq_by_cmp nat_cmp q n) None (get m q) (eq_other q n h)
 
 module _ {R X : Type 0} (f : ℕ → Row R → Option X) (at : ℕ → Option (Row R)) where
   -- some row has this number, and f answers x there

@@ -5,7 +5,7 @@ use Rattle.std.specs.FinMap.{get}
 use Rattle.std.specs.Map.{lookup, remove_entry}
 use Rattle.std.specs.Option.{option_map, option_and_then, option_map_or}
 use Rattle.moka_store.proofs.TableCalls.{get-places}
-use Rattle.moka_store.proofs.TableMaps.{option-cases}
+use Rattle.moka_index.proofs.Maps.{option-cases}
 use Rattle.moka_store.specs.declared.table.membership.Membership.{Membership}
 use Rattle.moka_store.specs.RecordTable.{Row}
 use Rattle.moka_structures.specs.Order.{next_after}

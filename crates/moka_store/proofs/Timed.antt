@@ -9,7 +9,8 @@ use Rattle.std.specs.Option.{option_map, option_and_then}
 use Rattle.std.specs.Ordering.{nat_cmp}
 use Rattle.std.specs.Prelude.{IfSome, slice_index_or, slice_set}
 use Rattle.moka_structures.proofs.Linked.{linked-same}
-use Rattle.moka_store.proofs.TableMaps.{option-cases, option-same, get-inserted, get-past_insert, get-removed, get-past_remove, get-map, map-found}
+use Rattle.moka_index.proofs.Maps.{option-cases, option-same, get-inserted, get-past_insert, get-removed, get-past_remove}
+use Rattle.moka_store.proofs.TableMaps.{get-map, map-found}
 use Rattle.moka_store.specs.RecordTable.{Row}
 use Rattle.moka_store.specs.RecordTable.{row_at, number_at, membership_at, map_of, IsNumbered, ChangesAt}
 use Rattle.moka_wheel.specs.Wheel.{Timer}

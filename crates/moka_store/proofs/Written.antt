@@ -5,7 +5,7 @@ use Rattle.std.proofs.lemmas.List.{map-append}
 use Rattle.std.specs.Map.{lookup, remove_entry}
 use Rattle.std.specs.Option.{option_map, option_and_then}
 use Rattle.std.specs.Prelude.{IfSome, IfNone, slice_get}
-use Rattle.moka_store.proofs.TableMaps.{option-cases}
+use Rattle.moka_index.proofs.Maps.{option-cases}
 use Rattle.moka_store.specs.RecordTable.{Row}
 use Rattle.moka_structures.specs.Order.{next_after}
 use Rattle.moka_store.specs.RecordTable.{row_at, number_at, IsNumbered}

@@ -6,4 +6,4 @@ pub mod table;
 mod timers;
 mod write_list;
 
-pub use store::{Handle, IndexHash, Store, Update};
+pub use store::{Handle, IndexHash, MOST_PLACES, Store, Update};

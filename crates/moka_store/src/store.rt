@@ -17,6 +17,7 @@ ghost use Rattle.moka_parts.specs.Records.{member, counted_of, record_of_key, wi
 use crate::table::{Membership, RecordTable};
 use crate::timers::Timers;
 use crate::write_list::WriteList;
+pub use changes::MOST_PLACES;
 pub use hashing::IndexHash;
 use moka_index::PlaceIndex;
 use moka_parts::policy::Instant;
@@ -27,10 +28,10 @@ use std::alloc::{AllocError, Global};
 use std::hash::{BuildHasher, Hash};
 use std::marker::Model;
 
+mod by_key_test;
 mod changes;
 mod hashing;
 mod rows;
-mod tested;
 
 // With more members than this, nodes are read ahead.
 const FAR: usize = 1 << 18;
@@ -145,11 +146,13 @@ impl<K: Eq + Hash, V, S: BuildHasher> Store<K, V, S> {
     }
 
     /// Makes room for `additional` more records: in the index, for their rows, their places in the orders and their
-    /// timers. An error leaves all but the room as it was: there is no memory, or a place would need more than 32 bits.
+    /// timers. Where there is room, nothing changes. An error leaves all but the room as it was: there is no memory, or
+    /// a place would need more than 32 bits.
     #[inline(always)]
     pub fn reserve(&mut self, additional: usize) -> Result<(), AllocError>
         ensures room { OnOk result (additional ≤ self.new.room) }
         ensures succeeds { additional ≤ self.old.room → IsOk result }
+        ensures enough { additional ≤ self.old.room → self.new ≡ self.old }
         ensures rest { self.new ≡ record self.old { room = self.new.room } }
         ensures kept { OnOk result (self.old.room ≤ self.new.room) }
     {
@@ -182,9 +185,7 @@ impl<K: Eq + Hash, V, S: BuildHasher> Store<K, V, S> {
     {
         let table = &self.table;
         let is_match = |place| changes::has_key(table, place, key);
-        let Some(place) = self.index.find(hash.0, is_match) else {
-            return None;
-        };
+        let place = self.index.find(hash.0, is_match)?;
         let Some((number, stored)) = table.live(place) else {
             unreachable!()
         };
@@ -210,10 +211,7 @@ impl<K: Eq + Hash, V, S: BuildHasher> Store<K, V, S> {
         ensures records { (n : ℕ) → IsSome (finite.get self.now.records n) → IsSome (finite.get self.now.places n) }
         ensures members { (n : ℕ) → IsSome (counted_of n self.now.access) → IsSome (finite.get self.now.places n) }
     {
-        match self.table.number(handle.place) {
-            Some(number) => number == handle.number,
-            None => false,
-        }
+        self.table.number(handle.place) == Some(handle.number)
     }
 
     /// A new record of a key that has none, under the key's hash. It takes no memory.
@@ -349,10 +347,7 @@ impl<K: Eq + Hash, V, S: BuildHasher> Store<K, V, S> {
         requires { IsPlaced self.now handle }
         ensures { result ≡ is_settled self.now.records handle.number }
     {
-        match self.find(handle) {
-            Some(found) => found.is_settled(),
-            None => false,
-        }
+        self.find(handle).is_some_and(|found| found.is_settled())
     }
 
     /// The number at this handle comes to the back of both orders, with this weight. It takes no memory.
@@ -715,7 +710,6 @@ impl<K: Eq + Hash, V, S: BuildHasher> Store<K, V, S> {
         let hash = self.hash_at(handle);
         if self.is_member(handle) {
             self.leave(handle);
-            return self.take_record(handle, hash);
         }
         self.take_record(handle, hash)
     }

@@ -93,10 +93,11 @@ impl<K, V> RecordTable<K, V> {
         self.fit
     }
 
-    /// Makes room for `additional` more rows.
+    /// Makes room for `additional` more rows, and changes nothing where there is room.
     pub fn reserve(&mut self, additional: usize) -> Result<(), AllocError>
         ensures room { OnOk result (additional ≤ self.new.room) }
         ensures succeeds { additional ≤ self.old.room → IsOk result }
+        ensures enough { additional ≤ self.old.room → self.new ≡ self.old }
         ensures rows { self.new.rows ≡ self.old.rows }
         ensures kept { self.old.room ≤ self.new.room }
     {
@@ -107,12 +108,7 @@ impl<K, V> RecordTable<K, V> {
         let more = additional - (self.cold.len() - rows);
         self.cold.reserve(more)?;
         self.rows.reserve(additional)?;
-        let (rows_fit, colds_fit) = (self.rows.capacity(), self.cold.capacity());
-        self.fit = if rows_fit < colds_fit {
-            rows_fit
-        } else {
-            colds_fit
-        };
+        self.fit = self.rows.capacity().min(self.cold.capacity());
         Ok(())
     }
 

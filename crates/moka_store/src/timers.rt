@@ -50,11 +50,12 @@ impl Timers {
         Ok(Timers { wheel })
     }
 
-    /// Makes room for so many timers in all.
+    /// Makes room for so many timers in all, and changes nothing where there is room.
     #[inline(always)]
     pub fn reserve(&mut self, places: usize) -> Result<(), AllocError>
         ensures room { OnOk result (places ≤ self.new.most) }
         ensures succeeds { places ≤ self.old.most → IsOk result }
+        ensures enough { places ≤ self.old.most → self.new ≡ self.old }
         ensures rest { self.new ≡ record self.old { most = self.new.most } }
         ensures kept { self.old.most ≤ self.new.most }
     {
@@ -79,10 +80,7 @@ impl Timers {
         ensures rest { self.new ≡ record self.old { timers = self.new.timers } }
         ensures untimed { self.old.timed ≡ false → (slot : ℕ) → get self.old.timers slot ≡ None }
     {
-        let Some(wheel) = &mut self.wheel else {
-            return None;
-        };
-        set_in(wheel, before, place, at)
+        set_in(self.wheel.as_mut()?, before, place, at)
     }
 
     /// Takes a timer out whose moment is at or before `now`. The answer is None exactly where there is none.
@@ -96,11 +94,7 @@ impl Timers {
             → now.0 < timer.at) }
         ensures unchanged { IfNone result (self.new ≡ self.old) }
     {
-        let Some(wheel) = &mut self.wheel else {
-            return None;
-        };
-        let due = wheel.advance(now.0)?;
-        Some(due)
+        self.wheel.as_mut()?.advance(now.0)
     }
 }
 

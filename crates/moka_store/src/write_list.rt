@@ -52,11 +52,12 @@ impl WriteList {
         Ok(WriteList { list, cursor: None })
     }
 
-    /// Makes room for so many places in all.
+    /// Makes room for so many places in all, and changes nothing where there is room.
     #[inline(always)]
     pub fn reserve(&mut self, places: usize) -> Result<(), AllocError>
         ensures room { OnOk result (places ≤ self.new.most) }
         ensures succeeds { places ≤ self.old.most → IsOk result }
+        ensures enough { places ≤ self.old.most → self.new ≡ self.old }
         ensures rest { self.new ≡ record self.old { most = self.new.most } }
         ensures kept { self.old.most ≤ self.new.most }
     {

@@ -4,12 +4,11 @@ use Rattle.std.proofs.lemmas.Bool.{cases_eq, cases_lt, cases_Bool, eq-eqb, ne_eq
 use Rattle.std.specs.FinMap.{FinMap, empty, entries, entries_sorted, get-entries, from_entries, insert, remove, len, len-insert, len-remove, len-empty, empty_of_len, get-empty, get-insert, get-remove, same_map, nat_cmp-IsAntisymmetric}
 use Rattle.std.specs.FinMap.Entries.{find, below_all, is_sorted}
 use Rattle.std.specs.FinMap as map
-use Rattle.std.specs.Cmp.{nat_cmp_total}
+use Rattle.std.specs.Cmp.{nat_cmp_total, nat_eq_equiv, unsigned_tied}
 use Rattle.std.specs.HashMap.{HashMap, get}
 use Rattle.std.specs.List.{IsDistinct, AllByRecursion}
 use Rattle.std.proofs.lemmas.Map.Keys.{IsDistinct-tail}
 use Rattle.std.proofs.lemmas.Map.Views.{All-values_from_lookup}
-use Rattle.std.specs.Cmp.{nat_eq_equiv}
 use Rattle.std.specs.Map.{lookup, remove_entry, keys_of, values_of}
 use Rattle.std.specs.Option.{option_map}
 use Rattle.std.specs.Ordering.{nat_cmp, eq_by_cmp, is_lt}
@@ -18,26 +17,11 @@ use Rattle.moka_structures.specs.Tickets.{items_of, slot_of, IsBelowAll, AreRisi
 use Rattle.moka_structures.specs.declared.ticket_table.Waiting.{Waiting}
 use Rattle.moka_structures.proofs.Linked.{linked-added, linked-removed}
 
--- a ticket ties with itself
-eq_self : (n : ℕ) → eq_by_cmp nat_cmp n n ≡ true
-eq_self n = grind arith
-
--- and with no other
-eq_other : (q n : ℕ) → q ≢ n → eq_by_cmp nat_cmp q n ≡ false
-eq_other q n h = grind arith
-
 -- the two tests of tickets agree
 pub eq-tests : (q n : ℕ) → eq_by_cmp nat_cmp q n ≡ nat_eq n q
 eq-tests q n = elim (cases_eq q n) as (λ _. eq_by_cmp nat_cmp q n ≡ nat_eq n q) [
-  | inl e ↦ ap (eq_by_cmp nat_cmp q) (sym e) ∙ eq_self q ∙ sym (eq-eqb n q (sym e))
-  | inr ne ↦ eq_other q n ne ∙ sym (ne_eqb n q (λ e. ne (sym e)))
-]
-
--- the same with the arguments in the other order
-eq-tests-back : (q n : ℕ) → eq_by_cmp nat_cmp q n ≡ nat_eq q n
-eq-tests-back q n = elim (cases_eq q n) as (λ _. eq_by_cmp nat_cmp q n ≡ nat_eq q n) [
-  | inl e ↦ ap (eq_by_cmp nat_cmp q) (sym e) ∙ eq_self q ∙ sym (eq-eqb q n e)
-  | inr ne ↦ eq_other q n ne ∙ sym (ne_eqb q n ne)
+  | inl e ↦ unsigned_tied q n ∙ eq-eqb q n e ∙ sym (eq-eqb n q (sym e))
+  | inr ne ↦ unsigned_tied q n ∙ ne_eqb q n ne ∙ sym (ne_eqb n q (λ e. ne (sym e)))
 ]
 
 -- where an item is, a slot is
@@ -67,8 +51,8 @@ get-entry (e ∷ es) q =
     let rest = from_entries {R = nat_cmp} (map (λ e. (e.0, e.1.item)) es) in
     get-insert nat_cmp_total rest e.0 e.1.item q
     ∙ elim (cases_Bool (nat_eq q e.0)) as (λ _. cond (eq_by_cmp nat_cmp q e.0) (Some e.1.item) (map.get rest q) ≡ option_map (λ w. w.item) (lookup (nat_eq q) (e ∷ es))) [
-      | inl t ↦ cond-true (eq_by_cmp nat_cmp q e.0) (Some e.1.item) (map.get rest q) (eq-tests-back q e.0 ∙ t) ∙ ap (option_map (λ w. w.item)) (sym (cond-true (nat_eq q e.0) (Some e.1) (lookup (nat_eq q) es) t))
-      | inr t ↦ cond-false (eq_by_cmp nat_cmp q e.0) (Some e.1.item) (map.get rest q) (eq-tests-back q e.0 ∙ t) ∙ get-entry es q ∙ ap (option_map (λ w. w.item)) (sym (cond-false (nat_eq q e.0) (Some e.1) (lookup (nat_eq q) es) t))
+      | inl t ↦ cond-true (eq_by_cmp nat_cmp q e.0) (Some e.1.item) (map.get rest q) (unsigned_tied q e.0 ∙ t) ∙ ap (option_map (λ w. w.item)) (sym (cond-true (nat_eq q e.0) (Some e.1) (lookup (nat_eq q) es) t))
+      | inr t ↦ cond-false (eq_by_cmp nat_cmp q e.0) (Some e.1.item) (map.get rest q) (unsigned_tied q e.0 ∙ t) ∙ get-entry es q ∙ ap (option_map (λ w. w.item)) (sym (cond-false (nat_eq q e.0) (Some e.1) (lookup (nat_eq q) es) t))
     ]
 
 -- where a slot is, an item is
@@ -243,7 +227,7 @@ module _ {X : Type 0} where
       let w = less-key k e.0 (below_all nat_cmp k es) h in
       elim (cases_eq t e.0) as (λ _. k < t) [
         | inl same ↦ omega (arith, w.0)
-        | inr ne ↦ found-above t k es w.1 (subst (λ b. IsSome (cond b (Some e.1) (find nat_cmp t es))) (eq_other t e.0 ne) f)
+        | inr ne ↦ found-above t k es w.1 (subst (λ b. IsSome (cond b (Some e.1) (find nat_cmp t es))) (unsigned_tied t e.0 ∙ ne_eqb t e.0 ne) f)
       ]
 
   -- the least key of a sorted list stands first
@@ -251,11 +235,11 @@ module _ {X : Type 0} where
   first-of t [] sorted f least = absurd (false≢true f)
   first-of t (e ∷ es) sorted f least =
       let parts = split-and (below_all nat_cmp e.0 es) (is_sorted nat_cmp es) sorted in
-      let lower : t ≤ e.0 = least e.0 (subst (λ b. IsSome (cond b (Some e.1) (find nat_cmp e.0 es))) (sym (eq_self e.0)) refl) in
+      let lower : t ≤ e.0 = least e.0 (subst (λ b. IsSome (cond b (Some e.1) (find nat_cmp e.0 es))) (sym (unsigned_tied e.0 e.0 ∙ eq-eqb e.0 e.0 refl)) refl) in
       elim (cases_eq t e.0) as (λ _. Some e.0 ≡ Some t) [
         | inl same ↦ ap Some (sym same)
         | inr ne ↦
-            let above : e.0 < t = found-above t e.0 es parts.0 (subst (λ b. IsSome (cond b (Some e.1) (find nat_cmp t es))) (eq_other t e.0 ne) f) in
+            let above : e.0 < t = found-above t e.0 es parts.0 (subst (λ b. IsSome (cond b (Some e.1) (find nat_cmp t es))) (unsigned_tied t e.0 ∙ ne_eqb t e.0 ne) f) in
             absurd (omega arith)
       ]
 

@@ -67,14 +67,19 @@ impl<T: Copy> Older<T> {
         self.table.len() + self.kept.len()
     }
 
-    /// Keeps room for `additional` more items. An error takes neither items nor room away.
+    /// Keeps room for `additional` more items, and changes nothing where there is room. An error takes neither items
+    /// nor room away.
     #[inline(always)]
     pub fn reserve(&mut self, additional: usize) -> Result<(), AllocError>
         ensures room { OnOk result (additional ≤ self.new.room) }
         ensures succeeds { additional ≤ self.old.room → IsOk result }
+        ensures enough { additional ≤ self.old.room → self.new ≡ self.old }
         ensures items { self.new.items ≡ self.old.items }
         ensures kept { self.old.room ≤ self.new.room }
     {
+        if additional <= self.kept.capacity() - self.kept.len() {
+            return Ok(());
+        }
         self.kept.reserve(additional)
     }
 

@@ -1,5 +1,5 @@
 //! An order of values as linked nodes in one table.
-ghost use Rattle.std.specs.Prelude.{◌≡◌, ◌≢◌, ◌+◌, ◌^◌, ◌<◌, ◌≤◌, ℕ, [], ◌∷◌, ◌++◌, length, ◌↔◌, OnOk, IfOk, IsOk, IfSome, IsSome, IsNone, None, Some, nat_eq, slice_get, vec_len, if◌then◌else◌};
+ghost use Rattle.std.specs.Prelude.{◌≡◌, ◌≢◌, ◌+◌, ◌^◌, ◌<◌, ◌≤◌, ℕ, [], ◌∷◌, ◌++◌, length, ◌↔◌, OnErr, OnOk, IfOk, IsOk, IfSome, IsSome, IsNone, None, Some, nat_eq, slice_get, vec_len, if◌then◌else◌};
 ghost use Rattle.std.specs.Map.{lookup, remove_entry, keys_of};
 ghost use Rattle.std.specs.List.{IsDistinct};
 ghost use Rattle.moka_links.specs.Links.{KeepsCapacity};
@@ -155,12 +155,14 @@ impl<T: Copy> OrderList<T> {
         self.len == 0
     }
 
-    /// Makes room for `additional` more values. An error leaves the list as it was: there is no memory, or the
-    /// list would be longer than its slots can tell.
+    /// Makes room for `additional` more values, and changes nothing where there is room. An error leaves the list as it
+    /// was: there is no memory, or the list would be longer than its slots can tell.
     #[inline(always)]
     pub fn reserve(&mut self, additional: usize) -> Result<(), AllocError>
         ensures room { OnOk result (additional ≤ self.new.room) }
         ensures succeeds { additional ≤ self.old.room → IsOk result }
+        ensures enough { additional ≤ self.old.room → self.new ≡ self.old }
+        ensures err { OnErr result (self.new ≡ self.old) }
         ensures members { self.new.members ≡ self.old.members }
         ensures kept { self.old.room ≤ self.new.room }
     {

@@ -76,10 +76,12 @@ impl<T: Copy> Outstanding<T> {
         self.len() == 0
     }
 
-    /// Keeps room for `additional` more items. An error takes neither items nor room away.
+    /// Keeps room for `additional` more items, and changes nothing where there is room. An error takes neither items
+    /// nor room away.
     pub fn reserve(&mut self, additional: usize) -> Result<(), AllocError>
         ensures room { OnOk result (additional ≤ self.new.room) }
         ensures succeeds { additional ≤ self.old.room → IsOk result }
+        ensures enough { additional ≤ self.old.room → self.new ≡ self.old }
         ensures items { self.new.items ≡ self.old.items }
         ensures kept { self.old.room ≤ self.new.room }
     {

@@ -65,14 +65,19 @@ impl<T: Copy> TicketTable<T> {
         self.waiting.len()
     }
 
-    /// Makes room for `additional` more items. An error takes neither items nor room away.
+    /// Makes room for `additional` more items, and changes nothing where there is room. An error takes neither items
+    /// nor room away.
     pub fn reserve(&mut self, additional: usize) -> Result<(), AllocError>
         ensures room { OnOk result (additional ≤ self.new.room) }
         ensures succeeds { additional ≤ self.old.room → IsOk result }
+        ensures enough { additional ≤ self.old.room → self.new ≡ self.old }
         ensures items { self.new.items ≡ self.old.items }
         ensures kept { self.old.room ≤ self.new.room }
     {
         self.order.reserve(additional)?;
+        if additional <= self.waiting.capacity() - self.waiting.len() {
+            return Ok(());
+        }
         self.waiting.reserve(additional)
     }
 

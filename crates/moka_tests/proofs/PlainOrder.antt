@@ -1,5 +1,5 @@
 -- The plain vector of members, which the tests compare with.
-use Rattle.std.proofs.Common.{◌≡◌, ◌≢◌, ℕ, zero, suc, ◌+◌, ◌<◌, List, [], ◌∷◌, ◌++◌, Bool, true, false, cond, is_some, Some, None, length, nat_eq, refl, sym, ap, ◌∙◌, arith, get_or, slice_get, All}
+use Rattle.std.proofs.Common.{◌≡◌, ◌≢◌, ℕ, zero, suc, ◌+◌, ◌<◌, List, [], ◌∷◌, ◌++◌, false, is_some, Some, None, length, nat_eq, refl, sym, ap, ◌∙◌, arith, get_or, slice_get, All}
 use Rattle.std.proofs.lemmas.Bool.{eq-eqb, ne_eqb, cond-true, cond-false}
 use Rattle.std.proofs.lemmas.List.{map_push}
 use Rattle.std.proofs.lemmas.List.Elements.{All-append}
@@ -8,8 +8,9 @@ use Rattle.std.proofs.lemmas.Map.Keys.{IsDistinct-push}
 use Rattle.std.proofs.lemmas.Map.Made.{is_some-lookup}
 use Rattle.std.proofs.lemmas.Map.Views.{All-map-remove_entry}
 use Rattle.moka_structures.proofs.Lookups.{lookup-without}
+use Rattle.moka_store.proofs.Nodes.{distinct-remove}
 use Rattle.std.specs.Cmp.{nat_eq_equiv}
-use Rattle.std.specs.List.{remove, IsDistinct, AllByRecursion, list_any}
+use Rattle.std.specs.List.{remove, IsDistinct, list_any}
 use Rattle.std.specs.Map.{lookup, remove_entry, keys_of}
 use Rattle.moka_structures.specs.Order.{next_after}
 
@@ -59,23 +60,6 @@ pub none-place : (ms : List (ℕ × ℕ)) (s : ℕ) → ((k : ℕ) → k < lengt
 none-place [] s none = refl
 none-place (m ∷ ms) s none = cond-false (nat_eq s m.0) _ _ (ne_eqb s m.0 (λ e. none 0 (omega arith) (sym e))) ∙ none-place ms s (λ k b. none (suc k) (omega arith))
 
--- fewer keys are distinct
-all-left : (P : ℕ → Type 0) (test : ℕ → Bool) (ms : List (ℕ × ℕ)) → AllByRecursion P (keys_of ms) → AllByRecursion P (keys_of (remove_entry test ms))
-all-left P test [] h = tt
-all-left P test (m ∷ ms) h = elim (test m.0) as (λ b. AllByRecursion P (keys_of (cond b ms (m ∷ remove_entry test ms)))) [
-  | true ↦ h.1
-  | false ↦ (h.0, all-left P test ms h.1)
-]
-
--- the keys after a removal
-pub distinct-left : (test : ℕ → Bool) (ms : List (ℕ × ℕ)) → IsDistinct nat_eq (keys_of ms) → IsDistinct nat_eq (keys_of (remove_entry test ms))
-unfolding IsDistinct
-distinct-left test [] h = tt
-distinct-left test (m ∷ ms) h = elim (test m.0) as (λ b. IsDistinct nat_eq (keys_of (cond b ms (m ∷ remove_entry test ms)))) [
-  | true ↦ h.1
-  | false ↦ (all-left (λ y. nat_eq m.0 y ≡ false) test ms h.0, distinct-left test ms h.1)
-]
-
 -- the slot of a member was given
 pub was-given : (ms : List (ℕ × ℕ)) (i s : ℕ) → i < length ms → (get_or ms i (0, 0)).0 ≡ s → (given : ℕ) → All (λ k. k < given) (keys_of ms) → s < given
 was-given [] i s l here given all = absurd (omega arith)
@@ -89,7 +73,7 @@ distinct-moved ms s n given d all l =
     let left = remove_entry (nat_eq s) ms in
     let gone : lookup (nat_eq s) left ≡ None = lookup-without ms s s d ∙ cond-true (nat_eq s s) None (lookup (nat_eq s) ms) (eq-eqb s s refl) in
     rw (map_push (λ (m : ℕ × ℕ). m.0) left (s, n)) (
-      IsDistinct-push nat_eq_equiv (keys_of left) s (distinct-left (nat_eq s) ms d) (sym (is_some-lookup (nat_eq s) left) ∙ ap is_some gone),
+      IsDistinct-push nat_eq_equiv (keys_of left) s (distinct-remove (nat_eq s) ms d) (sym (is_some-lookup (nat_eq s) left) ∙ ap is_some gone),
       All-append (λ k. k < given) (keys_of left) (s ∷ []) (All-map-remove_entry (nat_eq s) (λ (m : ℕ × ℕ). m.0) (λ k. k < given) ms all) (λ k e b. let z : k ≡ 0 = omega arith in rw z l),
     )
 

@@ -31,7 +31,8 @@ use moka_parts::policy::{Expiry, NoExpiry, Policy};
 use std::alloc::Global;
 use std::hash::{BuildHasher, Hash};
 
-/// A cache with a clock, which each call that needs the moment reads once at its start.
+/// A cache with a clock. Each call that needs the moment reads it at its start; a run of maintenance may read it again
+/// for its time limit.
 #[derive(Drop)]
 pub struct TimedCache<
     K: Eq + Hash,
@@ -242,8 +243,8 @@ impl<
     }
 
     /// A clone of a key's value, if the key is there and visible, and else of the value that `init` makes, which is
-    /// inserted. `init` is called only if the key is not there. The clock is read once, before `init` is called, so if
-    /// that takes longer than the time to live the entry has expired already.
+    /// inserted. `init` is called only if the key is not there. The entry is inserted at the moment that was read before
+    /// `init` was called, so if that takes longer than the time to live the entry has expired already.
     ///
     /// # Errors
     /// As `Cache::get_with`.
@@ -252,7 +253,8 @@ impl<
         K: Clone + Drop,
         V: Clone + Drop,
         P: Drop,
-        requires { (now : Instant) → ContainsStep P.says K.eq self.old.cache.engine.state key now.0 false → F.pre init }
+        requires callable { (now : Instant) → (read : C) → C.reads self.old.clock now read
+            → ContainsStep P.says K.eq self.old.cache.engine.state key now.0 false → F.pre init }
         ensures { (now : Instant) × (read : C) × C.reads self.old.clock now read
             × GetsWith (meaning_of K.eq L.tells P.says W.weighs C.reads X.created X.read X.updated)
             V.is_clone key (key_hash S.BuildHasher S.Hasher.Hasher self.old.cache.engine.hasher (K.hash_input key)) now
@@ -275,7 +277,8 @@ impl<
         K: Clone + Drop,
         V: Clone + Drop,
         P: Drop,
-        requires { (now : Instant) → ContainsStep P.says K.eq self.old.cache.engine.state key now.0 false → F.pre init }
+        requires callable { (now : Instant) → (read : C) → C.reads self.old.clock now read
+            → ContainsStep P.says K.eq self.old.cache.engine.state key now.0 false → F.pre init }
         ensures { (now : Instant) × (read : C) × C.reads self.old.clock now read
             × GetsWithIfMade (meaning_of K.eq L.tells P.says W.weighs C.reads X.created X.read X.updated)
             V.is_clone key (key_hash S.BuildHasher S.Hasher.Hasher self.old.cache.engine.hasher (K.hash_input key)) now
@@ -299,7 +302,8 @@ impl<
         K: Clone + Drop,
         V: Clone + Drop,
         P: Drop,
-        requires { (now : Instant) → ContainsStep P.says K.eq self.old.cache.engine.state key now.0 false → F.pre init }
+        requires callable { (now : Instant) → (read : C) → C.reads self.old.clock now read
+            → ContainsStep P.says K.eq self.old.cache.engine.state key now.0 false → F.pre init }
         ensures { (now : Instant) × (read : C) × C.reads self.old.clock now read
             × GetsWithIfNoError (meaning_of K.eq L.tells P.says W.weighs C.reads X.created X.read X.updated)
             V.is_clone key (key_hash S.BuildHasher S.Hasher.Hasher self.old.cache.engine.hasher (K.hash_input key)) now

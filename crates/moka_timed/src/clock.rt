@@ -7,7 +7,8 @@ use moka_parts::housekeeper::Clock;
 use moka_parts::policy::Instant;
 use std::time::Duration;
 
-/// What tells how long ago it started. Every `std::time::Clock` is one, as which a `HostRuntime` serves.
+/// A source of monotonic time: it tells how long ago it started. Every `std::time::Clock` is one, such as a
+/// `HostRuntime`.
 pub trait Monotonic {
     ghost use Rattle.std.specs.Prelude.{ℕ, Option, option_map};
     ghost use Rattle.std.specs.Duration.{as_nanos};
@@ -67,6 +68,7 @@ impl<R: Monotonic> Clock for SystemClock<R> {
 /// A clock that stands until it is moved by hand, as a test does.
 #[derive(Clone, Copy, Debug, PartialEq, Eq)]
 pub struct ManualClock {
+    /// The moment that it tells.
     pub now: Instant,
 }
 

@@ -1,10 +1,11 @@
-//! Entry calls of the cache that owns its clock, which each reads once, at its start.
-ghost use Rattle.std.specs.Prelude.{◌≡◌, false, Option, Result, is_some, option_copied};
+//! Entry calls of the cache that owns its clock, at the moment that it reads at the start of each.
+ghost use Rattle.std.specs.Prelude.{◌≡◌, false, Option, Result, option_copied};
 ghost use Rattle.moka_parts.specs.Calls.{ContainsStep};
 ghost use Rattle.moka_parts.specs.declared.error.InsertRefused.{InsertRefused};
 ghost use Rattle.moka_parts.specs.declared.policy.Instant.{Instant};
 ghost use Rattle.moka_drive.specs.Computing.{AndUpserts, AndComputes};
 ghost use Rattle.moka_drive.specs.Entries.{OrInserts, OrInsertsMade, OrInsertsIfMade, OrInsertsIfNoError};
+ghost use Rattle.moka_drive.specs.Given.{Sees};
 ghost use Rattle.moka_parts.specs.Hashing.{key_hash};
 ghost use Rattle.moka_drive.specs.Synchronous.{meaning_of, hears_clones};
 
@@ -99,7 +100,7 @@ impl<
         K: Clone + Drop,
         V: Clone + Drop,
         P: Drop,
-        requires callable { (now : Instant)
+        requires callable { (now : Instant) → (read : C) → C.reads self.cache.now.clock now read
             → ContainsStep P.says K.eq self.cache.now.cache.engine.state self.key now.0 false → F.pre init }
         ensures { (now : Instant) × (read : C) × C.reads self.entry.cache.now.clock now read
             × OrInsertsMade (meaning_of K.eq L.tells P.says W.weighs C.reads X.created X.read X.updated)
@@ -126,7 +127,7 @@ impl<
         K: Clone + Drop,
         V: Clone + Drop,
         P: Drop,
-        requires callable { (now : Instant)
+        requires callable { (now : Instant) → (read : C) → C.reads self.cache.now.clock now read
             → ContainsStep P.says K.eq self.cache.now.cache.engine.state self.key now.0 false → F.pre init }
         ensures { (now : Instant) × (read : C) × C.reads self.entry.cache.now.clock now read
             × OrInsertsIfMade (meaning_of K.eq L.tells P.says W.weighs C.reads X.created X.read X.updated)
@@ -153,7 +154,7 @@ impl<
         K: Clone + Drop,
         V: Clone + Drop,
         P: Drop,
-        requires callable { (now : Instant)
+        requires callable { (now : Instant) → (read : C) → C.reads self.cache.now.clock now read
             → ContainsStep P.says K.eq self.cache.now.cache.engine.state self.key now.0 false → F.pre init }
         ensures { (now : Instant) × (read : C) × C.reads self.entry.cache.now.clock now read
             × OrInsertsIfNoError (meaning_of K.eq L.tells P.says W.weighs C.reads X.created X.read X.updated)
@@ -180,8 +181,8 @@ impl<
         K: Clone + Drop,
         V: Clone + Drop,
         P: Drop,
-        requires callable { (now : Instant) → (seen : Option V)
-            → ContainsStep P.says K.eq self.cache.now.cache.engine.state self.key now.0 (is_some seen) → F.pre f seen }
+        requires callable { (now : Instant) → (read : C) → C.reads self.cache.now.clock now read → (seen : Option V)
+            → Sees K.eq P.says V.is_clone self.cache.now.cache.engine.state self.key now.0 seen → F.pre f seen }
         ensures { (now : Instant) × (read : C) × C.reads self.entry.cache.now.clock now read
             × AndUpserts (meaning_of K.eq L.tells P.says W.weighs C.reads X.created X.read X.updated)
             K.is_clone V.is_clone self.entry.key (key_hash S.BuildHasher S.Hasher.Hasher
@@ -205,8 +206,8 @@ impl<
         K: Clone + Drop,
         V: Clone + Drop,
         P: Drop,
-        requires callable { (now : Instant) → (seen : _)
-            → ContainsStep P.says K.eq self.cache.now.cache.engine.state self.key now.0 (is_some (option_copied seen))
+        requires callable { (now : Instant) → (read : C) → C.reads self.cache.now.clock now read → (seen : _)
+            → Sees K.eq P.says V.is_clone self.cache.now.cache.engine.state self.key now.0 (option_copied seen)
             → F.pre f seen }
         ensures { (now : Instant) × (read : C) × C.reads self.entry.cache.now.clock now read
             × AndComputes (meaning_of K.eq (hears_clones K.is_clone V.is_clone L.tells) P.says W.weighs C.reads

@@ -1,13 +1,13 @@
 //! The synchronous cache with a clock of its own, so that no call takes a moment.
 #![tactic(auto)]
 
+mod by_key_test;
 pub mod cache;
 pub mod clock;
 pub mod entry_selector;
 mod iter;
 mod removals;
 mod saves;
-mod tested;
 
 pub use cache::TimedCache;
 pub use clock::{ManualClock, Monotonic, SystemClock};

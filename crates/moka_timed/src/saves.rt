@@ -52,7 +52,8 @@ impl<
         self.cache.save(alloc, now, &mut self.clock)
     }
 
-    /// Puts each entry back at the clock's moment, in order.
+    /// Puts each entry back, in order, with the moments and the expiry that it had. Runs of maintenance that this starts
+    /// are made at the clock's moment.
     ///
     /// # Errors
     /// As `Cache::restore`.

@@ -1,9 +1,7 @@
 -- Two entries that were put under different keys into a new cache stay in a run where there is room for both.
 use Rattle.std.proofs.Common.{◌≡◌, refl, ℕ, ◌+◌, Bool, false, true≢false, List, [], Option, Some, None, Ok, ap, sym, subst, ◌∙◌, inl, inr, min, arith}
 use Rattle.std.specs.Ordering.{nat_cmp}
-use Rattle.std.specs.FinMap.{get, insert, remove, empty, len, values, len-empty}
-use Rattle.std.proofs.lemmas.List.Sums.{sum_by-cons}
-use Rattle.std.proofs.lemmas.List.Sorted.{sum_by-IsPermutation}
+use Rattle.std.specs.FinMap.{get, insert, remove, empty, len, len-empty}
 use Rattle.std.proofs.lemmas.Option.{same_Some}
 use Rattle.std.specs.Prelude.{sum_by}
 use Rattle.moka_engine.specs.parts.Instant.{Instant}
@@ -20,10 +18,11 @@ use Rattle.moka_engine.specs.Time.{greatest}
 use Rattle.moka_engine.specs.Visibility.{has_lapsed}
 use Rattle.moka_engine.proofs.Lookup.{record_of_key_empty, record_of_key_found}
 use Rattle.moka_engine.proofs.Maps.{AreApart, same_or_apart, get_inserted, get_past_insert, get_removed, get_past_remove, nothing_at}
-use Rattle.moka_engine.proofs.Values.{empty_map, len_removed, values_removed, values-empty}
+use Rattle.moka_engine.proofs.Values.{empty_map, len_removed, values-empty}
 use Rattle.moka_drive.specs.Saved.{IsRoomyFor, KeepsUnexpired}
 use Rattle.moka_drive.proofs.Keeping.{listed_run_keeps}
 use Rattle.moka_drive.proofs.Lasting.{listed_run_lasts}
+use Rattle.moka_drive.proofs.Roomy.{weighs_less}
 
 module _ {K V : Type 0} where
   -- the two records stand there, under different numbers, and no others
@@ -32,9 +31,6 @@ module _ {K V : Type 0} where
     pub second : get m b ≡ Some q
     pub apart : AreApart b a
     pub only : (n : ℕ) (r : Record K V) → AreApart n a → AreApart n b → get m n ≡ Some r → ⊥
-
-  weighs_less : (m : Records K V) (n : ℕ) (r : Record K V) → get m n ≡ Some r → weight_of_records m ≡ r.weight + weight_of_records (remove m n)
-  weighs_less m n r there = sum_by-IsPermutation (λ (x : Record K V). x.weight) _ _ (values_removed m n r there) ∙ sum_by-cons (λ (x : Record K V). x.weight) r (values (remove m n))
 
   module _ (m : Records K V) (a b : ℕ) (p q : Record K V) (both : AreBoth m a b p q) where
     absent : (o : Option (Record K V)) → ((r : Record K V) → o ≡ Some r → ⊥) → o ≡ None

@@ -1,5 +1,6 @@
 -- What was put into an empty cache is found.
 use Rattle.std.proofs.Common.{◌≡◌, refl, ℕ, Bool, true, false, List, [], Option, Some, None, Result, Ok, Err, option_map, ap, sym, subst, ◌∙◌, inl, inr, true≢false}
+use Rattle.std.specs.Prelude.{IfOk, IfSome, MatchBool}
 use Rattle.std.specs.Cmp.{IsEquivalence}
 use Rattle.std.specs.FinMap.{get, insert, empty}
 use Rattle.std.proofs.lemmas.Option.{same_Some}
@@ -9,7 +10,7 @@ use Rattle.moka_engine.specs.parts.OutOfMemory.{OutOfMemory}
 use Rattle.moka_engine.specs.parts.Instant.{Instant}
 use Rattle.moka_engine.specs.parts.Operation.{Operation}
 use Rattle.moka_engine.specs.parts.Record.{Record}
-use Rattle.moka_engine.specs.Calls.{InsertsAt, InsertStep, new_record, SendsAt, SendStep, GetsAt, GetStep}
+use Rattle.moka_engine.specs.Calls.{InsertsAt, InsertStep, new_record, SendsAt, SendStep, GetsAt, GetStep, Unchanged}
 use Rattle.moka_engine.specs.Copies.{HandsOut, IsCopiedAnswer, IsCopy, IsEntryCopy}
 use Rattle.moka_engine.specs.Maintenance.{Terms, Course}
 use Rattle.moka_engine.specs.Records.{Notice, Records, record_of_key}
@@ -104,3 +105,30 @@ module _ {K V X P W : Type 0} (eq : K → K → Bool) (says : P → K → V → 
         handed : (r : Record K V) → IsOpen t asked r → (own : Result (Option (Entry K V)) OutOfMemory) → GetStep says read Runs eq t asked get_hash need_key false at own f v → IsCopiedAnswer (IsEntryCopy is_key_clone is_value_clone) own (Ok found) → IsCopy is_value_clone (Some r.value) (option_map (λ x. x.value) found)
         handed r shown (Ok own) gets copy = copied r own found (got t asked r shown get_hash need_key at own f v gets) copy
         handed r shown (Err e) gets copy = (let impossible : Ok found ≡ Err e = copy in absurd (cc))
+
+module _ {K V X P W : Type 0} (eq : K → K → Bool) (says : P → K → V → Bool → Type 0) (read : X → K → V → ℕ → Option ℕ → ℕ → Option ℕ) (Runs : State K V X P W → Terms → Course → List (Notice K V) → State K V X P W → Type 0) (is_key_clone : K → K → Type 0) (is_value_clone : V → V → Type 0) where
+  keyless : (s : State K V X P W) (hash now : ℕ) (disabled : Bool) (o : Option (Record K V)) (a : Result (Option (Entry K V)) OutOfMemory) (e : Events K V) (t : State K V X P W) → MatchBool disabled ((a ≡ Ok None) × Unchanged s e t) (GetsAt says read Runs s o hash false false now a e t) → IfOk a (λ own. IfSome own (λ x. x.key ≡ None))
+  keyless s hash now disabled o (Err refused) e t step = tt
+  keyless s hash now disabled o (Ok None) e t step = tt
+  keyless s hash now true o (Ok (Some x)) e t (same, rest) = cc
+  keyless s hash now false None (Ok (Some x)) e t (same, rest) = cc
+  keyless s hash now false (Some r) (Ok (Some x)) e t step = step.2
+
+  no_key_of : (own found : Option K) → own ≡ None → IsCopy is_key_clone own found → found ≡ None
+  no_key_of None found none copy = copy
+  no_key_of (Some key) found none copy = cc
+
+  -- a get that is not asked for the key hands none out
+  pub hands_no_key : (s : State K V X P W) (key : K) (hash now : ℕ) (found : Option (Entry K V)) (e : Events K V) (t : State K V X P W) → HandsOut (IsEntryCopy is_key_clone is_value_clone) (λ a. GetStep says read Runs eq s key hash false false now a e t) (Ok found) → IfSome found (λ x. x.key ≡ None)
+  hands_no_key s key hash now found e t (own, step, copy) = at own found step copy
+    where
+      at : (own : Result (Option (Entry K V)) OutOfMemory) (found : Option (Entry K V)) → GetStep says read Runs eq s key hash false false now own e t → IsCopiedAnswer (IsEntryCopy is_key_clone is_value_clone) own (Ok found) → IfSome found (λ x. x.key ≡ None)
+      at own None step copy = tt
+      at (Ok (Some x)) (Some y) step copy = no_key_of x.key y.key (keyless s hash now (is_disabled s.capacity) (record_of_key eq s.records key) (Ok (Some x)) e t step) copy.key
+      at (Ok None) (Some y) step copy = (let impossible : Some y ≡ None = copy in absurd (cc))
+      at (Err refused) (Some y) step copy = (let impossible : Ok (Some y) ≡ Err refused = copy in absurd (cc))
+
+-- so what it hands out is the value alone
+pub value_alone : {K V : Type 0} (value : V) (found : Option (Entry K V)) → option_map (λ x. x.value) found ≡ Some value → IfSome found (λ x. x.key ≡ None) → found ≡ Some (record { key = None; value = value })
+value_alone value (Some x) same none = ap Some (ap (λ k. record x { key = k }) none ∙ ap (λ v. record x { key = None; value = v }) (same_Some x.value value same))
+value_alone value None same none = cc

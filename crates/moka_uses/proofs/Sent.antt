@@ -1,8 +1,9 @@
 -- What inserts and sends do to the operations that wait, and what they keep.
 use Rattle.std.proofs.Math.Nat.{min-le_left}
-use Rattle.std.proofs.Common.{◌≡◌, refl, ℕ, Bool, true, false, ◌≤◌, List, Option, Some, None, Ok, ap, sym, subst, ◌∙◌, inl, inr, ◌&&◌, arith}
+use Rattle.std.proofs.Common.{◌≡◌, refl, ℕ, Bool, false, ◌≤◌, List, Option, Some, None, Ok, ap, sym, subst, ◌∙◌, inl, inr, ◌&&◌, arith}
 use Rattle.std.specs.FinMap.{get, insert, remove, empty, get-empty}
 use Rattle.std.specs.Ordering.{nat_cmp}
+use Rattle.std.proofs.Math.Bool.{and-false}
 use Rattle.moka_engine.specs.parts.Ticket.{Ticket}
 use Rattle.moka_engine.specs.parts.Instant.{Instant}
 use Rattle.moka_engine.specs.parts.Operation.{Operation}
@@ -17,11 +18,6 @@ use Rattle.moka_engine.specs.State.{State, Events, is_disabled}
 use Rattle.moka_engine.specs.Time.{greatest}
 use Rattle.moka_engine.proofs.Maps.{get_removed, get_past_insert, get_past_remove, same_or_apart}
 use Rattle.moka_engine.proofs.Values.{empty_map}
-
--- without a limit nothing is cut, whoever listens
-pub and_no : (b : Bool) → (b && false) ≡ false
-and_no true = refl
-and_no false = refl
 
 -- the operations without one that came last
 pub nothing_left : (m : Operations) → m ≡ empty → (a : ℕ) (o : Operation) → remove (insert m a o) a ≡ empty
@@ -86,7 +82,7 @@ module _ {K V X P W : Type 0} where
       let ran = rw enabled at (run.1.0) in
       let is : t ≡ after_run s ran.0 = ran.1.1 in
       let c = at_end s ran.0 in
-      let whole : IsWhole s terms course = (ap (λ limit. s.settings.listening && is_late limit course.readings) unlimited ∙ and_no s.settings.listening, batch) in
+      let whole : IsWhole s terms course = (ap (λ limit. s.settings.listening && is_late limit course.readings) unlimited ∙ and-false s.settings.listening, batch) in
       let within = subst (λ o. IsWithin o c.access) bounded (subst (λ x. IsWithin x.capacity x.access) is (run.1.1.0.1.within whole sent)) in
       rw (ap (λ x. x.weight) is) (omega (arith, within, min-le_left (total_weight c.access) greatest))
 

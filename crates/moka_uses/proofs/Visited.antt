@@ -15,6 +15,8 @@ use Rattle.moka_engine.specs.Visibility.{IsShown, SomeCovers}
 use Rattle.moka_drive.specs.declared.compute.CompResult.{CompResult}
 use Rattle.moka_drive.specs.declared.compute.CompResult.TheVariants.{Inserted, ReplacedWith, Removed, StillNone, Unchanged as Kept}
 use Rattle.moka_drive.specs.declared.compute.ComputeRefused.{ComputeRefused}
+use Rattle.moka_drive.specs.declared.compute.ComputeRefused.TheVariants.{NotTold}
+use Rattle.moka_drive.specs.declared.compute.ComputeRefused.TheVariants as compute_refused
 use Rattle.moka_drive.specs.declared.compute.Op.{Op}
 use Rattle.moka_drive.specs.declared.compute.Op.TheVariants.{Nop, Put, Remove}
 use Rattle.moka_drive.specs.declared.entry.CacheEntry.{CacheEntry}
@@ -24,7 +26,7 @@ use Rattle.moka_drive.specs.Computing.{Computed, InTurn, Left, LeftNone, Puts, T
 use Rattle.moka_drive.specs.Counters.{one_more}
 use Rattle.moka_drive.specs.Given.{ComesBack, Sees}
 use Rattle.moka_drive.specs.Synchronous.{Makes, GetsValue, InsertsMade, RemovesEntry}
-use Rattle.moka_uses.specs.Visits.{HasLeft, IsFull, LooksUp, PutsCount, RemovesCount, count_at, meaning, next_count, op_for, value_at}
+use Rattle.moka_uses.specs.Visits.{HasLeft, IsFull, LooksUp, PutsCount, RefusesCount, RefusesLookup, RefusesTake, RemovesCount, count_at, meaning, next_count, op_for, value_at}
 
 -- predicates that say no to all cover nothing
 none_covers : {P : Type 0} (r : Record ℕ ℕ) (ps : List (Registered P)) → SomeCovers (λ _ _ _ answer. answer ≡ false) ps r → ⊥
@@ -51,6 +53,10 @@ copied_same (Ok (Some x)) (Some y) copied = ap (λ v. Ok (Some v)) (sym copied)
 copied_same (Ok (Some x)) None copied = absurd copied
 copied_same (Ok None) seen copied = ap Ok (sym copied)
 copied_same (Err e) seen copied = cc
+
+copied_refusal : (own : Result (Option ℕ) OutOfMemory) (refused : OutOfMemory) → IsCopiedAnswer (λ a b. b ≡ a) own (Err refused) → own ≡ Err refused
+copied_refusal (Ok a) refused copied = absurd copied
+copied_refusal (Err e) refused copied = sym copied
 
 -- what is promised if this count is handed out, or none
 pub record IsTaken {S X L P W C : Type 0} (m : Meaning ℕ ℕ X L P W C (Unit {0})) (page limit : ℕ) (now : Instant) (old : Engine ℕ ℕ S X L P W) (clock : C) (new : Engine ℕ ℕ S X L P W) (clock_after : C) (taken : Option ℕ) : Type 0 where
@@ -101,6 +107,12 @@ module _ {S X L P W C : Type 0} (reads : C → Instant → C → Type 0) (page :
   pub back_in : (refused : GetWithRefused ℕ ℕ) → ComesBack old.state new.state page (λ count. count ≡ next_count old.state page now.0) refused → ComesBack old.state last.state page (λ count. count ≡ next_count old.state page now.0) refused
   back_in refused back = subst (λ c. ComesBack old.state c.state page (λ count. count ≡ next_count old.state page now.0) refused) (sym same) back
 
+  pub refused_in : (refused : GetWithRefused ℕ ℕ) → RefusesCount (meaning reads) page now old clock new clock_after refused → RefusesCount (meaning reads) page now old clock last clock_after refused
+  refused_in refused all = subst (λ c. RefusesCount (meaning reads) page now old clock c clock_after refused) (sym same) all
+
+  pub not_taken_in : (limit : ℕ) (refused : ComputeRefused ℕ ℕ) → RefusesTake (meaning reads) page now old clock new clock_after limit refused → RefusesTake (meaning reads) page now old clock last clock_after limit refused
+  not_taken_in limit refused all = subst (λ c. RefusesTake (meaning reads) page now old clock c clock_after limit refused) (sym same) all
+
   pub taken_in : (limit : ℕ) (taken : Option ℕ) → IsTaken (meaning reads) page limit now old clock new clock_after taken → IsTaken (meaning reads) page limit now old clock last clock_after taken
   taken_in limit taken all = subst (λ c. IsTaken (meaning reads) page limit now old clock c clock_after taken) (sym same) all
 
@@ -114,6 +126,10 @@ module _ {S X L P W C : Type 0} (reads : C → Instant → C → Type 0) (page h
     found seen is =
         let count = sees_count old.state page now.0 seen (subst (λ g. IfOk g (SeesCount old.state page now.0)) is sees) in
         (copied_same own seen (subst (IsCopiedAnswer (λ a b. b ≡ a) own) is copied) ∙ ap Ok count, count)
+
+    -- a look-up that was refused
+    refuses : (refused : OutOfMemory) → got ≡ Err refused → Makes m (GetsValue page hash now own) old clock new clock_after → RefusesLookup m page now old clock new clock_after
+    refuses refused is makes = (hash, refused, subst (λ o. Makes m (GetsValue page hash now o) old clock new clock_after) (copied_refusal own refused (subst (IsCopiedAnswer (λ a b. b ≡ a) own) is copied)) makes)
 
     module _ (Answers : Option ℕ → ℕ → Type 0) (adds : (seen : Option ℕ) (value : ℕ) → Answers seen value → value ≡ one_more (unwrap_or seen 0)) where
       next : (seen : Option ℕ) (value : ℕ) → got ≡ Ok seen → Answers seen value → value ≡ next_count old.state page now.0
@@ -136,6 +152,25 @@ module _ {S X L P W C : Type 0} (reads : C → Instant → C → Type 0) (page h
           go (Ok seen) is None answers handed makes = absurd answers
           go (Err refused) is None answers handed makes = absurd handed
           go (Err refused) is (Some (value, put)) answers handed makes = absurd answers
+
+      -- the calls of a count that is refused
+      pub not_counted : (put : Option (ℕ × Result ℕ (InsertRefused ℕ ℕ))) → IsUpsertOf Answers got put → (result : Result (CacheEntry ℕ ℕ) (GetWithRefused ℕ ℕ)) → HandsOutUpserted is_key_clone (λ a b. b ≡ a) page got put result → Makes m (Upserts page hash now own put) old clock new clock_after
+          → IfErr result (RefusesCount m page now old clock new clock_after)
+      not_counted put answers (Ok e) handed makes = tt
+      not_counted put answers (Err refused) handed makes = go got refl put answers refused handed makes
+        where
+          go : (g : Result (Option ℕ) OutOfMemory) → got ≡ g → (put : Option (ℕ × Result ℕ (InsertRefused ℕ ℕ))) → IsUpsertOf Answers g put → (refused : GetWithRefused ℕ ℕ) → HandsOutUpserted is_key_clone (λ a b. b ≡ a) page g put (Err refused) → Makes m (Upserts page hash now own put) old clock new clock_after
+              → RefusesCount m page now old clock new clock_after refused
+          go (Err e) is None answers (Lookup k) handed makes = refuses e is makes
+          go (Err e) is None answers (Insert r) handed makes = absurd handed
+          go (Err e) is (Some (value, put)) answers refused handed makes = absurd answers
+          go (Ok seen) is None answers refused handed makes = absurd answers
+          go (Ok seen) is (Some (value, Ok put)) answers refused handed makes = absurd handed
+          go (Ok seen) is (Some (value, Err r)) answers (Lookup k) handed makes = absurd handed
+          go (Ok seen) is (Some (value, Err r)) answers (Insert refused) handed makes =
+              let own_is = subst (λ o. Makes m (InTurn (GetsValue page hash now o) (InsertsMade page hash now value (Err r))) old clock new clock_after) (found seen is).0 makes in
+              let next_is = subst (λ v. Makes m (InTurn (GetsValue page hash now (Ok (count_at old.state page now.0))) (InsertsMade page hash now v (Err r))) old clock new clock_after) (next seen value is answers) own_is in
+              (hash, subst (λ r. Makes m (InTurn (GetsValue page hash now (Ok (count_at old.state page now.0))) (InsertsMade page hash now (next_count old.state page now.0) (Err r))) old clock new clock_after) (sym handed) next_is)
 
       -- what comes back with a refusal
       pub back : (result : Result (CacheEntry ℕ ℕ) (GetWithRefused ℕ ℕ)) → IfErr result (ComesBack old.state new.state page (λ value. (seen : Option ℕ) × (got ≡ Ok seen) × Answers seen value))
@@ -205,3 +240,41 @@ module _ {S X L P W C : Type 0} (reads : C → Instant → C → Type 0) (page h
           go (Ok seen) is None answers handed makes out = absurd handed
           go (Err refused) is None answers handed makes out = absurd handed
           go (Err refused) is (Some done) answers handed makes out = absurd answers
+
+      left_refused : (seen : Option ℕ) (refused : ComputeRefused ℕ ℕ) → HandsOutLeft is_key_clone (λ a b. b ≡ a) page seen (Err refused) → ⊥
+      left_refused (Some count) refused handed = handed
+      left_refused None refused handed = handed
+
+      -- a page that was removed, and of which nobody could be told
+      untold : (seen : Option ℕ) → got ≡ Ok seen → Answers seen Remove → (value : ℕ) (error : OutOfMemory) → Makes m (Computes page hash now own (Some (Takes (Some (value, Err error))))) old clock new clock_after
+          → HasLeft new.state page × IfOk got (λ seen. IfSome seen (λ b. b ≡ value)) → (k : ℕ) → RefusesTake m page now old clock new clock_after limit (NotTold k (record { error = error; value = value }))
+      untold seen is answered value error makes out k =
+          let (count, seen_is, reached) = told seen Remove answered in
+          let found_is = found seen is in
+          let same : count ≡ value = subst (λ g. IfOk g (λ seen. IfSome seen (λ b. b ≡ value))) (is ∙ ap Ok seen_is) out.1 in
+          let full : IsFull old.state page now.0 limit value = subst (IsFull old.state page now.0 limit) same (sym found_is.1 ∙ seen_is, reached) in
+          (full, out.0, (hash, subst (λ o. Makes m (InTurn (GetsValue page hash now o) (RemovesEntry page hash now (Some (value, Err error)))) old clock new clock_after) (found_is.0 ∙ ap Ok full.0) makes))
+
+      -- the calls of a removal that is refused
+      pub not_taken : (did : Option (Computed ℕ ℕ)) → IsComputedBy Answers got did → (result : Result (CompResult ℕ ℕ) (ComputeRefused ℕ ℕ)) → HandsOutComputed is_key_clone (λ a b. b ≡ a) page got did result → Makes m (Computes page hash now own did) old clock new clock_after
+          → ((taken : Option (ℕ × Result (Unit {0}) OutOfMemory)) → did ≡ Some (Takes taken) → HasLeft new.state page × IfSome taken (λ t. IfOk got (λ seen. IfSome seen (λ b. b ≡ t.0))))
+          → IfErr result (RefusesTake m page now old clock new clock_after limit)
+      not_taken did answers (Ok answer) handed makes out = tt
+      not_taken did answers (Err refused) handed makes out = go got refl did answers refused handed makes out
+        where
+          go : (g : Result (Option ℕ) OutOfMemory) → got ≡ g → (did : Option (Computed ℕ ℕ)) → IsComputedBy Answers g did → (refused : ComputeRefused ℕ ℕ) → HandsOutComputed is_key_clone (λ a b. b ≡ a) page g did (Err refused) → Makes m (Computes page hash now own did) old clock new clock_after
+              → ((taken : Option (ℕ × Result (Unit {0}) OutOfMemory)) → did ≡ Some (Takes taken) → HasLeft new.state page × IfSome taken (λ t. IfOk got (λ seen. IfSome seen (λ b. b ≡ t.0)))) → RefusesTake m page now old clock new clock_after limit refused
+          go (Err e) is None answers (compute_refused.Lookup k) handed makes out = refuses e is makes
+          go (Err e) is None answers (compute_refused.Insert r) handed makes out = absurd handed
+          go (Err e) is None answers (NotTold k r) handed makes out = absurd handed
+          go (Err e) is (Some done) answers refused handed makes out = absurd answers
+          go (Ok seen) is None answers refused handed makes out = absurd answers
+          go (Ok seen) is (Some Left) answers refused handed makes out = absurd (left_refused seen refused handed)
+          go (Ok seen) is (Some LeftNone) answers refused handed makes out = absurd handed.1
+          go (Ok seen) is (Some (Puts value put)) answers refused handed makes out = absurd (told seen (Put value) answers)
+          go (Ok seen) is (Some (Takes None)) answers refused handed makes out = absurd handed.1
+          go (Ok seen) is (Some (Takes (Some (value, Ok told)))) answers refused handed makes out = absurd handed.1
+          go (Ok seen) is (Some (Takes (Some (value, Err e)))) answers (compute_refused.Lookup k) handed makes out = absurd handed.1
+          go (Ok seen) is (Some (Takes (Some (value, Err e)))) answers (compute_refused.Insert r) handed makes out = absurd handed.1
+          go (Ok seen) is (Some (Takes (Some (value, Err e)))) answers (NotTold k r) handed makes out =
+              subst (λ r. RefusesTake m page now old clock new clock_after limit (NotTold k r)) (sym handed.1.1) (untold seen is answers value e makes (out (Some (value, Err e)) refl) k)

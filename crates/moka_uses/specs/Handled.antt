@@ -1,5 +1,5 @@
 -- Calls that are made once more where they are refused.
-use Rattle.std.specs.Prelude.{◌≡◌, ◌==◌, ◌⊎◌, ℕ, Bool, Option, Some, None, Result, Ok, Err}
+use Rattle.std.specs.Prelude.{◌≡◌, ◌==◌, ◌⊎◌, ℕ, Bool, Option, Some, None, Result, Ok, Err, IfErr}
 use Rattle.moka_engine.specs.parts.Call.TheVariants as call
 use Rattle.moka_engine.specs.parts.CapacityError.{CapacityError}
 use Rattle.moka_engine.specs.parts.InsertError.TheVariants as insert_error
@@ -19,9 +19,10 @@ use Rattle.moka_uses.specs.Made.{Inserts, IsOneCall, Registers, simple_meaning}
 
 module _ {K V S X L P W C : Type 0} (m : Meaning K V X L P W C (Unit {0})) (key : K) (value : V) (now : Instant)
     (old : Engine K V S X L P W) (clock : C) (new : Engine K V S X L P W) (clock_after : C) where
-  -- an insert, and where memory for it was refused the same once more; no other call
+  -- an insert, and only where memory for it was refused the same once more; no other call
   abbrev pub InsertsOrRetries : Result (Unit {0}) (InsertRefused K V) → Type 0
-  InsertsOrRetries result = Inserts m key now old clock new clock_after value result
+  InsertsOrRetries result = (Inserts m key now old clock new clock_after value result
+      × IfErr result (λ refused. refused.error ≡ insert_error.NumbersUsedUp))
       ⊎ ((mid : Engine K V S X L P W) × (between : C)
       × Inserts m key now old clock mid between value
       (Err (record { error = insert_error.OutOfMemory; key = key; value = value }))

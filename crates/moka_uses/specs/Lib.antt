@@ -14,3 +14,5 @@ pub mod Handled
 pub mod Shared
 pub mod Resized
 pub mod Asked
+pub mod Late
+pub mod Weighed

@@ -1,5 +1,5 @@
 -- What a caller's function made of its cache: these calls of the reference cache, and no others.
-use Rattle.std.specs.Prelude.{◌≡◌, ℕ, Bool, false, Option, None, Result, Ok, option_map, ⊤}
+use Rattle.std.specs.Prelude.{◌≡◌, ℕ, Bool, false, List, Option, None, Result, option_map, ⊤}
 use Rattle.moka_engine.specs.parts.Call.{Call}
 use Rattle.moka_engine.specs.parts.InsertRefused.{InsertRefused}
 use Rattle.moka_engine.specs.parts.Instant.{Instant}
@@ -9,9 +9,10 @@ use Rattle.moka_engine.specs.parts.Reply.{Reply}
 use Rattle.moka_engine.specs.parts.Uuid.{Uuid}
 use Rattle.moka_engine.specs.Calls.{InvalidateStep, only_ids}
 use Rattle.moka_engine.specs.Config.{Config, new_engine}
+use Rattle.moka_engine.specs.Listed.{ListedRun}
 use Rattle.moka_engine.specs.Makes as engine
-use Rattle.moka_engine.specs.Runs.{Engine, Befalls}
-use Rattle.moka_engine.specs.State.{Meaning, Events}
+use Rattle.moka_engine.specs.Runs.{Engine, Befalls, CallStep}
+use Rattle.moka_engine.specs.State.{Meaning, State, Events}
 use Rattle.moka_engine.specs.Surroundings.{Leads}
 use Rattle.moka_drive.specs.Synchronous.{Synchronous, GetsValue, InsertsEntry, Makes, RemovesEntry, fresh, hears_clones}
 
@@ -44,9 +45,9 @@ engine_meaning eq = plain_meaning eq (λ _ _ _. ⊥)
 
 module _ {K V S X L P W C : Type 0} (m : Meaning K V X L P W C (Unit {0})) (key : K) (now : Instant)
     (old : Engine K V S X L P W) (clock : C) (new : Engine K V S X L P W) (clock_after : C) where
-  -- a look-up of the key, which found this
-  abbrev pub LooksUp : Option V → Type 0
-  LooksUp found = (hash : ℕ) × Makes m (GetsValue key hash now (Ok found)) old clock new clock_after
+  -- a look-up of the key, answered so or refused
+  abbrev pub LooksUp : Result (Option V) OutOfMemory → Type 0
+  LooksUp found = (hash : ℕ) × Makes m (GetsValue key hash now found) old clock new clock_after
 
   -- an insert of the value under the key, done or refused
   abbrev pub Inserts : V → Result (Unit {0}) (InsertRefused K V) → Type 0
@@ -76,6 +77,12 @@ module _ {K V S X L P W C I : Type 0} (m : Meaning K V X L P W C I) where
   Registers predicate now old ids new ids_after result = (e : Events K V)
       × InvalidateStep old.state predicate now result e.ids new.state × (e ≡ only_ids e.ids)
       × Befalls m.tells e old new × Leads m.gives ids e.ids ids_after
+
+-- the same of the states alone
+abbrev pub IsOneStep : {K V X L P W C I : Type 0} → Meaning K V X L P W C I → State K V X P W → State K V X P W →
+    Call K V P → Reply K V P → Type 0
+IsOneStep {K} {V} m s t call reply = (before after : List ℕ) × (e : Events K V)
+    × CallStep m (ListedRun m.says m.read before after) s call reply e t
 
 -- ---- a cache that owns its clock
 

@@ -5,18 +5,29 @@ use Rattle.std.specs.List.{AllByRecursion}
 use Rattle.moka_engine.specs.parts.Instant.{Instant}
 use Rattle.moka_engine.specs.parts.Record.{Record}
 use Rattle.moka_engine.specs.parts.Reply.TheVariants as reply
+use Rattle.moka_engine.specs.Config.{Config}
 use Rattle.moka_engine.specs.Runs.{Engine}
 use Rattle.moka_engine.specs.State.{State, Meaning}
 use Rattle.moka_engine.specs.declared.base_cache.restores.Restored.{Restored}
-use Rattle.moka_drive.specs.Saved.{AddsOnly, AnswerAlike, AreThere, IsOfItem, IsRestored, IsRoomyFor, has_expired}
-use Rattle.moka_drive.specs.Synchronous.{Just, Makes, own_run}
+use Rattle.moka_drive.specs.Saved.{AddsOnly, AnswerAlike, AreThere, IsOfItem, IsRestored, IsRoomyFor, PutsAllBack, has_expired}
+use Rattle.moka_drive.specs.Synchronous.{Synchronous, Just, Makes, own_run}
 use Rattle.moka_drive.specs.Unsent.{HidesNoMore}
+use Rattle.moka_uses.specs.Made.{IsNew}
 
 -- the cache made a run of maintenance at the moment, and no other call
 abbrev pub Runs : {K V S X L P W C : Type 0} → Meaning K V X L P W C (Unit {0}) → Instant → Engine K V S X L P W → C →
     Engine K V S X L P W → C → Type 0
 Runs m now old clock new clock_after = (more : Bool) × Makes m (Just (own_run now) (reply.Run more)) old clock
     new clock_after
+
+-- new sessions of this configuration were begun at the moment that the clock told, and those that were saved put back
+-- into them at the next; no other call
+abbrev pub AreBegunAgain : {S X L P W C : Type 0} → Meaning ℕ ℕ X L P W C (Unit {0}) → Config X L W → C →
+    List (Restored ℕ ℕ) → Synchronous ℕ ℕ S X L P W → C → Type 0
+AreBegunAgain {S} {X} {L} {P} {W} {C} m config clock saved sessions clock_after =
+    (begun : Synchronous ℕ ℕ S X L P W) × (ticked : C) × IsNew m.observes config clock begun ticked
+    × (now : Instant) × (read : C) × m.observes ticked now read
+    × ((hash_of : S → ℕ → ℕ) × PutsAllBack m hash_of now saved begun.engine read sessions.engine clock_after)
 
 -- each session that is there is one of those that were saved: with its token, and used when that was
 abbrev pub AreAmong : {X P W : Type 0} → State ℕ ℕ X P W → List (Restored ℕ ℕ) → Type 0

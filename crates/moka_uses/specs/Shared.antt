@@ -1,12 +1,13 @@
 -- What calls made of a cache in segments.
-use Rattle.std.specs.Prelude.{◌≡◌, ◌==◌, ℕ, Bool, Result}
+use Rattle.std.specs.Prelude.{◌≡◌, ◌==◌, ℕ, Bool, Option, Result}
 use Rattle.moka_engine.specs.declared.FixedClock.{FixedClock}
 use Rattle.moka_engine.specs.parts.InsertRefused.{InsertRefused}
 use Rattle.moka_engine.specs.parts.Instant.{Instant}
+use Rattle.moka_engine.specs.parts.OutOfMemory.{OutOfMemory}
 use Rattle.moka_engine.specs.State.{Meaning}
 use Rattle.moka_segments.specs.Routing.{segment_of}
 use Rattle.moka_segments.specs.Segmented.{Segmented, Steps}
-use Rattle.moka_segments.specs.Steps.{Inserts}
+use Rattle.moka_segments.specs.Steps.{Gets, Inserts}
 use Rattle.moka_segments.specs.Whole.{AllRan}
 use Rattle.moka_uses.specs.Made.{plain_meaning}
 
@@ -22,3 +23,14 @@ abbrev pub InsertsInOne : {K V S X L P W C : Type 0} → (S → K → ℕ) → M
 InsertsInOne hash_of m key value now old clock new clock_after result =
     Steps (segment_of old.routing.count (hash_of old.routing.hasher key))
     (Inserts m hash_of key now clock clock_after value result) old new
+
+-- such an insert of the value, and after it a get, done or refused, in the segment that the other key belongs to; the
+-- clock goes on from one to the other
+abbrev pub InsertsAndFinds : {K V S X L P W C : Type 0} → (S → K → ℕ) → Meaning K V X L P W C (Unit {0}) →
+    (V → V → Type 0) → K → V → K → Instant → Segmented K V S X L P W → C → Segmented K V S X L P W → C →
+    Result (Unit {0}) (InsertRefused K V) → Result (Option V) OutOfMemory → Type 0
+InsertsAndFinds {K} {V} {S} {X} {L} {P} {W} {C} hash_of m is_clone key value sought now old clock new after put got =
+    (mid : Segmented K V S X L P W) × (between : C)
+    × InsertsInOne hash_of m key value now old clock mid between put
+    × Steps (segment_of mid.routing.count (hash_of mid.routing.hasher sought))
+    (Gets m hash_of sought now between after is_clone got) mid new

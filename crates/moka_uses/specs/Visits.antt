@@ -1,5 +1,5 @@
 -- Visits counted by page.
-use Rattle.std.specs.Prelude.{◌≡◌, ◌==◌, ◌≤◌, ℕ, nat_le, Option, Some, None, Result, Ok, option_map, unwrap_or, if◌then◌else◌}
+use Rattle.std.specs.Prelude.{◌≡◌, ◌==◌, ◌≤◌, ℕ, nat_le, Option, Some, None, Result, Ok, Err, option_map, unwrap_or, if◌then◌else◌}
 use Rattle.moka_engine.specs.parts.Instant.{Instant}
 use Rattle.moka_engine.specs.parts.OutOfMemory.{OutOfMemory}
 use Rattle.moka_engine.specs.parts.Record.{Record}
@@ -11,6 +11,8 @@ use Rattle.moka_drive.specs.declared.compute.ComputeRefused.{ComputeRefused}
 use Rattle.moka_drive.specs.declared.compute.ComputeRefused.TheVariants as compute_refused
 use Rattle.moka_drive.specs.declared.compute.Op.{Op}
 use Rattle.moka_drive.specs.declared.compute.Op.TheVariants.{Nop, Remove}
+use Rattle.moka_drive.specs.declared.error.GetWithRefused.{GetWithRefused}
+use Rattle.moka_drive.specs.declared.error.GetWithRefused.TheVariants as get_with_refused
 use Rattle.moka_drive.specs.Computing.{InTurn}
 use Rattle.moka_drive.specs.Counters.{one_more}
 use Rattle.moka_drive.specs.Synchronous.{Makes, GetsValue, InsertsMade, RemovesEntry}
@@ -62,6 +64,29 @@ module _ {S X L P W C : Type 0} (m : Meaning ℕ ℕ X L P W C (Unit {0})) (page
       × (taken ≡ option_map (λ t. t.0) out)
       × Makes m (InTurn (GetsValue page hash now (Ok (Some count)))
       (RemovesEntry page hash now out)) old clock new clock_after
+
+module _ {S X L P W C : Type 0} (m : Meaning ℕ ℕ X L P W C (Unit {0})) (page : ℕ) (now : Instant)
+    (old : Engine ℕ ℕ S X L P W) (clock : C) (new : Engine ℕ ℕ S X L P W) (clock_after : C) where
+  -- the look-up of the page was refused
+  abbrev pub RefusesLookup : Type 0
+  RefusesLookup = (hash : ℕ) × (refused : OutOfMemory)
+      × Makes m (GetsValue page hash now (Err refused)) old clock new clock_after
+
+  -- the look-up of the page was refused; or it was answered, and the insert of the next count refused
+  abbrev pub RefusesCount : GetWithRefused ℕ ℕ → Type 0
+  RefusesCount (get_with_refused.Lookup k) = RefusesLookup
+  RefusesCount (get_with_refused.Insert refused) = (hash : ℕ)
+      × Makes m (InTurn (GetsValue page hash now (Ok (count_at old.state page now.0)))
+      (InsertsMade page hash now (next_count old.state page now.0) (Err refused))) old clock new clock_after
+
+  -- the look-up of the page was refused; or it found a count that has reached the limit, and the removal that handed it
+  -- out could not be told
+  abbrev pub RefusesTake : ℕ → ComputeRefused ℕ ℕ → Type 0
+  RefusesTake limit (compute_refused.Lookup k) = RefusesLookup
+  RefusesTake limit (compute_refused.Insert refused) = ⊥
+  RefusesTake limit (compute_refused.NotTold k refused) = IsFull old.state page now.0 limit refused.value
+      × HasLeft new.state page × ((hash : ℕ) × Makes m (InTurn (GetsValue page hash now (Ok (Some refused.value)))
+      (RemovesEntry page hash now (Some (refused.value, Err refused.error)))) old clock new clock_after)
 
 -- what is to be done with a page of this count
 abbrev pub op_for : ℕ → Option ℕ → Op ℕ

@@ -1,7 +1,7 @@
 //! Rows that are put in, looked up and taken out many at a time.
 ghost use Rattle.std.specs.Prelude.{◌≡◌, ◌++◌, ◌∷◌, List, length, IfOk, IfErr};
 ghost use Rattle.std.specs.Vec.Iter.{into_iter_items};
-ghost use Rattle.moka_parts.specs.Hashing.{key_hash};
+ghost use Rattle.moka_engine.specs.Hashing.{key_hash};
 ghost use Rattle.moka_drive.specs.Many.{GetsMany, InsertsMany, InvalidatesMany};
 ghost use Rattle.moka_drive.specs.Synchronous.{Makes, hears_clones, meaning_of};
 

@@ -60,9 +60,9 @@ pub fn price<C: Clock>(prices: &mut Prices<C>, name: &str) -> Result<Option<u64>
     ensures value { IfOk result (λ found. IfSome found (IsPriceOf prices.old.cache.engine.state name.now)) }
     ensures found { (now : Instant) × (read : C) × C.reads prices.old.clock now read
         × IfOk result (λ found. IsFoundAt prices.old.cache.engine.state name.now now.0 (is_some found))
-        × IfOk result (λ found. (key : String _) → string_bytes key ≡ name.now
+        × ((key : String _) → string_bytes key ≡ name.now
         → LooksUp (plain_meaning string_eq C.reads) key now prices.old.cache.engine read
-        prices.new.cache.engine prices.new.clock found) }
+        prices.new.cache.engine prices.new.clock result) }
     ensures unchanged { OnErr result (prices.new.cache.engine.state ≡ prices.old.cache.engine.state) }
 {
     let hash = prices.hash_of(&name);

@@ -1,5 +1,5 @@
 //! A bounded cache in ten lines.
-ghost use Rattle.std.specs.Prelude.{◌≡◌, Some, IfOk, option_map};
+ghost use Rattle.std.specs.Prelude.{◌≡◌, Some, None, IfOk};
 
 use anyhow::Result;
 use moka_engine::{CacheConfig, Engine, Entry, EvictionPolicy, FixedClock, Instant};
@@ -7,7 +7,7 @@ use std::alloc::Global;
 
 /// Puts a value into a cache of at most 10,000 entries, and gets it back.
 pub fn put_and_get(alloc: Global, key: u64, value: u64) -> Result<Option<Entry<u64, u64>>>
-    ensures { IfOk result (λ found. option_map (λ entry. entry.value) found ≡ Some value) }
+    ensures { IfOk result (λ found. found ≡ Some (record { key = None; value = value })) }
 {
     let now = Instant(0);
     let policy = EvictionPolicy::lru();

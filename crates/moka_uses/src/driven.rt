@@ -1,6 +1,6 @@
 //! A list of calls, and what the laws make of what `drive` promises of it.
 ghost use Rattle.std.specs.Prelude.{◌≡◌, IfErr, IfOk, OnErr};
-ghost use Rattle.moka_drive.specs.Meanings.{meaning_of};
+ghost use Rattle.moka_engine.specs.State.{meaning_of};
 ghost use Rattle.moka_engine.specs.Copies.{ClonesAreEqual};
 ghost use Rattle.moka_uses.specs.Driven.{Follows};
 

@@ -94,8 +94,8 @@ pub fn find<C: Clock>(logins: &mut Logins<C>, number: u64) -> Result<Option<Sess
     ensures shown { (now : Instant) × (read : C) × C.reads logins.old.clock now read
         × IfOk result
         (λ found. ContainsStep is_of (λ a b. a == b) logins.old.cache.engine.state number now.0 (is_some found))
-        × IfOk result (LooksUp (meaning C.reads (λ _ _ _. ⊥)) number now logins.old.cache.engine read
-        logins.new.cache.engine logins.new.clock) }
+        × LooksUp (meaning C.reads (λ _ _ _. ⊥)) number now logins.old.cache.engine read
+        logins.new.cache.engine logins.new.clock result }
     ensures kept { IfOk result (λ found. IfSome found (IsSession logins.old.cache.engine.state number)) }
     ensures unchanged { OnErr result (logins.new.cache.engine.state ≡ logins.old.cache.engine.state) }
 {

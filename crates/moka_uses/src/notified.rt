@@ -1,5 +1,6 @@
 //! A cache with a listener that counts what leaves.
 ghost use Rattle.std.specs.Prelude.{◌≡◌, ◌==◌, Some, IfOk};
+ghost use Rattle.std.specs.FinMap.{empty};
 ghost use Rattle.moka_drive.specs.Unsent.{IsThere};
 
 use anyhow::Result;
@@ -24,6 +25,7 @@ impl<K: Drop, V: Drop> Listener<K, V> for Counter {
 }
 
 /// Puts two values under one key, of which the first leaves: the listener has counted one, and the second is there.
+/// Both operations were sent.
 pub fn replace(
     alloc: Global,
     key: u64,
@@ -31,6 +33,7 @@ pub fn replace(
     second: u64,
 ) -> Result<Engine<u64, u64, NoExpiry, Counter>>
     ensures notified { IfOk result (λ cache. cache.listener ≡ Some (record { count = 1 })) }
+    ensures sent { IfOk result (λ cache. cache.state.outstanding ≡ empty) }
     ensures replaced { IfOk result (λ cache. IsThere (λ a b. a == b) cache.state key second (record { 0 = 0 })) }
 {
     let now = Instant(0);

@@ -1,11 +1,13 @@
 //! Sessions that outlast a restart: they are saved when the program ends, and put back when it starts again.
-ghost use Rattle.std.specs.Prelude.{◌≡◌, ◌==◌, ◌≤◌, false, length, IfOk, Some};
+ghost use Rattle.std.specs.Prelude.{◌≡◌, ◌==◌, ◌≤◌, false, length, IfOk, List, None, Some};
 ghost use Rattle.std.specs.Duration.{as_nanos};
 ghost use Rattle.moka_engine.specs.parts.Instant.{Instant};
+ghost use Rattle.moka_engine.specs.Config.{default_config};
 ghost use Rattle.moka_engine.specs.Snapshots.{scene_of};
+ghost use Rattle.moka_engine.specs.declared.base_cache.restores.Restored.{Restored};
 ghost use Rattle.moka_drive.specs.Saved.{AreAllMembers, AreSaved};
 ghost use Rattle.moka_uses.specs.Made.{plain_meaning};
-ghost use Rattle.moka_uses.specs.Restarted.{AreAmong, AreBack, AreHandedOver, ArePutBack, Runs};
+ghost use Rattle.moka_uses.specs.Restarted.{AreAmong, AreBack, AreBegunAgain, AreHandedOver, ArePutBack, Runs};
 
 use crate::sessions::Sessions;
 use moka_drive::laws::made_again_answers_alike;
@@ -50,6 +52,10 @@ pub fn start_again<C: Clock + Drop>(
         × AreBack sessions.cache.engine.state saved.items now.0
         × ArePutBack (λ _ _ _ weight. weight ≡ 1) saved.items now.0 (as_nanos idle) sessions.cache.engine.state) }
     ensures among { IfOk result (λ sessions. AreAmong sessions.cache.engine.state saved.items) }
+    ensures unbounded { IfOk result (λ sessions. sessions.cache.engine.state.capacity ≡ None) }
+    ensures made { IfOk result (λ sessions. AreBegunAgain (plain_meaning (λ a b. a == b) C.reads)
+        (record default_config { time_to_idle = Some (as_nanos idle) })
+        clock saved.items sessions.cache sessions.clock) }
 {
     let config = CacheConfig::default().time_to_idle(idle);
     let mut sessions = TimedCache::build(config, alloc, clock)?;
@@ -75,6 +81,10 @@ pub fn start_again_within<C: Clock + Drop>(
     ensures back { IfOk result (λ sessions. (begun : Instant) × (ticked : C) × C.reads clock begun ticked
         × (now : Instant) × (read : C) × C.reads ticked now read
         × (1 ≤ capacity → length saved.items ≤ capacity → AreBack sessions.cache.engine.state saved.items now.0)) }
+    ensures among { IfOk result (λ sessions. AreAmong sessions.cache.engine.state saved.items) }
+    ensures made { IfOk result (λ sessions. AreBegunAgain (plain_meaning (λ a b. a == b) C.reads)
+        (record default_config { time_to_idle = Some (as_nanos idle); max_capacity = Some capacity })
+        clock saved.items sessions.cache sessions.clock) }
 {
     made_again_answers_alike::<u64, u64, NoExpiry, NoPredicate, NoWeigher>();
     let config = CacheConfig::default()
@@ -98,7 +108,11 @@ pub fn hand_over<C: Clock, D: Clock + Drop>(
     idle: Duration,
     clock: D,
 ) -> Result<Sessions<D>, OutOfMemory>
-    ensures { (saved : Instant) × (read : C) × C.reads sessions.old.clock saved read
+    ensures idle { IfOk result (λ again. again.cache.engine.state.settings.time_to_idle ≡ Some (as_nanos idle)) }
+    ensures begun { IfOk result (λ again. (saved : List (Restored _ _))
+        × AreBegunAgain (plain_meaning (λ a b. a == b) D.reads)
+        (record default_config { time_to_idle = Some (as_nanos idle) }) clock saved again.cache again.clock) }
+    ensures handed_over { (saved : Instant) × (read : C) × C.reads sessions.old.clock saved read
         × Runs (plain_meaning (λ a b. a == b) C.reads) saved sessions.old.cache.engine read
         sessions.new.cache.engine sessions.new.clock
         × IfOk result (λ again. (begun : Instant) × (ticked : D) × D.reads clock begun ticked

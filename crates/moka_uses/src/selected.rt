@@ -2,7 +2,7 @@
 ghost use Rattle.std.specs.Prelude.{◌≡◌, IfErr, IfOk};
 ghost use Rattle.moka_drive.specs.Entries.{OrInserts};
 ghost use Rattle.moka_drive.specs.Given.{IsHandedOut};
-ghost use Rattle.moka_parts.specs.Hashing.{key_hash};
+ghost use Rattle.moka_engine.specs.Hashing.{key_hash};
 ghost use Rattle.moka_drive.specs.Synchronous.{meaning_of};
 
 use moka_drive::{Cache, CacheEntry};

@@ -60,8 +60,8 @@ pub fn log_in<C: Clock>(
 pub fn touch<C: Clock>(sessions: &mut Sessions<C>, user: u64) -> Result<Option<u64>, OutOfMemory>
     ensures found { (now : Instant) × (read : C) × C.reads sessions.old.clock now read
         × IfOk result (λ token. IsFoundWithin sessions.old.cache.engine.state user now.0 (is_some token))
-        × IfOk result (LooksUp (plain_meaning (λ a b. a == b) C.reads) user now sessions.old.cache.engine read
-        sessions.new.cache.engine sessions.new.clock) }
+        × LooksUp (plain_meaning (λ a b. a == b) C.reads) user now sessions.old.cache.engine read
+        sessions.new.cache.engine sessions.new.clock result }
     ensures kept { IfOk result (λ token. IfSome token (IsTokenOf sessions.old.cache.engine.state user)) }
     ensures unchanged { OnErr result (sessions.new.cache.engine.state ≡ sessions.old.cache.engine.state) }
 {

@@ -1,11 +1,11 @@
 //! A cache in segments that keeps its bound, and each key in one segment, each of which is a cache of its own.
 ghost use Rattle.std.specs.Prelude.{◌≡◌, ◌≤◌, IfErr, IfSome};
-ghost use Rattle.moka_parts.specs.Hashing.{key_hash};
+ghost use Rattle.moka_engine.specs.Hashing.{key_hash};
 ghost use Rattle.moka_drive.specs.Synchronous.{meaning_of};
 ghost use Rattle.moka_segments.specs.Keys.{AreInOneSegment, KeysBelong};
 ghost use Rattle.moka_segments.specs.Moves.{InsertsThenGets};
 ghost use Rattle.moka_segments.specs.Whole.{saturated, total, whole_capacity};
-ghost use Rattle.moka_uses.specs.Shared.{EachRan, InsertsInOne};
+ghost use Rattle.moka_uses.specs.Shared.{EachRan, InsertsAndFinds, InsertsInOne};
 
 use moka_engine::{
     Clock, Expiry, FixedClock, InsertRefused, Instant, Listener, OutOfMemory, PredicateFn, Weigher,
@@ -95,7 +95,10 @@ pub fn put_and_find<
     Result<(), InsertRefused<K, V>>,
     Result<Option<V>, OutOfMemory>,
 )
-    ensures { InsertsThenGets (λ h k. key_hash S.BuildHasher S.Hasher.Hasher h (K.hash_input k))
+    ensures made { InsertsAndFinds (λ h k. key_hash S.BuildHasher S.Hasher.Hasher h (K.hash_input k))
+        (meaning_of K.eq L.tells P.says W.weighs C.reads X.created X.read X.updated) V.is_clone
+        entry.0 entry.1 sought.now now cache.old clock.old cache.new clock.new result.0 result.1 }
+    ensures runs { InsertsThenGets (λ h k. key_hash S.BuildHasher S.Hasher.Hasher h (K.hash_input k))
         (meaning_of K.eq L.tells P.says W.weighs C.reads X.created X.read X.updated) K.is_clone V.is_clone
         entry.0 entry.1 sought.now now result.0 result.1 cache.old cache.new }
 {

@@ -1,5 +1,5 @@
 //! A cache of texts by texts. A look-up hands out a clone, which has the bytes of the text that was put.
-ghost use Rattle.std.specs.Prelude.{◌≡◌, Some, IfOk, option_map};
+ghost use Rattle.std.specs.Prelude.{◌≡◌, Some, None, IfOk, IfSome, option_map};
 ghost use Rattle.std.specs.String.{string_bytes};
 
 use anyhow::Result;
@@ -12,7 +12,9 @@ pub fn put_and_get(
     key: String,
     text: String,
 ) -> Result<Option<Entry<String, String>>>
-    ensures { IfOk result (λ found. option_map (λ entry. string_bytes entry.value) found ≡ Some (string_bytes text)) }
+    ensures text { IfOk result
+        (λ found. option_map (λ entry. string_bytes entry.value) found ≡ Some (string_bytes text)) }
+    ensures no_key { IfOk result (λ found. IfSome found (λ entry. entry.key ≡ None)) }
 {
     let now = Instant(0);
     let policy = EvictionPolicy::lru();

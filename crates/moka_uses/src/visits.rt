@@ -1,7 +1,7 @@
 //! Visits, counted by page.
 ghost use Rattle.std.specs.Prelude.{◌≡◌, IfErr, IfOk, IfSome, option_copied};
 ghost use Rattle.moka_drive.specs.Given.{ComesBack};
-ghost use Rattle.moka_uses.specs.Visits.{HasLeft, IsFull, LooksUp, PutsCount, RemovesCount, meaning, next_count, op_for, page_of};
+ghost use Rattle.moka_uses.specs.Visits.{HasLeft, IsFull, LooksUp, PutsCount, RefusesCount, RefusesTake, RemovesCount, meaning, next_count, op_for, page_of};
 
 use moka_drive::laws::hears_themselves;
 use moka_drive::{Cache, CompResult, ComputeRefused, GetWithRefused, Op};
@@ -23,6 +23,8 @@ pub fn count<C: Clock>(
         (PutsCount (meaning C.reads) page now visits.old.engine clock.old visits.new.engine clock.new) }
     ensures back { IfErr result (ComesBack visits.old.engine.state visits.new.engine.state page
         (λ count. count ≡ next_count visits.old.engine.state page now.0)) }
+    ensures refused { IfErr result
+        (RefusesCount (meaning C.reads) page now visits.old.engine clock.old visits.new.engine clock.new) }
 {
     let one_more = |seen: Option<u64>| seen.unwrap_or(0).saturating_add(1);
     let entry = visits.entry(page).and_upsert_with(one_more, now, clock)?;
@@ -50,6 +52,8 @@ pub fn take_full<C: Clock>(
     ensures looked_up { IfOk result (λ _. ((count : _) → IsFull visits.old.engine.state page now.0 limit count → ⊥)
         → LooksUp (meaning C.reads) page now visits.old.engine clock.old visits.new.engine clock.new) }
     ensures back { IfErr result (λ refused. page_of refused ≡ page) }
+    ensures refused { IfErr result
+        (RefusesTake (meaning C.reads) page now visits.old.engine clock.old visits.new.engine clock.new limit) }
 {
     hears_themselves::<u64, u64, DefaultHasher, NoExpiry, NoListener, NoPredicate, NoWeigher, C>();
     let remove_full = move |seen: Option<&u64>| -> Op<u64>

@@ -1,6 +1,7 @@
 //! A cache bounded by the bytes of its texts.
 ghost use Rattle.std.specs.Prelude.{◌≡◌, ◌+◌, ◌≤◌, IfOk};
 ghost use Rattle.std.specs.String.{string_len};
+ghost use Rattle.moka_uses.specs.Weighed.{IsWeightKept};
 
 use anyhow::Result;
 use moka_engine::{
@@ -34,6 +35,7 @@ pub type Texts = Engine<u64, String, NoExpiry, NoListener, NoPredicate, ByLength
 /// room for both.
 pub fn keep_two(alloc: Global, one: String, other: String) -> Result<u64>
     ensures within { IfOk result (λ kept. kept ≤ 1_000) }
+    ensures made { IfOk result (IsWeightKept one other) }
     ensures both { string_len one + string_len other ≤ 1_000
         → IfOk result (λ kept. kept ≡ string_len one + string_len other) }
 {

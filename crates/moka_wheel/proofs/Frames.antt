@@ -1,6 +1,6 @@
 -- Which timers there are after each step, and how many stand in a bucket.
-use Rattle.std.proofs.Common.{◌≡◌, ◌≢◌, ℕ, ◌+◌, ◌<◌, ◌≤◌, true, false, cond, nat_eq, nat_lt, List, Option, Some, None, length, set, length-set, inl, inr, refl, sym, ap, ◌∙◌, subst, arith}
-use Rattle.std.proofs.lemmas.Bool.{cases_eq, cases_lt, cond-true, cond-false, eq-eqb, ne_eqb}
+use Rattle.std.proofs.Common.{◌≡◌, ◌≢◌, ℕ, ◌+◌, ◌<◌, ◌≤◌, cond, nat_eq, nat_lt, List, Option, Some, None, length, set, length-set, inl, inr, refl, sym, ap, ◌∙◌, subst, arith}
+use Rattle.std.proofs.lemmas.Bool.{cases_eq, cases_lt, cond-true, cond-false, eq-eqb, ne_eqb, lt-ltb, le-ltb}
 use Rattle.std.proofs.lemmas.List.Sums.{sum_by-set}
 use Rattle.std.specs.List.{sum_by}
 use Rattle.moka_links.proofs.Nodes as linked
@@ -20,28 +20,22 @@ held-is ns ms i b n a =
     ∙ ap (λ x. cond (nat_lt i 2049) None (cond (nat_lt (buckets ns i) 2049) (Some (record { number = x; at = moments ms i })) None)) n
     ∙ ap (λ x. cond (nat_lt i 2049) None (cond (nat_lt (buckets ns i) 2049) (Some (record { number = numbers ns i; at = x })) None)) a
 
-pub lt-true : (a b : ℕ) → a < b → nat_lt a b ≡ true
-lt-true a b l = search arith
-
-pub lt-false : (a b : ℕ) → b ≤ a → nat_lt a b ≡ false
-lt-false a b l = search arith
-
 pub past-head : (ns : List Node) (i : ℕ) → 2049 ≤ i → timer_at ns i ≡ held (at ns i)
-past-head ns i l = cond-false (nat_lt i 2049) None (held (at ns i)) (lt-false i 2049 l)
+past-head ns i l = cond-false (nat_lt i 2049) None (held (at ns i)) (le-ltb i 2049 l)
 
 -- a head holds no timer
 pub head-none : (ns : List Node) (i : ℕ) → i < 2049 → timer_at ns i ≡ None
-head-none ns i l = cond-true (nat_lt i 2049) None (held (at ns i)) (lt-true i 2049 l)
+head-none ns i l = cond-true (nat_lt i 2049) None (held (at ns i)) (lt-ltb i 2049 l)
 
 -- what a node that is free, or past the last, holds
 pub held-none : (ns : List Node) (i : ℕ) → 2049 ≤ buckets ns i → timer_at ns i ≡ None
 held-none ns i free = elim (cases_lt i 2049) as (λ _. timer_at ns i ≡ None) [
-  | inl head ↦ cond-true (nat_lt i 2049) None (held (at ns i)) (lt-true i 2049 head)
-  | inr past ↦ past-head ns i past ∙ cond-false (nat_lt (buckets ns i) 2049) _ None (lt-false (buckets ns i) 2049 free)
+  | inl head ↦ cond-true (nat_lt i 2049) None (held (at ns i)) (lt-ltb i 2049 head)
+  | inr past ↦ past-head ns i past ∙ cond-false (nat_lt (buckets ns i) 2049) _ None (le-ltb (buckets ns i) 2049 free)
 ]
 
 pub held-some : (ns : List Node) (i : ℕ) → 2049 ≤ i → buckets ns i < 2049 → timer_at ns i ≡ Some (record { number = numbers ns i; at = moments ns i })
-held-some ns i past held = past-head ns i past ∙ cond-true (nat_lt (buckets ns i) 2049) _ None (lt-true (buckets ns i) 2049 held)
+held-some ns i past held = past-head ns i past ∙ cond-true (nat_lt (buckets ns i) 2049) _ None (lt-ltb (buckets ns i) 2049 held)
 
 -- a node that is not free links no free one
 not-free : (ns : List Node) (i j : ℕ) → buckets ns j ≡ buckets ns i → buckets ns i < 2049 → (m : ℕ) → 2049 ≤ buckets ns m → m ≢ j

@@ -60,11 +60,8 @@ len-taken m s u some =
     ] in
     omega (arith, is, positive)
 
-pub tie : (q s : ℕ) → eq_by_cmp nat_cmp q s ≡ nat_eq q s
-tie q s = unsigned_tied q s
-
 pub get-put : (m : FinMap nat_cmp Timer) (s : ℕ) (t : Timer) (q : ℕ) → get (insert m s t) q ≡ cond (nat_eq q s) (Some t) (get m q)
-get-put m s t q = get-insert nat_cmp_total m s t q ∙ ap (λ b. cond b (Some t) (get m q)) (tie q s)
+get-put m s t q = get-insert nat_cmp_total m s t q ∙ ap (λ b. cond b (Some t) (get m q)) (unsigned_tied q s)
 
 pub get-taken : (m : FinMap nat_cmp Timer) (s q : ℕ) → get (remove m s) q ≡ cond (nat_eq q s) None (get m q)
-get-taken m s q = get-remove nat_cmp_total m s q ∙ ap (λ b. cond b None (get m q)) (tie q s)
+get-taken m s q = get-remove nat_cmp_total m s q ∙ ap (λ b. cond b None (get m q)) (unsigned_tied q s)

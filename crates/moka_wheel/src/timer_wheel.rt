@@ -82,11 +82,12 @@ impl TimerWheel {
         self.len
     }
 
-    /// Makes room for `additional` more timers. It refuses more than 32-bit slots can name, as it does for want of
-    /// memory.
+    /// Makes room for `additional` more timers, and changes nothing where there is room. It refuses more than 32-bit
+    /// slots can name, as it does for want of memory.
     pub fn reserve(&mut self, additional: usize) -> Result<(), AllocError>
         ensures room { OnOk result (additional ≤ self.new.room) }
         ensures succeeds { additional ≤ self.old.room → IsOk result }
+        ensures enough { additional ≤ self.old.room → self.new ≡ self.old }
         ensures timers { self.new.timers ≡ self.old.timers }
         ensures grows { self.old.room ≤ self.new.room }
     {

@@ -12,7 +12,7 @@ ghost use Rattle.moka_drive.specs.Saved.{AddsOnly, AreAllMembers, AreSaved, AreT
 ghost use Rattle.moka_drive.specs.Synchronous.{Just, Makes, meaning_of, own_run};
 ghost use Rattle.moka_drive.specs.Unsent.{HidesNoMore};
 
-use super::{Cache, post};
+use super::Cache;
 use moka_engine::base_cache::{RestoreRefused, Restored, Snapshot, SnapshotEntry};
 use moka_parts::closures::{PredicateFn, Weigher};
 use moka_parts::error::OutOfMemory;
@@ -123,18 +123,18 @@ impl<
             return Ok(());
         }
         let ticket = self.engine.restore(item)?;
-        post(&mut self.engine, ticket, now, clock);
+        Self::post(&mut self.engine, ticket, now, clock);
         self.engine.invariant_holds();
         Ok(())
     }
 
     /// Puts each entry back, in order, as `restore_entry`.
     ///
-    /// An entry that is there is visible exactly when the one was that it was listed of, until either is read or
-    /// written, if time to live and time to idle are the same (`laws::answers_as_before`). Without predicates and an
-    /// invalidation of all, and if there is no capacity or it has room for all entries, each is there that has not
-    /// expired at the moment `now` (`IsRoomyFor`); else runs that a later entry starts may evict it. How often keys
-    /// were asked for is not known any more, and entries do not stand in the order of writing.
+    /// If there are no predicates and no invalidation of all: an entry that was put back is visible exactly when the
+    /// saved one is, until either is read or written, if time to live and time to idle are the same
+    /// (`laws::answers_as_before`); and each entry that has not expired at the moment `now` is there afterwards, if the
+    /// capacity, should one be set, has room for all (`IsRoomyFor`). Else runs that a later entry starts may evict it.
+    /// How often keys were asked for is forgotten, and entries do not stand in the order of writing.
     ///
     /// # Errors
     /// As `restore_entry`, at the first entry that is refused: it comes back with the entries after it.

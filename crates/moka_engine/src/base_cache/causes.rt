@@ -1,9 +1,9 @@
 //! The causes of which the listener is notified by callers' writes.
 //!
 //! moka: `sync::base_cache::Inner::notify_upsert`, `Inner::notify_invalidate`.
-ghost use Rattle.std.specs.Prelude.{◌≡◌, ◌||◌, if◌then◌else◌};
-ghost use Rattle.moka_parts.specs.Time.{has_passed, is_before, deadline, moment_of};
-ghost use Rattle.moka_parts.specs.declared.notification.RemovalCause.TheVariants.{Expired, Explicit, Replaced};
+ghost use Rattle.std.specs.Prelude.{◌≡◌};
+ghost use Rattle.moka_parts.specs.Causes.{cause_of_removal, cause_of_replacement};
+ghost use Rattle.moka_engine.specs.BaseCache.{expiring_by};
 
 use moka_parts::expiry::{is_expired_by_tti, is_expired_by_ttl, is_invalid_entry};
 use moka_parts::notification::RemovalCause;
@@ -17,9 +17,7 @@ pub(super) fn cause_of_replacement<K, V, X>(
     valid_after: Option<Instant>,
     now: Instant,
 ) -> RemovalCause
-    ensures { result ≡ (if has_passed (deadline policy.now.time_to_live found.now.written.0) now.0 then Expired
-        else (if is_before found.now.written.0 (moment_of valid_after) then Explicit
-        else (if has_passed (deadline policy.now.time_to_idle found.now.read.0) now.0 then Expired else Replaced))) }
+    ensures { result ≡ cause_of_replacement (expiring_by policy.now) valid_after found.now now.0 }
 {
     if is_expired_by_ttl(policy.time_to_live(), found.written(), now) {
         RemovalCause::Expired
@@ -39,8 +37,7 @@ pub(super) fn cause_of_removal<X>(
     read: Instant,
     now: Instant,
 ) -> RemovalCause
-    ensures { result ≡ (if (has_passed (deadline policy.now.time_to_live written.0) now.0
-        || has_passed (deadline policy.now.time_to_idle read.0) now.0) then Expired else Explicit) }
+    ensures { result ≡ cause_of_removal (expiring_by policy.now) written.0 read.0 now.0 }
 {
     if is_expired_by_ttl(policy.time_to_live(), written, now)
         || is_expired_by_tti(policy.time_to_idle(), read, now)

@@ -1,4 +1,4 @@
-//! Look-ups that ask a test of the caller's, and such as record nothing.
+//! Look-ups with a caller's test, and look-ups that record nothing.
 //! moka: `sync::base_cache::BaseCache`, `common::concurrent::ScanningGet`.
 ghost use Rattle.std.specs.Prelude.{Bool, Some};
 ghost use Rattle.moka_parts.specs.Calls.{GetStep, PeekStep, ScanStep, no_events};
@@ -113,16 +113,10 @@ impl<
         let sought = (key, hashes.own);
         let shown = gets::find_unless(&self.inner, &moments, &self.invalidator, sought, test);
         let Some((handle, found)) = shown else {
-            // A disabled map holds nothing, so only a miss has to ask. It queues no reads.
-            if self.is_map_disabled() {
-                return Ok(None);
-            }
             self.record_miss(hashes.hash, now, clock);
             return Ok(None);
         };
-        let Ok(entry) = gets::entry_of(&found, need_key) else {
-            return Err(OutOfMemory);
-        };
+        let entry = gets::entry_of(&found, need_key)?;
         let (hash, hit) = (found.hash(), gets::hit_of(&found, policy, now));
         let read = ReadHit {
             number: handle.number,
@@ -198,9 +192,7 @@ impl<
         let Some((handle, found)) = shown else {
             return Ok(None);
         };
-        let Ok(value) = found.value().clone() else {
-            return Err(OutOfMemory);
-        };
+        let value = found.value().clone()?;
         let hit = gets::hit_of(&found, policy, now);
         self.inner
             .touch(handle, hit.read, hit.expires, hit.is_renewed);
@@ -217,11 +209,7 @@ impl<
         V: Clone,
         ensures { HandsOut V.is_clone (ScanStep P.says K.eq self.now.state key.now now.0) result }
     {
-        let moments = Moments {
-            policy: &self.expiration_policy,
-            valid_after: &self.valid_after,
-            now,
-        };
+        let moments = self.moments(now);
         let sought = (key, self.inner.index_hash(key));
         let shown = gets::find_shown(&self.inner, &moments, &self.invalidator, sought);
         let Some((_, found)) = shown else {

@@ -6,7 +6,7 @@ ghost use Rattle.moka_parts.specs.Records.{record_of_key};
 ghost use Rattle.moka_parts.specs.Runs.{Befalls};
 ghost use Rattle.moka_parts.specs.State.{is_disabled};
 ghost use Rattle.moka_store.specs.Hashing.{IsIndexHash};
-ghost use Rattle.moka_engine.specs.Restores.{RestoreStep, restore_error};
+ghost use Rattle.moka_engine.specs.Restores.{RestoreStep};
 
 use super::{BaseCache, inserts};
 use moka_inner::{Hashes, Inner};
@@ -23,7 +23,9 @@ use std::hash::{BuildHasher, Hash};
 /// An entry to be put back, with the moments and the expiry that it had.
 #[derive(Debug, Drop)]
 pub struct Restored<K, V> {
+    /// The key under which it is put back.
     pub key: K,
+    /// The value that it had.
     pub value: V,
     /// When it was last inserted.
     pub last_modified: Instant,
@@ -65,10 +67,26 @@ impl fmt::Display for RestoreError {
 
 impl Error for RestoreError {}
 
+impl From<InsertError> for RestoreError {
+    ghost use Rattle.std.specs.Prelude.{◌≡◌};
+    ghost use Rattle.moka_engine.specs.Restores.{restore_error};
+
+    ghost from_gives = { λ error reason. reason ≡ restore_error error };
+
+    fn from(error: InsertError) -> RestoreError {
+        match error {
+            InsertError::NumbersUsedUp => RestoreError::NumbersUsedUp,
+            InsertError::OutOfMemory => RestoreError::OutOfMemory,
+        }
+    }
+}
+
 /// An entry that was not put back, and why. Nothing has changed.
 #[derive(Debug, Drop)]
 pub struct RestoreRefused<K, V> {
+    /// Why it was not.
     pub error: RestoreError,
+    /// The entry, as it was handed in.
     pub item: Restored<K, V>,
 }
 
@@ -121,7 +139,7 @@ impl<
         }
         let weight = inserts::weigh(&self.weigher, &item.key, &item.value);
         if let Err(refused) = self.inner.reserve_record() {
-            let error = error_of(refused);
+            let error = RestoreError::from(refused);
             return Err(RestoreRefused { error, item });
         }
         let Restored {
@@ -154,14 +172,4 @@ fn is_unsupported<X>(expires: Option<Instant>, policy: &ExpirationPolicy<X>) -> 
     ensures { result ≡ (is_some expires && not (is_some policy.now.expiry)) }
 {
     expires.is_some() && policy.expiry().is_none()
-}
-
-// The same reason.
-fn error_of(error: InsertError) -> RestoreError
-    ensures { result ≡ restore_error error }
-{
-    match error {
-        InsertError::NumbersUsedUp => RestoreError::NumbersUsedUp,
-        InsertError::OutOfMemory => RestoreError::OutOfMemory,
-    }
 }

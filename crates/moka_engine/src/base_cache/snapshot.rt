@@ -47,6 +47,7 @@ impl<'a, K: Eq + Hash, V, S: BuildHasher, X, P> Model for Snapshot<'a, K, V, S, 
 pub struct SnapshotEntry<'a, K, V> {
     /// The key that the cache keeps.
     pub key: &'a K,
+    /// The value that stands under it.
     pub value: &'a V,
     /// When it was last inserted.
     pub last_modified: Instant,
@@ -74,11 +75,7 @@ impl<
     {
         Snapshot {
             inner: &self.inner,
-            moments: Moments {
-                policy: &self.expiration_policy,
-                valid_after: &self.valid_after,
-                now,
-            },
+            moments: self.moments(now),
             invalidator: &self.invalidator,
             at: handle_of(self.inner.front_member()),
         }

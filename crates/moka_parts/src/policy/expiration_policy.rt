@@ -70,6 +70,7 @@ impl<X> ExpirationPolicy<X> {
         Some(self.time_to_live.as_ref()?.duration())
     }
 
+    /// Sets how long an entry stays after it was written.
     pub fn set_time_to_live(&mut self, duration: Duration)
         ensures { self.new ≡ record self.old { time_to_live = Some (as_nanos duration) } }
     {
@@ -84,6 +85,7 @@ impl<X> ExpirationPolicy<X> {
         Some(self.time_to_idle.as_ref()?.duration())
     }
 
+    /// Sets how long an entry stays after it was written or read.
     pub fn set_time_to_idle(&mut self, duration: Duration)
         ensures { self.new ≡ record self.old { time_to_idle = Some (as_nanos duration) } }
     {
@@ -104,10 +106,9 @@ impl<X> ExpirationPolicy<X> {
     pub(crate) fn is_past_time_to_live(&self, written: Instant, now: Instant) -> bool
         ensures { result ≡ has_passed (deadline self.now.time_to_live written.0) now.0 }
     {
-        match &self.time_to_live {
-            Some(span) => span.has_passed(written, now),
-            None => false,
-        }
+        self.time_to_live
+            .as_ref()
+            .is_some_and(|span| span.has_passed(written, now))
     }
 
     /// Whether the time to idle of an entry read then is over.
@@ -115,10 +116,9 @@ impl<X> ExpirationPolicy<X> {
     pub(crate) fn is_past_time_to_idle(&self, read: Instant, now: Instant) -> bool
         ensures { result ≡ has_passed (deadline self.now.time_to_idle read.0) now.0 }
     {
-        match &self.time_to_idle {
-            Some(span) => span.has_passed(read, now),
-            None => false,
-        }
+        self.time_to_idle
+            .as_ref()
+            .is_some_and(|span| span.has_passed(read, now))
     }
 
     /// What decides when each entry expires.
@@ -128,6 +128,7 @@ impl<X> ExpirationPolicy<X> {
         self.expiry.as_ref()
     }
 
+    /// Sets what decides when each entry expires.
     pub fn set_expiry(&mut self, expiry: X)
     where
         X: Drop,

@@ -59,8 +59,11 @@ pub trait ExpireAfterUpdate<K, V> {
 /// one does not care about, as in `ExpireAfter { create: by_kind, read: NoExpiry, update: NoExpiry }`.
 #[derive(Clone, Drop)]
 pub struct ExpireAfter<C, R, U> {
+    /// Answers at a creation.
     pub create: C,
+    /// Answers at a read.
     pub read: R,
+    /// Answers at an update.
     pub update: U,
 }
 

@@ -12,8 +12,8 @@ use crate::table::RecordTable;
 use moka_parts::policy::Instant;
 use std::alloc::AllocError;
 
-// A place in the index has 32 bits.
-const MOST_PLACES: usize = 1 << 32;
+/// A place in the index has 32 bits.
+pub const MOST_PLACES: usize = 1 << 32;
 
 // How many more rows fit with no memory, at places of 32 bits.
 fn row_room<K, V>(table: &RecordTable<K, V>) -> usize
@@ -35,6 +35,7 @@ pub(crate) fn reserve_rows<K, V>(
 ) -> Result<(), AllocError>
     ensures room { OnOk result (additional ≤ row_room table.new.rows table.new.room) }
     ensures succeeds { additional ≤ row_room table.old.rows table.old.room → IsOk result }
+    ensures enough { additional ≤ row_room table.old.rows table.old.room → table.new ≡ table.old }
     ensures rows { table.new.rows ≡ table.old.rows }
     ensures kept { OnOk result (row_room table.old.rows table.old.room ≤ row_room table.new.rows table.new.room) }
 {
@@ -53,10 +54,7 @@ pub(crate) fn reserve_rows<K, V>(
 pub(crate) fn has_key<K: Eq, V>(table: &RecordTable<K, V>, place: usize, key: &K) -> bool
     ensures { result ≡ has_key_at K.eq table.now.rows key.now place }
 {
-    match table.key(place) {
-        Some(own) => *key == *own,
-        None => false,
-    }
+    table.key(place).is_some_and(|own| *key == *own)
 }
 
 // The handle of the row at this place, with its counted weight.

@@ -15,7 +15,8 @@ use std::alloc::{AllocError, Global};
 use std::marker::Model;
 use std::mem;
 
-/// Rows by place. Vacant places are linked, and the one that was given back last is taken first.
+/// Rows by place. Vacant places are linked; the code takes the one that was given back last first, which no contract
+/// says.
 #[derive(Drop)]
 pub(crate) struct Rows<K, V> {
     slots: Vec<Slot<K, V>>,
@@ -70,10 +71,11 @@ impl<K, V> Rows<K, V> {
         self.slots.capacity()
     }
 
-    /// Makes room for `additional` more rows.
+    /// Makes room for `additional` more rows, and changes nothing where there is room.
     pub(crate) fn reserve(&mut self, additional: usize) -> Result<(), AllocError>
         ensures room { OnOk result (additional ≤ self.new.room) }
         ensures succeeds { additional ≤ self.old.room → IsOk result }
+        ensures enough { additional ≤ self.old.room → self.new ≡ self.old }
         ensures rows { self.new.rows ≡ self.old.rows }
         ensures kept { self.old.room ≤ self.new.room }
     {

@@ -106,8 +106,7 @@ impl<K, V> Slot<K, V> {
         let Slot { state } = self;
         match state {
             State::Vacant { next } => next,
-            State::Live { .. } => unreachable!(),
-            State::Gone { .. } => unreachable!(),
+            State::Live { .. } | State::Gone { .. } => unreachable!(),
         }
     }
 
@@ -117,8 +116,7 @@ impl<K, V> Slot<K, V> {
         ensures { result ≡ option_map (λ row. row.number) (value_of self.now) }
     {
         match &self.state {
-            State::Live { number, .. } => Some(*number),
-            State::Gone { number, .. } => Some(*number),
+            State::Live { number, .. } | State::Gone { number, .. } => Some(*number),
             State::Vacant { .. } => None,
         }
     }
@@ -143,8 +141,7 @@ impl<K, V> Slot<K, V> {
                 };
                 Some((*number, front))
             }
-            State::Gone { .. } => None,
-            State::Vacant { .. } => None,
+            State::Gone { .. } | State::Vacant { .. } => None,
         }
     }
 
@@ -156,8 +153,7 @@ impl<K, V> Slot<K, V> {
     {
         match &self.state {
             State::Live { hot, .. } => Some(&hot.key),
-            State::Gone { .. } => None,
-            State::Vacant { .. } => None,
+            State::Gone { .. } | State::Vacant { .. } => None,
         }
     }
 
@@ -172,8 +168,8 @@ impl<K, V> Slot<K, V> {
                 access,
                 written,
                 ..
-            } => membership_of(*access, *written),
-            State::Gone {
+            }
+            | State::Gone {
                 access,
                 written,
                 ..
@@ -189,8 +185,7 @@ impl<K, V> Slot<K, V> {
         ensures slot { IsSlot result }
     {
         match &self.state {
-            State::Live { timer, .. } => slot_of(*timer),
-            State::Gone { timer, .. } => slot_of(*timer),
+            State::Live { timer, .. } | State::Gone { timer, .. } => slot_of(*timer),
             State::Vacant { .. } => None,
         }
     }
@@ -267,8 +262,7 @@ impl<K, V> Slot<K, V> {
                 let front = Front { hot, expiring };
                 (number, front)
             }
-            State::Gone { .. } => unreachable!(),
-            State::Vacant { .. } => unreachable!(),
+            State::Gone { .. } | State::Vacant { .. } => unreachable!(),
         }
     }
 

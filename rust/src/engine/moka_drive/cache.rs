@@ -9,23 +9,17 @@ use crate::engine::moka_engine::config::{CacheConfig, DefaultHasher};
 use crate::engine::moka_parts::calls::{Entry, Ticket};
 use crate::engine::moka_parts::closures::{NoPredicate, NoWeigher, PredicateFn, Weigher};
 use crate::engine::moka_parts::error::{CapacityError, InsertError, InsertRefused, OutOfMemory, PredicateRefused};
-use crate::engine::moka_parts::housekeeper::Clock;
+use crate::engine::moka_parts::housekeeper::{Clock, EVICTION_BATCH_SIZE, MAX_LOG_SYNC_REPEATS};
 use crate::engine::moka_parts::invalidator::{IdSource, PredicateId};
 use crate::engine::moka_parts::notification::{Listener, NoListener};
 use crate::engine::moka_parts::policy::{Expiry, Instant, NoExpiry, Policy};
 use crate::support::alloc::Global;
 use crate::support::hash::{BuildHasher, Hash};
 
+mod by_key_test;
 mod saves;
-mod tested;
 
 pub use saves::RestoreManyRefused;
-
-// How often a run of its own may go back to its queues.
-const MAX_LOG_SYNC_REPEATS: u32 = 4;
-
-// How many entries a sweep of a run of its own looks at in a pass.
-const EVICTION_BATCH_SIZE: u32 = 384;
 
 // What is put: a value under a key, which comes with its hash by the engine's own hasher.
 pub(crate) struct Put<K, V> {
@@ -161,7 +155,7 @@ impl<
             return Ok(());
         }
         let (ticket, _) = self.engine.do_insert_with_own_hash(key, hash, value, now)?;
-        post(&mut self.engine, ticket, now, clock);
+        Self::post(&mut self.engine, ticket, now, clock);
         self.engine.invariant_holds();
         Ok(())
     }
@@ -221,13 +215,7 @@ impl<
         V: Clone,
     {
         let hash = self.engine.hash(key);
-        let Some((value, told)) = self.take(key, hash, now, clock) else {
-            return Ok(None);
-        };
-        match told {
-            Ok(()) => Ok(Some(value)),
-            Err(error) => Err(NotTold { error, value }),
-        }
+        removed(self.take(key, hash, now, clock))
     }
 
     /// Takes a key out, expired or not, and drops its value. The listener, if one is set, is notified.
@@ -245,13 +233,7 @@ impl<
         V: Clone,
     {
         let hash = self.engine.hash(key);
-        let Some((value, told)) = self.take(key, hash, now, clock) else {
-            return Ok(());
-        };
-        match told {
-            Ok(()) => Ok(()),
-            Err(error) => Err(NotTold { error, value }),
-        }
+        invalidated(self.take(key, hash, now, clock))
     }
 
     // Takes a key with its hash out: its value, and whether the listener was notified.
@@ -271,7 +253,7 @@ impl<
             return None;
         };
         let told = self.engine.notify_invalidate(&entry, now);
-        post(&mut self.engine, ticket, now, clock);
+        Self::post(&mut self.engine, ticket, now, clock);
         Some((entry.value, told))
     }
 
@@ -361,6 +343,32 @@ impl<
         match self.insert_made_hashed(Put { key, hash, value }, now, clock) {
             Ok(copy) => Ok(Ok(copy)),
             Err(refused) => Err(GetWithRefused::Insert(refused)),
+        }
+    }
+
+    // Makes the run that is due, if one is, and sends the operation; where the queue is full it is emptied by another
+    // run.
+    fn post<C: Clock>(
+        engine: &mut BaseCache<K, V, S, X, L, P, W>,
+        ticket: Ticket,
+        now: Instant,
+        clock: &mut C,
+    )
+    {
+        engine.apply_reads_writes_if_needed(now, clock);
+        match engine.send(ticket) {
+            Ok(()) => {}
+            // The ticket is known, so the queue is full.
+            Err(_) => {
+                engine.run_pending_tasks(
+                    now,
+                    clock,
+                    None,
+                    MAX_LOG_SYNC_REPEATS,
+                    EVICTION_BATCH_SIZE,
+                );
+                let _sent = engine.send(ticket);
+            }
         }
     }
 
@@ -471,25 +479,26 @@ fn value_of<K, V>(
     }
 }
 
-// Makes the run that is due, if one is, and sends the operation; where the queue is full it is emptied by another run.
-fn post<
-    K: Eq + Hash,
-    V,
-    S: BuildHasher,
-    X: Expiry<K, V>,
-    L: Listener<K, V>,
-    P: PredicateFn<K, V>,
-    W: Weigher<K, V>,
-    C: Clock,
->(engine: &mut BaseCache<K, V, S, X, L, P, W>, ticket: Ticket, now: Instant, clock: &mut C)
+// What a removal answers: the value that was taken out, or, where the listener could not be notified, the error with it.
+fn removed<V>(taken: Option<(V, Result<(), OutOfMemory>)>) -> Result<Option<V>, NotTold<V>>
 {
-    engine.apply_reads_writes_if_needed(now, clock);
-    match engine.send(ticket) {
-        Ok(()) => {}
-        // The ticket is known, so the queue is full.
-        Err(_) => {
-            engine.run_pending_tasks(now, clock, None, MAX_LOG_SYNC_REPEATS, EVICTION_BATCH_SIZE);
-            let _sent = engine.send(ticket);
-        }
+    let Some((value, told)) = taken else {
+        return Ok(None);
+    };
+    match told {
+        Ok(()) => Ok(Some(value)),
+        Err(error) => Err(NotTold { error, value }),
+    }
+}
+
+// What an invalidation answers: the same, but for a value that the listener was notified of.
+fn invalidated<V>(taken: Option<(V, Result<(), OutOfMemory>)>) -> Result<(), NotTold<V>>
+{
+    let Some((value, told)) = taken else {
+        return Ok(());
+    };
+    match told {
+        Ok(()) => Ok(()),
+        Err(error) => Err(NotTold { error, value }),
     }
 }

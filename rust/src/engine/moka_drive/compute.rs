@@ -28,15 +28,15 @@ pub enum Op<V> {
 /// What `compute_with` did. moka: `ops::compute::CompResult`.
 #[derive(Debug)]
 pub enum CompResult<K, V> {
-    /// The value was put, and none had been visible.
+    /// The value was put, and the closure had seen none.
     Inserted(CacheEntry<K, V>),
-    /// The value was put, and replaced another that was visible.
+    /// The value was put, and the closure had seen another.
     ReplacedWith(CacheEntry<K, V>),
     /// The key was taken out, with this value.
     Removed(CacheEntry<K, V>),
-    /// No value was there, and none was put. The key comes back.
+    /// No value was put, and none is there that could be taken out. The key comes back.
     StillNone(K),
-    /// The value that is there was left.
+    /// Nothing was done, and the closure had seen this value.
     Unchanged(CacheEntry<K, V>),
 }
 

@@ -9,7 +9,9 @@ use std::fmt;
 /// and comes back.
 #[derive(Debug)]
 pub struct NotTold<V> {
+    /// Why the listener was not notified.
     pub error: OutOfMemory,
+    /// The value that was taken out.
     pub value: V,
 }
 

@@ -32,35 +32,29 @@ impl<
     {
         self.engine().invariant_holds();
         match self.engine().keys(0)? {
-            Some(keys) => Ok(look_up_all(self.engine(), keys, now)?.into_iter()),
+            Some(keys) => Ok(Self::look_up_all(self.engine(), keys, now)?.into_iter()),
             None => Err(OutOfMemory),
         }
     }
-}
 
-// The keys' entries that are visible, with clones of their values.
-fn look_up_all<
-    K: Eq + Hash,
-    V: Clone,
-    S: BuildHasher,
-    X: Expiry<K, V>,
-    L: Listener<K, V>,
-    P: PredicateFn<K, V>,
-    W: Weigher<K, V>,
->(
-    engine: &BaseCache<K, V, S, X, L, P, W>,
-    keys: Vec<K>,
-    now: Instant,
-) -> Result<Vec<(K, V)>, OutOfMemory>
-{
-    let alloc = *keys.allocator();
-    let Ok(mut found) = Vec::with_capacity(alloc, keys.len()) else {
-        return Err(OutOfMemory);
-    };
-    for key in keys {
-        if let Some(value) = engine.scanning_get(&key, now)? {
-            found.push_reserved((key, value));
+    // The keys' entries that are visible, with clones of their values.
+    fn look_up_all(
+        engine: &BaseCache<K, V, S, X, L, P, W>,
+        keys: Vec<K>,
+        now: Instant,
+    ) -> Result<Vec<(K, V)>, OutOfMemory>
+    where
+        V: Clone,
+    {
+        let alloc = *keys.allocator();
+        let Ok(mut found) = Vec::with_capacity(alloc, keys.len()) else {
+            return Err(OutOfMemory);
+        };
+        for key in keys {
+            if let Some(value) = engine.scanning_get(&key, now)? {
+                found.push_reserved((key, value));
+            }
         }
+        Ok(found)
     }
-    Ok(found)
 }

@@ -24,7 +24,7 @@ pub fn goes_on<
 >()
 {}
 
-/// What `invalidate_all` and `set_max_capacity` ensure is such a chain too, of one step, whatever the clock is: neither
+/// What `invalidate_all` and `set_max_capacity` ensure is a chain of one step (`Made`), whatever the clock is: neither
 /// reads it. So `goes_on` joins them with the calls before and after them.
 pub fn makes_one_step<
     K: Eq,
@@ -38,8 +38,9 @@ pub fn makes_one_step<
 >()
 {}
 
-/// Such chains and calls of `invalidate_entries_if` are one run too, in which identifiers are asked for (`MadeAsking`),
-/// and which keeps all that is promised of a list of calls; whether the listener hears of keys and values or of clones.
+/// Chains of steps (`Made`) and calls of `invalidate_entries_if` are one run, in which identifiers are asked for
+/// (`MadeAsking`), and which keeps all that is promised of a list of calls; whether the listener hears of keys and
+/// values or of clones.
 pub fn joins_registrations<
     K: Eq + Clone,
     V: Clone,
@@ -53,7 +54,7 @@ pub fn joins_registrations<
 >()
 {}
 
-/// It keeps all that is promised of a list of calls.
+/// The run that `goes_on` joins keeps all that is promised of a list of calls.
 pub fn keeps_promises<
     K: Eq,
     V,

@@ -11,11 +11,12 @@ use crate::engine::moka_parts::housekeeper::{Clock, Housekeeper, HousekeeperConf
 use crate::engine::moka_parts::invalidator::Invalidator;
 use crate::engine::moka_parts::notification::{Listener, RemovalNotifier};
 use crate::engine::moka_parts::policy::{EvictionPolicy, ExpirationPolicy, Expiry, Instant, Policy};
-use crate::engine::moka_parts::records::ReadOperation;
+use crate::engine::moka_parts::records::{ReadOperation, Record};
 use crate::engine::moka_store::{IndexHash, Update};
 use crate::support::alloc::Global;
 use crate::support::hash::{BuildHasher, Hash};
 
+mod by_key_test;
 mod causes;
 mod gets;
 mod inserts;
@@ -26,7 +27,6 @@ mod restores;
 mod runs;
 mod sights;
 mod snapshot;
-mod tested;
 
 pub use restores::{RestoreError, RestoreRefused, Restored};
 pub use sights::Sight;
@@ -129,7 +129,7 @@ impl<
     /// - `housekeeper_config`: the time limit, repeats and batch of the runs that the housekeeper starts.
     /// - `invalidator_enabled`: whether predicates can be registered.
     /// - `now`: the moment at which it is made. The housekeeper starts no run in the 300 milliseconds after it, unless
-    ///   64 operations are queued.
+    ///   64 writes or 64 reads are queued.
     /// - `first_ticket`: the ticket of the first operation, at least 1. The greater it is, the sooner inserts are
     ///   refused with `NumbersUsedUp`.
     ///
@@ -161,9 +161,7 @@ impl<
             ordered,
             timed,
         };
-        let Ok(inner) = Inner::new(alloc, build_hasher, first_ticket, layout) else {
-            return Err(OutOfMemory);
-        };
+        let inner = Inner::new(alloc, build_hasher, first_ticket, layout)?;
         let notifier = RemovalNotifier::new(eviction_listener);
         let housekeeper = Housekeeper::new(notifier.is_enabled(), housekeeper_config, now);
         Ok(BaseCache {
@@ -194,10 +192,7 @@ impl<
     /// The cache's name, if it has one.
     pub fn name(&self) -> Option<&str>
     {
-        match &self.name {
-            Some(name) => Some(name.as_str()),
-            None => None,
-        }
+        self.name.as_deref()
     }
 
     /// The cache's limits.
@@ -381,16 +376,10 @@ impl<
     {
         let (handle, _) = self.inner.find(key, own)?;
         let (record, ticket) = self.inner.remove(handle, own);
-        let entry = KvEntry {
-            key: record.key,
-            value: record.value,
-            last_modified: record.written,
-            last_accessed: record.read,
-        };
-        Some((entry, ticket))
+        Some((entry_of_record(record), ticket))
     }
 
-    /// Tells the listener of an entry that was removed: clones of its key and value, and that it had expired by its
+    /// Notifies the listener of an entry that was removed, with clones of its key and value: it had expired by its
     /// moments, or was removed explicitly. Without a listener nothing is cloned.
     ///
     /// # Errors
@@ -407,12 +396,7 @@ impl<
         if !self.is_removal_notifier_enabled() {
             return Ok(());
         }
-        let Ok(key) = entry.key.try_clone() else {
-            return Err(OutOfMemory);
-        };
-        let Ok(value) = entry.value.try_clone() else {
-            return Err(OutOfMemory);
-        };
+        let (key, value) = (entry.key.try_clone()?, entry.value.try_clone()?);
         let (written, read) = (entry.last_modified, entry.last_accessed);
         let cause = causes::cause_of_removal(&self.expiration_policy, written, read, now);
         self.notifier.notify(key, value, cause);
@@ -443,12 +427,19 @@ impl<
     // The same with the key's hash in the map.
     fn contains_hashed(&self, key: &K, own: IndexHash, now: Instant) -> bool
     {
-        let moments = Moments {
+        let moments = self.moments(now);
+        gets::find_shown(&self.inner, &moments, &self.invalidator, (key, own)).is_some()
+    }
+
+    // What hides records at the moment `now`, but for predicates.
+    #[inline(always)]
+    fn moments(&self, now: Instant) -> Moments<'_, X>
+    {
+        Moments {
             policy: &self.expiration_policy,
             valid_after: &self.valid_after,
             now,
-        };
-        gets::find_shown(&self.inner, &moments, &self.invalidator, (key, own)).is_some()
+        }
     }
 
     /// The key that the cache keeps for an equal one, visible or not. Nothing is recorded.
@@ -533,6 +524,18 @@ impl<
             now,
         };
         self.get_hashed(look, &mut NoTest, clock)
+    }
+}
+
+// What a removal hands out of the record that it took.
+#[inline]
+fn entry_of_record<K, V>(taken: Record<K, V>) -> KvEntry<K, V>
+{
+    KvEntry {
+        key: taken.key,
+        value: taken.value,
+        last_modified: taken.written,
+        last_accessed: taken.read,
     }
 }
 

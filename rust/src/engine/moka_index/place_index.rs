@@ -46,9 +46,9 @@ impl PlaceIndex {
         self.len() == 0
     }
 
-    /// Makes room for `additional` more places. If the index has to grow, it has afterwards room for twice as many
-    /// places as before, or for 2^34, so growth costs constant time a place. An error leaves the index as it was: there
-    /// is no memory, or the index would have more than 2^34 places.
+    /// Makes room for `additional` more places, and changes nothing where there is room. Where there is too little, the
+    /// places that fit are afterwards at least twice as many as before, or 2^34, so an index grows seldom as it fills.
+    /// An error leaves the index as it was: there is no memory, or the index would have more than 2^34 places.
     #[inline(always)]
     pub fn reserve(&mut self, additional: usize) -> Result<(), AllocError>
     {

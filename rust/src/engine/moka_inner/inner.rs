@@ -18,19 +18,16 @@ use crate::engine::moka_parts::policy::Instant;
 use crate::engine::moka_parts::record_ref::RecordRef;
 use crate::engine::moka_parts::records::{Operation, ReadOperation, Record};
 use crate::engine::moka_sketch::frequency_sketch::FrequencySketch;
-use crate::engine::moka_store::{Handle, IndexHash, Store, Update};
+use crate::engine::moka_store::{Handle, IndexHash, MOST_PLACES, Store, Update};
 use crate::engine::moka_structures::outstanding::Outstanding;
 use crate::support::alloc::{AllocError, Global};
 use crate::support::hash::{BuildHasher, Hash};
 
+mod by_key_test;
 mod members;
-mod tested;
 
 // How many operations and how many reads can be queued. moka: `WRITE_LOG_SIZE`, `READ_LOG_SIZE`.
 const QUEUE_SIZE: usize = 384;
-
-// A row's place has 32 bits.
-const MOST_ROWS: usize = 1 << 32;
 
 /// What an inner part keeps beside its records, and for how many of them it has room at first.
 #[derive(Clone, Copy)]
@@ -117,7 +114,7 @@ impl<K: Eq + Hash, V, S: BuildHasher> Inner<K, V, S> {
         self.store.find_by_key(key, hash)
     }
 
-    /// Makes room for one more record with its operation and its removal.
+    /// Makes room for one more record with its operation and its removal, and changes nothing where there is room.
     #[inline(always)]
     pub fn reserve_record(&mut self) -> Result<(), InsertError>
     {
@@ -131,7 +128,7 @@ impl<K: Eq + Hash, V, S: BuildHasher> Inner<K, V, S> {
         Ok(())
     }
 
-    /// Makes room for one more operation.
+    /// Makes room for one more operation, and changes nothing where there is room.
     #[inline(always)]
     pub fn reserve_operation(&mut self) -> Result<(), InsertError>
     {
@@ -240,7 +237,8 @@ impl<K: Eq + Hash, V, S: BuildHasher> Inner<K, V, S> {
     pub fn queue_read(&mut self, place: usize, read: ReadOperation)
     {
         self.store.invariant_holds();
-        let place = (place % MOST_ROWS) as u32;
+        // A row's place has 32 bits.
+        let place = (place % MOST_PLACES) as u32;
         let _full = self.reads.try_push_back(QueuedRead::new(read, place));
     }
 

@@ -50,10 +50,8 @@ fn count_reads(sketch: &mut FrequencySketch, reads: &[QueuedRead])
     if sketch.table_len() == 0 {
         return;
     }
-    let mut rest = reads;
-    while let Some((read, behind)) = rest.split_first() {
+    for read in reads {
         sketch.increment(read.hash);
-        rest = behind;
     }
 }
 
@@ -96,10 +94,8 @@ fn apply_each_read<K: Eq + Hash, V, S: BuildHasher>(
     reads: &[QueuedRead],
 )
 {
-    let mut rest = reads;
-    while let Some((read, behind)) = rest.split_first() {
+    for read in reads {
         apply_read(store, *read);
-        rest = behind;
     }
 }
 
@@ -116,7 +112,7 @@ fn apply_read<K: Eq + Hash, V, S: BuildHasher>(store: &mut Store<K, V, S>, queue
     let handle = Handle { number, place };
     store.invariant_holds();
     if store.find(handle).is_some() {
-        pass_read(store, handle, is_renewed);
+        move_after_read(store, handle, is_renewed);
     }
 }
 
@@ -144,10 +140,8 @@ fn apply_each_write<K: Eq + Hash, V, S: BuildHasher, L: Listener<K, V>>(
     writes: &[QueuedWrite],
 )
 {
-    let mut rest = writes;
-    while let Some((sent, behind)) = rest.split_first() {
+    for sent in writes {
         apply_write(store, sketch, notifier, bounds, sent.write);
-        rest = behind;
     }
 }
 
@@ -199,7 +193,7 @@ fn apply_upsert<K: Eq + Hash, V, S: BuildHasher, L: Listener<K, V>>(
         return;
     };
     if found.applied() >= upsert.generation {
-        pass(store, handle);
+        move_to_back(store, handle);
     } else if store.is_member(handle) {
         store.set_applied(handle, upsert.generation);
         store.recount(handle, upsert.weight);
@@ -278,7 +272,7 @@ fn reject<K: Eq + Hash, V, S: BuildHasher, L: Listener<K, V>>(
 }
 
 // The member of this number, if there is one, comes to the back of both orders, and its timer is set again.
-fn pass<K: Eq + Hash, V, S: BuildHasher>(store: &mut Store<K, V, S>, handle: Handle)
+fn move_to_back<K: Eq + Hash, V, S: BuildHasher>(store: &mut Store<K, V, S>, handle: Handle)
 {
     if store.is_member(handle) {
         store.move_to_back(handle);
@@ -288,7 +282,7 @@ fn pass<K: Eq + Hash, V, S: BuildHasher>(store: &mut Store<K, V, S>, handle: Han
 
 // The member of this number, if there is one, comes to the back of the access list alone. Its timer is set again where
 // the read renewed its expiry.
-fn pass_read<K: Eq + Hash, V, S: BuildHasher>(
+fn move_after_read<K: Eq + Hash, V, S: BuildHasher>(
     store: &mut Store<K, V, S>,
     handle: Handle,
     renewed: bool,

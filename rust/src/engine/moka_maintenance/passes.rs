@@ -35,7 +35,7 @@ pub struct Ran {
     /// How many passes were made.
     pub passes: u64,
     /// Whether the last pass left more.
-    pub is_left: bool,
+    pub has_more: bool,
 }
 
 // What a pass came to.
@@ -44,27 +44,33 @@ struct Pass {
     // How many records left, but for those that the scan removed.
     removed: u64,
     // Whether a sweep left more.
-    is_left: bool,
+    has_more: bool,
     // Whether the scan did.
-    is_scan_left: bool,
+    scan_has_more: bool,
 }
 
 impl Pass {
     // Sums up the steps of a pass. The one by timers never leaves work over.
-    fn joined(due: u32, by_write: Swept, by_read: Swept, is_scan_left: bool, surplus: Swept) -> Self
+    fn joined(
+        due: u32,
+        by_write: Swept,
+        by_read: Swept,
+        scan_has_more: bool,
+        surplus: Swept,
+    ) -> Self
     {
         let by_moment = u64::from(due) + u64::from(by_write.removed) + u64::from(by_read.removed);
         Pass {
             removed: by_moment + u64::from(surplus.removed),
-            is_left: by_write.is_left || by_read.is_left || surplus.is_left,
-            is_scan_left,
+            has_more: by_write.has_more || by_read.has_more || surplus.has_more,
+            scan_has_more,
         }
     }
 
     // Whether it left more.
     fn leaves_more(self) -> bool
     {
-        self.is_left || self.is_scan_left
+        self.has_more || self.scan_has_more
     }
 
     // Whether another pass is due.
@@ -98,12 +104,12 @@ pub fn make_passes<
         passes += 1;
         let pass = make_pass(store, notifier, invalidator, terms);
         if !pass.goes_on() {
-            let is_left = pass.leaves_more();
-            return Ran { passes, is_left };
+            let has_more = pass.leaves_more();
+            return Ran { passes, has_more };
         }
         if is_late(started, terms.limit, clock) {
-            let is_left = true;
-            return Ran { passes, is_left };
+            let has_more = true;
+            return Ran { passes, has_more };
         }
     }
 }
@@ -121,9 +127,9 @@ where
     let due = expire_due(store, notifier, terms.tests);
     let by_write = take_step(store, notifier, terms, Sweep::Written);
     let by_read = take_step(store, notifier, terms, Sweep::Read);
-    let is_scan_left = scan(store, notifier, invalidator, terms.batch);
+    let scan_has_more = scan(store, notifier, invalidator, terms.batch);
     let surplus = take_step(store, notifier, terms, Sweep::Surplus);
-    Pass::joined(due, by_write, by_read, is_scan_left, surplus)
+    Pass::joined(due, by_write, by_read, scan_has_more, surplus)
 }
 
 // A step of a pass, where it is to be taken.
@@ -137,7 +143,7 @@ fn take_step<K: Eq + Hash, V, S: BuildHasher, L: Listener<K, V>>(
     if !is_taken(store, terms.tests, sweep) {
         return Swept {
             removed: 0,
-            is_left: false,
+            has_more: false,
         };
     }
     read_ahead(store, terms, sweep);
@@ -189,20 +195,8 @@ fn start<C: Clock>(limit: Option<Duration>, clock: &mut C) -> Option<Instant>
 // Reads the clock again where it was read at the start. Whether the limit has passed since then.
 fn is_late<C: Clock>(started: Option<Instant>, limit: Option<Duration>, clock: &mut C) -> bool
 {
-    match started {
-        Some(first) => has_passed(first, limit, clock),
-        None => false,
-    }
-}
-
-// Reads the clock, where a limit is given. Whether so much time has passed.
-fn has_passed<C: Clock>(first: Instant, limit: Option<Duration>, clock: &mut C) -> bool
-{
-    match limit {
-        Some(limit) => {
-            let now = clock.now();
-            now.saturating_duration_since(first).as_nanos() >= limit.as_nanos()
-        }
-        None => false,
-    }
+    let (Some(first), Some(limit)) = (started, limit) else {
+        return false;
+    };
+    clock.now().saturating_duration_since(first).as_nanos() >= limit.as_nanos()
 }

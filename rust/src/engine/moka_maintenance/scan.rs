@@ -29,7 +29,7 @@ struct Stretch {
     looked: u32,
     // How many members it passed, those that left among them.
     passed: usize,
-    // Whether nothing stands behind the last of them.
+    // Whether it came to the end of the order.
     is_end: bool,
 }
 

@@ -89,7 +89,7 @@ pub(crate) struct Swept {
     /// How many records it removed.
     pub removed: u32,
     /// Whether each of all its turns removed one.
-    pub is_left: bool,
+    pub has_more: bool,
 }
 
 /// Makes `batch` turns, or as many as there are to make.
@@ -111,8 +111,8 @@ pub(crate) fn sweep_along<K: Eq + Hash, V, S: BuildHasher, L: Listener<K, V>>(
         turns -= 1;
         match take_turn(store, notifier, tests, sweep) {
             Turn::Ended => {
-                let is_left = false;
-                return Swept { removed, is_left };
+                let has_more = false;
+                return Swept { removed, has_more };
             }
             Turn::Removed => {
                 removed += 1;
@@ -128,8 +128,8 @@ pub(crate) fn sweep_along<K: Eq + Hash, V, S: BuildHasher, L: Listener<K, V>>(
             }
         }
     }
-    let is_left = is_all_settled;
-    Swept { removed, is_left }
+    let has_more = is_all_settled;
+    Swept { removed, has_more }
 }
 
 // One turn: a settled front leaves if the sweep has a cause to remove it, and one that is not settled goes to the back.
@@ -174,10 +174,8 @@ fn next_of<K: Eq + Hash, V, S: BuildHasher>(
 // The front of the access list.
 fn first_of<K: Eq + Hash, V, S: BuildHasher>(store: &Store<K, V, S>) -> Option<Handle>
 {
-    match store.front() {
-        Some((handle, _)) => Some(handle),
-        None => None,
-    }
+    let (handle, _) = store.front()?;
+    Some(handle)
 }
 
 // The front of the access list, while the capacity is exceeded.
@@ -195,8 +193,5 @@ fn first_over<K: Eq + Hash, V, S: BuildHasher>(
 /// Whether the capacity, if there is one, is exceeded by so much weight.
 pub(crate) fn is_over(capacity: Option<u64>, weight: u128) -> bool
 {
-    match capacity {
-        Some(capacity) => weight > u128::from(capacity),
-        None => false,
-    }
+    capacity.is_some_and(|capacity| weight > u128::from(capacity))
 }

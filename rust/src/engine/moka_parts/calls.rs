@@ -55,7 +55,7 @@ pub struct KvEntry<K, V> {
     pub last_accessed: Instant,
 }
 
-/// One call, with its arguments.
+/// One call, with its arguments. Moments are in nanoseconds.
 #[derive(Debug)]
 pub enum Call<K, V, P> {
     /// Puts a value under a key; the operation waits under a ticket.
@@ -98,7 +98,7 @@ pub enum Call<K, V, P> {
         key: K,
         now: Instant,
     },
-    /// Takes a key out; at a moment, if one is given, the listener is notified of it.
+    /// Takes a key out. If a moment is given, the listener is notified as of that moment.
     Remove {
         key: K,
         hash: u64,
@@ -108,7 +108,7 @@ pub enum Call<K, V, P> {
     InvalidateAll {
         now: Instant,
     },
-    /// Registers a predicate that hides what was written until the moment.
+    /// Registers a predicate that hides what was written at that moment or before.
     InvalidateIf {
         predicate: P,
         now: Instant,
@@ -116,15 +116,18 @@ pub enum Call<K, V, P> {
     /// Runs maintenance.
     Run {
         now: Instant,
+        /// After this time no further pass is made. It applies only if a listener is set.
         limit: Option<Duration>,
+        /// How often the run may go back to its queues. With one owner it has no effect.
         repeats: u32,
+        /// How many entries each step of a pass looks at, except the step by entries' own expiries.
         batch: u32,
     },
     /// Runs maintenance where the housekeeper says that it is due.
     RunIfDue {
         now: Instant,
     },
-    /// From now on runs start only where more is left to evict.
+    /// From now on runs start by themselves only where more is left.
     DisableAutoRun,
     /// Asks for the keys of a segment.
     Keys {
@@ -134,7 +137,7 @@ pub enum Call<K, V, P> {
     Report,
     /// Asks what waits to be sent or applied.
     Pending,
-    /// Sets the greatest weight that the cache keeps.
+    /// Sets the greatest sum of weights that the cache keeps; `None` for no bound.
     SetCapacity {
         capacity: Option<u64>,
     },
@@ -143,35 +146,46 @@ pub enum Call<K, V, P> {
 /// The answer of the call with the same name.
 #[derive(Debug)]
 pub enum Reply<K, V, P> {
-    /// The ticket of the operation, and the moment at which the value was written.
+    /// The ticket of the operation, and the moment at which the value was written, in nanoseconds.
     Insert(Result<(Ticket, Instant), InsertRefused<K, V>>),
     /// An insert into a cache of capacity 0 hands back key and value.
     Disabled {
         key: K,
         value: V,
     },
+    /// Whether the operation was sent, or why it was not.
     Send(Result<(), SendError>),
+    /// What was found, if anything was.
     Get(Result<Option<Entry<K, V>>, OutOfMemory>),
+    /// A clone of the value, if one was found.
     GetUnrecorded(Result<Option<V>, OutOfMemory>),
+    /// Whether the key is there.
     Contains(bool),
+    /// A clone of the key, if it is there, hidden or not.
     Key(Result<Option<K>, OutOfMemory>),
+    /// A clone of the value, if one was found.
     Scan(Result<Option<V>, OutOfMemory>),
     Remove {
         /// What was taken out, with the ticket of the removal's operation.
         removed: Option<(KvEntry<K, V>, Ticket)>,
-        /// How telling the listener went, where that was asked for and something was taken out.
+        /// How notifying the listener went, where that was asked for and something was taken out.
         told: Option<Result<(), OutOfMemory>>,
     },
     InvalidateAll,
+    /// The identifier of the predicate.
     InvalidateIf(Result<PredicateId, PredicateRefused<P>>),
-    /// Whether more is left to evict.
+    /// Whether more is left.
     Run(bool),
     RunIfDue,
     DisableAutoRun,
+    /// Clones of all keys, hidden or not; `None` unless the segment is 0.
     Keys(Result<Option<Vec<K>>, OutOfMemory>),
     Report {
+        /// How many entries the last run counted.
         count: u64,
+        /// The sum of their weights, saturating.
         weight: u64,
+        /// How many predicates are registered now.
         predicates: u64,
     },
     Pending {
@@ -179,16 +193,21 @@ pub enum Reply<K, V, P> {
         handed: u64,
         /// The least of their tickets.
         oldest: Option<Ticket>,
+        /// How many writes wait to be applied.
         writes: usize,
+        /// How many reads wait to be applied.
         reads: usize,
     },
+    /// Whether the capacity was changed, or why it was not.
     SetCapacity(Result<(), CapacityError>),
 }
 
 /// The calls come back where there is no room for their replies. None was made.
 #[derive(Debug)]
 pub struct DriveRefused<K, V, P> {
+    /// Why they were refused.
     pub error: OutOfMemory,
+    /// The calls that were handed in.
     pub calls: Vec<Call<K, V, P>>,
 }
 

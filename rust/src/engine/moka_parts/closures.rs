@@ -75,6 +75,7 @@ pub struct ByClosure<K, V, R, F: PairFn<K, V, R>> {
 }
 
 impl<K, V, R, F: PairFn<K, V, R>> ByClosure<K, V, R, F> {
+    /// A weigher or a predicate that asks the closure.
     pub fn new(closure: F) -> Self
     {
         ByClosure {

@@ -93,11 +93,7 @@ pub fn renewed(
     now: Instant,
 ) -> (Option<Instant>, bool)
 {
-    let is_same = match (answer, left) {
-        (Some(answer), Some(left)) => answer.as_nanos() == left.as_nanos(),
-        (None, None) => true,
-        _ => false,
-    };
+    let is_same = answer.map(|time| time.as_nanos()) == left.map(|time| time.as_nanos());
     if is_same {
         (expires, false)
     } else {

@@ -57,7 +57,8 @@ pub fn admits_well<K, V>()
 pub fn peeks_quietly<K: Eq, V, X: Expiry<K, V>, P: PredicateFn<K, V>, W>()
 {}
 
-/// Where a listener is set, it is told of each value that leaves the map other than by a caller's removal, once.
+/// Where a listener is set, it is notified exactly once of each value that leaves the map other than by a caller's
+/// removal.
 pub fn tells_each_once<
     K: Eq,
     V,
@@ -184,7 +185,8 @@ pub fn calls_keep_order<
 >()
 {}
 
-/// The same of a list of calls, with the write list that the last of them leaves.
+/// Where the write list is kept, a list of calls in the order of time keeps a state in the order of writing, with the
+/// write list that the last of them leaves.
 pub fn lists_keep_order<
     K: Eq,
     V,

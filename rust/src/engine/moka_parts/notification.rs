@@ -52,6 +52,7 @@ pub struct RemovalNotifier<L> {
 
 impl<L> RemovalNotifier<L> {
 
+    /// A notifier of the listener, if one is given.
     pub fn new(listener: Option<L>) -> Self
     {
         RemovalNotifier { listener }

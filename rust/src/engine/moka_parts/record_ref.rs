@@ -12,6 +12,7 @@ pub struct Hot<K, V> {
     pub key: K,
     /// The hash that came with the first insert.
     pub hash: u64,
+    /// The value of the last insert.
     pub value: V,
     /// When it was last inserted or read.
     pub read: Instant,
@@ -37,6 +38,7 @@ pub struct Cold {
 
 /// A record but for its cold part and its number.
 pub struct Front<K, V> {
+    /// What look-ups read of it.
     pub hot: Hot<K, V>,
     /// Whether it expires by itself.
     pub expiring: bool,
@@ -145,17 +147,14 @@ impl<'a, K, V> RecordRef<'a, K, V> {
 #[inline(always)]
 fn expiry_of(expiring: bool, moment: Instant) -> Option<Instant>
 {
-    if expiring { Some(moment) } else { None }
+    expiring.then_some(moment)
 }
 
 /// The moment that is kept of an expiry.
 #[inline(always)]
 pub fn moment_of(expires: Option<Instant>) -> Instant
 {
-    match expires {
-        Some(moment) => moment,
-        None => Instant(0),
-    }
+    expires.unwrap_or(Instant(0))
 }
 
 /// The parts of a record, but for its number.

@@ -39,12 +39,26 @@ impl<
         let mut segments = Vec::new(alloc);
         for index in 0..router.count() {
             let config = with_share(&router, make(index), max_capacity, index);
-            let segment = build_segment(&router, config, alloc, now)?;
+            let segment = Self::build_segment(&router, config, alloc, now)?;
             let Ok(()) = segments.push(segment) else {
                 return Err(OutOfMemory);
             };
         }
         Ok(SegmentedCache::from_parts(router, segments))
+    }
+
+    // A segment with this configuration.
+    fn build_segment(
+        router: &Router<S>,
+        config: CacheConfig<X, L, P, W>,
+        alloc: Global,
+        now: Instant,
+    ) -> Result<Cache<K, V, X, L, P, W, S>, OutOfMemory>
+    {
+        let Ok(hasher) = router.hasher().try_clone() else {
+            return Err(OutOfMemory);
+        };
+        Cache::build_with_hasher(config, alloc, hasher, now)
     }
 }
 
@@ -86,26 +100,4 @@ fn with_share<S, X, L, P, W>(
         Some(whole) => config.max_capacity(router.share(whole, index)),
         None => config,
     }
-}
-
-// A segment with this configuration.
-fn build_segment<
-    K: Eq + Hash,
-    V,
-    X: Expiry<K, V>,
-    L: Listener<K, V>,
-    P: PredicateFn<K, V>,
-    W: Weigher<K, V>,
-    S: BuildHasher + Clone,
->(
-    router: &Router<S>,
-    config: CacheConfig<X, L, P, W>,
-    alloc: Global,
-    now: Instant,
-) -> Result<Cache<K, V, X, L, P, W, S>, OutOfMemory>
-{
-    let Ok(hasher) = router.hasher().try_clone() else {
-        return Err(OutOfMemory);
-    };
-    Cache::build_with_hasher(config, alloc, hasher, now)
 }

@@ -31,31 +31,26 @@ impl<
         V: Clone,
     {
         let mut found = Vec::new(*self.segments.allocator());
-        list_each(&self.segments, now, &mut found)?;
+        Self::list_each(&self.segments, now, &mut found)?;
         Ok(found.into_iter())
     }
-}
 
-// Appends the visible entries of each.
-fn list_each<
-    K: Eq + Hash + Clone,
-    V: Clone,
-    X: Expiry<K, V>,
-    L: Listener<K, V>,
-    P: PredicateFn<K, V>,
-    W: Weigher<K, V>,
-    S: BuildHasher,
->(
-    segments: &[Cache<K, V, X, L, P, W, S>],
-    now: Instant,
-    found: &mut Vec<(K, V)>,
-) -> Result<(), OutOfMemory>
-{
-    let Some((first, rest)) = segments.split_first() else {
-        return Ok(());
-    };
-    let Ok(()) = found.extend(first.iter(now)?) else {
-        return Err(OutOfMemory);
-    };
-    list_each(rest, now, found)
+    // Appends the visible entries of each.
+    fn list_each(
+        segments: &[Cache<K, V, X, L, P, W, S>],
+        now: Instant,
+        found: &mut Vec<(K, V)>,
+    ) -> Result<(), OutOfMemory>
+    where
+        K: Clone,
+        V: Clone,
+    {
+        let Some((first, rest)) = segments.split_first() else {
+            return Ok(());
+        };
+        let Ok(()) = found.extend(first.iter(now)?) else {
+            return Err(OutOfMemory);
+        };
+        Self::list_each(rest, now, found)
+    }
 }

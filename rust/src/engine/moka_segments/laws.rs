@@ -64,7 +64,7 @@ pub fn calls_by_key_keep_keys<
 >()
 {}
 
-/// So does `get_with`, by a maker of this type.
+/// `get_with` leaves keys in the segments that they belong to, for a maker of type `F`.
 pub fn get_with_keeps_keys<
     K: Eq + Hash,
     V: Clone,
@@ -78,7 +78,8 @@ pub fn get_with_keeps_keys<
 >()
 {}
 
-/// So does each call that concerns all segments; `registering_keeps_keys` speaks of predicates.
+/// Each call that concerns all segments leaves keys in the segments that they belong to; `registering_keeps_keys` speaks
+/// of predicates.
 pub fn calls_of_all_keep_keys<
     K: Eq + Hash,
     V,
@@ -91,7 +92,7 @@ pub fn calls_of_all_keep_keys<
 >()
 {}
 
-/// So does `invalidate_entries_if`, by a maker of this type.
+/// `invalidate_entries_if` leaves keys in the segments that they belong to, for a maker of type `F`.
 pub fn registering_keeps_keys<
     K: Eq + Hash,
     V,

@@ -56,65 +56,45 @@ impl<
     ) -> Result<Vec<PredicateId>, RegisterRefused<P>>
     {
         let mut done = Vec::new(*self.segments.allocator());
-        match register_all(&mut self.segments, &make, now, ids, &mut done) {
+        match Self::register_all(&mut self.segments, &make, now, ids, &mut done) {
             Ok(()) => Ok(done),
             Err(refused) => Err(RegisterRefused { refused, done }),
         }
     }
-}
 
-// Registers a predicate in each, and appends their identifiers, up to the first that refuses.
-fn register_each<
-    K: Eq + Hash,
-    V,
-    X: Expiry<K, V>,
-    L: Listener<K, V>,
-    P: PredicateFn<K, V>,
-    W: Weigher<K, V>,
-    S: BuildHasher,
-    F: Fn() -> P,
-    I: IdSource,
->(
-    segments: &mut [Cache<K, V, X, L, P, W, S>],
-    make: &F,
-    now: Instant,
-    ids: &mut I,
-    done: &mut Vec<PredicateId>,
-) -> Result<(), PredicateRefused<P>>
-{
-    let Some((first, rest)) = segments.split_first_mut() else {
-        return Ok(());
-    };
-    let predicate = make();
-    let Ok(()) = done.reserve(1) else {
-        let error = PredicateError::OutOfMemory;
-        return Err(PredicateRefused { error, predicate });
-    };
-    match first.invalidate_entries_if(predicate, now, ids) {
-        Ok(id) => done.push_reserved(id),
-        Err(refused) => return Err(refused),
+    // Registers a predicate in each, and appends their identifiers, up to the first that refuses.
+    fn register_each<F: Fn() -> P, I: IdSource>(
+        segments: &mut [Cache<K, V, X, L, P, W, S>],
+        make: &F,
+        now: Instant,
+        ids: &mut I,
+        done: &mut Vec<PredicateId>,
+    ) -> Result<(), PredicateRefused<P>>
+    {
+        let Some((first, rest)) = segments.split_first_mut() else {
+            return Ok(());
+        };
+        let predicate = make();
+        let Ok(()) = done.reserve(1) else {
+            let error = PredicateError::OutOfMemory;
+            return Err(PredicateRefused { error, predicate });
+        };
+        match first.invalidate_entries_if(predicate, now, ids) {
+            Ok(id) => done.push_reserved(id),
+            Err(refused) => return Err(refused),
+        }
+        Self::register_each(rest, make, now, ids, done)
     }
-    register_each(rest, make, now, ids, done)
-}
 
-// The same of a whole vector.
-fn register_all<
-    K: Eq + Hash,
-    V,
-    X: Expiry<K, V>,
-    L: Listener<K, V>,
-    P: PredicateFn<K, V>,
-    W: Weigher<K, V>,
-    S: BuildHasher,
-    F: Fn() -> P,
-    I: IdSource,
->(
-    segments: &mut Vec<Cache<K, V, X, L, P, W, S>>,
-    make: &F,
-    now: Instant,
-    ids: &mut I,
-    done: &mut Vec<PredicateId>,
-) -> Result<(), PredicateRefused<P>>
-{
-    register_each(segments, make, now, ids, done)
+    // The same of a whole vector.
+    fn register_all<F: Fn() -> P, I: IdSource>(
+        segments: &mut Vec<Cache<K, V, X, L, P, W, S>>,
+        make: &F,
+        now: Instant,
+        ids: &mut I,
+        done: &mut Vec<PredicateId>,
+    ) -> Result<(), PredicateRefused<P>>
+    {
+        Self::register_each(segments, make, now, ids, done)
+    }
 }

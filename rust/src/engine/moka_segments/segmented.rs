@@ -27,7 +27,7 @@ pub struct SegmentedCache<
     pub(crate) segments: Vec<Cache<K, V, X, L, P, W, S>>,
 }
 
-// A cache that is let go notifies nobody.
+// A cache that is dropped notifies nobody.
 
 impl<
     K: Eq + Hash,
@@ -51,7 +51,7 @@ impl<
         (router, segments)
     }
 
-    /// Which keys are whose.
+    /// The router, which names the segment of each key.
     pub fn router(&self) -> &Router<S>
     {
         &self.router
@@ -77,7 +77,7 @@ impl<
         self.segments[index].contains_key(key, now)
     }
 
-    /// Puts a value under a key at the moment `now`. A segment of capacity 0 lets both go.
+    /// Puts a value under a key at the moment `now`. A segment of capacity 0 drops both.
     ///
     /// # Errors
     /// `NumbersUsedUp` and `OutOfMemory`, with key and value; nothing has changed.
@@ -113,7 +113,7 @@ impl<
         segment.get(key, now, clock)
     }
 
-    /// Takes a key out, and hands its value out, expired or not. The listener, if one is set, is told.
+    /// Takes a key out, and hands its value out, expired or not. The listener, if one is set, is notified.
     ///
     /// # Errors
     /// `NotTold`, with the value, where a listener is set and memory for a clone is refused. The entry is gone all the

@@ -22,32 +22,32 @@ impl<
     /// How many entries the last runs of maintenance counted, saturating.
     pub fn entry_count(&self) -> u64
     {
-        entries_of(&self.segments)
+        Self::entries_of(&self.segments)
     }
 
     /// The weight that the last runs of maintenance counted, saturating.
     pub fn weighted_size(&self) -> u64
     {
-        weight_of(&self.segments)
+        Self::weight_of(&self.segments)
     }
 
     /// Hits, misses and loads of all segments since they were made, each saturating.
     pub fn stats(&self) -> Stats
     {
-        stats_of(&self.segments)
+        Self::stats_of(&self.segments)
     }
 
     /// The sum of the segments' capacities, saturating; `None` if one of them has no bound.
     pub fn max_capacity(&self) -> Option<u64>
     {
-        capacity_of(&self.segments)
+        Self::capacity_of(&self.segments)
     }
 
     /// Invalidates all entries that were written or read before the moment `now`, also where that is earlier than
     /// before.
     pub fn invalidate_all(&mut self, now: Instant)
     {
-        hide_all(&mut self.segments, now);
+        Self::hide_all(&mut self.segments, now);
     }
 
     /// Runs maintenance of each segment in turn, without a time limit. The answer tells whether more is left of any.
@@ -56,58 +56,84 @@ impl<
     /// all.
     pub fn run_pending_tasks<C: Clock>(&mut self, now: Instant, clock: &mut C) -> bool
     {
-        run_all(&mut self.segments, now, clock)
+        Self::run_all(&mut self.segments, now, clock)
     }
-}
 
-// How many entries the last runs counted, saturating.
-fn entries_of<
-    K: Eq + Hash,
-    V,
-    X: Expiry<K, V>,
-    L: Listener<K, V>,
-    P: PredicateFn<K, V>,
-    W: Weigher<K, V>,
-    S: BuildHasher,
->(segments: &[Cache<K, V, X, L, P, W, S>]) -> u64
-{
-    match segments.split_first() {
-        None => 0,
-        Some((first, rest)) => first.entry_count().saturating_add(entries_of(rest)),
+    // How many entries the last runs counted, saturating.
+    fn entries_of(segments: &[Cache<K, V, X, L, P, W, S>]) -> u64
+    {
+        match segments.split_first() {
+            None => 0,
+            Some((first, rest)) => first.entry_count().saturating_add(Self::entries_of(rest)),
+        }
     }
-}
 
-// The weight that the last runs counted, saturating.
-fn weight_of<
-    K: Eq + Hash,
-    V,
-    X: Expiry<K, V>,
-    L: Listener<K, V>,
-    P: PredicateFn<K, V>,
-    W: Weigher<K, V>,
-    S: BuildHasher,
->(segments: &[Cache<K, V, X, L, P, W, S>]) -> u64
-{
-    match segments.split_first() {
-        None => 0,
-        Some((first, rest)) => first.weighted_size().saturating_add(weight_of(rest)),
+    // The weight that the last runs counted, saturating.
+    fn weight_of(segments: &[Cache<K, V, X, L, P, W, S>]) -> u64
+    {
+        match segments.split_first() {
+            None => 0,
+            Some((first, rest)) => first.weighted_size().saturating_add(Self::weight_of(rest)),
+        }
     }
-}
 
-// Hits, misses and loads, each saturating.
-fn stats_of<
-    K: Eq + Hash,
-    V,
-    X: Expiry<K, V>,
-    L: Listener<K, V>,
-    P: PredicateFn<K, V>,
-    W: Weigher<K, V>,
-    S: BuildHasher,
->(segments: &[Cache<K, V, X, L, P, W, S>]) -> Stats
-{
-    match segments.split_first() {
-        None => Stats::new(),
-        Some((first, rest)) => both_stats(first.stats(), stats_of(rest)),
+    // Hits, misses and loads, each saturating.
+    fn stats_of(segments: &[Cache<K, V, X, L, P, W, S>]) -> Stats
+    {
+        match segments.split_first() {
+            None => Stats::new(),
+            Some((first, rest)) => both_stats(first.stats(), Self::stats_of(rest)),
+        }
+    }
+
+    // The sum of the capacities, saturating, if each has one.
+    fn capacity_of(segments: &[Cache<K, V, X, L, P, W, S>]) -> Option<u64>
+    {
+        match segments.split_first() {
+            None => Some(0),
+            Some((first, rest)) => both(first.policy().max_capacity(), Self::capacity_of(rest)),
+        }
+    }
+
+    // Hides what was written or read before the moment, in each.
+    fn hide_each(segments: &mut [Cache<K, V, X, L, P, W, S>], now: Instant)
+    {
+        let Some((first, rest)) = segments.split_first_mut() else {
+            return;
+        };
+        first.invalidate_all(now);
+        Self::hide_each(rest, now);
+    }
+
+    // The same of a whole vector.
+    fn hide_all(segments: &mut Vec<Cache<K, V, X, L, P, W, S>>, now: Instant)
+    {
+        Self::hide_each(segments, now);
+    }
+
+    // Runs maintenance of each, and tells whether more is left of any.
+    fn run_each<C: Clock>(
+        segments: &mut [Cache<K, V, X, L, P, W, S>],
+        now: Instant,
+        clock: &mut C,
+    ) -> bool
+    {
+        let Some((first, rest)) = segments.split_first_mut() else {
+            return false;
+        };
+        let more = first.run_pending_tasks(now, clock);
+        let others = Self::run_each(rest, now, clock);
+        more | others
+    }
+
+    // The same of a whole vector.
+    fn run_all<C: Clock>(
+        segments: &mut Vec<Cache<K, V, X, L, P, W, S>>,
+        now: Instant,
+        clock: &mut C,
+    ) -> bool
+    {
+        Self::run_each(segments, now, clock)
     }
 }
 
@@ -121,23 +147,6 @@ fn both_stats(one: Stats, other: Stats) -> Stats
     }
 }
 
-// The sum of the capacities, saturating, if each has one.
-fn capacity_of<
-    K: Eq + Hash,
-    V,
-    X: Expiry<K, V>,
-    L: Listener<K, V>,
-    P: PredicateFn<K, V>,
-    W: Weigher<K, V>,
-    S: BuildHasher,
->(segments: &[Cache<K, V, X, L, P, W, S>]) -> Option<u64>
-{
-    match segments.split_first() {
-        None => Some(0),
-        Some((first, rest)) => both(first.policy().max_capacity(), capacity_of(rest)),
-    }
-}
-
 // The sum of two capacities, saturating, if both are set.
 fn both(one: Option<u64>, other: Option<u64>) -> Option<u64>
 {
@@ -145,71 +154,4 @@ fn both(one: Option<u64>, other: Option<u64>) -> Option<u64>
         (Some(one), Some(other)) => Some(one.saturating_add(other)),
         _ => None,
     }
-}
-
-// Hides what was written or read before the moment, in each.
-fn hide_each<
-    K: Eq + Hash,
-    V,
-    X: Expiry<K, V>,
-    L: Listener<K, V>,
-    P: PredicateFn<K, V>,
-    W: Weigher<K, V>,
-    S: BuildHasher,
->(segments: &mut [Cache<K, V, X, L, P, W, S>], now: Instant)
-{
-    let Some((first, rest)) = segments.split_first_mut() else {
-        return;
-    };
-    first.invalidate_all(now);
-    hide_each(rest, now);
-}
-
-// Runs maintenance of each, and tells whether more is left of any.
-fn run_each<
-    K: Eq + Hash,
-    V,
-    X: Expiry<K, V>,
-    L: Listener<K, V>,
-    P: PredicateFn<K, V>,
-    W: Weigher<K, V>,
-    S: BuildHasher,
-    C: Clock,
->(segments: &mut [Cache<K, V, X, L, P, W, S>], now: Instant, clock: &mut C) -> bool
-{
-    let Some((first, rest)) = segments.split_first_mut() else {
-        return false;
-    };
-    let more = first.run_pending_tasks(now, clock);
-    let others = run_each(rest, now, clock);
-    more | others
-}
-
-// The same of a whole vector.
-fn hide_all<
-    K: Eq + Hash,
-    V,
-    X: Expiry<K, V>,
-    L: Listener<K, V>,
-    P: PredicateFn<K, V>,
-    W: Weigher<K, V>,
-    S: BuildHasher,
->(segments: &mut Vec<Cache<K, V, X, L, P, W, S>>, now: Instant)
-{
-    hide_each(segments, now);
-}
-
-// The same of a whole vector.
-fn run_all<
-    K: Eq + Hash,
-    V,
-    X: Expiry<K, V>,
-    L: Listener<K, V>,
-    P: PredicateFn<K, V>,
-    W: Weigher<K, V>,
-    S: BuildHasher,
-    C: Clock,
->(segments: &mut Vec<Cache<K, V, X, L, P, W, S>>, now: Instant, clock: &mut C) -> bool
-{
-    run_each(segments, now, clock)
 }

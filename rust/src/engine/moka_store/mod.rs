@@ -7,4 +7,4 @@ pub mod table;
 mod timers;
 mod write_list;
 
-pub use store::{Handle, IndexHash, Store, Update};
+pub use store::{Handle, IndexHash, MOST_PLACES, Store, Update};

@@ -7,6 +7,7 @@ use crate::support::prelude::*;
 use crate::engine::moka_store::table::{Membership, RecordTable};
 use crate::engine::moka_store::timers::Timers;
 use crate::engine::moka_store::write_list::WriteList;
+pub use changes::MOST_PLACES;
 pub use hashing::IndexHash;
 use crate::engine::moka_index::PlaceIndex;
 use crate::engine::moka_parts::policy::Instant;
@@ -16,10 +17,10 @@ use crate::engine::moka_structures::OrderList;
 use crate::support::alloc::{AllocError, Global};
 use crate::support::hash::{BuildHasher, Hash};
 
+mod by_key_test;
 mod changes;
 mod hashing;
 mod rows;
-mod tested;
 
 // With more members than this, nodes are read ahead.
 const FAR: usize = 1 << 18;
@@ -78,7 +79,8 @@ impl<K: Eq + Hash, V, S: BuildHasher> Store<K, V, S> {
     }
 
     /// Makes room for `additional` more records: in the index, for their rows, their places in the orders and their
-    /// timers. An error leaves all but the room as it was: there is no memory, or a place would need more than 32 bits.
+    /// timers. Where there is room, nothing changes. An error leaves all but the room as it was: there is no memory, or
+    /// a place would need more than 32 bits.
     #[inline(always)]
     pub fn reserve(&mut self, additional: usize) -> Result<(), AllocError>
     {
@@ -103,9 +105,7 @@ impl<K: Eq + Hash, V, S: BuildHasher> Store<K, V, S> {
     {
         let table = &self.table;
         let is_match = |place| changes::has_key(table, place, key);
-        let Some(place) = self.index.find(hash.0, is_match) else {
-            return None;
-        };
+        let place = self.index.find(hash.0, is_match)?;
         let Some((number, stored)) = table.live(place) else {
             unreachable!()
         };
@@ -124,10 +124,7 @@ impl<K: Eq + Hash, V, S: BuildHasher> Store<K, V, S> {
     #[inline(always)]
     pub fn has_row(&self, handle: Handle) -> bool
     {
-        match self.table.number(handle.place) {
-            Some(number) => number == handle.number,
-            None => false,
-        }
+        self.table.number(handle.place) == Some(handle.number)
     }
 
     /// A new record of a key that has none, under the key's hash. It takes no memory.
@@ -207,10 +204,7 @@ impl<K: Eq + Hash, V, S: BuildHasher> Store<K, V, S> {
     #[inline(always)]
     pub fn is_settled(&self, handle: Handle) -> bool
     {
-        match self.find(handle) {
-            Some(found) => found.is_settled(),
-            None => false,
-        }
+        self.find(handle).is_some_and(|found| found.is_settled())
     }
 
     /// The number at this handle comes to the back of both orders, with this weight. It takes no memory.
@@ -457,7 +451,6 @@ impl<K: Eq + Hash, V, S: BuildHasher> Store<K, V, S> {
         let hash = self.hash_at(handle);
         if self.is_member(handle) {
             self.leave(handle);
-            return self.take_record(handle, hash);
         }
         self.take_record(handle, hash)
     }

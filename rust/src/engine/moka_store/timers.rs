@@ -27,7 +27,7 @@ impl Timers {
         Ok(Timers { wheel })
     }
 
-    /// Makes room for so many timers in all.
+    /// Makes room for so many timers in all, and changes nothing where there is room.
     #[inline(always)]
     pub fn reserve(&mut self, places: usize) -> Result<(), AllocError>
     {
@@ -41,20 +41,13 @@ impl Timers {
     #[inline(always)]
     pub fn set(&mut self, before: Option<u32>, place: u64, at: Option<Instant>) -> Option<u32>
     {
-        let Some(wheel) = &mut self.wheel else {
-            return None;
-        };
-        set_in(wheel, before, place, at)
+        set_in(self.wheel.as_mut()?, before, place, at)
     }
 
     /// Takes a timer out whose moment is at or before `now`. The answer is None exactly where there is none.
     pub fn due(&mut self, now: Instant) -> Option<Due>
     {
-        let Some(wheel) = &mut self.wheel else {
-            return None;
-        };
-        let due = wheel.advance(now.0)?;
-        Some(due)
+        self.wheel.as_mut()?.advance(now.0)
     }
 }
 

@@ -30,7 +30,7 @@ impl WriteList {
         Ok(WriteList { list, cursor: None })
     }
 
-    /// Makes room for so many places in all.
+    /// Makes room for so many places in all, and changes nothing where there is room.
     #[inline(always)]
     pub fn reserve(&mut self, places: usize) -> Result<(), AllocError>
     {

@@ -41,10 +41,14 @@ impl<T: Copy> Older<T> {
         self.table.len() + self.kept.len()
     }
 
-    /// Keeps room for `additional` more items. An error takes neither items nor room away.
+    /// Keeps room for `additional` more items, and changes nothing where there is room. An error takes neither items
+    /// nor room away.
     #[inline(always)]
     pub fn reserve(&mut self, additional: usize) -> Result<(), AllocError>
     {
+        if additional <= self.kept.capacity() - self.kept.len() {
+            return Ok(());
+        }
         self.kept.reserve(additional)
     }
 

@@ -98,8 +98,8 @@ impl<T: Copy> OrderList<T> {
         self.len == 0
     }
 
-    /// Makes room for `additional` more values. An error leaves the list as it was: there is no memory, or the
-    /// list would be longer than its slots can tell.
+    /// Makes room for `additional` more values, and changes nothing where there is room. An error leaves the list as it
+    /// was: there is no memory, or the list would be longer than its slots can tell.
     #[inline(always)]
     pub fn reserve(&mut self, additional: usize) -> Result<(), AllocError>
     {

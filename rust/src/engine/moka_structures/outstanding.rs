@@ -48,7 +48,8 @@ impl<T: Copy> Outstanding<T> {
         self.len() == 0
     }
 
-    /// Keeps room for `additional` more items. An error takes neither items nor room away.
+    /// Keeps room for `additional` more items, and changes nothing where there is room. An error takes neither items
+    /// nor room away.
     pub fn reserve(&mut self, additional: usize) -> Result<(), AllocError>
     {
         self.older.reserve(additional)

@@ -37,10 +37,14 @@ impl<T: Copy> TicketTable<T> {
         self.waiting.len()
     }
 
-    /// Makes room for `additional` more items. An error takes neither items nor room away.
+    /// Makes room for `additional` more items, and changes nothing where there is room. An error takes neither items
+    /// nor room away.
     pub fn reserve(&mut self, additional: usize) -> Result<(), AllocError>
     {
         self.order.reserve(additional)?;
+        if additional <= self.waiting.capacity() - self.waiting.len() {
+            return Ok(());
+        }
         self.waiting.reserve(additional)
     }
 

@@ -54,8 +54,8 @@ impl TimerWheel {
         self.len
     }
 
-    /// Makes room for `additional` more timers. It refuses more than 32-bit slots can name, as it does for want of
-    /// memory.
+    /// Makes room for `additional` more timers, and changes nothing where there is room. It refuses more than 32-bit
+    /// slots can name, as it does for want of memory.
     pub fn reserve(&mut self, additional: usize) -> Result<(), AllocError>
     {
         let used = HEADS as usize + self.len;

@@ -15,7 +15,8 @@ use crate::engine::moka_parts::policy::{Expiry, NoExpiry, Policy};
 use crate::support::alloc::Global;
 use crate::support::hash::{BuildHasher, Hash};
 
-/// A cache with a clock, which each call that needs the moment reads once at its start.
+/// A cache with a clock. Each call that needs the moment reads it at its start; a run of maintenance may read it again
+/// for its time limit.
 pub struct TimedCache<
     K: Eq + Hash,
     V,
@@ -154,8 +155,8 @@ impl<
     }
 
     /// A clone of a key's value, if the key is there and visible, and else of the value that `init` makes, which is
-    /// inserted. `init` is called only if the key is not there. The clock is read once, before `init` is called, so if
-    /// that takes longer than the time to live the entry has expired already.
+    /// inserted. `init` is called only if the key is not there. The entry is inserted at the moment that was read before
+    /// `init` was called, so if that takes longer than the time to live the entry has expired already.
     ///
     /// # Errors
     /// As `Cache::get_with`.

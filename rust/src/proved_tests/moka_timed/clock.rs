@@ -8,7 +8,8 @@ use crate::engine::moka_parts::housekeeper::Clock;
 use crate::engine::moka_parts::policy::Instant;
 use crate::support::time::Duration;
 
-/// What tells how long ago it started. Every `std::time::Clock` is one, as which a `HostRuntime` serves.
+/// A source of monotonic time: it tells how long ago it started. Every `std::time::Clock` is one, such as a
+/// `HostRuntime`.
 pub trait Monotonic {
 
     /// It may tell so many nanoseconds, or nothing where it cannot be read.
@@ -56,6 +57,7 @@ impl<R: Monotonic> Clock for SystemClock<R> {
 /// A clock that stands until it is moved by hand, as a test does.
 #[derive(Clone, Copy, Debug, PartialEq, Eq)]
 pub struct ManualClock {
+    /// The moment that it tells.
     pub now: Instant,
 }
 

@@ -20,6 +20,7 @@ impl<K, V> Listener<K, V> for Counter {
 }
 
 /// Puts two values under one key, of which the first leaves: the listener has counted one, and the second is there.
+/// Both operations were sent.
 pub fn replace(
     alloc: Global,
     key: u64,

@@ -1,12 +1,12 @@
 use Rattle.std.proofs.Common.{rules, arith, refl, sym, ap, ◌∙◌, [], ◌∷◌, ◌++◌, append_assoc, append-nil, length}
 use Rattle.std.specs.Vec.Iter.{into_iter_items}
-use Rattle.moka_parts.specs.State.{Meaning}
+use Rattle.std.proofs.lemmas.List.{nil_from_length}
+use Rattle.moka_parts.specs.State.{Meaning, meaning_of}
 use Rattle.moka_parts.specs.Runs.{PromisedRun, Step}
 use Rattle.moka_parts.specs.Listed.{ListedStep}
 use Rattle.moka_parts.proofs.OrderedDrive.{listed_call_promised, lists_go_on, drives_in_order}
 use Rattle.moka_parts.proofs.RunsGoOn.{MakesCalls_push}
-use Rattle.moka_drive.specs.Meanings.{meaning_of}
-use Rattle.moka_drive.proofs.Quiet.{no_calls, empty_of_length}
+use Rattle.moka_drive.proofs.Quiet.{no_calls}
 use Rattle.moka_drive.proofs.driver.drive.Goals as goal
 
 pub loop-call-init : goal.loop-call-init
@@ -47,7 +47,7 @@ pub returns-clause-run : goal.returns-clause-run
 returns-clause-run g c =
     let m : Meaning g.row.K.Denot g.row.V.Denot g.row.X.Denot g.row.L.Denot g.row.P.Denot g.row.W.Denot g.row.C.Denot g.row.I.Denot = meaning_of g.K.PartialEq.eq g.L.Listener.tells g.P.PredicateFn.says g.W.Weigher.weighs g.C.Clock.reads g.I.IdSource.gives g.X.Expiry.created g.X.Expiry.read g.X.Expiry.updated in
     let h = c.loop-call.invariant.ran in
-    let none = empty_of_length (into_iter_items c.loop-call.call-iterator) (sym c.loop-call.call-iterator.rest.ok.0 ∙ c.in-None.ensures.steps.0) in
+    let none = nil_from_length (into_iter_items c.loop-call.call-iterator) (sym c.loop-call.call-iterator.rest.ok.0 ∙ c.in-None.ensures.steps.0) in
     let all = c.loop-call.invariant.rest ∙ (ap (λ xs. c.loop-call.yielded ++ xs) none ∙ append-nil c.loop-call.yielded) in
     drives_in_order m c.args.calls.items c.loop-call.replies.items h.0 c.args.cache.now c.loop-call.cache c.args.clock.now c.loop-call.clock c.args.ids.now c.loop-call.ids
     g.met.K.Eq.laws c.invariant_holds.ensures.valid c.invariant_holds.ensures.listed (rw all h.1) h.2

@@ -3,7 +3,7 @@ use Rattle.std.specs.Prelude.{vec_capacity}
 use Rattle.std.specs.Vec.Iter.{into_iter_items}
 use Rattle.moka_parts.specs.Runs.{MakesCalls, PromisedRun, Step}
 use Rattle.moka_parts.specs.Listed.{AreListedSteps}
-use Rattle.moka_drive.specs.Meanings.{meaning_of}
+use Rattle.moka_parts.specs.State.{meaning_of}
 use Rattle.moka_drive.proofs.driver.drive.Given as goal
 
 abbrev pub invariant-loop-call : goal.invariant-loop-call

@@ -2,10 +2,9 @@ use Rattle.std.proofs.Common.{refl, false, sym, subst, ◌∙◌}
 use Rattle.moka_parts.specs.Calls.{no_events, GetStep, PeekStep, ScanStep}
 use Rattle.moka_parts.specs.Copies.{IsEntryCopy}
 use Rattle.moka_parts.specs.Listed.{ListedRun}
-use Rattle.moka_parts.specs.State.{Events}
+use Rattle.moka_parts.specs.State.{Events, meaning_of}
 use Rattle.moka_parts.specs.Surroundings.{Leads}
 use Rattle.moka_parts.proofs.Copies.{answer-same, entry-same}
-use Rattle.moka_drive.specs.Meanings.{meaning_of}
 use Rattle.moka_drive.proofs.Made.{nothing_befalls}
 use Rattle.moka_drive.proofs.Quiet.{get_asks_nothing, keys_step, pending_step}
 use Rattle.moka_drive.proofs.driver.make.Goals as goal

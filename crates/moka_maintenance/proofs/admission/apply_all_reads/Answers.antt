@@ -1,11 +1,10 @@
 use Rattle.std.proofs.Common.{◌≡◌, ◌++◌, List, sym, ◌∙◌, subst, length, Contains}
 use Rattle.std.proofs.lemmas.Bool.{eqb-true}
-use Rattle.std.proofs.lemmas.List.{take-append-drop}
+use Rattle.std.proofs.lemmas.List.{take-append-drop, nil_from_length}
 use Rattle.std.proofs.lemmas.List.Elements.{Contains-append_left}
 use Rattle.moka_store.specs.Store.{Kept}
 use Rattle.moka_maintenance.specs.declared.queued.QueuedRead.{QueuedRead}
 use Rattle.moka_maintenance.specs.Queued.{IsReadAt, read_of}
-use Rattle.moka_maintenance.proofs.Popped.{nothing_in}
 use Rattle.moka_maintenance.proofs.ReadsApplied.{AreLeft, all-left, fewer-left, none-left, left-located}
 use Rattle.moka_maintenance.proofs.admission.apply_all_reads.Goals as goal
 
@@ -27,5 +26,5 @@ loop-rest-init g c = all-left _ _
 
 pub returns : goal.returns
 returns g c =
-    let empty = nothing_in c.loop-rest.rest.now (eqb-true (length c.loop-rest.rest.now) 0 (sym c.is_empty.ensures ∙ c.loop-rest-test.false)) in
+    let empty = nil_from_length c.loop-rest.rest.now (eqb-true (length c.loop-rest.rest.now) 0 (sym c.is_empty.ensures ∙ c.loop-rest-test.false)) in
     none-left _ _ _ (subst (λ (qs : List QueuedRead). AreLeft c.args.reads.now qs c.args.store.now c.loop-rest.store) empty c.loop-rest.invariant)

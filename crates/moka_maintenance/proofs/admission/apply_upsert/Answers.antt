@@ -29,9 +29,9 @@ returns-in_default g c =
 pub returns-then-applied-upsert : goal.returns-then-applied-upsert
 returns-then-applied-upsert g c =
     applies-upsert _ _ _ _ _ c.args.upsert _ _
-    (applied-overtaken g.L.Listener.tells c.args.bounds.capacity c.args.bounds.policy c.args.store.now.ordered (contents_with c.args.sketch.now c.args.store.now) c.args.upsert.handle.number c.args.upsert.generation c.args.upsert.weight c.args.upsert.hash (contents_with c.args.sketch.now c.pass.new.store) c.args.store.now.written c.pass.new.store.written c.in-Some.found (sym (c.in-Some.ensures.found (c.has_row.ensures.placed.0 c.if-not-has_row.false))) c.args.notifier.now c.args.notifier.now
-    (omega (arith, c.applied.ensures)) (ap (λ (k : Kept g.row.K.Denot g.row.V.Denot g.row.S.Denot). contents_with c.args.sketch.now k) c.pass.ensures.step) (λ _. ap (λ (k : Kept g.row.K.Denot g.row.V.Denot g.row.S.Denot). k.written) c.pass.ensures.step) c.invariant_holds.ensures.listed refl)
-    c.pass.ensures.upkeep
+    (applied-overtaken g.L.Listener.tells c.args.bounds.capacity c.args.bounds.policy c.args.store.now.ordered (contents_with c.args.sketch.now c.args.store.now) c.args.upsert.handle.number c.args.upsert.generation c.args.upsert.weight c.args.upsert.hash (contents_with c.args.sketch.now c.move_to_back.new.store) c.args.store.now.written c.move_to_back.new.store.written c.in-Some.found (sym (c.in-Some.ensures.found (c.has_row.ensures.placed.0 c.if-not-has_row.false))) c.args.notifier.now c.args.notifier.now
+    (omega (arith, c.applied.ensures)) (ap (λ (k : Kept g.row.K.Denot g.row.V.Denot g.row.S.Denot). contents_with c.args.sketch.now k) c.move_to_back.ensures.step) (λ _. ap (λ (k : Kept g.row.K.Denot g.row.V.Denot g.row.S.Denot). k.written) c.move_to_back.ensures.step) c.invariant_holds.ensures.listed refl)
+    c.move_to_back.ensures.upkeep
 
 pub returns-then-is_member : goal.returns-then-is_member
 returns-then-is_member g c =

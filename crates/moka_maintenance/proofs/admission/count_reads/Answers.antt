@@ -1,7 +1,7 @@
-use Rattle.std.proofs.Common.{List, refl, sym, ap, ◌∙◌}
-use Rattle.moka_maintenance.specs.declared.queued.QueuedRead.{QueuedRead}
+use Rattle.std.proofs.Common.{◌≡◌, ◌+◌, [], length, drop, refl, sym, ap, ◌∙◌, arith}
+use Rattle.std.proofs.Math.Seq.{drop-length}
+use Rattle.std.proofs.lemmas.List.{drop_more}
 use Rattle.moka_maintenance.specs.Queued.{counted_all}
-use Rattle.moka_maintenance.proofs.Popped.{nothing_in}
 use Rattle.moka_maintenance.proofs.ReadsApplied.{counted-off}
 use Rattle.moka_maintenance.proofs.admission.count_reads.Goals as goal
 
@@ -15,11 +15,15 @@ loop-read-init c = refl
 
 pub loop-read-preserved : goal.loop-read-preserved
 loop-read-preserved c =
-    ap (λ sketch. counted_all sketch c.in-Some.behind.now) c.increment.ensures.counted
-    ∙ sym (ap (λ (qs : List QueuedRead). counted_all c.loop-read.sketch qs) c.in-Some.ensures.cases.0)
+    let reads = c.args.reads.now in
+    let behind = drop (c.loop-read.read-index + 1) reads in
+    ap (λ sketch. counted_all sketch behind) c.increment.ensures.counted
+    ∙ sym (ap (counted_all c.loop-read.sketch) (drop_more reads c.loop-read.read-index _ c.loop-read-test.true))
     ∙ c.loop-read.invariant
 
 pub returns : goal.returns
 returns c =
-    let empty = nothing_in c.loop-read.rest.now c.in_default.ensures.cases in
-    sym (ap (λ (qs : List QueuedRead). counted_all c.loop-read.sketch qs) empty) ∙ c.loop-read.invariant
+    let reads = c.args.reads.now in
+    let end : c.loop-read.read-index ≡ length reads = omega arith in
+    let empty : drop c.loop-read.read-index reads ≡ [] = ap (λ i. drop i reads) end ∙ drop-length reads in
+    sym (ap (counted_all c.loop-read.sketch) empty) ∙ c.loop-read.invariant

@@ -14,14 +14,14 @@ returns-clause-pass g c =
     let last = c.take_step-surplus in
     let before = stock_in c.args.store.now in
     let after = stock_in last.new.store in
-    let scan = c.scan-is_scan_left in
+    let scan = c.scan-scan_has_more in
     let ps = c.args.invalidator.now in
     let qs = scan.new.invalidator in
     let ordered = second.ensures.upkeep.keeps.timers.ordered ∙ first.ensures.upkeep.keeps.timers.ordered ∙ due.ensures.kept.upkeep.timers.ordered in
-    subst (λ (p : Pass). IsPass g.L.Listener.tells g.P.PredicateFn.says c.args.terms.tests c.args.terms.batch c.args.store.now.ordered ps qs before after c.args.notifier.now last.new.notifier p.removed p.is_left p.is_scan_left) (sym c.joined.ensures)
-    (subst (λ (b : Bool). IsPass g.L.Listener.tells g.P.PredicateFn.says c.args.terms.tests c.args.terms.batch b ps qs before after c.args.notifier.now last.new.notifier (due.result + first.result.removed + second.result.removed + last.result.removed) (first.result.is_left || second.result.is_left || last.result.is_left) scan.result) ordered
+    subst (λ (p : Pass). IsPass g.L.Listener.tells g.P.PredicateFn.says c.args.terms.tests c.args.terms.batch c.args.store.now.ordered ps qs before after c.args.notifier.now last.new.notifier p.removed p.has_more p.scan_has_more) (sym c.joined.ensures)
+    (subst (λ (b : Bool). IsPass g.L.Listener.tells g.P.PredicateFn.says c.args.terms.tests c.args.terms.batch b ps qs before after c.args.notifier.now last.new.notifier (due.result + first.result.removed + second.result.removed + last.result.removed) (first.result.has_more || second.result.has_more || last.result.has_more) scan.result) ordered
     (pass-five g.L.Listener.tells g.P.PredicateFn.says ps qs c.args.terms.tests c.args.terms.batch before (stock_in due.new.store) (stock_in first.new.store) second.new.store scan.new.store after
-    c.args.notifier.now due.new.notifier first.new.notifier second.new.notifier scan.new.notifier last.new.notifier due.result first.result.removed second.result.removed last.result.removed first.result.is_left second.result.is_left last.result.is_left scan.result
+    c.args.notifier.now due.new.notifier first.new.notifier second.new.notifier scan.new.notifier last.new.notifier due.result first.result.removed second.result.removed last.result.removed first.result.has_more second.result.has_more last.result.has_more scan.result
     due.ensures.expired first.ensures.swept second.ensures.swept scan.ensures last.ensures.swept first.ensures.idle second.ensures.idle last.ensures.idle))
 
 pub returns-clause-kept : goal.returns-clause-kept
@@ -31,7 +31,7 @@ returns-clause-kept g c =
     let due = c.expire_due-due in
     let first = c.take_step-by_write in
     let second = c.take_step-by_read in
-    let scan = c.scan-is_scan_left in
+    let scan = c.scan-scan_has_more in
     let last = c.take_step-surplus in
     still-upkept now old scan.new.store last.new.store last.ensures.upkeep
     (still-upkept now old second.new.store scan.new.store scan.ensures.upkeep

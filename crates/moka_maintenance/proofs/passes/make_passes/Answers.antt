@@ -20,14 +20,14 @@ overflow_add-passes g c = let few = moving-few g.L.Listener.tells g.P.PredicateF
 pub returns-then-not-goes_on-clause-ran : goal.returns-then-not-goes_on-clause-ran
 returns-then-not-goes_on-clause-ran g c =
     let inv = c.loop-terms.invariant in
-    let passed = subst (λ (b : Bool). IsPass g.L.Listener.tells g.P.PredicateFn.says c.args.terms.tests c.args.terms.batch b c.loop-terms.invalidator c.make_pass-pass.new.invalidator (stock_in c.loop-terms.store) (stock_in c.make_pass-pass.new.store) c.loop-terms.notifier c.make_pass-pass.new.notifier c.make_pass-pass.result.removed c.make_pass-pass.result.is_left c.make_pass-pass.result.is_scan_left) inv.upkeep.timers.ordered c.make_pass-pass.ensures.pass in
-    subst (λ (b : Bool). IsRan g.L.Listener.tells g.P.PredicateFn.says c.args.terms.tests g.C.Clock.reads (option_map as_nanos c.args.terms.limit) c.args.terms.batch c.args.store.now.ordered c.args.invalidator.now c.make_pass-pass.new.invalidator (stock_in c.args.store.now) (stock_in c.make_pass-pass.new.store) c.args.notifier.now c.make_pass-pass.new.notifier c.args.clock.now c.loop-terms.clock (c.loop-terms.passes + 1) b) (sym c.leaves_more-is_left.ensures)
+    let passed = subst (λ (b : Bool). IsPass g.L.Listener.tells g.P.PredicateFn.says c.args.terms.tests c.args.terms.batch b c.loop-terms.invalidator c.make_pass-pass.new.invalidator (stock_in c.loop-terms.store) (stock_in c.make_pass-pass.new.store) c.loop-terms.notifier c.make_pass-pass.new.notifier c.make_pass-pass.result.removed c.make_pass-pass.result.has_more c.make_pass-pass.result.scan_has_more) inv.upkeep.timers.ordered c.make_pass-pass.ensures.pass in
+    subst (λ (b : Bool). IsRan g.L.Listener.tells g.P.PredicateFn.says c.args.terms.tests g.C.Clock.reads (option_map as_nanos c.args.terms.limit) c.args.terms.batch c.args.store.now.ordered c.args.invalidator.now c.make_pass-pass.new.invalidator (stock_in c.args.store.now) (stock_in c.make_pass-pass.new.store) c.args.notifier.now c.make_pass-pass.new.notifier c.args.clock.now c.loop-terms.clock (c.loop-terms.passes + 1) b) (sym c.leaves_more-has_more.ensures)
     (ran-out g.L.Listener.tells g.P.PredicateFn.says c.args.terms.tests c.args.terms.batch c.args.store.now.ordered _ _ _ _ _ _ _ _ _ _ _ _ _ inv.moving passed g.C.Clock.reads (option_map as_nanos c.args.terms.limit) c.start-started.result c.args.clock.now c.loop-terms.clock c.loop-terms.clock inv.clocked (not_due _ _ (sym c.goes_on.ensures ∙ c.if-not-goes_on.true)))
 
 pub returns-then-is_late-clause-ran : goal.returns-then-is_late-clause-ran
 returns-then-is_late-clause-ran g c =
     let inv = c.loop-terms.invariant in
-    let passed = subst (λ (b : Bool). IsPass g.L.Listener.tells g.P.PredicateFn.says c.args.terms.tests c.args.terms.batch b c.loop-terms.invalidator c.make_pass-pass.new.invalidator (stock_in c.loop-terms.store) (stock_in c.make_pass-pass.new.store) c.loop-terms.notifier c.make_pass-pass.new.notifier c.make_pass-pass.result.removed c.make_pass-pass.result.is_left c.make_pass-pass.result.is_scan_left) inv.upkeep.timers.ordered c.make_pass-pass.ensures.pass in
+    let passed = subst (λ (b : Bool). IsPass g.L.Listener.tells g.P.PredicateFn.says c.args.terms.tests c.args.terms.batch b c.loop-terms.invalidator c.make_pass-pass.new.invalidator (stock_in c.loop-terms.store) (stock_in c.make_pass-pass.new.store) c.loop-terms.notifier c.make_pass-pass.new.notifier c.make_pass-pass.result.removed c.make_pass-pass.result.has_more c.make_pass-pass.result.scan_has_more) inv.upkeep.timers.ordered c.make_pass-pass.ensures.pass in
     let on = is_due _ _ (sym c.goes_on.ensures ∙ c.if-not-goes_on.false) in
     ran-late g.L.Listener.tells g.P.PredicateFn.says c.args.terms.tests c.args.terms.batch c.args.store.now.ordered _ _ _ _ _ _ _ _ _ _ _ _ _ inv.moving passed g.C.Clock.reads (option_map as_nanos c.args.terms.limit) c.start-started.result c.args.clock.now c.loop-terms.clock c.is_late.new.clock
     (clocked-check g.C.Clock.reads (option_map as_nanos c.args.terms.limit) c.start-started.result c.args.clock.now c.loop-terms.clock c.is_late.new.clock c.loop-terms.passes _ inv.clocked c.if-is_late.ensures)
@@ -36,13 +36,13 @@ returns-then-is_late-clause-ran g c =
 pub loop-terms-smaller : goal.loop-terms-smaller
 loop-terms-smaller g c =
     let inv = c.loop-terms.invariant in
-    let passed = subst (λ (b : Bool). IsPass g.L.Listener.tells g.P.PredicateFn.says c.args.terms.tests c.args.terms.batch b c.loop-terms.invalidator c.make_pass-pass.new.invalidator (stock_in c.loop-terms.store) (stock_in c.make_pass-pass.new.store) c.loop-terms.notifier c.make_pass-pass.new.notifier c.make_pass-pass.result.removed c.make_pass-pass.result.is_left c.make_pass-pass.result.is_scan_left) inv.upkeep.timers.ordered c.make_pass-pass.ensures.pass in
-    let less = moving-less g.L.Listener.tells g.P.PredicateFn.says c.args.terms.tests c.args.terms.batch c.args.store.now.ordered _ _ _ _ _ _ _ _ _ _ _ _ _ c.loop-terms.invariant.moving passed (is_due (c.make_pass-pass.result.is_left || c.make_pass-pass.result.is_scan_left) c.make_pass-pass.result.removed (sym c.goes_on.ensures ∙ c.if-not-goes_on.false)).1 in omega arith
+    let passed = subst (λ (b : Bool). IsPass g.L.Listener.tells g.P.PredicateFn.says c.args.terms.tests c.args.terms.batch b c.loop-terms.invalidator c.make_pass-pass.new.invalidator (stock_in c.loop-terms.store) (stock_in c.make_pass-pass.new.store) c.loop-terms.notifier c.make_pass-pass.new.notifier c.make_pass-pass.result.removed c.make_pass-pass.result.has_more c.make_pass-pass.result.scan_has_more) inv.upkeep.timers.ordered c.make_pass-pass.ensures.pass in
+    let less = moving-less g.L.Listener.tells g.P.PredicateFn.says c.args.terms.tests c.args.terms.batch c.args.store.now.ordered _ _ _ _ _ _ _ _ _ _ _ _ _ c.loop-terms.invariant.moving passed (is_due (c.make_pass-pass.result.has_more || c.make_pass-pass.result.scan_has_more) c.make_pass-pass.result.removed (sym c.goes_on.ensures ∙ c.if-not-goes_on.false)).1 in omega arith
 
 pub loop-terms-preserved : goal.loop-terms-preserved
 loop-terms-preserved g c =
     let inv = c.loop-terms.invariant in
-    let passed = subst (λ (b : Bool). IsPass g.L.Listener.tells g.P.PredicateFn.says c.args.terms.tests c.args.terms.batch b c.loop-terms.invalidator c.make_pass-pass.new.invalidator (stock_in c.loop-terms.store) (stock_in c.make_pass-pass.new.store) c.loop-terms.notifier c.make_pass-pass.new.notifier c.make_pass-pass.result.removed c.make_pass-pass.result.is_left c.make_pass-pass.result.is_scan_left) inv.upkeep.timers.ordered c.make_pass-pass.ensures.pass in
+    let passed = subst (λ (b : Bool). IsPass g.L.Listener.tells g.P.PredicateFn.says c.args.terms.tests c.args.terms.batch b c.loop-terms.invalidator c.make_pass-pass.new.invalidator (stock_in c.loop-terms.store) (stock_in c.make_pass-pass.new.store) c.loop-terms.notifier c.make_pass-pass.new.notifier c.make_pass-pass.result.removed c.make_pass-pass.result.has_more c.make_pass-pass.result.scan_has_more) inv.upkeep.timers.ordered c.make_pass-pass.ensures.pass in
     let made = c.make_pass-pass.ensures in
     let on = is_due _ _ (sym c.goes_on.ensures ∙ c.if-not-goes_on.false) in
     record {

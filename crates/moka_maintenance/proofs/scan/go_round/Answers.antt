@@ -1,14 +1,14 @@
 use Rattle.std.proofs.Common.{◌≤◌, ◌-◌, ◌⊎◌, ℕ, [], refl, sym, subst, ◌∙◌, length}
+use Rattle.std.proofs.lemmas.Bool.{not-true, not-false}
 use Rattle.moka_maintenance.specs.Scanning.{before_cursor, from_cursor}
 use Rattle.moka_maintenance.proofs.Rounds.{IsKnown, before_and_from, round-part, round-whole}
-use Rattle.moka_maintenance.proofs.Scanned.{not_true, not_false}
 use Rattle.moka_maintenance.proofs.scan.go_round.Goals as goal
 
 pub returns-then-not-first : goal.returns-then-not-first
 returns-then-not-first g c =
     let old = c.args.store.now in
     let first = c.scan_along-first in
-    let part = not_true first.result.is_end c.if-not-first.true in
+    let part = not-true first.result.is_end c.if-not-first.true in
     let known : IsKnown old = record { distinct = c.invariant_holds.ensures.distinct; once = c.invariant_holds.ensures.once; listed = c.invariant_holds.ensures.listed; unlisted = c.invariant_holds.ensures.unlisted } in
     let walked = first.ensures.walked (before_cursor old.cursor old.written) (from_cursor old.cursor old.written) (before_and_from old.cursor old.written) c.start_of.ensures.first in
     let stopped : (length old.access ≤ first.result.passed) ⊎ (c.args.batch ≤ first.result.looked) = subst (λ (n : ℕ). (n ≤ first.result.passed) ⊎ (c.args.batch ≤ first.result.looked)) c.member_count-members.ensures.value (first.ensures.stretch.stopped part) in
@@ -20,7 +20,7 @@ returns g c =
     let old = c.args.store.now in
     let first = c.scan_along-first in
     let second = c.scan_along-second in
-    let over = not_false first.result.is_end c.if-not-first.false in
+    let over = not-false first.result.is_end c.if-not-first.false in
     let known : IsKnown old = record { distinct = c.invariant_holds.ensures.distinct; once = c.invariant_holds.ensures.once; listed = c.invariant_holds.ensures.listed; unlisted = c.invariant_holds.ensures.unlisted } in
     let walked = first.ensures.walked (before_cursor old.cursor old.written) (from_cursor old.cursor old.written) (before_and_from old.cursor old.written) c.start_of.ensures.first in
     round-whole g.L.Listener.tells g.P.PredicateFn.says c.args.invalidator.now c.args.batch old first.new.store c.args.notifier.now first.new.notifier first.result.looked first.result.passed known

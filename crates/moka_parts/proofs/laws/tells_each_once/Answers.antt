@@ -1,5 +1,6 @@
 use Rattle.moka_parts.proofs.ConservedCalls.{tells_each_once}
+use Rattle.moka_parts.specs.State.{meaning_of}
 use Rattle.moka_parts.proofs.laws.tells_each_once.Goals as goal
 
 pub returns : goal.returns
-returns g c = tells_each_once (record { eq = g.K.PartialEq.eq; tells = g.L.Listener.tells; says = g.P.PredicateFn.says; weighs = g.W.Weigher.weighs; observes = g.C.Clock.reads; gives = g.I.IdSource.gives; created = g.X.Expiry.created; read = g.X.Expiry.read; updated = g.X.Expiry.updated }) g.met.K.Eq.laws
+returns g c = tells_each_once (meaning_of g.K.PartialEq.eq g.L.Listener.tells g.P.PredicateFn.says g.W.Weigher.weighs g.C.Clock.reads g.I.IdSource.gives g.X.Expiry.created g.X.Expiry.read g.X.Expiry.updated) g.met.K.Eq.laws

@@ -1,6 +1,6 @@
 use Rattle.std.proofs.Common.{ap, ◌∙◌, arith}
 use Rattle.std.specs.FinMap.{get, len}
-use Rattle.moka_store.proofs.Gets.{len-fresh, len-kept, len-removed, len-some}
+use Rattle.moka_store.proofs.Gets.{len-inserted, len-kept, len-removed, len-some}
 use Rattle.moka_store.proofs.Timed.{timer-there}
 use Rattle.moka_store.proofs.timers.set_in.Goals as goal
 
@@ -23,6 +23,6 @@ returns-in-Some-None-clause-most c =
 
 pub returns-in-None-Some-clause-most : goal.returns-in-None-Some-clause-most
 returns-in-None-Some-clause-most c =
-    let more = ap len c.schedule.ensures.timers ∙ len-fresh c.args.wheel.now.timers c.schedule.result _ c.schedule.ensures.fresh in
+    let more = ap len c.schedule.ensures.timers ∙ len-inserted c.args.wheel.now.timers c.schedule.result _ c.schedule.ensures.fresh in
     let room = c.schedule.ensures.room in
     omega arith

@@ -1,19 +1,14 @@
-use Rattle.std.proofs.Common.{◌≡◌, ◌==◌, refl, ℕ, Bool, true, Option, Some, None, Result, Ok, Err, is_some, ap, sym, ◌∙◌, false, List}
+use Rattle.std.proofs.Common.{◌≡◌, ◌==◌, refl, ℕ, Bool, true, Option, Some, None, Result, Ok, Err, is_some, ap, sym, ◌∙◌, false}
 use Rattle.moka_engine.specs.parts.Entry.{Entry}
 use Rattle.moka_engine.specs.parts.OutOfMemory.{OutOfMemory}
-use Rattle.std.specs.Prelude.{MatchBool}
 use Rattle.moka_engine.specs.parts.Call.TheVariants as call
 use Rattle.moka_engine.specs.parts.Instant.{Instant}
-use Rattle.moka_engine.specs.parts.Record.{Record}
 use Rattle.moka_engine.specs.parts.Reply.TheVariants as reply
-use Rattle.moka_engine.specs.Calls.{GetsAt, GetStep, Unchanged}
 use Rattle.moka_engine.specs.Copies.{IsCopiedAnswer, IsEntryCopy}
 use Rattle.moka_engine.specs.Laws.{is_found, is_answered}
-use Rattle.moka_engine.specs.Maintenance.{Terms, Course}
 use Rattle.moka_engine.specs.Makes.{Makes}
-use Rattle.moka_engine.specs.Records.{Notice, record_of_key}
 use Rattle.moka_engine.specs.Runs.{Engine}
-use Rattle.moka_engine.specs.State.{Events, Meaning, State, is_disabled}
+use Rattle.moka_engine.specs.State.{Events, Meaning}
 use Rattle.moka_uses.specs.Asked.{Gets}
 use Rattle.moka_uses.specs.Made.{engine_meaning}
 use Rattle.moka_uses.proofs.asked.ask_twice.Goals as goal
@@ -36,20 +31,6 @@ module _ {K V S X L P W C I : Type 0} (m : Meaning K V X L P W C I) (is_key_clon
   gets (Ok None) None tells copy made = (hash, None, tells, (made.0, made.1, made.2, tt))
   gets (Ok None) (Some y) tells copy made = cc
   gets (Err e) found tells copy made = cc
-
-module _ {K V X P W : Type 0} (says : P → K → V → Bool → Type 0) (read : X → K → V → ℕ → Option ℕ → ℕ → Option ℕ) (Runs : State K V X P W → Terms → Course → List (Notice K V) → State K V X P W → Type 0) where
-  -- a get that is refused changes nothing
-  nothing_changed : (eq : K → K → Bool) (s : State K V X P W) (key : K) (hash : ℕ) (now : ℕ) (a : Result (Option (Entry K V)) OutOfMemory) (refused : OutOfMemory) → a ≡ Err refused → (e : Events K V) (t : State K V X P W) → GetStep says read Runs eq s key hash false false now a e t → t ≡ s
-  nothing_changed eq s key hash now a refused is e t step = go (is_disabled s.capacity) step
-    where
-      at : (o : Option (Record K V)) (a : Result (Option (Entry K V)) OutOfMemory) → a ≡ Err refused → GetsAt says read Runs s o hash false false now a e t → t ≡ s
-      at None a is h = (let none : a ≡ Ok None = h.0 in absurd (cc))
-      at (Some r) (Err x) is h = h.1.0
-      at (Some r) (Ok found) is h = cc
-
-      go : (b : Bool) → MatchBool b ((a ≡ Ok None) × Unchanged s e t) (GetsAt says read Runs s (record_of_key eq s.records key) hash false false now a e t) → t ≡ s
-      go true h = h.1.0
-      go false h = at (record_of_key eq s.records key) a is h
 
 pub returns-clause-got : goal.returns-clause-got
 returns-clause-got c =

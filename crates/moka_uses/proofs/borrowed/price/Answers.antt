@@ -1,4 +1,4 @@
-use Rattle.std.proofs.Common.{◌≡◌, ℕ, true, false, List, Option, Result, Ok, Err, IfOk, sym}
+use Rattle.std.proofs.Common.{◌≡◌, ℕ, true, false, List, Option, Result, sym}
 use Rattle.std.specs.Prelude.{String, is_some}
 use Rattle.std.specs.Cmp.Lexicographic.{bytes_decides}
 use Rattle.std.specs.String.{string_bytes, string_eq}
@@ -20,11 +20,10 @@ use Rattle.moka_uses.proofs.borrowed.price.Goals as goal
 module _ {Z S X L P W C : Type 0} (m : Meaning (String Z) ℕ X L P W C (Unit {0})) (name : List ℕ) (hash : ℕ) (now : Instant) (old : Engine (String Z) ℕ S X L P W) (clock : C) (new : Engine (String Z) ℕ S X L P W) (clock_after : C) where
   -- each name with this text was looked up
   looked_up_by : (result : Result (Option ℕ) OutOfMemory) → ((key : String Z) → has_text name key ≡ true → (own : Result (Option ℕ) OutOfMemory) × IsCopiedAnswer (λ a b. b ≡ a) own result × Makes m (GetsValue key hash now own) old clock new clock_after)
-      → IfOk result (λ found. (key : String Z) → string_bytes key ≡ name → LooksUp m key now old clock new clock_after found)
-  looked_up_by (Err e) makes = tt
-  looked_up_by (Ok found) makes = λ key same.
+      → (key : String Z) → string_bytes key ≡ name → LooksUp m key now old clock new clock_after result
+  looked_up_by result makes key same =
       let made = makes key ((bytes_decides name (string_bytes key)).1 (sym same)) in
-      looked_up m key hash now old clock new clock_after made.0 (Ok found) made.1 made.2
+      looked_up m key hash now old clock new clock_after made.0 result made.1 made.2
 
 pub returns-clause-value : goal.returns-clause-value
 returns-clause-value g c = named c.args.prices.now.cache.engine.state c.args.name.now c.get_by.result c.get_by.ensures.value

@@ -1,6 +1,5 @@
 use Rattle.moka_engine.specs.Drives.{Drives}
-use Rattle.moka_engine.specs.State.{Meaning}
-use Rattle.moka_drive.specs.Meanings.{meaning_of}
+use Rattle.moka_engine.specs.State.{Meaning, meaning_of}
 use Rattle.moka_uses.specs.Driven.{Follows}
 use Rattle.moka_uses.proofs.Followed.{if_ok, follows}
 use Rattle.moka_uses.proofs.driven.make_calls.Goals as goal

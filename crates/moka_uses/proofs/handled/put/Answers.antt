@@ -27,4 +27,4 @@ returns-in-OutOfMemory-clause-made g c =
     retried (plain_meaning (λ a b. a == b) g.C.Clock.reads) c.args.key c.args.value c.args.now c.args.cache.now.engine c.insert.new.self.engine c.insert-in-OutOfMemory.new.self.engine c.args.clock.now c.insert.new.clock c.insert-in-OutOfMemory.new.clock c.in-Err.refused c.in-OutOfMemory.is c.in-Err.ensures.back.0 c.in-Err.ensures.back.1 _ _ c.in-Err.ensures.made c.insert-in-OutOfMemory.result c.insert-in-OutOfMemory.ensures.made
 
 pub returns-in-NumbersUsedUp-clause-made : goal.returns-in-NumbersUsedUp-clause-made
-returns-in-NumbersUsedUp-clause-made g c = inl (_, c.in-Err.ensures.made)
+returns-in-NumbersUsedUp-clause-made g c = inl ((_, c.in-Err.ensures.made), c.in-NumbersUsedUp.is)

@@ -1,4 +1,5 @@
 use Rattle.std.proofs.Common.{◌≡◌, ◌==◌, rules, refl, ap, sym, subst, ◌∙◌, [], None, false}
+use Rattle.moka_engine.specs.Calls.{no_events}
 use Rattle.moka_engine.specs.Config.{chosen_settings}
 use Rattle.moka_engine.specs.State.{is_disabled}
 use Rattle.moka_engine.specs.declared.NoWeigher.{NoWeigher}
@@ -46,4 +47,25 @@ returns c =
     let told = reports_both z 1 2 _ _ exact stay.2 in
     let weight_p = weighs_one (λ (_ : NoWeigher) _ _ weight. weight ≡ 1) (chosen_settings c.default.result).weigher 1 10 put.p.weight put.weight_p (search rules) in
     let weight_q = weighs_one (λ (_ : NoWeigher) _ _ weight. weight ≡ 1) (chosen_settings c.default.result).weigher 2 20 put.q.weight put.weight_q (search rules) in
-    record { exact = exact; both = (told.0, told.1 ∙ rw (weight_p, weight_q) refl) }
+    record {
+      exact = exact;
+      made = (
+        c.in_ok-cache.cache,
+        c.do_insert_with_hash.new.self,
+        c.do_insert_with_hash-2.new.self,
+        c.send.new.self,
+        c.send-2.new.self,
+        c.hash-one.result,
+        c.hash-other.result,
+        (c.in_ok-first.first, c.in_ok-first.field-0-1),
+        (c.in_ok-second.second, c.in_ok-second.field-0-1),
+        c.run_pending_tasks.result,
+        rw c.default.ensures at c.in_ok-cache.ensures.empty,
+        (one.0, one.1, one.2, tt),
+        (other.0, other.1, other.2, tt),
+        (no_events, (c.in_ok-send.ensures.step, refl), c.in_ok-send.ensures.events, tt),
+        (no_events, (c.in_ok-send-2.ensures.step, refl), c.in_ok-send-2.ensures.events, tt),
+        (run.0, run.1, run.2, tt),
+      );
+      both = (told.0, told.1 ∙ rw (weight_p, weight_q) refl);
+    }

@@ -2,7 +2,7 @@ use Rattle.std.proofs.Common.{◌≡◌, ◌==◌, ◌+◌, min, rules, ap, sym,
 use Rattle.moka_engine.specs.State.{is_disabled}
 use Rattle.moka_engine.specs.Time.{greatest}
 use Rattle.std.specs.Cmp.{nat_eq_equiv}
-use Rattle.moka_uses.proofs.Sent.{hands_out, sends}
+use Rattle.moka_uses.proofs.Sent.{hands_out, put_and_sent, sends}
 use Rattle.moka_uses.proofs.Told.{told_of_the_first, heard_of_the_second}
 use Rattle.moka_drive.specs.Unsent.{IsHeld}
 use Rattle.moka_drive.proofs.Put.{kept_where_held, put_by_insert}
@@ -44,3 +44,18 @@ returns-clause-replaced c =
     let p = c.send-2.new.self.state in
     let put = put_by_insert (λ a b. a == b) nat_eq_equiv c.args.key c.args.second (record { 0 = 0 }) (λ _ _ _ _. None) (λ _ _ _ _ left. left) (λ _ _ _ weight. weight ≡ 1) n c.hash-hash.result (c.in_ok-replaced.replaced, c.in_ok-replaced.field-0-1) again.0 o c.invariant_holds.ensures.valid again.1.1 in
     kept_where_held (λ a b. a == b) nat_eq_equiv c.args.key c.args.second (record { 0 = 0 }) _ o p c.invariant_holds-2.ensures.valid put (subst (IsHeld put.made.number put.made) (sym (send_holds o _ _ p c.in_ok-send-2.ensures.step)) put.held)
+
+pub returns-clause-sent : goal.returns-clause-sent
+returns-clause-sent c =
+    let put = c.in_ok-put.ensures in
+    let again = c.in_ok-replaced.ensures in
+    let s = c.in_ok-cache.cache.state in
+    let t = c.do_insert_with_hash.new.self.state in
+    let v = c.send.new.self.state in
+    let x = c.do_insert_with_hash-2.new.self.state in
+    let y = c.send-2.new.self.state in
+    let one = hands_out (λ _ _ _ _. None) (λ _ _ _ _ left. left) (λ _ _ _ weight. weight ≡ 1) (λ a b. a == b) s c.args.key c.hash-hash.result c.args.first (record { 0 = 0 }) (c.in_ok-put.put, c.in_ok-put.field-0-1) put.0 t put.1.1 in
+    let other = hands_out (λ _ _ _ _. None) (λ _ _ _ _ left. left) (λ _ _ _ weight. weight ≡ 1) (λ a b. a == b) v c.args.key c.hash-hash.result c.args.second (record { 0 = 0 }) (c.in_ok-replaced.replaced, c.in_ok-replaced.field-0-1) again.0 x again.1.1 in
+    let sent = sends t _ _ v c.in_ok-send.ensures.step in
+    let last = sends x _ _ y c.in_ok-send-2.ensures.step in
+    put_and_sent v x y _ other last (put_and_sent s t v _ one sent (ap (λ x. x.state.outstanding) c.in_ok-cache.ensures.empty))

@@ -2,8 +2,8 @@ use Rattle.std.proofs.Common.{◌==◌, sym, subst, ◌∙◌}
 use Rattle.moka_engine.specs.Settling.{IsValid}
 use Rattle.moka_uses.proofs.restarted.hand_over.Goals as goal
 
-pub returns : goal.returns
-returns g c =
+pub returns-clause-handed_over : goal.returns-clause-handed_over
+returns-clause-handed_over g c =
     let (saved, read, reads, items, ran) = c.in_ok-saved.ensures.saved in
     let (begun, ticked, ticks, put, read_again, reads_again, back, made) = c.in_ok-again.ensures.back in
     let valid = subst (λ e. IsValid (λ a b. a == b) e.state) c.engine.ensures c.invariant_holds.ensures.valid in
@@ -32,3 +32,6 @@ returns g c =
         }),
       ),
     )
+
+pub returns-clause-begun : goal.returns-clause-begun
+returns-clause-begun g c = (c.in_ok-saved.saved.items, c.in_ok-again.ensures.made)

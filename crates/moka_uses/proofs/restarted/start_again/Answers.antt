@@ -1,8 +1,10 @@
-use Rattle.std.proofs.Common.{◌≡◌, None, refl, sym, subst}
+use Rattle.std.proofs.Common.{◌≡◌, ◌==◌, ◌∙◌, None, refl, sym, subst}
 use Rattle.std.specs.Duration.{as_nanos}
 use Rattle.moka_drive.specs.Saved.{HasRoomFor}
+use Rattle.moka_uses.specs.Made.{plain_meaning}
 use Rattle.moka_uses.specs.Restarted.{ArePutBack}
 use Rattle.moka_uses.proofs.Among.{among_all, all_back}
+use Rattle.moka_uses.proofs.Limited.{all_back as same_capacity}
 use Rattle.moka_uses.proofs.restarted.start_again.Goals as goal
 
 pub returns-in-Ok-clause-among : goal.returns-in-Ok-clause-among
@@ -28,3 +30,16 @@ returns-in-Ok-clause-back g c =
       hides = c.restore.ensures.hides;
     } in
     (c.in_ok-sessions.ensures.empty.0, c.in_ok-sessions.sessions.clock, c.in_ok-sessions.ensures.empty.1, now, read, reads, all_back (λ _ _ _ weight. weight ≡ 1) c.restore.new.self.cache.engine.state c.args.saved.items now.0 (as_nanos c.args.idle) made, made)
+
+pub returns-in-Ok-clause-unbounded : goal.returns-in-Ok-clause-unbounded
+returns-in-Ok-clause-unbounded g c =
+    let (now, read, reads, put, there, lasts) = c.in-Ok.ensures.made in
+    let begun = c.in_ok-sessions.sessions.cache.engine in
+    let none : begun.state.capacity ≡ None = rw (c.in_ok-sessions.ensures.empty.2, c.time_to_idle-config.ensures, c.default.ensures) refl in
+    same_capacity (plain_meaning (λ a b. a == b) g.C.Clock.reads) _ now c.args.saved.items begun read c.restore.new.self.cache.engine c.restore.new.self.clock put ∙ none
+
+pub returns-in-Ok-clause-made : goal.returns-in-Ok-clause-made
+returns-in-Ok-clause-made g c =
+    let (now, read, reads, put, there, lasts) = c.in-Ok.ensures.made in
+    let new = rw (c.time_to_idle-config.ensures, c.default.ensures) at c.in_ok-sessions.ensures.empty in
+    (c.in_ok-sessions.sessions.cache, c.in_ok-sessions.sessions.clock, new, now, read, reads, (_, put))

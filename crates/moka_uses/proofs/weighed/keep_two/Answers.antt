@@ -4,7 +4,7 @@ use Rattle.moka_engine.specs.State.{is_disabled}
 use Rattle.std.specs.Prelude.{String}
 use Rattle.moka_engine.specs.parts.Operation.TheVariants.{Upsert}
 use Rattle.moka_engine.specs.parts.Ticketed.{Ticketed}
-use Rattle.moka_engine.specs.Calls.{InsertsAt, Weighs}
+use Rattle.moka_engine.specs.Calls.{InsertsAt, Weighs, no_events}
 use Rattle.moka_engine.specs.Config.{chosen_settings}
 use Rattle.moka_engine.specs.Records.{record_of_key}
 use Rattle.moka_uses.specs.declared.weighed.ByLength.{ByLength}
@@ -111,3 +111,20 @@ returns-clause-both c fits =
     1 2 put.p put.q both (never_lapses y.settings y.invalid_before put.p 0 live idle bound put.unexpiring_p) (never_lapses y.settings y.invalid_before put.q 0 live idle bound put.unexpiring_q) in
     let told = reports_both z 1 2 _ _ (c.run_pending_tasks.ensures.exact none) stay.2 in
     rw c.weighted_size.ensures (told.1 ∙ rw (bytes_p, bytes_q) (within_limits (string_len c.args.one + string_len c.args.other) fits))
+
+pub returns-clause-made : goal.returns-clause-made
+returns-clause-made c =
+    let one = c.in_ok-first.ensures in
+    let other = c.in_ok-second.ensures in
+    let run = c.run_pending_tasks.ensures.step in (
+      c.in_ok-cache.cache.state,
+      c.send.new.self.state,
+      c.send-2.new.self.state,
+      c.run_pending_tasks.new.self.state,
+      c.run_pending_tasks.result,
+      rw (c.weigher-config.ensures, c.eviction_policy.ensures, c.max_capacity.ensures, c.default.ensures, c.lru-policy.ensures) at (ap (λ x. x.state) c.in_ok-cache.ensures.empty),
+      (c.do_insert_with_hash.new.self.state, c.hash-one_hash.result, (c.in_ok-first.first, c.in_ok-first.field-0-1), ([], [], one.0, one.1), ([], [], no_events, (c.in_ok-send.ensures.step, refl))),
+      (c.do_insert_with_hash-2.new.self.state, c.hash-other_hash.result, (c.in_ok-second.second, c.in_ok-second.field-0-1), ([], [], other.0, other.1), ([], [], no_events, (c.in_ok-send-2.ensures.step, refl))),
+      (c.send-2.new.self.write_list, c.run_pending_tasks.new.self.write_list, run.0, run.1),
+      c.weighted_size.ensures,
+    )

@@ -2,7 +2,7 @@
 //! The visible entries in the order of access, and a cache made again from them.
 use crate::support::prelude::*;
 
-use super::{Cache, post};
+use super::Cache;
 use crate::engine::moka_engine::base_cache::{RestoreRefused, Restored, Snapshot, SnapshotEntry};
 use crate::engine::moka_parts::closures::{PredicateFn, Weigher};
 use crate::engine::moka_parts::error::OutOfMemory;
@@ -86,18 +86,18 @@ impl<
             return Ok(());
         }
         let ticket = self.engine.restore(item)?;
-        post(&mut self.engine, ticket, now, clock);
+        Self::post(&mut self.engine, ticket, now, clock);
         self.engine.invariant_holds();
         Ok(())
     }
 
     /// Puts each entry back, in order, as `restore_entry`.
     ///
-    /// An entry that is there is visible exactly when the one was that it was listed of, until either is read or
-    /// written, if time to live and time to idle are the same (`laws::answers_as_before`). Without predicates and an
-    /// invalidation of all, and if there is no capacity or it has room for all entries, each is there that has not
-    /// expired at the moment `now` (`IsRoomyFor`); else runs that a later entry starts may evict it. How often keys
-    /// were asked for is not known any more, and entries do not stand in the order of writing.
+    /// If there are no predicates and no invalidation of all: an entry that was put back is visible exactly when the
+    /// saved one is, until either is read or written, if time to live and time to idle are the same
+    /// (`laws::answers_as_before`); and each entry that has not expired at the moment `now` is there afterwards, if the
+    /// capacity, should one be set, has room for all (`IsRoomyFor`). Else runs that a later entry starts may evict it.
+    /// How often keys were asked for is forgotten, and entries do not stand in the order of writing.
     ///
     /// # Errors
     /// As `restore_entry`, at the first entry that is refused: it comes back with the entries after it.

@@ -17,7 +17,9 @@ use crate::support::hash::{BuildHasher, Hash};
 /// An entry to be put back, with the moments and the expiry that it had.
 #[derive(Debug)]
 pub struct Restored<K, V> {
+    /// The key under which it is put back.
     pub key: K,
+    /// The value that it had.
     pub value: V,
     /// When it was last inserted.
     pub last_modified: Instant,
@@ -54,10 +56,22 @@ impl fmt::Display for RestoreError {
 
 impl Error for RestoreError {}
 
+impl From<InsertError> for RestoreError {
+
+    fn from(error: InsertError) -> RestoreError {
+        match error {
+            InsertError::NumbersUsedUp => RestoreError::NumbersUsedUp,
+            InsertError::OutOfMemory => RestoreError::OutOfMemory,
+        }
+    }
+}
+
 /// An entry that was not put back, and why. Nothing has changed.
 #[derive(Debug)]
 pub struct RestoreRefused<K, V> {
+    /// Why it was not.
     pub error: RestoreError,
+    /// The entry, as it was handed in.
     pub item: Restored<K, V>,
 }
 
@@ -100,7 +114,7 @@ impl<
         }
         let weight = inserts::weigh(&self.weigher, &item.key, &item.value);
         if let Err(refused) = self.inner.reserve_record() {
-            let error = error_of(refused);
+            let error = RestoreError::from(refused);
             return Err(RestoreRefused { error, item });
         }
         let Restored {
@@ -130,13 +144,4 @@ fn has_key<K: Eq + Hash, V, S: BuildHasher>(inner: &Inner<K, V, S>, key: &K, own
 fn is_unsupported<X>(expires: Option<Instant>, policy: &ExpirationPolicy<X>) -> bool
 {
     expires.is_some() && policy.expiry().is_none()
-}
-
-// The same reason.
-fn error_of(error: InsertError) -> RestoreError
-{
-    match error {
-        InsertError::NumbersUsedUp => RestoreError::NumbersUsedUp,
-        InsertError::OutOfMemory => RestoreError::OutOfMemory,
-    }
 }

@@ -23,10 +23,10 @@ impl<
     P: PredicateFn<K, V>,
     W: Weigher<K, V>,
 > BaseCache<K, V, S, X, L, P, W> {
-    /// Runs maintenance: applies the queued reads and then the queued writes, and makes passes. Each pass removes, in this
-    /// order, what is past its own expiry, what has expired or was invalidated by its last write and then by its last
-    /// read, what a predicate covers, and what exceeds the capacity. At the end the report is made. The answer tells
-    /// whether more is left. A capacity of 0 leaves nothing to do. The housekeeper is not touched.
+    /// Runs maintenance: applies the queued reads and then the queued writes, and makes passes. Each pass removes, in
+    /// this order, what is past its own expiry, what has expired or was invalidated by its last write and then by its
+    /// last read, what a predicate covers, and what exceeds the capacity. At the end the report is made. The answer
+    /// tells whether more is left. A capacity of 0 leaves nothing to do. The housekeeper is not touched.
     ///
     /// - `now`: the moment by which all is tested.
     /// - `clock`: tells how long the run goes on. It is read only where a listener is set and there is a limit.
@@ -81,13 +81,14 @@ impl<
         self.entry_count = self.inner.member_count() as u64;
         self.weighted_size = saturated(self.inner.total_weight());
         self.passes = ran.passes;
-        ran.is_left
+        ran.has_more
     }
 
-    /// Makes a run of maintenance at the moment `now` if the housekeeper says that one is due: the last run left more,
-    /// or runs start by themselves, and 64 operations are queued or 300 milliseconds have passed since the last run.
-    /// The housekeeper gives its limit, repeats and batch to the run, and remembers the moment and, where a listener is
-    /// set, whether more is left. moka: `sync::base_cache::BaseCache::apply_reads_writes_if_needed`.
+    /// Makes a run of maintenance at the moment `now` if the housekeeper says that one is due: the housekeeper's last
+    /// run left more, or runs start by themselves, and 64 operations are queued or 300 milliseconds have passed since
+    /// the housekeeper's last run. The housekeeper gives its limit, repeats and batch to the run, and remembers the
+    /// moment and, where a listener is set, whether more is left.
+    /// moka: `sync::base_cache::BaseCache::apply_reads_writes_if_needed`.
     pub fn apply_reads_writes_if_needed<C: Clock>(&mut self, now: Instant, clock: &mut C)
     {
         let queued = self.inner.write_count();
@@ -106,11 +107,15 @@ impl<
         }
     }
 
-    // Makes the run that is due, if one is, and queues a read that found nothing.
+    // Makes the run that is due, if one is, and queues a read that found nothing. A disabled map queues no reads; it
+    // holds nothing, so only a miss has to ask.
     // moka: `sync::base_cache::BaseCache::record_read_op`.
     #[inline(always)]
     pub(super) fn record_miss<C: Clock>(&mut self, hash: u64, now: Instant, clock: &mut C)
     {
+        if self.is_map_disabled() {
+            return;
+        }
         self.apply_reads_if_needed(now, clock);
         self.inner.queue_read(0, ReadOperation::Miss { hash });
     }
@@ -139,7 +144,7 @@ impl<
         self.housekeeper = housekeeper;
     }
 
-    /// From now on runs start only where the last one left more, or by `run_pending_tasks`.
+    /// From now on the housekeeper starts a run only if its last one left more.
     /// moka: `common::concurrent::housekeeper::Housekeeper::disable_auto_run`.
     pub fn disable_auto_run(&mut self)
     {

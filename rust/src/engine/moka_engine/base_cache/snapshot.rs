@@ -28,6 +28,7 @@ pub struct Snapshot<'a, K: Eq + Hash, V, S: BuildHasher, X, P> {
 pub struct SnapshotEntry<'a, K, V> {
     /// The key that the cache keeps.
     pub key: &'a K,
+    /// The value that stands under it.
     pub value: &'a V,
     /// When it was last inserted.
     pub last_modified: Instant,
@@ -54,11 +55,7 @@ impl<
     {
         Snapshot {
             inner: &self.inner,
-            moments: Moments {
-                policy: &self.expiration_policy,
-                valid_after: &self.valid_after,
-                now,
-            },
+            moments: self.moments(now),
             invalidator: &self.invalidator,
             at: handle_of(self.inner.front_member()),
         }

@@ -38,6 +38,7 @@ impl<X> ExpirationPolicy<X> {
         Some(self.time_to_live.as_ref()?.duration())
     }
 
+    /// Sets how long an entry stays after it was written.
     pub fn set_time_to_live(&mut self, duration: Duration)
     {
         self.time_to_live = Some(Span::new(duration));
@@ -50,6 +51,7 @@ impl<X> ExpirationPolicy<X> {
         Some(self.time_to_idle.as_ref()?.duration())
     }
 
+    /// Sets how long an entry stays after it was written or read.
     pub fn set_time_to_idle(&mut self, duration: Duration)
     {
         self.time_to_idle = Some(Span::new(duration));
@@ -67,20 +69,18 @@ impl<X> ExpirationPolicy<X> {
     #[inline(always)]
     pub(crate) fn is_past_time_to_live(&self, written: Instant, now: Instant) -> bool
     {
-        match &self.time_to_live {
-            Some(span) => span.has_passed(written, now),
-            None => false,
-        }
+        self.time_to_live
+            .as_ref()
+            .is_some_and(|span| span.has_passed(written, now))
     }
 
     /// Whether the time to idle of an entry read then is over.
     #[inline(always)]
     pub(crate) fn is_past_time_to_idle(&self, read: Instant, now: Instant) -> bool
     {
-        match &self.time_to_idle {
-            Some(span) => span.has_passed(read, now),
-            None => false,
-        }
+        self.time_to_idle
+            .as_ref()
+            .is_some_and(|span| span.has_passed(read, now))
     }
 
     /// What decides when each entry expires.
@@ -89,6 +89,7 @@ impl<X> ExpirationPolicy<X> {
         self.expiry.as_ref()
     }
 
+    /// Sets what decides when each entry expires.
     pub fn set_expiry(&mut self, expiry: X)
     {
         self.expiry = Some(expiry);

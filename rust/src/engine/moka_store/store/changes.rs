@@ -7,8 +7,8 @@ use crate::engine::moka_store::table::RecordTable;
 use crate::engine::moka_parts::policy::Instant;
 use crate::support::alloc::AllocError;
 
-// A place in the index has 32 bits.
-const MOST_PLACES: usize = 1 << 32;
+/// A place in the index has 32 bits.
+pub const MOST_PLACES: usize = 1 << 32;
 
 // How many more rows fit with no memory, at places of 32 bits.
 fn row_room<K, V>(table: &RecordTable<K, V>) -> usize
@@ -42,10 +42,7 @@ pub(crate) fn reserve_rows<K, V>(
 #[inline(always)]
 pub(crate) fn has_key<K: Eq, V>(table: &RecordTable<K, V>, place: usize, key: &K) -> bool
 {
-    match table.key(place) {
-        Some(own) => *key == *own,
-        None => false,
-    }
+    table.key(place).is_some_and(|own| *key == *own)
 }
 
 // The handle of the row at this place, with its counted weight.

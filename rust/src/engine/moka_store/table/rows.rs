@@ -10,7 +10,8 @@ use crate::engine::moka_parts::record_ref::Front;
 use crate::support::alloc::{AllocError, Global};
 use std::mem;
 
-/// Rows by place. Vacant places are linked, and the one that was given back last is taken first.
+/// Rows by place. Vacant places are linked; the code takes the one that was given back last first, which no contract
+/// says.
 pub(crate) struct Rows<K, V> {
     slots: Vec<Slot<K, V>>,
     // How many rows there are.
@@ -43,7 +44,7 @@ impl<K, V> Rows<K, V> {
         self.slots.capacity()
     }
 
-    /// Makes room for `additional` more rows.
+    /// Makes room for `additional` more rows, and changes nothing where there is room.
     pub(crate) fn reserve(&mut self, additional: usize) -> Result<(), AllocError>
     {
         if self.slots.capacity() - self.len >= additional {

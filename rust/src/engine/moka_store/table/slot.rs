@@ -78,8 +78,7 @@ impl<K, V> Slot<K, V> {
         let Slot { state } = self;
         match state {
             State::Vacant { next } => next,
-            State::Live { .. } => unreachable!(),
-            State::Gone { .. } => unreachable!(),
+            State::Live { .. } | State::Gone { .. } => unreachable!(),
         }
     }
 
@@ -88,8 +87,7 @@ impl<K, V> Slot<K, V> {
     pub(crate) fn number(&self) -> Option<u64>
     {
         match &self.state {
-            State::Live { number, .. } => Some(*number),
-            State::Gone { number, .. } => Some(*number),
+            State::Live { number, .. } | State::Gone { number, .. } => Some(*number),
             State::Vacant { .. } => None,
         }
     }
@@ -111,8 +109,7 @@ impl<K, V> Slot<K, V> {
                 };
                 Some((*number, front))
             }
-            State::Gone { .. } => None,
-            State::Vacant { .. } => None,
+            State::Gone { .. } | State::Vacant { .. } => None,
         }
     }
 
@@ -122,8 +119,7 @@ impl<K, V> Slot<K, V> {
     {
         match &self.state {
             State::Live { hot, .. } => Some(&hot.key),
-            State::Gone { .. } => None,
-            State::Vacant { .. } => None,
+            State::Gone { .. } | State::Vacant { .. } => None,
         }
     }
 
@@ -136,8 +132,8 @@ impl<K, V> Slot<K, V> {
                 access,
                 written,
                 ..
-            } => membership_of(*access, *written),
-            State::Gone {
+            }
+            | State::Gone {
                 access,
                 written,
                 ..
@@ -151,8 +147,7 @@ impl<K, V> Slot<K, V> {
     pub(crate) fn timer(&self) -> Option<u32>
     {
         match &self.state {
-            State::Live { timer, .. } => slot_of(*timer),
-            State::Gone { timer, .. } => slot_of(*timer),
+            State::Live { timer, .. } | State::Gone { timer, .. } => slot_of(*timer),
             State::Vacant { .. } => None,
         }
     }
@@ -214,8 +209,7 @@ impl<K, V> Slot<K, V> {
                 let front = Front { hot, expiring };
                 (number, front)
             }
-            State::Gone { .. } => unreachable!(),
-            State::Vacant { .. } => unreachable!(),
+            State::Gone { .. } | State::Vacant { .. } => unreachable!(),
         }
     }
 

@@ -2,11 +2,11 @@ use Rattle.std.proofs.Common.{◌≡◌, false, ◌∙◌, refl, sym, subst, ℕ
 use Rattle.std.specs.Prelude.{IfSome, Result}
 use Rattle.moka_parts.specs.declared.error.OutOfMemory.{OutOfMemory}
 use Rattle.moka_parts.specs.Hashing.{key_hash}
+use Rattle.moka_parts.proofs.Options.{none_by_test}
 use Rattle.moka_drive.specs.declared.compute.CompResult.TheVariants.{StillNone, Unchanged}
 use Rattle.moka_drive.specs.Computing.{Computed, HandsOutComputedPut, HandsOutLeft, Left, LeftNone, Puts, Takes}
 use Rattle.moka_drive.specs.Synchronous.{GetsValue}
 use Rattle.moka_drive.proofs.Computing.{computed_put, computed_take, heard, was_seen}
-use Rattle.moka_drive.proofs.Quiet.{none_of}
 use Rattle.moka_drive.proofs.cache.Cache.compute_with.Goals as goal
 
 same_takes : {K V : Type 0} (a b : Option (V × Result (Unit {0}) OutOfMemory)) → ◌≡◌ {A = Option (Computed K V)} (Some (Takes a)) (Some (Takes b)) → a ≡ b
@@ -72,7 +72,7 @@ pub returns : goal.returns
 returns g c =
     let hash_by : g.row.S.Denot → ℕ = λ h. key_hash g.S.BuildHasher g.S.Hasher.Hasher h (g.K.Hash.hash_input c.args.key) in
     let got = c.in-Ok.ensures.made in
-    (got.0, Ok c.in-Ok.seen, got.1, Some LeftNone, (c.as_ref.result, c.as_ref.ensures.value, c.in-Remove.ensures), (none_of c.in-Ok.seen (sym c.is_some-is_there.ensures ∙ c.if-is_there.false), refl), heard g.K.Clone.is_clone g.V.Clone.is_clone _ (GetsValue c.args.key (hash_by c.args.self.now.engine.hasher) c.args.now got.0) c.args.self.now.engine c.get_hashed.new.self.engine c.args.clock.now c.get_hashed.new.clock got.2, c.in-Ok.ensures.counted, c.in-Ok.ensures.sees, (λ taken e. absurd (cc)))
+    (got.0, Ok c.in-Ok.seen, got.1, Some LeftNone, (c.as_ref.result, c.as_ref.ensures.value, c.in-Remove.ensures), (none_by_test c.in-Ok.seen (sym c.is_some-is_there.ensures ∙ c.if-is_there.false), refl), heard g.K.Clone.is_clone g.V.Clone.is_clone _ (GetsValue c.args.key (hash_by c.args.self.now.engine.hasher) c.args.now got.0) c.args.self.now.engine c.get_hashed.new.self.engine c.args.clock.now c.get_hashed.new.clock got.2, c.in-Ok.ensures.counted, c.in-Ok.ensures.sees, (λ taken e. absurd (cc)))
 
 pub f-requires : goal.f-requires
-f-requires g c = c.requires.callable c.as_ref.result (rw c.as_ref.ensures.value c.in-Ok.ensures.shown)
+f-requires g c = c.requires.callable c.as_ref.result (rw c.as_ref.ensures.value c.in-Ok.ensures.sees)

@@ -1,5 +1,5 @@
 use Rattle.std.proofs.Common.{◌∙◌, ap, arith, rules, sym, refl, ℕ, [], ◌∷◌, ◌++◌, append_assoc, append-nil, length, map, inl, inr, Option, Ok, Err}
-use Rattle.std.proofs.lemmas.List.{map-append}
+use Rattle.std.proofs.lemmas.List.{map-append, nil_from_length}
 use Rattle.moka_parts.specs.declared.error.OutOfMemory.{OutOfMemory}
 use Rattle.moka_parts.specs.Hashing.{key_hash}
 use Rattle.moka_drive.specs.Counters.{after_look_up, after_look_ups}
@@ -8,7 +8,6 @@ use Rattle.moka_drive.specs.Synchronous.{GetsValue}
 use Rattle.moka_drive.proofs.Gotten.{counts_one_more, got_item, refused_get}
 use Rattle.moka_drive.proofs.InOrder.{made_none, made_next, made_last}
 use Rattle.moka_drive.proofs.Made.{made_nothing}
-use Rattle.moka_drive.proofs.Quiet.{empty_of_length}
 use Rattle.moka_drive.proofs.cache.Cache.get_many.Goals as goal
 
 pub returns-in_default-clause-made : goal.returns-in_default-clause-made
@@ -64,7 +63,7 @@ returns-in-Err-clause-counted g c = c.in-Err.ensures.counted ∙ c.loop-key.inva
 pub returns-clause-made : goal.returns-clause-made
 returns-clause-made g c =
     let h = c.loop-key.invariant.made in
-    let none = empty_of_length c.loop-key.rest.now c.in_default-split_first.ensures.cases in
+    let none = nil_from_length c.loop-key.rest.now c.in_default-split_first.ensures.cases in
     let all = h.1 ∙ (ap (λ xs. map (λ g. g.0) h.0 ++ xs) none ∙ append-nil (map (λ g. g.0) h.0)) in
     (h.3.0, h.3.1, (h.0, all, h.2, h.3.2), h.3.3)
 

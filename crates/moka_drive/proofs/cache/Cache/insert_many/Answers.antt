@@ -1,10 +1,10 @@
 use Rattle.std.proofs.Common.{◌∙◌, ap, arith, sym, refl, ℕ, [], ◌∷◌, ◌++◌, append_assoc, append-nil, length-append, Err}
 use Rattle.std.specs.Vec.Iter.{into_iter_items}
+use Rattle.std.proofs.lemmas.List.{nil_from_length}
 use Rattle.moka_parts.specs.Hashing.{key_hash}
 use Rattle.moka_drive.specs.Many.{InsertsItem}
 use Rattle.moka_drive.specs.Synchronous.{InsertsEntry}
 use Rattle.moka_drive.proofs.InOrder.{made_none, made_next, made_last, refused_item}
-use Rattle.moka_drive.proofs.Quiet.{empty_of_length}
 use Rattle.moka_drive.proofs.cache.Cache.insert_many.Goals as goal
 
 pub loop-key-init : goal.loop-key-init
@@ -51,5 +51,5 @@ returns-in-Err-clause-made g c =
 pub returns-clause-made : goal.returns-clause-made
 returns-clause-made g c =
     let h = c.loop-key.invariant.made in
-    let all = h.1 ∙ (ap (λ xs. h.0 ++ xs) (empty_of_length (into_iter_items c.loop-key.rest) (sym c.loop-key.rest.rest.ok.0 ∙ c.in_default.ensures.cases.0)) ∙ append-nil h.0) in
+    let all = h.1 ∙ (ap (λ xs. h.0 ++ xs) (nil_from_length (into_iter_items c.loop-key.rest) (sym c.loop-key.rest.rest.ok.0 ∙ c.in_default.ensures.cases.0)) ∙ append-nil h.0) in
     rw all h.3

@@ -1,8 +1,8 @@
 use Rattle.std.proofs.Common.{◌∙◌, ap, arith, sym, refl, ℕ, [], ◌∷◌, ◌++◌, append_assoc, append-nil, length, length-append, Ok, Err}
+use Rattle.std.proofs.lemmas.List.{nil_from_length}
 use Rattle.moka_parts.specs.Hashing.{key_hash}
 use Rattle.moka_drive.specs.Many.{Invalidates}
 use Rattle.moka_drive.proofs.InOrder.{made_none, made_next, made_last}
-use Rattle.moka_drive.proofs.Quiet.{empty_of_length}
 use Rattle.moka_drive.proofs.cache.Cache.invalidate_many.Goals as goal
 
 pub loop-key-init : goal.loop-key-init
@@ -49,5 +49,5 @@ returns-in-Err-clause-made g c =
 pub returns-clause-made : goal.returns-clause-made
 returns-clause-made g c =
     let h = c.loop-key.invariant.made in
-    let all = h.1 ∙ (ap (λ xs. h.0 ++ xs) (empty_of_length c.loop-key.rest.now c.in_default.ensures.cases) ∙ append-nil h.0) in
+    let all = h.1 ∙ (ap (λ xs. h.0 ++ xs) (nil_from_length c.loop-key.rest.now c.in_default.ensures.cases) ∙ append-nil h.0) in
     rw all h.2

@@ -1,12 +1,12 @@
 use Rattle.std.proofs.Common.{◌≡◌, ℕ, false, ◌∙◌, ap, sym, subst, refl, [], ◌∷◌, ◌++◌, append_assoc, append-nil}
 use Rattle.std.specs.List.{AllByRecursion}
 use Rattle.std.specs.Vec.Iter.{into_iter_items}
+use Rattle.std.proofs.lemmas.List.{nil_from_length}
 use Rattle.moka_parts.specs.Settling.{IsValid}
 use Rattle.moka_parts.specs.Hashing.{key_hash}
 use Rattle.moka_drive.specs.Saved.{AddsOnly, IsRestored, IsRoomyFor, TakesOnlyExpired, has_expired}
 use Rattle.moka_drive.proofs.Alike.{itself, then}
 use Rattle.moka_drive.proofs.Lasting.{keeps_itself, keeps_then}
-use Rattle.moka_drive.proofs.Quiet.{empty_of_length}
 use Rattle.moka_drive.proofs.Restoring.{adds_nothing, adds_then, put_next}
 use Rattle.moka_drive.proofs.There.{records_more, all_restored}
 use Rattle.moka_drive.proofs.cache.Cache.restore.Goals as goal
@@ -53,7 +53,7 @@ returns-in-Err-clause-adds g c =
 pub returns-clause-adds : goal.returns-clause-adds
 returns-clause-adds g c =
     let h = c.loop-item.invariant.adds in
-    let all = h.1 ∙ (ap (λ xs. h.0 ++ xs) (empty_of_length (into_iter_items c.loop-item.rest) (sym c.loop-item.rest.rest.ok.0 ∙ c.in_default.ensures.cases.0)) ∙ append-nil h.0) in
+    let all = h.1 ∙ (ap (λ xs. h.0 ++ xs) (nil_from_length (into_iter_items c.loop-item.rest) (sym c.loop-item.rest.rest.ok.0 ∙ c.in_default.ensures.cases.0)) ∙ append-nil h.0) in
     rw all h.2
 
 pub returns-in-Err-clause-made : goal.returns-in-Err-clause-made
@@ -64,7 +64,7 @@ returns-in-Err-clause-made g c =
 pub returns-clause-made : goal.returns-clause-made
 returns-clause-made g c =
     let h = c.loop-item.invariant.adds in
-    let all = h.1 ∙ (ap (λ xs. h.0 ++ xs) (empty_of_length (into_iter_items c.loop-item.rest) (sym c.loop-item.rest.rest.ok.0 ∙ c.in_default.ensures.cases.0)) ∙ append-nil h.0) in
+    let all = h.1 ∙ (ap (λ xs. h.0 ++ xs) (nil_from_length (into_iter_items c.loop-item.rest) (sym c.loop-item.rest.rest.ok.0 ∙ c.in_default.ensures.cases.0)) ∙ append-nil h.0) in
     rw all h.3
 
 pub returns-in-Err-clause-lasts : goal.returns-in-Err-clause-lasts
@@ -80,13 +80,13 @@ returns-in-Err-clause-lasts g c =
 pub returns-clause-lasts : goal.returns-clause-lasts
 returns-clause-lasts g c =
     let h = c.loop-item.invariant.adds in
-    let all = h.1 ∙ (ap (λ xs. h.0 ++ xs) (empty_of_length (into_iter_items c.loop-item.rest) (sym c.loop-item.rest.rest.ok.0 ∙ c.in_default.ensures.cases.0)) ∙ append-nil h.0) in
+    let all = h.1 ∙ (ap (λ xs. h.0 ++ xs) (nil_from_length (into_iter_items c.loop-item.rest) (sym c.loop-item.rest.rest.ok.0 ∙ c.in_default.ensures.cases.0)) ∙ append-nil h.0) in
     subst (λ items. TakesOnlyExpired g.W.Weigher.weighs items c.args.now.0 c.args.self.now.engine.state c.loop-item.self.engine.state) (sym all) h.4
 
 pub returns-clause-there : goal.returns-clause-there
 returns-clause-there g c =
     let h = c.loop-item.invariant.adds in
-    let all = h.1 ∙ (ap (λ xs. h.0 ++ xs) (empty_of_length (into_iter_items c.loop-item.rest) (sym c.loop-item.rest.rest.ok.0 ∙ c.in_default.ensures.cases.0)) ∙ append-nil h.0) in
+    let all = h.1 ∙ (ap (λ xs. h.0 ++ xs) (nil_from_length (into_iter_items c.loop-item.rest) (sym c.loop-item.rest.rest.ok.0 ∙ c.in_default.ensures.cases.0)) ∙ append-nil h.0) in
     let valid = subst (λ x. IsValid g.K.PartialEq.eq x.engine.state) c.self.view_is c.invariant_holds.ensures.valid in
     let s = c.args.self.now.engine.state in
     let t = c.loop-item.self.engine.state in

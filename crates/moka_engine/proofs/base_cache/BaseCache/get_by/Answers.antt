@@ -1,4 +1,5 @@
-use Rattle.std.proofs.Common.{refl, ℕ, false, List, Some, None, Ok, Err, option_map, ap, sym, ◌∙◌}
+use Rattle.std.proofs.Common.{◌≡◌, refl, ℕ, Bool, true, false, List, Some, None, Ok, Err, option_map, ap, sym, ◌∙◌}
+use Rattle.std.proofs.lemmas.Result.{err_from_is_err_and}
 use Rattle.moka_parts.specs.declared.records.ReadOperation.TheVariants.{Hit}
 use Rattle.moka_parts.specs.declared.records.Record.{Record}
 use Rattle.moka_parts.specs.Housekeeping.{is_due}
@@ -12,6 +13,11 @@ use Rattle.moka_engine.specs.Looks.{entry_at}
 use Rattle.moka_engine.proofs.ByTests.{get_by_finds_nothing, get_by_misses, get_by_as_key}
 use Rattle.moka_engine.proofs.GetSteps.{cache-queued, cache-touched, stocked-read, number-read, get_hits, queues_read, get_refused, located-read}
 use Rattle.moka_engine.proofs.base_cache.BaseCache.get_by.Goals as goal
+
+-- by whether a test says yes
+either : {P : Type 0} (b : Bool) → (b ≡ true → P) → (b ≡ false → P) → P
+either true at_true at_false = at_true refl
+either false at_true at_false = at_false refl
 
 pub record_hit_by-requires-clause-due : goal.record_hit_by-requires-clause-due
 record_hit_by-requires-clause-due g c = ap (λ n. is_due c.self.inside.housekeeper.housekeeping n c.hit_of-hit.result.read.0) (sym c.read_count-queued.ensures) ∙ sym c.should_apply_reads.ensures ∙ c.if-should_apply_reads.true
@@ -37,20 +43,22 @@ queue_read-requires g c =
     let at = c.in-Some.ensures in
     rw c.operation.ensures (located-read c.self.invariant.cache c.self.inside.inner refl c.in-Some.handle.number c.in-Some.handle.place c.in-Some.found at.numbered at.placed.placed _ c.touch.new.self c.touch.ensures.rest (c.touch.ensures.step c.in-Some.found at.numbered))
 
-pub returns-then-is_map_disabled : goal.returns-then-is_map_disabled
-returns-then-is_map_disabled g c =
-    let found = get_by_finds_nothing g.P.PredicateFn.says g.X.Expiry.read (λ (before : List ℕ). ListedRun g.P.PredicateFn.says g.X.Expiry.read before c.args.self.now.write_list) g.L.Listener.tells g.C.Clock.reads refl (g.T.KeyTest.passes c.args.test.now) c.args.hash c.args.need_key c.args.now c.args.clock.now (sym c.is_map_disabled.ensures ∙ c.if-is_map_disabled.true) in
-    (Ok None, found, refl)
-
 pub returns-in_default : goal.returns-in_default
-returns-in_default g c =
-    let enabled = ap (λ (x : Engine g.row.K.Denot g.row.V.Denot g.row.S.Denot g.row.X.Denot g.row.L.Denot g.row.P.Denot g.row.W.Denot). is_disabled x.state.capacity) c.self.view_is ∙ (sym c.is_map_disabled.ensures ∙ c.if-is_map_disabled.false) in
-    let found = get_by_misses g.P.PredicateFn.says g.X.Expiry.read (λ (before : List ℕ). ListedRun g.P.PredicateFn.says g.X.Expiry.read before c.record_miss.new.self.write_list) g.L.Listener.tells g.C.Clock.reads c.self.view_is (g.T.KeyTest.passes c.args.test.now) c.args.hash c.args.need_key c.args.now c.args.clock.now
-    c.self.inside.inner refl enabled c.in_default.ensures c.record_miss.ensures in
-    (Ok None, found, refl)
+returns-in_default g c = (
+  Ok None,
+  either (is_disabled c.args.self.now.state.capacity)
+      (λ disabled.
+      let unchanged = c.record_miss.ensures.disabled disabled in
+      let found = get_by_finds_nothing g.P.PredicateFn.says g.X.Expiry.read (λ (before : List ℕ). ListedRun g.P.PredicateFn.says g.X.Expiry.read before c.args.self.now.write_list) g.L.Listener.tells g.C.Clock.reads refl (g.T.KeyTest.passes c.args.test.now) c.args.hash c.args.need_key c.args.now c.args.clock.now disabled in
+      rw (unchanged.0, unchanged.1) found)
+      (λ enabled.
+      get_by_misses g.P.PredicateFn.says g.X.Expiry.read (λ (before : List ℕ). ListedRun g.P.PredicateFn.says g.X.Expiry.read before c.record_miss.new.self.write_list) g.L.Listener.tells g.C.Clock.reads c.self.view_is (g.T.KeyTest.passes c.args.test.now) c.args.hash c.args.need_key c.args.now c.args.clock.now
+      c.self.inside.inner refl (ap (λ (x : Engine g.row.K.Denot g.row.V.Denot g.row.S.Denot g.row.X.Denot g.row.L.Denot g.row.P.Denot g.row.W.Denot). is_disabled x.state.capacity) c.self.view_is ∙ enabled) c.in_default.ensures (c.record_miss.ensures.enabled enabled)),
+  refl,
+)
 
-pub returns-in_default-entry_of : goal.returns-in_default-entry_of
-returns-in_default-entry_of g c =
+pub returns-in_err-entry : goal.returns-in_err-entry
+returns-in_err-entry g c =
     let at = c.in-Some.ensures in
     let passes = g.T.KeyTest.passes c.args.test.now in
     let one_key = g.met.T.KeyTest.one_key c.args.test.now in
@@ -60,7 +68,8 @@ returns-in_default-entry_of g c =
     c.self.invariant.cache c.self.inside.inner refl c.in-Some.handle.number c.in-Some.found at.numbered by_key refl at.shown at.uncovered (record {}) in
     let as_key = get_by_as_key g.P.PredicateFn.says g.X.Expiry.read (λ (before : List ℕ). ListedRun g.P.PredicateFn.says g.X.Expiry.read before c.args.self.now.write_list) g.L.Listener.tells g.C.Clock.reads c.self.view_is passes c.args.hash c.args.need_key c.args.now c.args.clock.now
     g.K.PartialEq.eq key (record_by_key g.K.PartialEq.eq passes one_key c.args.self.now.state.records key at.passing) _ _ _ found in
-    (Err (record {}), as_key, refl)
+    let p = err_from_is_err_and c.from_residual.result c.from_residual.ensures.1 in
+    rw p.1 (Err (record {}), as_key, refl)
 
 pub invariant_of-self : goal.invariant_of-self
 invariant_of-self g c =
@@ -84,7 +93,7 @@ returns-then-should_apply_reads g c =
     c.touch.new.self c.touch.ensures.rest (c.touch.ensures.step c.in-Some.found at.numbered) refl refl (entry_at c.args.need_key c.in-Some.found) refl refl (rw c.hash-first_hash.ensures at c.record_hit_by.ensures) in
     let as_key = get_by_as_key g.P.PredicateFn.says g.X.Expiry.read (λ (before : List ℕ). ListedRun g.P.PredicateFn.says g.X.Expiry.read before c.record_hit_by.new.self.write_list) g.L.Listener.tells g.C.Clock.reads c.self.view_is passes c.args.hash c.args.need_key c.args.now c.args.clock.now
     g.K.PartialEq.eq key (record_by_key g.K.PartialEq.eq passes one_key c.args.self.now.state.records key at.passing) _ _ _ found in
-    (Ok (Some (entry_at c.args.need_key c.in-Some.found)), as_key, c.in-Ok.ensures)
+    (Ok (Some (entry_at c.args.need_key c.in-Some.found)), as_key, c.in_ok-entry.ensures)
 
 pub invariant_of-self-2 : goal.invariant_of-self-2
 invariant_of-self-2 g c =
@@ -113,4 +122,4 @@ returns g c =
     c.touch.new.self c.touch.ensures.rest (c.touch.ensures.step c.in-Some.found at.numbered) refl refl (entry_at c.args.need_key c.in-Some.found) refl refl queued in
     let as_key = get_by_as_key g.P.PredicateFn.says g.X.Expiry.read (λ (before : List ℕ). ListedRun g.P.PredicateFn.says g.X.Expiry.read before c.queue_read.new.self.kept.written) g.L.Listener.tells g.C.Clock.reads c.self.view_is passes c.args.hash c.args.need_key c.args.now c.args.clock.now
     g.K.PartialEq.eq key (record_by_key g.K.PartialEq.eq passes one_key c.args.self.now.state.records key at.passing) _ _ _ found in
-    (Ok (Some (entry_at c.args.need_key c.in-Some.found)), as_key, c.in-Ok.ensures)
+    (Ok (Some (entry_at c.args.need_key c.in-Some.found)), as_key, c.in_ok-entry.ensures)

@@ -11,7 +11,7 @@ invariant_of-self g c = record {
   cache = cache-queued c.self.invariant.cache c.self.inside.inner refl (Miss c.args.hash) c.queue_read.new.self c.queue_read.ensures;
 }
 
-pub returns : goal.returns
-returns g c =
+pub returns-clause-enabled : goal.returns-clause-enabled
+returns-clause-enabled g c = λ _.
     read_follows (λ (after : List ℕ). ListedRun g.P.PredicateFn.says g.X.Expiry.read c.args.self.now.write_list after) g.L.Listener.tells g.C.Clock.reads c.args.self.now c.args.now.0 c.args.clock.now c.apply_reads_if_needed.new.clock c.self.view_is c.apply_reads_if_needed.ensures
     c.self.inside.inner c.queue_read.new.self refl refl refl (Miss c.args.hash) c.queue_read.ensures

@@ -17,8 +17,8 @@ invariant_of-self g c =
 pub returns-clause-step : goal.returns-clause-step
 returns-clause-step g c =
     let at = c.in_ok-handle.ensures in
-    remove_returns c.self.view_is c.self.invariant.cache c.self.inside.inner c.remove-record.new.self refl c.args.key.now c.in_ok-handle.handle.number c.remove-record.result.0
-    c.remove-record.ensures.taken (sym at.found ∙ (sym at.numbered ∙ c.remove-record.ensures.taken)) c.remove-record.ensures.step c.remove-record.result.1 c.remove-record.ensures.ticket
+    rw c.entry_of_record.ensures (remove_returns c.self.view_is c.self.invariant.cache c.self.inside.inner c.remove-record.new.self refl c.args.key.now c.in_ok-handle.handle.number c.remove-record.result.0
+    c.remove-record.ensures.taken (sym at.found ∙ (sym at.numbered ∙ c.remove-record.ensures.taken)) c.remove-record.ensures.step c.remove-record.result.1 c.remove-record.ensures.ticket)
 
 pub returns-clause-events : goal.returns-clause-events
 returns-clause-events g c = rw (← c.self.view_is) (befalls-listed g.L.Listener.tells _ _ c.remove-record.new.self.kept (ap (λ (x : Interior g.row.K.Denot g.row.V.Denot g.row.S.Denot). x.kept.written) c.remove-record.ensures.step) (ap (λ (x : Interior g.row.K.Denot g.row.V.Denot g.row.S.Denot). x.kept.hasher) c.remove-record.ensures.step))

@@ -59,4 +59,4 @@ returns-then-is_map_disabled-clause-idle g c = λ enabled. absurd (true≢false 
 pub returns-clause-idle : goal.returns-clause-idle
 returns-clause-idle g c = λ _ zero.
     idle_answer c.self.inside.expiration_policy.time_to_live c.self.inside.expiration_policy.time_to_idle c.time_to_live.result c.time_to_idle.result c.time_to_live.ensures c.time_to_idle.ensures c.self.inside.valid_after
-    (is_over c.self.inside.max_capacity c.make_passes-ran.new.self.kept.access) c.make_passes-ran.result.is_left (c.make_passes-ran.ensures.ran.idle zero)
+    (is_over c.self.inside.max_capacity c.make_passes-ran.new.self.kept.access) c.make_passes-ran.result.has_more (c.make_passes-ran.ensures.ran.idle zero)

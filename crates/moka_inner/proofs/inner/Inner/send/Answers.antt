@@ -2,7 +2,7 @@ use Rattle.std.proofs.Common.{◌≡◌, ◌+◌, length, Option, Some, None, is
 use Rattle.std.specs.FinMap.{get}
 use Rattle.std.proofs.lemmas.List.{length-map, map-append}
 use Rattle.moka_parts.proofs.Values.{remove_absent}
-use Rattle.moka_store.proofs.Gets.{none-of}
+use Rattle.moka_store.proofs.Gets.{none_by_test}
 use Rattle.moka_maintenance.specs.declared.queued.PlacedWrite.{PlacedWrite}
 use Rattle.moka_inner.proofs.InnerLemmas.{inner-sent, inner-unsent}
 use Rattle.moka_inner.proofs.ValuesLemmas.{get-map_values, map_values-none, map_values-remove}
@@ -19,7 +19,7 @@ returns-then-contains-clause-unknown g c =
 
 pub returns-then-is_full-clause-unknown : goal.returns-then-is_full-clause-unknown
 returns-then-is_full-clause-unknown g c =
-    rw (← c.self.view_is) (λ _. map_values-none (λ (w : PlacedWrite). w.operation) c.self.inside.outstanding.items c.args.ticket.0 (none-of (get c.self.inside.outstanding.items c.args.ticket.0) (sym c.contains.ensures ∙ c.if-contains.false)), λ _. refl)
+    rw (← c.self.view_is) (λ _. map_values-none (λ (w : PlacedWrite). w.operation) c.self.inside.outstanding.items c.args.ticket.0 (none_by_test (get c.self.inside.outstanding.items c.args.ticket.0) (sym c.contains.ensures ∙ c.if-contains.false)), λ _. refl)
 
 pub invariant_of-self : goal.invariant_of-self
 invariant_of-self g c =

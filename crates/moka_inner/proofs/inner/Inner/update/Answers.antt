@@ -1,10 +1,10 @@
 use Rattle.std.proofs.Common.{◌≡◌, ◌+◌, refl, ap, sym, ◌∙◌, arith}
 use Rattle.std.specs.FinMap as finite
+use Rattle.std.proofs.lemmas.Option.{same_Some}
 use Rattle.moka_parts.specs.declared.records.Operation.TheVariants.{Upsert}
 use Rattle.moka_store.specs.Store.{Kept}
 use Rattle.moka_store.specs.Updates.{updated}
 use Rattle.moka_inner.specs.Interior.{Interior}
-use Rattle.moka_store.proofs.Gets.{some_same}
 use Rattle.moka_inner.proofs.InnerLemmas.{inner-updated}
 use Rattle.moka_inner.proofs.ValuesLemmas.{map_values-insert}
 use Rattle.moka_inner.proofs.inner.Inner.update.Goals as goal
@@ -32,5 +32,5 @@ pub returns-clause-step : goal.returns-clause-step
 returns-clause-step g c = λ r there.
     let here = ap (λ (i : Interior g.row.K.Denot g.row.V.Denot g.row.S.Denot). finite.get i.kept.places c.args.handle.number) c.self.view_is ∙ c.requires.handle.placed in
     let same = ap (λ (i : Interior g.row.K.Denot g.row.V.Denot g.row.S.Denot). finite.get i.kept.records c.args.handle.number) c.self.view_is in
-    let found : c.in-Some.found ≡ r = some_same (c.in-Some.ensures.found here ∙ (same ∙ there)) in
+    let found : c.in-Some.found ≡ r = same_Some _ _ (c.in-Some.ensures.found here ∙ (same ∙ there)) in
     rw (c.update-old.ensures.step r (same ∙ there), c.hand_out.ensures.items, map_values-insert, c.generation.ensures, found, ← c.self.view_is) refl

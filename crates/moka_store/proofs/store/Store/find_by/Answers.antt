@@ -10,21 +10,21 @@ use Rattle.moka_store.proofs.Tests.{passes-as_key}
 use Rattle.moka_store.proofs.Looked.{live-row}
 use Rattle.moka_store.proofs.store.Store.find_by.Goals as goal
 
-pub returns-in_default-clause-value : goal.returns-in_default-clause-value
-returns-in_default-clause-value g c =
+pub returns-in_err-place-clause-value : goal.returns-in_err-place-clause-value
+returns-in_err-place-clause-value g c =
     let passes = g.T.KeyTest.passes c.args.test.now in
     let one_key = g.met.T.KeyTest.one_key c.args.test.now in
     let rows = c.self.inside.table.rows in
     let hashed = rw (← c.self.view_is) at c.requires.hashed in
-    let none : (p : ℕ) → get c.self.inside.index.entries p ≡ Some c.args.hash.0 → passes_at passes rows p ≡ false = λ p h. (let e = c.in_default.ensures.absent p h in search (rules, e)) in
-    rw (← c.self.view_is) (sym (record_by_each g.K.PartialEq.eq passes one_key (records_of rows) None
+    let none : (p : ℕ) → get c.self.inside.index.entries p ≡ Some c.args.hash.0 → passes_at passes rows p ≡ false = λ p h. (let e = c.in_err-place.ensures.absent p h in search (rules, e)) in
+    rw (c.from_residual.ensures, ← c.self.view_is) (sym (record_by_each g.K.PartialEq.eq passes one_key (records_of rows) None
     (λ key passing. record-of-absent _ _ _ _ c.self.invariant.tied key (λ x e. rw (g.met.K.Hash.respects_eq key x e) refl)
     (λ p h. sym (passes-as_key g.K.PartialEq.eq passes key (λ y. one_key key y passing) rows p) ∙ none p (h ∙ ap Some (sym (hashed key passing)))))
     (λ r impossible. cc)))
 
 pub returns-clause-handle : goal.returns-clause-handle
 returns-clause-handle g c =
-    let w = live-row c.self.inside.table.rows c.in-Some.place c.in-Some-live.number c.in-Some-live.stored c.in-Some-live.ensures.number c.in-Some-live.ensures.stored in
+    let w = live-row c.self.inside.table.rows c.in_ok-place.place c.in-Some.number c.in-Some.stored c.in-Some.ensures.number c.in-Some.ensures.stored in
     rw (w.number_is, ← c.self.view_is) (record {
       placed = get-places _ c.self.invariant.tied.numbered _ _ w.at_is;
       stored = rw (get-records _ c.self.invariant.tied.numbered _ _ w.at_is, w.stored_is) refl;
@@ -32,17 +32,17 @@ returns-clause-handle g c =
 
 pub returns-clause-found : goal.returns-clause-found
 returns-clause-found g c =
-    let w = live-row c.self.inside.table.rows c.in-Some.place c.in-Some-live.number c.in-Some-live.stored c.in-Some-live.ensures.number c.in-Some-live.ensures.stored in
+    let w = live-row c.self.inside.table.rows c.in_ok-place.place c.in-Some.number c.in-Some.stored c.in-Some.ensures.number c.in-Some.ensures.stored in
     rw (w.number_is, ← c.self.view_is) (get-records _ c.self.invariant.tied.numbered _ _ w.at_is ∙ w.stored_is)
 
 pub returns-clause-value : goal.returns-clause-value
 returns-clause-value g c =
     let passes = g.T.KeyTest.passes c.args.test.now in
     let rows = c.self.inside.table.rows in
-    let key = c.in-Some-live.stored.key in
+    let key = c.in-Some.stored.key in
     let laws = g.met.K.Eq.laws in
-    let passing : passes key ≡ true = search (rules, c.in-Some.ensures.passes, c.in-Some-live.ensures.stored) in
-    let w = live-row c.self.inside.table.rows c.in-Some.place c.in-Some-live.number c.in-Some-live.stored c.in-Some-live.ensures.number c.in-Some-live.ensures.stored in
+    let passing : passes key ≡ true = search (rules, c.in_ok-place.ensures.passes, c.in-Some.ensures.stored) in
+    let w = live-row c.self.inside.table.rows c.in_ok-place.place c.in-Some.number c.in-Some.stored c.in-Some.ensures.number c.in-Some.ensures.stored in
     let there = get-records _ c.self.invariant.tied.numbered _ _ w.at_is ∙ w.stored_is in
     let own = present_key g.K.PartialEq.eq (records_of rows) key laws (one-each _ _ _ _ c.self.invariant.tied laws).one_each _ _ there (laws.refl key) in
     rw (← c.self.view_is) (sym (record_by_key g.K.PartialEq.eq passes (g.met.T.KeyTest.one_key c.args.test.now) (records_of rows) key passing ∙ own))

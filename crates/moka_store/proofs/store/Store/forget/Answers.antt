@@ -2,7 +2,7 @@ use Rattle.std.specs.FinMap as finite
 use Rattle.std.proofs.Common.{None, refl, ap, ◌∙◌, arith, sym, subst}
 use Rattle.std.specs.FinMap.{get, remove}
 use Rattle.moka_store.specs.RecordTable.{places_of}
-use Rattle.moka_store.proofs.TableMaps.{get-past_remove}
+use Rattle.moka_index.proofs.Maps.{get-past_remove}
 use Rattle.std.specs.Option.{option_and_then}
 use Rattle.moka_store.specs.RecordTable.{Row}
 use Rattle.moka_parts.specs.declared.records.Record.{Record}

@@ -6,8 +6,9 @@ use Rattle.std.specs.FinMap as finite
 use Rattle.std.proofs.Common.{◌≢◌, ◌+◌, inl, inr, refl, sym, ap, ◌∙◌, arith, subst}
 use Rattle.std.specs.FinMap.{get}
 use Rattle.moka_store.specs.RecordTable.{records_of, places_of}
-use Rattle.moka_store.proofs.TableMaps.{row_at-within, get-inserted, get-past_insert}
-use Rattle.moka_store.proofs.Gets.{after_insert, len-fresh}
+use Rattle.moka_index.proofs.Maps.{get-inserted, get-past_insert}
+use Rattle.moka_store.proofs.TableMaps.{row_at-within}
+use Rattle.moka_store.proofs.Gets.{after_insert, len-inserted}
 use Rattle.moka_store.proofs.Ties.{counted-unplaced}
 use Rattle.moka_store.proofs.Places.{room-narrow}
 use Rattle.moka_store.proofs.Steps.{key-fresh, index-vacant, inserted, unrecorded}
@@ -23,8 +24,8 @@ invariant_of-self g c =
     let stay = stays-bare c.self.inside.table.rows c.insert-place.new.self.rows c.self.inside.written c.self.inside.timers.timers c.self.invariant.written c.self.invariant.timed c.self.invariant.tied.numbered s.tied.numbered _ _ c.insert-place.ensures.changes (ap (option_and_then (λ (row : Row (Record _ _)). row.membership)) c.insert-place.ensures.vacant) (ap (option_and_then (λ (row : Row (Record _ _)). row.timer)) c.insert-place.ensures.vacant) refl refl in
     let room = rw (← c.self.view_is) at c.requires.room in
     let len = c.insert-place.ensures.len in
-    let longer = ap finite.len c.insert-place.ensures.records ∙ len-fresh _ _ c.args.stored (unrecorded _ g.met.K.Eq.laws _ _ _ c.self.invariant.tied _ fresh) in
-    let more = ap finite.len c.insert.ensures.entries ∙ len-fresh _ _ _ (index-vacant _ g.met.K.Eq.laws _ _ _ c.self.invariant.tied _ c.insert-place.ensures.vacant) in
+    let longer = ap finite.len c.insert-place.ensures.records ∙ len-inserted _ _ c.args.stored (unrecorded _ g.met.K.Eq.laws _ _ _ c.self.invariant.tied _ fresh) in
+    let more = ap finite.len c.insert.ensures.entries ∙ len-inserted _ _ _ (index-vacant _ g.met.K.Eq.laws _ _ _ c.self.invariant.tied _ c.insert-place.ensures.vacant) in
     record {
       tied = rw (c.insert.ensures.entries, hashed) s.tied;
       written = stay.written;

@@ -2,7 +2,7 @@ use Rattle.std.specs.FinMap as finite
 use Rattle.std.specs.Option.{option_and_then}
 use Rattle.std.proofs.Common.{◌-◌, ◌==◌, cond, None, ◌≡◌, ◌+◌, IsSome, map, length, refl, sym, ◌∙◌, arith, ap, subst}
 use Rattle.moka_store.specs.declared.table.membership.Membership.{Membership}
-use Rattle.moka_store.proofs.TableMaps.{get-removed}
+use Rattle.moka_index.proofs.Maps.{get-removed}
 use Rattle.moka_store.proofs.Members.{counted-without}
 use Rattle.moka_store.proofs.Orders.{slot-there, leaves}
 use Rattle.moka_store.proofs.Steps.{placed, member-there, member-row, left}

@@ -3,7 +3,7 @@ use Rattle.std.specs.FinMap as finite
 use Rattle.std.proofs.Common.{◌-◌, None, refl, sym, ap, ◌∙◌, arith, subst}
 use Rattle.std.specs.FinMap.{get, remove}
 use Rattle.moka_store.specs.RecordTable.{records_of}
-use Rattle.moka_store.proofs.TableMaps.{get-removed}
+use Rattle.moka_index.proofs.Maps.{get-removed}
 use Rattle.moka_store.proofs.Gets.{len-removed}
 use Rattle.moka_store.proofs.Steps.{handled, index-of, taken}
 use Rattle.moka_store.specs.Weights.{IsWeighed}

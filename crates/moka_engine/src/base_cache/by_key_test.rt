@@ -1,0 +1,187 @@
+//! Look-ups and removals by a test of the key in place of a key.
+ghost use Rattle.std.specs.Prelude.{◌≡◌, None, Some, length, true, option_map};
+ghost use Rattle.moka_parts.specs.Hashing.{key_hash};
+ghost use Rattle.moka_parts.specs.Calls.{RecordsRead, no_events};
+ghost use Rattle.moka_parts.specs.Copies.{HandsOut, IsEntryCopy};
+ghost use Rattle.moka_parts.specs.Housekeeping.{is_due};
+ghost use Rattle.moka_parts.specs.KeyTests.{ContainsByStep, GetByStep, RemoveByStep, record_by};
+ghost use Rattle.moka_parts.specs.Runs.{Befalls};
+ghost use Rattle.moka_parts.specs.Surroundings.{Leads};
+ghost use Rattle.moka_parts.specs.declared.records.ReadOperation.TheVariants.{Hit};
+ghost use Rattle.moka_store.specs.Hashing.{IsIndexHash};
+ghost use Rattle.moka_engine.specs.BaseCache.{NoneExpires};
+ghost use Rattle.moka_engine.specs.LooksBy.{FindsBy};
+ghost use Rattle.moka_engine.specs.Makes.{Takes};
+
+use super::gets::{self, Moments};
+use super::{BaseCache, ReadHit, entry_of_record};
+use moka_inner::Inner;
+use moka_parts::calls::{Entry, KvEntry, Ticket};
+use moka_parts::closures::{PredicateFn, Weigher};
+use moka_parts::error::OutOfMemory;
+use moka_parts::housekeeper::Clock;
+use moka_parts::invalidator::Invalidator;
+use moka_parts::key_test::KeyTest;
+use moka_parts::notification::Listener;
+use moka_parts::policy::{Expiry, Instant};
+use moka_parts::record_ref::RecordRef;
+use moka_store::{Handle, IndexHash};
+use std::hash::{BuildHasher, Hash};
+
+// The record whose key passes, unless a moment hides it or a predicate covers it. The test comes with the hash
+// in the map of the keys that pass.
+#[inline(always)]
+fn find_by<'a, K: Eq + Hash, V, S: BuildHasher, X, P, T: KeyTest<K>>(
+    inner: &'a Inner<K, V, S>,
+    moments: &Moments<'_, X>,
+    invalidator: &Invalidator<P>,
+    sought: (&T, IndexHash),
+) -> Option<(Handle, RecordRef<'a, K, V>)>
+where
+    P: PredicateFn<K, V>,
+    requires lasting { moments.now.policy.now.expiry ≡ None → NoneExpires inner.now.kept.records }
+    requires own { (k : K) → T.passes sought.0.now k ≡ true
+        → IsIndexHash S.BuildHasher S.Hasher.Hasher inner.now.kept.hasher (K.hash_input k) sought.1 }
+    ensures { FindsBy inner.now.kept moments.entry.now.policy.now moments.entry.now.valid_after.now P.says
+        invalidator.now (T.passes sought.entry.0.now) moments.entry.now.now.0 result }
+{
+    let (test, own) = sought;
+    let (handle, found) = inner.find_by(test, own)?;
+    if moments.hide(&found) || invalidator.apply_predicates(&found) {
+        return None;
+    }
+    Some((handle, found))
+}
+
+impl<
+    K: Eq + Hash,
+    V,
+    S: BuildHasher,
+    X: Expiry<K, V>,
+    L: Listener<K, V>,
+    P: PredicateFn<K, V>,
+    W: Weigher<K, V>,
+> BaseCache<K, V, S, X, L, P, W> {
+    /// The hash of a form of a key by the cache's own hasher. It is the key's where both give the hasher the same, as a
+    /// `&str` and a `String` of the same text do.
+    #[inline(always)]
+    pub fn hash_of<Q: Hash>(&self, form: &Q) -> u64
+        ensures { result ≡ key_hash S.BuildHasher S.Hasher.Hasher self.now.hasher (Q.hash_input form.now) }
+    {
+        self.inner.hash_of(form)
+    }
+
+    /// As `contains_key_with_own_hash` of the key that passes. `hash` is that of the keys that do, by the cache's own
+    /// hasher.
+    pub fn contains_by<T: KeyTest<K>>(&self, test: &T, hash: u64, now: Instant) -> bool
+        requires own { (k : K) → T.passes test.now k ≡ true
+            → hash ≡ key_hash S.BuildHasher S.Hasher.Hasher self.now.hasher (K.hash_input k) }
+        ensures { ContainsByStep P.says (T.passes test.now) self.now.state now.0 result }
+    {
+        let moments = self.moments(now);
+        let sought = (test, IndexHash::of(hash));
+        find_by(&self.inner, &moments, &self.invalidator, sought).is_some()
+    }
+
+    /// As `remove_entry_with_own_hash` of the key that passes. `hash` is that of the keys that do, by the cache's own
+    /// hasher.
+    pub fn remove_by<T: KeyTest<K>>(
+        &mut self,
+        test: &T,
+        hash: u64,
+    ) -> Option<(KvEntry<K, V>, Ticket)>
+    where
+        K: Drop,
+        requires own { (k : K) → T.passes test.now k ≡ true
+            → hash ≡ key_hash S.BuildHasher S.Hasher.Hasher self.old.hasher (K.hash_input k) }
+        ensures step { RemoveByStep (T.passes test.now) self.old.state result self.new.state }
+        ensures events { Befalls L.tells no_events self.old self.new }
+    {
+        let own = IndexHash::of(hash);
+        let (handle, _) = self.inner.find_by(test, own)?;
+        let (record, ticket) = self.inner.remove(handle, own);
+        Some((entry_of_record(record), ticket))
+    }
+
+    /// As `get_with_own_hash` of the key that passes. `hash` is that of the keys that do, by the cache's own hasher.
+    ///
+    /// # Errors
+    /// As those of `get_with_hash`.
+    #[inline(always)]
+    pub fn get_by<T: KeyTest<K>, C: Clock>(
+        &mut self,
+        test: &T,
+        hash: u64,
+        need_key: bool,
+        now: Instant,
+        clock: &mut C,
+    ) -> Result<Option<Entry<K, V>>, OutOfMemory>
+    where
+        K: Clone + Drop,
+        V: Clone + Drop,
+        P: Drop,
+        requires own { (k : K) → T.passes test.now k ≡ true
+            → hash ≡ key_hash S.BuildHasher S.Hasher.Hasher self.old.hasher (K.hash_input k) }
+        ensures { HandsOut (IsEntryCopy K.is_clone V.is_clone)
+            (λ own. Takes P.says X.read L.tells
+            (λ Runs s. GetByStep P.says (T.passes test.now) s X.read Runs hash need_key now.0 own)
+            self.old self.new (λ e. Leads C.reads clock.old e.readings clock.new)) result }
+    {
+        let own = IndexHash::of(hash);
+        let policy = &self.expiration_policy;
+        let moments = Moments {
+            policy,
+            valid_after: &self.valid_after,
+            now,
+        };
+        let shown = find_by(&self.inner, &moments, &self.invalidator, (test, own));
+        let Some((handle, found)) = shown else {
+            self.record_miss(hash, now, clock);
+            return Ok(None);
+        };
+        let entry = gets::entry_of(&found, need_key)?;
+        let (first_hash, hit) = (found.hash(), gets::hit_of(&found, policy, now));
+        let read = ReadHit {
+            number: handle.number,
+            hash: first_hash,
+            renewed: hit.is_renewed,
+        };
+        self.inner
+            .touch(handle, hit.read, hit.expires, hit.is_renewed);
+        let queued = self.inner.read_count();
+        if self.housekeeper.should_apply_reads(queued, hit.read) {
+            self.record_hit_by((test, own), read, hit.read, clock);
+            return Ok(Some(entry));
+        }
+        self.inner.queue_read(handle.place, read.operation());
+        Ok(Some(entry))
+    }
+
+    // Makes the run that is due, and queues a hit of the record whose key passes. The run may remove that record, so
+    // its place is looked up again.
+    #[inline(always)]
+    fn record_hit_by<T: KeyTest<K>, C: Clock>(
+        &mut self,
+        sought: (&T, IndexHash),
+        hit: ReadHit,
+        now: Instant,
+        clock: &mut C,
+    )
+    where
+        K: Drop,
+        V: Drop,
+        P: Drop,
+        requires own { (k : K) → T.passes sought.0.now k ≡ true
+            → IsIndexHash S.BuildHasher S.Hasher.Hasher self.old.hasher (K.hash_input k) sought.1 }
+        requires due { is_due self.old.state.housekeeping (length self.old.state.reads) now.0 ≡ true }
+        requires found { option_map (λ r. r.number)
+            (record_by (T.passes sought.0.now) self.old.state.records) ≡ Some hit.number }
+        ensures { Takes P.says X.read L.tells
+            (λ Runs s. RecordsRead Runs s now.0 (Hit hit.number hit.hash hit.renewed)) self.old self.new
+            (λ e. Leads C.reads clock.old e.readings clock.new) }
+    {
+        self.run_by_housekeeper(now, clock);
+        self.inner
+            .queue_hit_by(sought, hit.number, hit.hash, hit.renewed);
+    }
+}

@@ -1,5 +1,0 @@
-use Rattle.std.proofs.Common.{length}
-use Rattle.moka_segments.proofs.predicates.+register_each.Given as goal
-
-abbrev pub decreases-register_each : goal.decreases-register_each
-decreases-register_each g l = length l.segments.now
