@@ -5,9 +5,10 @@ use crate::engine::moka_engine::Listener;
 use crate::key::Key;
 use std::cell::Cell;
 use std::collections::VecDeque;
+use std::mem;
 use std::panic::{AssertUnwindSafe, catch_unwind};
-use std::sync::atomic::{AtomicBool, AtomicUsize, Ordering};
-use std::sync::{Arc, Mutex, MutexGuard, PoisonError, TryLockError};
+use std::sync::atomic::{AtomicBool, Ordering};
+use std::sync::{Arc, Condvar, Mutex, MutexGuard, PoisonError};
 
 /// The caller's listener.
 pub(crate) type Told<K, V> = Arc<dyn Fn(Arc<K>, V, RemovalCause) + Send + Sync>;
@@ -19,8 +20,11 @@ pub(crate) fn locked<T>(mutex: &Mutex<T>) -> MutexGuard<'_, T> {
     mutex.lock().unwrap_or_else(PoisonError::into_inner)
 }
 
-// With so many notices waiting a caller waits for its turn to tell them, so that a slow listener is not left behind.
+// With so many notices waiting a caller that put one there waits for room or its turn to tell them, so that a slow
+// listener is not left behind.
 const MOST_WAITING: usize = 1024;
+// After so many notices a thread hands its turn on, if another waits for it.
+const MOST_IN_TURN: usize = 256;
 
 thread_local! {
     // Whether this thread is in a listener or a maker.
@@ -45,98 +49,201 @@ impl Drop for Awaited {
     }
 }
 
+/// What has left a shard in a call, in order. The first has a place of its own, so one alone needs no memory.
+pub(crate) struct Left<K, V> {
+    first: Notice<K, V>,
+    more: Vec<Notice<K, V>>,
+}
+
+impl<K, V> Left<K, V> {
+    /// Adds what left later.
+    pub fn append(&mut self, later: Self) {
+        self.more.push(later.first);
+        self.more.extend(later.more);
+    }
+}
+
 /// Notices that wait until the lock of their shard is released, and the listener that is then told of them, in order.
 pub(crate) struct Notices<K, V> {
     listener: Told<K, V>,
-    // No notice is put here or taken out under the lock of the shard and that of the turn at once.
-    waiting: Mutex<VecDeque<Notice<K, V>>>,
-    // How many wait: written under that lock, so a thread that puts one there sees it, or that another took it out.
-    count: AtomicUsize,
-    turn: Mutex<()>,
+    queue: Mutex<Queue<K, V>>,
+    // There is room again, or nobody has the turn.
+    changed: Condvar,
     // Whether the listener has, for whichever shard of the cache.
     has_panicked: Arc<AtomicBool>,
 }
 
+struct Queue<K, V> {
+    waiting: VecDeque<Notice<K, V>>,
+    // Whether a thread has the turn to tell.
+    is_taken: bool,
+    // How many threads wait for a change.
+    blocked: usize,
+}
+
 impl<K, V> Notices<K, V> {
     pub fn new(listener: Told<K, V>, has_panicked: Arc<AtomicBool>) -> Self {
+        let queue = Mutex::new(Queue {
+            waiting: VecDeque::new(),
+            is_taken: false,
+            blocked: 0,
+        });
         Notices {
             listener,
-            waiting: Mutex::new(VecDeque::new()),
-            count: AtomicUsize::new(0),
-            turn: Mutex::new(()),
+            queue,
+            changed: Condvar::new(),
             has_panicked,
         }
     }
 
-    fn push(&self, notice: Notice<K, V>) {
-        let mut waiting = locked(&self.waiting);
-        waiting.push_back(notice);
-        self.count.store(waiting.len(), Ordering::Relaxed);
-    }
-
-    fn pop(&self) -> Option<Notice<K, V>> {
-        let mut waiting = locked(&self.waiting);
-        let notice = waiting.pop_front();
-        self.count.store(waiting.len(), Ordering::Relaxed);
-        notice
+    /// Puts there what has left. Whoever does that has to `deliver` when the lock of the shard is released.
+    pub fn put(&self, left: Left<K, V>) {
+        let mut queue = locked(&self.queue);
+        queue.waiting.push_back(left.first);
+        queue.waiting.extend(left.more);
     }
 
     /// Tells the listener what waits. Where another thread does that it goes on with these; where the listener itself
     /// made the call, they follow the notice that it is told now.
-    #[inline]
     pub fn deliver(&self) {
-        if self.count.load(Ordering::Relaxed) > 0 {
-            self.deliver_waiting();
-        }
-    }
-
-    fn deliver_waiting(&self) {
-        let mut waiting = locked(&self.waiting).len();
-        while waiting > 0 {
-            let turn = match self.turn.try_lock() {
-                Ok(turn) => turn,
-                Err(TryLockError::Poisoned(turn)) => turn.into_inner(),
-                Err(TryLockError::WouldBlock) if IS_AWAITED.get() || waiting < MOST_WAITING => return,
-                Err(TryLockError::WouldBlock) => locked(&self.turn),
-            };
-            while let Some(notice) = self.pop() {
-                self.tell(notice);
-            }
-            drop(turn);
-            // One that came after the last look, while the turn was taken.
-            waiting = locked(&self.waiting).len();
-        }
-    }
-
-    // A listener that panicked is told no more.
-    fn tell(&self, (key, value, cause): Notice<K, V>) {
-        if self.has_panicked.load(Ordering::Relaxed) {
+        let Some(mut queue) = self.take_turn() else {
             return;
+        };
+        let mut told = 0;
+        // One who is blocked looks again before it waits again, so it takes the turn that is left to it.
+        while told < MOST_IN_TURN || queue.blocked == 0 {
+            let Some(notice) = queue.waiting.pop_front() else {
+                break;
+            };
+            if queue.waiting.len() + 1 == MOST_WAITING && queue.blocked > 0 {
+                self.changed.notify_all();
+            }
+            drop(queue);
+            self.tell(notice);
+            told += 1;
+            queue = locked(&self.queue);
         }
+        queue.is_taken = false;
+        if queue.waiting.is_empty() && queue.waiting.capacity() > MOST_WAITING {
+            queue.waiting = VecDeque::new();
+        }
+        if queue.blocked > 0 {
+            self.changed.notify_all();
+        }
+    }
+
+    // Takes the turn to tell, or leaves the notices to the thread that has it.
+    fn take_turn(&self) -> Option<MutexGuard<'_, Queue<K, V>>> {
+        let mut queue = locked(&self.queue);
+        while queue.is_taken {
+            if IS_AWAITED.get() || queue.waiting.len() < MOST_WAITING {
+                return None;
+            }
+            queue.blocked += 1;
+            queue = self.changed.wait(queue).unwrap_or_else(PoisonError::into_inner);
+            queue.blocked -= 1;
+        }
+        queue.is_taken = true;
+        Some(queue)
+    }
+
+    // A listener that panicked is told no more. Nothing panics here, so the turn is always given back.
+    fn tell(&self, (key, value, cause): Notice<K, V>) {
         let _awaited = Awaited::new();
-        let told = catch_unwind(AssertUnwindSafe(|| (self.listener)(key, value, cause)));
-        if told.is_err() {
+        let told = catch_unwind(AssertUnwindSafe(move || {
+            if self.has_panicked.load(Ordering::Relaxed) {
+                drop((key, value));
+            } else {
+                (self.listener)(key, value, cause);
+            }
+        }));
+        if let Err(panic) = told {
             self.has_panicked.store(true, Ordering::Relaxed);
+            // Its drop may panic too.
+            mem::forget(panic);
         }
     }
 }
 
-/// The engine's listener: it keeps what it is told for the caller's, where there is one.
-pub(crate) struct Teller<K, V>(pub Option<Arc<Notices<K, V>>>);
+/// The engine's listener. It keeps what leaves until the lock of the shard is released: only then the caller's listener
+/// may be told, and keys and values be dropped, since their `Drop`, too, may wait for other threads.
+pub(crate) struct Teller<K, V> {
+    is_keeping: bool,
+    // Whether something is to be done when the lock is released.
+    is_due: AtomicBool,
+    left: Mutex<Option<Left<K, V>>>,
+}
 
 impl<K, V> Teller<K, V> {
-    /// Keeps a value that leaves for the listener.
+    pub fn new(has_listener: bool) -> Self {
+        Teller {
+            is_keeping: has_listener || mem::needs_drop::<K>() || mem::needs_drop::<V>(),
+            is_due: AtomicBool::new(false),
+            left: Mutex::new(None),
+        }
+    }
+
+    /// Keeps what leaves.
     pub fn leaves(&self, key: Arc<K>, value: V, cause: RemovalCause) {
-        if let Some(notices) = &self.0 {
-            notices.push((key, value, cause));
+        if self.is_keeping {
+            self.remind();
+            keep(&mut locked(&self.left), (key, value, cause));
+        }
+    }
+
+    /// Something is to be done when the lock is released.
+    pub fn remind(&self) {
+        self.is_due.store(true, Ordering::Relaxed);
+    }
+
+    #[inline]
+    pub fn is_due(&self) -> bool {
+        self.is_due.load(Ordering::Relaxed)
+    }
+
+    /// What has left since this was last asked.
+    pub fn take(&self) -> Option<Left<K, V>> {
+        self.is_due.store(false, Ordering::Relaxed);
+        locked(&self.left).take()
+    }
+}
+
+fn keep<K, V>(left: &mut Option<Left<K, V>>, notice: Notice<K, V>) {
+    match left {
+        Some(left) => left.more.push(notice),
+        None => {
+            let more = Vec::new();
+            *left = Some(Left { first: notice, more });
         }
     }
 }
 
 impl<K, V> Listener<Key<'_, K>, V> for Teller<K, V> {
     fn notify(&mut self, key: Key<'_, K>, value: V, cause: RemovalCause) {
-        if let Some(key) = key.into_shared() {
-            self.leaves(key, value, cause);
+        if let (true, Some(key)) = (self.is_keeping, key.into_shared()) {
+            *self.is_due.get_mut() = true;
+            keep(
+                self.left.get_mut().unwrap_or_else(PoisonError::into_inner),
+                (key, value, cause),
+            );
         }
+    }
+}
+
+#[cfg(test)]
+mod tests {
+    use super::*;
+
+    #[test]
+    fn the_memory_of_many_notices_is_given_back() {
+        let notices = Notices::new(Arc::new(|_, _, _| {}), Arc::default());
+        let notice = |key| (Arc::new(key), 'a', RemovalCause::Size);
+        notices.put(Left {
+            first: notice(0),
+            more: (1..5000).map(notice).collect(),
+        });
+        notices.deliver();
+        let queue = locked(&notices.queue);
+        assert!(queue.waiting.is_empty() && queue.waiting.capacity() <= MOST_WAITING);
     }
 }

@@ -3,6 +3,7 @@
 use crate::engine::moka_engine as engine;
 use crate::notices::Told;
 use crate::{EvictionPolicy, Expiry};
+use std::fmt;
 use std::sync::Arc;
 use std::time::Duration;
 
@@ -45,6 +46,28 @@ impl<K, V> Settings<K, V> {
     /// Whether a moment can decide about an entry.
     pub fn is_timed(&self) -> bool {
         self.time_to_live.is_some() || self.time_to_idle.is_some() || self.expiry.is_some()
+    }
+}
+
+impl<K, V> fmt::Debug for Settings<K, V> {
+    /// What can be shown: of code of the caller's, whether it is there.
+    fn fmt(&self, f: &mut fmt::Formatter<'_>) -> fmt::Result {
+        let policy = match self.eviction_policy {
+            EvictionPolicy::TinyLfu => "TinyLfu",
+            EvictionPolicy::Lru => "Lru",
+        };
+        f.debug_struct("Settings")
+            .field("name", &self.name)
+            .field("max_capacity", &self.max_capacity)
+            .field("initial_capacity", &self.initial_capacity)
+            .field("eviction_policy", &policy)
+            .field("time_to_live", &self.time_to_live)
+            .field("time_to_idle", &self.time_to_idle)
+            .field("has_expiry", &self.expiry.is_some())
+            .field("has_weigher", &self.weigher.is_some())
+            .field("has_listener", &self.listener.is_some())
+            .field("takes_closures", &self.takes_closures)
+            .finish()
     }
 }
 

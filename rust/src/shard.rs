@@ -17,7 +17,7 @@ use crate::engine::moka_engine::{
 use crate::engine::moka_parts::error::PredicateError;
 use crate::engine::moka_parts::key_test::KeyTest;
 use crate::key::{Carried, Key, Test, address};
-use crate::notices::{Notices, Teller};
+use crate::notices::{Left, Teller};
 use crate::policy::Asked;
 use crate::settings::{Settings, Testing, Tests, Weighing};
 use crate::support::alloc::Global;
@@ -26,8 +26,10 @@ use crate::{Entry, RemovalCause, Stats};
 use moka_drive::{CountingListener, NotTold};
 use std::convert::Infallible;
 use std::hash::Hash;
+use std::mem;
 use std::sync::Arc;
 use std::sync::atomic::{AtomicBool, Ordering::Relaxed};
+use std::time::Duration;
 
 // The listener is there always, since it counts.
 type Told<K, V> = CountingListener<Teller<K, V>>;
@@ -38,6 +40,8 @@ type Cache<K, V> =
 const CALLS_A_READING: u32 = 64;
 // A run of maintenance asks predicates about so many entries.
 const ENTRIES_A_RUN: u64 = 384;
+// A call makes a run if the last one was so many nanoseconds ago. A shard that had no call for so long has one due.
+const QUIET: u64 = 300_000_000;
 
 /// Nanoseconds since the cache was built.
 #[derive(Clone, Copy)]
@@ -83,35 +87,44 @@ pub(crate) struct Shard<K: 'static, V> {
     // The moment of the last call. It never goes back, and each invalidation has one of its own.
     now: Instant,
     calls_until_reading: u32,
+    // A call at this moment or later visits another shard, and the next one does so much later.
+    visit_at: Instant,
+    visit_every: u64,
+    is_visit_due: bool,
+    // Look-ups of nobody's.
+    unasked: u64,
     // Stays set where a caller's own code panicked in the middle of a call.
     is_in_call: AtomicBool,
     is_timed: bool,
     settings: Arc<Settings<K, V>>,
     capacity: Option<u64>,
-    notices: Option<Arc<Notices<K, V>>>,
     // What was counted beside the cache: by caches that a panic ended, of makers and of what was refused.
     counted: Stats,
 }
 
 impl<K: Eq + Hash + 'static, V> Shard<K, V> {
-    /// An empty shard of this capacity. With equal starts all shards tell the same moments.
-    pub fn new(
-        settings: Arc<Settings<K, V>>,
-        capacity: Option<u64>,
-        notices: Option<Arc<Notices<K, V>>>,
-        start: std::time::Instant,
-    ) -> Self {
+    /// An empty shard of this capacity, one of so many. With equal starts all shards tell the same moments.
+    pub fn new(settings: Arc<Settings<K, V>>, capacity: Option<u64>, shards: u32, start: std::time::Instant) -> Self {
         let clock = Elapsed(start);
+        let has_others = settings.is_timed() && shards > 1;
+        let visit_every = if has_others {
+            QUIET / u64::from(shards)
+        } else {
+            u64::MAX
+        };
         Shard {
-            cache: cache(&settings, capacity, Teller(notices.clone()), clock),
+            cache: cache(&settings, capacity, clock),
             clock,
             now: Instant(0),
             calls_until_reading: 0,
+            visit_at: Instant(visit_every),
+            visit_every,
+            is_visit_due: false,
+            unasked: 0,
             is_in_call: AtomicBool::new(false),
             is_timed: settings.is_timed(),
             settings,
             capacity,
-            notices,
             counted: Stats::default(),
         }
     }
@@ -127,7 +140,8 @@ impl<K: Eq + Hash + 'static, V> Shard<K, V> {
     #[cold]
     fn empty(&mut self) {
         self.counted = self.stats();
-        self.cache = cache(&self.settings, self.capacity, Teller(self.notices.clone()), self.clock);
+        self.unasked = 0;
+        self.cache = cache(&self.settings, self.capacity, self.clock);
         *self.is_in_call.get_mut() = false;
     }
 
@@ -168,9 +182,37 @@ impl<K: Eq + Hash + 'static, V> Shard<K, V> {
         if self.is_timed || self.calls_until_reading == 0 {
             self.now = self.now.max(self.clock.now());
             self.calls_until_reading = CALLS_A_READING;
+            if self.now >= self.visit_at {
+                self.plan_visit();
+            }
         }
         self.calls_until_reading -= 1;
         self.now
+    }
+
+    // The caller is to visit another shard when the lock of this one is released.
+    #[cold]
+    fn plan_visit(&mut self) {
+        self.visit_at = Instant(self.now.0.saturating_add(self.visit_every));
+        self.is_visit_due = true;
+        if let Some(teller) = self.teller() {
+            teller.remind();
+        }
+    }
+
+    /// Lets what is due leave, where no call has come for so long that it would have.
+    pub fn visit(&mut self)
+    where
+        V: Clone,
+    {
+        let now = self.clock.now();
+        if now.0.saturating_sub(self.now.0) < QUIET {
+            return;
+        }
+        self.now = now;
+        // The cache has no call for it alone. This one finds nothing, at the address of no key.
+        self.unasked += 1;
+        let _nothing = self.change(|cache, clock| cache.get(&Key::at(0, 0), now, clock));
     }
 
     // A moment after all writes before this call, and before all after it.
@@ -253,21 +295,26 @@ impl<K: Eq + Hash + 'static, V> Shard<K, V> {
     // A value for which memory was refused leaves at once.
     #[cold]
     fn refuse(&mut self, key: Key<'static, K>, value: V) {
-        if let Some(key) = key.into_shared() {
+        if let (Some(key), Some(teller)) = (key.into_shared(), self.teller()) {
+            teller.leaves(key, value, RemovalCause::Size);
             self.counted.evicted += 1;
-            Teller(self.notices.clone()).leaves(key, value, RemovalCause::Size);
         }
     }
 
-    /// Puts a value under a key. One for which memory is refused leaves at once, and the listener is told.
+    /// Puts a value under a key. One for which memory is refused leaves at once, and the listener is told. A key that
+    /// equals the one that is kept comes back.
     #[inline]
-    pub fn insert(&mut self, hash: u64, key: Arc<K>, value: V)
+    pub fn insert(&mut self, hash: u64, key: Arc<K>, value: V) -> Option<Arc<K>>
     where
         K: Sync,
     {
         let sought: &K = &key;
-        let kept = self.kept(hash, &|kept| kept == sought);
-        self.insert_kept(hash, kept.unwrap_or(key), value);
+        let Some(kept) = self.kept(hash, &|kept| kept == sought) else {
+            self.insert_kept(hash, key, value);
+            return None;
+        };
+        self.insert_kept(hash, kept, value);
+        Some(key)
     }
 
     /// The same under the key that is kept, if one is.
@@ -328,15 +375,6 @@ impl<K: Eq + Hash + 'static, V> Shard<K, V> {
         removed.unwrap_or_else(|NotTold { value, .. }| Some(value))
     }
 
-    /// Takes a key's entry out. The listener is told.
-    pub fn invalidate(&mut self, hash: u64, test: Test<'_, K>)
-    where
-        V: Clone,
-    {
-        let now = self.read_clock();
-        let _told = self.change_by(test, |cache, by, clock| cache.invalidate_by(by, hash, now, clock));
-    }
-
     /// The same by the key that is kept, if one is.
     pub fn invalidate_kept(&mut self, hash: u64, key: &Arc<K>)
     where
@@ -357,18 +395,17 @@ impl<K: Eq + Hash + 'static, V> Shard<K, V> {
         given.map(|_| ()).map_err(|refused| refused.error)
     }
 
-    pub fn run_pending_tasks(&mut self) {
+    /// Makes a run of maintenance. How many more there may be to make: so many go round the entries twice, after which
+    /// no predicate covers one.
+    pub fn run_pending_tasks(&mut self) -> u64 {
         self.calls_until_reading = 0;
         let now = self.read_clock();
-        self.change(|cache, clock| {
-            let mut has_more = cache.run_pending_tasks(now, clock);
-            // So many go round the entries twice: after that no predicate covers one.
-            for _ in 0..2 * (cache.entry_count() / ENTRIES_A_RUN + 1) {
-                if has_more {
-                    has_more = cache.run_pending_tasks(now, clock);
-                }
-            }
-        });
+        let has_more = self.change(|cache, clock| cache.run_pending_tasks(now, clock));
+        if has_more {
+            2 * (self.entry_count() / ENTRIES_A_RUN + 1)
+        } else {
+            0
+        }
     }
 
     /// The keys that are kept, visible or not, with their hashes.
@@ -402,7 +439,7 @@ impl<K: Eq + Hash + 'static, V> Shard<K, V> {
         let (looks, left) = (self.cache.stats(), self.cache.removals());
         Stats {
             hits: looks.hits,
-            misses: looks.misses,
+            misses: looks.misses.saturating_sub(self.unasked),
             expired: left.expired,
             explicit: left.explicit,
             replaced: left.replaced,
@@ -412,12 +449,42 @@ impl<K: Eq + Hash + 'static, V> Shard<K, V> {
     }
 }
 
-fn cache<K: 'static, V>(
-    settings: &Settings<K, V>,
-    capacity: Option<u64>,
-    teller: Teller<K, V>,
-    mut clock: Elapsed,
-) -> Cache<K, V> {
+impl<K: 'static, V> Shard<K, V> {
+    #[inline]
+    fn teller(&self) -> Option<&Teller<K, V>> {
+        let counting = self.cache.engine().listener()?;
+        Some(&counting.listener)
+    }
+
+    /// Whether something is to be done when the lock of the shard is released.
+    #[inline]
+    pub fn has_rest(&self) -> bool {
+        self.teller().is_some_and(Teller::is_due)
+    }
+
+    /// What left since it was last taken: the listener is to be told of it, or it is to be dropped.
+    pub fn take_left(&self) -> Option<Left<K, V>> {
+        self.teller()?.take()
+    }
+
+    /// Whether another shard is to be visited since this was last asked.
+    pub fn take_visit(&mut self) -> bool {
+        mem::take(&mut self.is_visit_due)
+    }
+}
+
+// The engine's own limit of a run does not count the time of the caller's listener, which is told after the run. So the
+// runs that calls start make a single pass then, which leaves the rest to the next calls.
+fn housekeeping(has_listener: bool) -> HousekeeperConfig {
+    let mut config = HousekeeperConfig::default();
+    if has_listener {
+        config.maintenance_task_timeout = Duration::ZERO;
+    }
+    config
+}
+
+fn cache<K: 'static, V>(settings: &Settings<K, V>, capacity: Option<u64>, mut clock: Elapsed) -> Cache<K, V> {
+    let has_listener = settings.listener.is_some();
     let mut expirations = ExpirationPolicy::default();
     if let Some(duration) = settings.time_to_live {
         expirations.set_time_to_live(duration);
@@ -437,9 +504,9 @@ fn cache<K: 'static, V>(
         Carried,
         settings.weigher.clone().map(Weighing),
         settings.eviction_policy,
-        Some(CountingListener::new(teller)),
+        Some(CountingListener::new(Teller::new(has_listener))),
         expirations,
-        HousekeeperConfig::default(),
+        housekeeping(has_listener),
         settings.takes_closures,
         clock.now(),
         1,

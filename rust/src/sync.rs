@@ -19,6 +19,7 @@
 //! ```
 
 mod builder;
+mod calls;
 mod entry;
 mod iter;
 mod loads;
@@ -27,18 +28,17 @@ pub use builder::CacheBuilder;
 pub use entry::{OwnedKeyEntrySelector, RefKeyEntrySelector};
 pub use iter::Iter;
 
+use self::calls::{Place, Places};
 use crate::engine::moka_segments::Router;
 use crate::key::Test;
-use crate::making::Makers;
-use crate::notices::{Notices, locked};
 use crate::settings::{Settings, Tests};
 use crate::shard::Shard;
 use crate::{Policy, PredicateError, Stats};
 use std::borrow::Borrow;
 use std::fmt;
 use std::hash::{BuildHasher, Hash, RandomState};
+use std::panic::{RefUnwindSafe, UnwindSafe};
 use std::sync::Arc;
-use std::sync::Mutex;
 use std::sync::atomic::{AtomicU64, Ordering};
 
 /// Names a predicate that was registered.
@@ -51,33 +51,8 @@ fn spread(hash: u64) -> u64 {
     hash.wrapping_mul(0xD1B5_4A32_D192_ED03)
 }
 
-/// A shard, what is being made for it, and what its listener is still to be told. No two shards share a cache line.
-#[repr(align(128))]
-struct Place<K: 'static, V> {
-    shard: Mutex<Shard<K, V>>,
-    makers: Makers<K, V>,
-    notices: Option<Arc<Notices<K, V>>>,
-}
-
-impl<K: Eq + Hash, V> Place<K, V> {
-    // Makes a call under the lock of the shard. The listener is still to be told of what left by it.
-    #[inline]
-    fn with_shard<R>(&self, call: impl FnOnce(&mut Shard<K, V>) -> R) -> R {
-        let mut shard = locked(&self.shard);
-        shard.recover();
-        call(&mut shard)
-    }
-
-    #[inline]
-    fn deliver(&self) {
-        if let Some(notices) = &self.notices {
-            notices.deliver();
-        }
-    }
-}
-
 struct Shared<K: 'static, V, S> {
-    places: Box<[Place<K, V>]>,
+    places: Places<K, V>,
     // The hasher of the keys, and which shard a hash belongs to.
     router: Router<S>,
     settings: Arc<Settings<K, V>>,
@@ -90,19 +65,25 @@ struct Shared<K: 'static, V, S> {
 /// A bounded cache that threads share. A clone is another owner of the same cache. moka: `sync::Cache`.
 ///
 /// Each shard is a cache of its own behind a lock, and has its share of the capacity; the builder says how many there
-/// are. The listener is called by the thread whose call found something to tell, or another's that is telling, after
-/// the lock was released, in the order in which values left the shard. So it may call the cache. If a maker or a
-/// closure of an entry calls the cache, the listener may be called within it: then it must not have a value made or
-/// computed for that key.
+/// are. A call that concerns all of them, as `invalidate_all`, `iter`, `stats` or `entry_count`, goes from one to the
+/// next, so its answer is no snapshot while other threads call.
 ///
-/// The weigher, the expiry and predicates, `Eq` of keys, and `Clone` and `Drop` of values may be called under the lock
-/// of a shard, so they must not call the cache.
+/// The listener is called after the lock was released, in the order in which values left the shard, by the thread by
+/// whose call they left, or by another that is telling already. So it may call the cache. A call by which nothing left
+/// neither calls the listener nor waits for it. If a maker or a closure of an entry calls the cache, the listener may
+/// be called within it: then it must not have a value made or computed for that key.
+///
+/// The weigher, the expiry and predicates, `Eq` of keys and `Clone` of values may be called under the lock of a shard:
+/// they must neither call the cache nor wait for a lock that a thread holds while it calls the cache. The same holds
+/// for `Drop` of keys and values after a panic and in a cache of capacity 0; else these are dropped when the lock was
+/// released.
 ///
 /// # Panics of the caller's own code
-/// If the weigher, the expiry, a predicate, or a clone or a drop of a value panics in the middle of a call, the shard
-/// is **emptied** by the next call for it: its entries are gone, and the listener is not told of them. The panic goes
-/// on to the caller whose call it was. A panic of `Eq` or `Hash`, of a maker of `get_with`, of a closure of an entry or
-/// of the listener changes nothing; after its first panic the listener is not notified again.
+/// If the weigher, the expiry, a predicate or a clone of a value, be it in `get`, panics in the middle of a call, the
+/// shard is **emptied** by the next call for it: its entries are gone, and the listener is not told of them. That is
+/// the whole cache where there is one shard, as by default with a weigher or a capacity below 2,048. The panic goes on
+/// to the caller whose call it was. A panic of `Eq`, `Hash` or `Drop`, of a maker of `get_with`, of a closure of an
+/// entry or of the listener changes nothing; after its first panic the listener is not notified again.
 pub struct Cache<K: 'static, V, S = RandomState>(Arc<Shared<K, V, S>>);
 
 impl<K, V, S> Clone for Cache<K, V, S> {
@@ -118,6 +99,10 @@ impl<K, V, S> Clone for Cache<K, V, S> {
         Cache(Arc::clone(&self.0))
     }
 }
+
+// What a panic left half done no later call sees.
+impl<K, V, S: RefUnwindSafe> UnwindSafe for Cache<K, V, S> {}
+impl<K, V, S: RefUnwindSafe> RefUnwindSafe for Cache<K, V, S> {}
 
 impl<K, V, S> fmt::Debug for Cache<K, V, S>
 where
@@ -191,7 +176,7 @@ impl<K: 'static, V, S> Cache<K, V, S> {
         let settings = &self.0.settings;
         Policy {
             max_capacity: settings.max_capacity,
-            shards: self.0.places.len(),
+            shards: self.0.places.all.len(),
             time_to_live: settings.time_to_live,
             time_to_idle: settings.time_to_idle,
         }
@@ -205,15 +190,13 @@ where
     S: BuildHasher,
 {
     fn place(&self, hash: u64) -> &Place<K, V> {
-        &self.0.places[self.0.router.segment_of_hash(spread(hash))]
+        &self.0.places.all[self.0.router.segment_of_hash(spread(hash))]
     }
 
-    // Makes a call under the lock of a shard, and tells the listener of what left by it.
+    // Makes a call for a shard.
     #[inline]
     fn with<R>(&self, place: &Place<K, V>, call: impl FnOnce(&mut Shard<K, V>) -> R) -> R {
-        let answer = place.with_shard(call);
-        place.deliver();
-        answer
+        self.0.places.calls(place).make(call)
     }
 
     // Makes a call for a key by a borrowed form of it.
@@ -230,7 +213,7 @@ where
     }
 
     fn with_each(&self, mut call: impl FnMut(&mut Shard<K, V>)) {
-        for place in &self.0.places {
+        for place in &self.0.places.all {
             self.with(place, &mut call);
         }
     }
@@ -317,10 +300,11 @@ where
         K: Borrow<Q>,
         Q: Eq + Hash + Sync + ?Sized,
     {
-        self.with_key(key, |shard, hash, test| shard.invalidate(hash, test));
+        // What is dropped here is dropped without the lock.
+        drop(self.remove(key));
     }
 
-    /// Hides all values that are there. They leave in later runs of maintenance.
+    /// Hides all values that are there, shard by shard. They leave in later runs of maintenance.
     ///
     /// ```
     /// let cache = ravulemis::sync::Cache::new(100);
@@ -364,7 +348,8 @@ where
         answer
     }
 
-    /// Does what calls left for later: what has expired, was invalidated or exceeds the capacity leaves.
+    /// Does what calls left for later: what has expired, was invalidated or exceeds the capacity leaves. A shard's lock
+    /// is held for one run at a time, which ends when nothing is due or a predicate was asked about 384 entries.
     ///
     /// ```
     /// let cache = ravulemis::sync::Cache::new(2);
@@ -375,7 +360,13 @@ where
     /// assert_eq!(cache.entry_count(), 2);
     /// ```
     pub fn run_pending_tasks(&self) {
-        self.with_each(|shard| shard.run_pending_tasks());
+        for place in &self.0.places.all {
+            let mut runs = self.with(place, |shard| shard.run_pending_tasks());
+            // The lock is released between two, and the listener is told.
+            while runs > 0 {
+                runs = self.with(place, |shard| shard.run_pending_tasks()).min(runs - 1);
+            }
+        }
     }
 
     /// How many entries the last runs of maintenance left.
@@ -427,7 +418,8 @@ where
     }
 
     /// All visible entries, shard by shard. A shard's keys are those at the moment when the iterator comes to it; an
-    /// entry that has gone since is left out. No lock is held between two items, and nothing counts as a read.
+    /// entry that has gone since is left out, and of one that was put back the new value is given. No lock is held
+    /// between two items, and nothing counts as a read.
     ///
     /// ```
     /// let cache = ravulemis::sync::Cache::new(100);

@@ -33,16 +33,42 @@ pub type PredicateId = String;
 /// The listener is called at the end of the call that found something to tell, in the order in which values left.
 ///
 /// # Panics of the caller's own code
-/// If the weigher, the expiry, a predicate, or a clone or a drop of a value panics in the middle of a call, the cache
-/// is **emptied** by the next call that changes it: its entries are gone, and the listener is not told of them. A panic
-/// of `Eq` or `Hash`, of a maker of `get_with` or of the listener changes nothing; after its first panic the listener
-/// is not notified again.
+/// If the weigher, the expiry, a predicate or a clone of a value, be it in `get`, panics in the middle of a call, the
+/// cache is **emptied** by the next call that changes it: its entries are gone, and the listener is not told of them. A
+/// panic of `Eq`, `Hash` or `Drop`, of a maker of `get_with` or of the listener changes nothing; after its first panic
+/// the listener is not notified again.
 pub struct Cache<K: 'static, V, S = RandomState> {
     shard: Shard<K, V>,
-    notices: Option<Arc<Notices<K, V>>>,
+    notices: Option<Notices<K, V>>,
     hasher: S,
     settings: Arc<Settings<K, V>>,
     last_predicate: u64,
+}
+
+/// A call. At its end, which may be a panic, the listener is told of what left by it; without one that is dropped.
+struct Call<'a, K: 'static, V> {
+    shard: &'a mut Shard<K, V>,
+    notices: Option<&'a Notices<K, V>>,
+}
+
+impl<K, V> Call<'_, K, V> {
+    #[cold]
+    fn settle(&self) {
+        let left = self.shard.take_left();
+        if let (Some(left), Some(notices)) = (left, self.notices) {
+            notices.put(left);
+            notices.deliver();
+        }
+    }
+}
+
+impl<K, V> Drop for Call<'_, K, V> {
+    #[inline]
+    fn drop(&mut self) {
+        if self.shard.has_rest() {
+            self.settle();
+        }
+    }
 }
 
 /// What a cache with one owner is built with.
@@ -63,8 +89,17 @@ pub struct Cache<K: 'static, V, S = RandomState> {
 /// cache.run_pending_tasks();
 /// assert_eq!(left.try_recv(), Ok((0, RemovalCause::Size)));
 /// ```
+#[must_use = "a builder does nothing until it builds"]
 pub struct CacheBuilder<K, V> {
     settings: Settings<K, V>,
+}
+
+impl<K, V> fmt::Debug for CacheBuilder<K, V> {
+    fn fmt(&self, f: &mut fmt::Formatter<'_>) -> fmt::Result {
+        f.debug_struct("CacheBuilder")
+            .field("settings", &self.settings)
+            .finish()
+    }
 }
 
 impl<K, V> Default for CacheBuilder<K, V> {
@@ -135,10 +170,10 @@ impl<K: Eq + Hash + Sync + 'static, V: Clone + 'static> CacheBuilder<K, V> {
         let notices = settings
             .listener
             .clone()
-            .map(|listener| Arc::new(Notices::new(listener, Arc::default())));
+            .map(|listener| Notices::new(listener, Arc::default()));
         let capacity = settings.max_capacity;
         Cache {
-            shard: Shard::new(settings.clone(), capacity, notices.clone(), Instant::now()),
+            shard: Shard::new(settings.clone(), capacity, 1, Instant::now()),
             notices,
             hasher,
             settings,
@@ -219,12 +254,12 @@ impl<K: Eq + Hash + Sync + 'static, V: Clone + 'static, S: BuildHasher> Cache<K,
     // Makes a call, and tells the listener of what left by it.
     #[inline]
     fn with<R>(&mut self, call: impl FnOnce(&mut Shard<K, V>) -> R) -> R {
-        self.shard.recover();
-        let answer = call(&mut self.shard);
-        if let Some(notices) = &self.notices {
-            notices.deliver();
-        }
-        answer
+        let made = Call {
+            shard: &mut self.shard,
+            notices: self.notices.as_ref(),
+        };
+        made.shard.recover();
+        call(made.shard)
     }
 
     // Makes a call for a key by a borrowed form of it.
@@ -443,7 +478,7 @@ impl<K: Eq + Hash + Sync + 'static, V: Clone + 'static, S: BuildHasher> Cache<K,
         K: Borrow<Q>,
         Q: Eq + Hash + Sync + ?Sized,
     {
-        self.with_key(key, |shard, hash, test| shard.invalidate(hash, test));
+        drop(self.remove(key));
     }
 
     /// Hides all values that are there. They leave in later runs of maintenance.
@@ -496,7 +531,10 @@ impl<K: Eq + Hash + Sync + 'static, V: Clone + 'static, S: BuildHasher> Cache<K,
     /// assert_eq!(cache.entry_count(), 2);
     /// ```
     pub fn run_pending_tasks(&mut self) {
-        self.with(|shard| shard.run_pending_tasks());
+        let mut runs = self.with(|shard| shard.run_pending_tasks());
+        while runs > 0 {
+            runs = self.with(|shard| shard.run_pending_tasks()).min(runs - 1);
+        }
     }
 
     /// How many entries the last run of maintenance left.

@@ -291,3 +291,23 @@ fn borrowed_forms_find_the_key() {
     bytes.insert(vec![1, 2], 3);
     assert_eq!(bytes.get([1, 2].as_slice()), Some(3));
 }
+
+#[test]
+fn builders_selectors_and_iterators_can_be_shown() {
+    let builder = Cache::<u32, char>::builder().name("letters").max_capacity(100);
+    let shown = format!("{builder:?}");
+    assert!(
+        shown.contains("letters") && shown.contains("100") && shown.contains("TinyLfu"),
+        "{shown}"
+    );
+    let cache = builder.build();
+    assert_eq!(format!("{:?}", cache.entry(1)), "OwnedKeyEntrySelector { key: 1, .. }");
+    assert_eq!(
+        format!("{:?}", cache.entry_by_ref(&1)),
+        "RefKeyEntrySelector { key: 1, .. }"
+    );
+    let mut entries = cache.iter();
+    assert_eq!(format!("{entries:?}"), "Iter { .. }");
+    cache.insert(1, 'a');
+    assert!(entries.next().is_some() && entries.next().is_none() && entries.next().is_none());
+}

@@ -4,6 +4,7 @@ use ravulemis::ops::compute::{CompResult, Op};
 use ravulemis::unsync::Cache;
 use ravulemis::{EvictionPolicy, Expiry, PredicateError, RemovalCause};
 use std::collections::HashMap;
+use std::panic::{AssertUnwindSafe, catch_unwind};
 use std::sync::mpsc::{self, Receiver};
 use std::thread::sleep;
 use std::time::{Duration, Instant};
@@ -246,4 +247,23 @@ fn can_be_sent_to_a_thread() {
     assert_eq!(cache.get(&1).as_deref(), Some("one"));
     drop(cache);
     assert!(left.try_recv().is_err(), "a cache that is let go tells nobody");
+}
+
+#[test]
+fn a_panic_within_a_call_keeps_no_notice_back() {
+    let (sender, told) = mpsc::channel();
+    let mut cache = Cache::builder()
+        .support_invalidation_closures()
+        .eviction_listener(move |_, value, _| sender.send(value).unwrap())
+        .build();
+    cache.insert(0, 0);
+    cache.run_pending_tasks();
+    let predicate = |_: &u32, _: &u32| panic!("a predicate that panics");
+    cache.invalidate_entries_if(predicate).unwrap();
+    cache.insert(1, 0);
+    // Within 64 of these a run asks the predicate.
+    let mut replaces = |value| catch_unwind(AssertUnwindSafe(|| cache.insert(1, value))).is_ok();
+    let replaced = (1..=100).take_while(|value| replaces(*value)).count() as u32 + 1;
+    assert!(replaced < 100);
+    assert_eq!(told.try_iter().collect::<Vec<_>>(), (0..replaced).collect::<Vec<_>>());
 }

@@ -51,6 +51,16 @@ class Cache:
     def close(self):
         self.checked(self.library.ravulemis_destroy(self.cache))
 
+    def __enter__(self):
+        return self
+
+    def __exit__(self, *_):
+        self.close()
+
+    def __del__(self):
+        # A cache that was closed, or never made, is refused, which is as good here.
+        self.library.ravulemis_destroy(self.cache)
+
 
 def main(path):
     library = ctypes.CDLL(path)
@@ -59,18 +69,17 @@ def main(path):
     library.ravulemis_insert.argtypes = [c_void_p, ctypes.c_char_p, c_size_t, ctypes.c_char_p, c_size_t]
     library.ravulemis_get.argtypes = [c_void_p, ctypes.c_char_p, c_size_t, ctypes.c_char_p, c_size_t, POINTER(c_size_t)]
     told = []
-    cache = Cache(library, 10, lambda *notice: told.append(notice))
-    cache[b"key"] = b"value"
-    cache[b"key"] = b"v" * 100
-    assert cache.get(b"key") == b"v" * 100 and cache.get(b"another") is None
-    assert told == [(b"key", b"value", "replaced")], told
-    try:
-        cache["key"] = b"value"
-    except ctypes.ArgumentError:
-        pass
-    else:
-        sys.exit("a text was taken for bytes")
-    cache.close()
+    with Cache(library, 10, lambda *notice: told.append(notice)) as cache:
+        cache[b"key"] = b"value"
+        cache[b"key"] = b"v" * 100
+        assert cache.get(b"key") == b"v" * 100 and cache.get(b"another") is None
+        assert told == [(b"key", b"value", "replaced")], told
+        try:
+            cache["key"] = b"value"
+        except ctypes.ArgumentError:
+            pass
+        else:
+            sys.exit("a text was taken for bytes")
     for wrong in (cache.close, lambda: cache.get(b"key"), lambda: Cache.get(Cache(library, 1), b"")):
         try:
             wrong()

@@ -1,12 +1,14 @@
 //! What builds a shared cache.
 
-use super::{Cache, Place, Shared};
+use super::calls::{Place, Places};
+use super::{Cache, Shared};
 use crate::engine::moka_segments::Router;
 use crate::making::Makers;
 use crate::notices::Notices;
 use crate::settings::{Settings, setters};
 use crate::shard::Shard;
 use crate::{EvictionPolicy, Expiry, RemovalCause};
+use std::fmt;
 use std::hash::{BuildHasher, Hash, RandomState};
 use std::sync::atomic::AtomicU64;
 use std::sync::{Arc, Mutex};
@@ -39,9 +41,19 @@ const MOST_ASKED: usize = 1 << 16;
 /// cache.insert("/".to_string(), b"page".to_vec());
 /// assert_eq!(cache.get("/"), Some(b"page".to_vec()));
 /// ```
+#[must_use = "a builder does nothing until it builds"]
 pub struct CacheBuilder<K, V> {
     settings: Settings<K, V>,
     shards: Option<usize>,
+}
+
+impl<K, V> fmt::Debug for CacheBuilder<K, V> {
+    fn fmt(&self, f: &mut fmt::Formatter<'_>) -> fmt::Result {
+        f.debug_struct("CacheBuilder")
+            .field("settings", &self.settings)
+            .field("shards", &self.shards)
+            .finish()
+    }
 }
 
 impl<K, V> Default for CacheBuilder<K, V> {
@@ -72,7 +84,8 @@ where
     setters!();
 
     /// Is notified of each value that leaves, with key and cause, after the lock of its shard was released. By default
-    /// nobody is.
+    /// nobody is. With a listener a call lets a batch of at most 384 entries leave in each step of a run, however many
+    /// are due, but for those with an expiry of their own, which leave at once; the calls that follow go on.
     ///
     /// ```
     /// # use ravulemis::sync::Cache;
@@ -139,16 +152,14 @@ where
         let has_panicked = Arc::default();
         let places = (0..router.count()).map(|index| {
             let listener = settings.listener.clone();
-            let notices = listener.map(|listener| Arc::new(Notices::new(listener, Arc::clone(&has_panicked))));
             let share = settings.max_capacity.map(|all| router.share(all, index));
-            let shard = Shard::new(settings.clone(), share, notices.clone(), start);
             Place {
-                shard: Mutex::new(shard),
+                shard: Mutex::new(Shard::new(settings.clone(), share, count, start)),
                 makers: Makers::default(),
-                notices,
+                notices: listener.map(|listener| Notices::new(listener, Arc::clone(&has_panicked))),
             }
         });
-        let places = places.collect();
+        let places = Places::new(places.collect());
         Cache(Arc::new(Shared {
             places,
             router,

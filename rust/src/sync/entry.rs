@@ -7,10 +7,12 @@ use crate::making::Outcome;
 use std::any::TypeId;
 use std::borrow::Borrow;
 use std::convert::Infallible;
+use std::fmt;
 use std::hash::{BuildHasher, Hash};
 use std::sync::Arc;
 
 /// A key of a cache, and what is to be done with its entry: see [`Cache::entry`].
+#[must_use = "a selector does nothing until one of its calls is made"]
 pub struct OwnedKeyEntrySelector<'a, K: 'static, V, S> {
     cache: &'a Cache<K, V, S>,
     hash: u64,
@@ -18,10 +20,25 @@ pub struct OwnedKeyEntrySelector<'a, K: 'static, V, S> {
 }
 
 /// A borrowed form of a key of a cache, and what is to be done with its entry: see [`Cache::entry_by_ref`].
+#[must_use = "a selector does nothing until one of its calls is made"]
 pub struct RefKeyEntrySelector<'a, K: 'static, Q: ?Sized, V, S> {
     cache: &'a Cache<K, V, S>,
     hash: u64,
     key: &'a Q,
+}
+
+impl<K: fmt::Debug, V, S> fmt::Debug for OwnedKeyEntrySelector<'_, K, V, S> {
+    fn fmt(&self, f: &mut fmt::Formatter<'_>) -> fmt::Result {
+        let mut shown = f.debug_struct("OwnedKeyEntrySelector");
+        shown.field("key", &self.key).finish_non_exhaustive()
+    }
+}
+
+impl<K, Q: fmt::Debug + ?Sized, V, S> fmt::Debug for RefKeyEntrySelector<'_, K, Q, V, S> {
+    fn fmt(&self, f: &mut fmt::Formatter<'_>) -> fmt::Result {
+        let mut shown = f.debug_struct("RefKeyEntrySelector");
+        shown.field("key", &self.key).finish_non_exhaustive()
+    }
 }
 
 impl<K, V, S> Cache<K, V, S>
@@ -91,20 +108,17 @@ where
         decide: impl FnOnce(Option<Entry<K, V>>) -> Result<Op<V>, E>,
     ) -> Result<CompResult<K, V>, E> {
         let place = self.place(hash);
-        let answer = place.makers.alone(hash, Arc::clone(&key), || {
-            let there = place.with_shard(|shard| shard.peek(hash, &|kept| *kept == *key));
+        // They end after the making, as those of a load.
+        let mut calls = self.0.places.calls(place);
+        place.makers.alone(hash, Arc::clone(&key), || {
+            let there = calls.make(|shard| shard.peek(hash, &|kept| *kept == *key));
             let there = there.map(|(key, value)| Entry::found(key, value));
             let op = decide(there.clone())?;
-            Ok(computed(Arc::clone(&key), op, there, |value| {
-                place.with_shard(|shard| match value {
-                    Some(value) => shard.insert(hash, key, value),
-                    None => shard.invalidate(hash, &|kept| *kept == *key),
-                })
+            Ok(computed(Arc::clone(&key), op, there, |value| match value {
+                Some(value) => drop(calls.make(|shard| shard.insert(hash, key, value))),
+                None => drop(calls.make(|shard| shard.remove(hash, &|kept| *kept == *key))),
             }))
-        });
-        // As after a load.
-        place.deliver();
-        answer
+        })
     }
 }
 

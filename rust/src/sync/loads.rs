@@ -75,11 +75,13 @@ where
         make: impl FnOnce() -> Outcome<V>,
     ) -> Outcome<V> {
         let place = self.place(hash);
+        // Their end comes after that of the making: the listener may ask for the key.
+        let mut calls = self.0.places.calls(place);
         let wanted = Wanted { hash, key, kind };
         let key = &wanted.key;
-        let outcome = place.makers.once(&wanted, || {
+        place.makers.once(&wanted, || {
             // Another may have put it there since the caller looked.
-            let there = place.with_shard(|shard| shard.peek(hash, &|kept| *kept == **key));
+            let there = calls.make(|shard| shard.peek(hash, &|kept| *kept == **key));
             if let Some((_, value)) = there
                 && !replaces(&value)
             {
@@ -92,15 +94,12 @@ where
             let outcome = make();
             if let Outcome::Made { value, .. } = &outcome {
                 let value = value.clone();
-                place.with_shard(|shard| shard.insert(hash, Arc::clone(key), value));
+                calls.make(|shard| shard.insert(hash, Arc::clone(key), value));
                 self.0.loads.fetch_add(1, Ordering::Relaxed);
                 load.is_done = true;
             }
             outcome
-        });
-        // Not before the making has ended: the listener may ask for its key.
-        place.deliver();
-        outcome
+        })
     }
 
     // The value of a key that is there, or the outcome of its maker.

@@ -4,15 +4,24 @@ use super::Cache;
 use crate::Entry;
 use crate::entry::{CompResult, Op, computed};
 use std::convert::Infallible;
+use std::fmt;
 use std::hash::{BuildHasher, Hash};
 use std::sync::Arc;
 
 /// A key of a cache, and what is to be done with its entry: see [`Cache::entry`].
+#[must_use = "a selector does nothing until one of its calls is made"]
 pub struct EntrySelector<'a, K: 'static, V, S> {
     cache: &'a mut Cache<K, V, S>,
     hash: u64,
     // The key that is kept, if one is.
     key: Arc<K>,
+}
+
+impl<K: fmt::Debug, V, S> fmt::Debug for EntrySelector<'_, K, V, S> {
+    fn fmt(&self, f: &mut fmt::Formatter<'_>) -> fmt::Result {
+        let mut shown = f.debug_struct("EntrySelector");
+        shown.field("key", &self.key).finish_non_exhaustive()
+    }
 }
 
 impl<'a, K: Eq + Hash + Sync + 'static, V: Clone + 'static, S: BuildHasher> EntrySelector<'a, K, V, S> {

@@ -1,11 +1,14 @@
 //! The entries of a cache, one after the other.
 
 use super::Cache;
+use std::fmt;
 use std::hash::{BuildHasher, Hash, RandomState};
+use std::iter::FusedIterator;
 use std::sync::Arc;
 use std::vec;
 
 /// The entries of a cache: see [`Cache::iter`].
+#[must_use = "iterators are lazy and do nothing unless consumed"]
 pub struct Iter<'a, K: 'static, V, S = RandomState> {
     cache: &'a Cache<K, V, S>,
     keys: vec::IntoIter<(u64, Arc<K>)>,
@@ -19,6 +22,14 @@ impl<'a, K: Eq + Hash + Sync + 'static, V: Clone + 'static, S: BuildHasher> Iter
         Iter { cache, keys }
     }
 }
+
+impl<K, V, S> fmt::Debug for Iter<'_, K, V, S> {
+    fn fmt(&self, f: &mut fmt::Formatter<'_>) -> fmt::Result {
+        f.debug_struct("Iter").finish_non_exhaustive()
+    }
+}
+
+impl<K: Eq + Hash + Sync + 'static, V: Clone + 'static, S: BuildHasher> FusedIterator for Iter<'_, K, V, S> {}
 
 impl<K: Eq + Hash + Sync + 'static, V: Clone + 'static, S: BuildHasher> Iterator for Iter<'_, K, V, S> {
     type Item = (Arc<K>, V);

@@ -1,0 +1,153 @@
+//! Calls of the shards, and what is done when the lock of one is released.
+
+use crate::making::Makers;
+use crate::notices::{Left, Notices, locked};
+use crate::shard::Shard;
+use std::hash::Hash;
+use std::mem::ManuallyDrop;
+use std::sync::atomic::{AtomicUsize, Ordering};
+use std::sync::{Mutex, MutexGuard, TryLockError};
+
+/// A shard, what is being made for it, and what its listener is still to be told. No two shards share a cache line.
+#[repr(align(128))]
+pub(super) struct Place<K: 'static, V> {
+    pub shard: Mutex<Shard<K, V>>,
+    pub makers: Makers<K, V>,
+    pub notices: Option<Notices<K, V>>,
+}
+
+/// All shards.
+pub(super) struct Places<K: 'static, V> {
+    pub all: Box<[Place<K, V>]>,
+    // How many visits there were.
+    visited: AtomicUsize,
+}
+
+impl<K, V> Places<K, V> {
+    pub fn new(all: Box<[Place<K, V>]>) -> Self {
+        let visited = AtomicUsize::new(0);
+        Places { all, visited }
+    }
+}
+
+impl<K: Eq + Hash, V: Clone> Places<K, V> {
+    /// Calls for one of them.
+    #[inline]
+    pub fn calls<'a>(&'a self, place: &'a Place<K, V>) -> Calls<'a, K, V> {
+        Calls {
+            places: self,
+            place,
+            rest: ManuallyDrop::new(None),
+        }
+    }
+
+    // Lets what is due in the next shard leave, where no calls for it do. One whose lock is held has a call.
+    fn visit_next(&self) {
+        let next = self.visited.fetch_add(1, Ordering::Relaxed) % self.all.len();
+        let mut calls = self.calls(&self.all[next]);
+        let shard = match calls.place.shard.try_lock() {
+            Ok(shard) => shard,
+            Err(TryLockError::Poisoned(shard)) => shard.into_inner(),
+            Err(TryLockError::WouldBlock) => return,
+        };
+        calls.make_held(shard, |shard| shard.visit());
+    }
+}
+
+/// Calls for a shard. At their end, which may be a panic, the listener is told of what left by them; without a listener
+/// that is dropped. No lock of the cache is held then.
+pub(super) struct Calls<'a, K: Eq + Hash + 'static, V: Clone> {
+    places: &'a Places<K, V>,
+    place: &'a Place<K, V>,
+    // `finish` drops it. The end of a call by which nothing left is a test, and no call.
+    rest: ManuallyDrop<Option<Rest<K, V>>>,
+}
+
+/// What is still to be done when the lock of a shard is released.
+struct Rest<K, V> {
+    // The listener is to be told.
+    is_telling: bool,
+    // Another shard is to be visited.
+    is_visiting: bool,
+    left: Option<Left<K, V>>,
+}
+
+impl<K, V> Default for Rest<K, V> {
+    fn default() -> Self {
+        Rest {
+            is_telling: false,
+            is_visiting: false,
+            left: None,
+        }
+    }
+}
+
+impl<'a, K: Eq + Hash, V: Clone> Calls<'a, K, V> {
+    /// Makes a call under the lock of the shard.
+    #[inline]
+    pub fn make<R>(&mut self, call: impl FnOnce(&mut Shard<K, V>) -> R) -> R {
+        self.make_held(locked(&self.place.shard), call)
+    }
+
+    #[inline]
+    fn make_held<R>(&mut self, shard: MutexGuard<'a, Shard<K, V>>, call: impl FnOnce(&mut Shard<K, V>) -> R) -> R {
+        let mut held = Held { shard, calls: self };
+        held.shard.recover();
+        call(&mut held.shard)
+    }
+
+    // Takes over what left. The lock of the shard is held, so that notices wait in the order in which values left.
+    #[cold]
+    fn take_rest(&mut self, shard: &mut Shard<K, V>) {
+        let rest = self.rest.get_or_insert_default();
+        rest.is_visiting |= shard.take_visit();
+        let Some(left) = shard.take_left() else {
+            return;
+        };
+        match (&self.place.notices, &mut rest.left) {
+            (Some(notices), _) => {
+                notices.put(left);
+                rest.is_telling = true;
+            }
+            (None, Some(before)) => before.append(left),
+            (None, none) => *none = Some(left),
+        }
+    }
+
+    #[cold]
+    fn finish(&mut self) {
+        let rest = self.rest.take().unwrap_or_default();
+        if let (true, Some(notices)) = (rest.is_telling, &self.place.notices) {
+            notices.deliver();
+        }
+        drop(rest.left);
+        if rest.is_visiting {
+            self.places.visit_next();
+        }
+    }
+}
+
+impl<K: Eq + Hash, V: Clone> Drop for Calls<'_, K, V> {
+    // A call by which nothing left neither runs the listener nor waits for it.
+    #[inline]
+    fn drop(&mut self) {
+        if self.rest.is_some() {
+            self.finish();
+        }
+    }
+}
+
+/// A shard whose lock is held by a call.
+struct Held<'a, 'b, K: Eq + Hash + 'static, V: Clone> {
+    shard: MutexGuard<'a, Shard<K, V>>,
+    calls: &'b mut Calls<'a, K, V>,
+}
+
+impl<K: Eq + Hash, V: Clone> Drop for Held<'_, '_, K, V> {
+    #[inline]
+    fn drop(&mut self) {
+        if self.shard.has_rest() {
+            self.calls.take_rest(&mut self.shard);
+        }
+    }
+}

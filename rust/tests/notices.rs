@@ -1,0 +1,261 @@
+//! What leaves a shared cache: whom a call tells, for whom it waits, and where keys and values are dropped.
+
+use ravulemis::RemovalCause;
+use ravulemis::sync::Cache;
+use std::collections::HashMap;
+use std::panic::{AssertUnwindSafe, RefUnwindSafe, UnwindSafe, catch_unwind};
+use std::sync::atomic::{AtomicU32, Ordering};
+use std::sync::{Arc, Mutex, OnceLock, mpsc};
+use std::thread::{self, ThreadId};
+use std::time::{Duration, Instant};
+
+fn count(counter: &AtomicU32) {
+    counter.fetch_add(1, Ordering::SeqCst);
+}
+
+/// Whether a call comes back. One that does not is left behind.
+fn ends<R>(call: impl FnOnce() -> R + Send + 'static) -> bool {
+    let (sender, ended) = mpsc::channel();
+    thread::spawn(move || {
+        call();
+        sender.send(())
+    });
+    ended.recv_timeout(Duration::from_secs(10)).is_ok()
+}
+
+/// A cache of one shard whose listener is in the middle of a call by another thread, and waits for a lock, while 2,000
+/// notices wait. A maker waits for no turn, so it is one that puts them there.
+fn busy(lock: &Arc<Mutex<()>>, listen: impl Fn() + Send + Sync + 'static) -> Cache<u32, u32> {
+    let (starts, started) = mpsc::channel();
+    let seen = Arc::clone(lock);
+    let listener = move |_, _, _| {
+        let _ = starts.send(());
+        drop(seen.lock());
+        listen();
+    };
+    let cache = Cache::builder().shards(1).eviction_listener(listener).build();
+    cache.insert(1, 0);
+    let told = cache.clone();
+    thread::spawn(move || told.insert(1, 1));
+    started.recv().unwrap();
+    let (fills, full) = mpsc::channel();
+    let filled = cache.clone();
+    thread::spawn(move || {
+        filled.get_with(2, || {
+            (0..2000).for_each(|value| filled.insert(1, value));
+            fills.send(()).unwrap();
+            7
+        })
+    });
+    full.recv().unwrap();
+    cache
+}
+
+#[test]
+fn a_call_by_which_nothing_left_waits_for_no_listener() {
+    let lock = Arc::new(Mutex::new(()));
+    let held = lock.lock().unwrap();
+    let cache = busy(&lock, || {});
+    type Call = fn(&Cache<u32, u32>);
+    let calls: [(&str, Call); 8] = [
+        ("get", |cache| assert!(cache.get(&1).is_some())),
+        ("contains_key", |cache| assert!(cache.contains_key(&1))),
+        ("entry_count", |cache| assert!(cache.entry_count() <= 4)),
+        ("stats", |cache| assert!(cache.stats().replaced > 2000)),
+        ("iter", |cache| assert!(cache.iter().count() > 0)),
+        ("Debug", |cache| assert!(format!("{cache:?}").contains("1: "))),
+        ("get_with", |cache| assert_eq!(cache.get_with(3, || 3), 3)),
+        ("and_upsert_with", |cache| drop(cache.entry(4).and_upsert_with(|_| 4))),
+    ];
+    for (name, call) in calls {
+        let cache = cache.clone();
+        assert!(ends(move || call(&cache)), "{name} has not come back");
+    }
+    drop(held);
+}
+
+#[test]
+fn a_call_lets_one_batch_go_where_there_is_a_listener() {
+    let told = Arc::new(AtomicU32::new(0));
+    let counts = Arc::clone(&told);
+    let cache = Cache::builder()
+        .shards(1)
+        .eviction_listener(move |_, _, _| count(&counts))
+        .build();
+    (0..10_000).for_each(|key| cache.insert(key, key));
+    cache.run_pending_tasks();
+    cache.invalidate_all();
+    let mut most = 0;
+    for key in 10_000..10_100 {
+        let before = told.load(Ordering::SeqCst);
+        cache.insert(key, key);
+        most = most.max(told.load(Ordering::SeqCst) - before);
+    }
+    assert!((1..1000).contains(&most), "one call told of {most}");
+    assert_eq!(
+        told.load(Ordering::SeqCst),
+        10_000,
+        "the following calls tell of the rest"
+    );
+}
+
+#[test]
+fn the_turn_to_tell_goes_on_to_one_who_waits_for_it() {
+    let lock = Arc::new(Mutex::new(()));
+    let held = lock.lock().unwrap();
+    let told: Arc<Mutex<HashMap<ThreadId, u32>>> = Arc::default();
+    let counts = Arc::clone(&told);
+    let cache = busy(&lock, move || {
+        *counts.lock().unwrap().entry(thread::current().id()).or_default() += 1;
+        thread::sleep(Duration::from_micros(50));
+    });
+    let (starts, started) = mpsc::channel();
+    let waits = thread::spawn(move || {
+        starts.send(()).unwrap();
+        cache.insert(1, 0);
+        thread::current().id()
+    });
+    started.recv().unwrap();
+    drop(held);
+    let second = waits.join().unwrap();
+    let told = told.lock().unwrap();
+    assert!(told.contains_key(&second), "one thread told all that waited");
+}
+
+#[test]
+fn the_listener_is_told_between_the_runs_of_a_call() {
+    static OWN: OnceLock<Cache<u32, u32>> = OnceLock::new();
+    static MOST: AtomicU32 = AtomicU32::new(0);
+    let listener = |_, _, _| {
+        let left = OWN.get().map_or(0, |cache| cache.entry_count());
+        MOST.fetch_max(left.try_into().unwrap(), Ordering::SeqCst);
+    };
+    let builder = Cache::builder().shards(1).support_invalidation_closures();
+    let cache = OWN.get_or_init(|| builder.eviction_listener(listener).build());
+    (0..2000).for_each(|key| cache.insert(key, key));
+    cache.run_pending_tasks();
+    cache.invalidate_entries_if(|_, _| true).unwrap();
+    cache.run_pending_tasks();
+    assert_eq!(cache.entry_count(), 0);
+    assert!(MOST.load(Ordering::SeqCst) > 0, "all had left before the first notice");
+}
+
+#[test]
+fn a_panic_within_a_call_keeps_no_notice_back() {
+    let told = Arc::new(AtomicU32::new(0));
+    let counts = Arc::clone(&told);
+    let cache = Cache::builder()
+        .shards(1)
+        .support_invalidation_closures()
+        .eviction_listener(move |_, _, _| count(&counts))
+        .build();
+    cache.insert(0, 0);
+    cache.run_pending_tasks();
+    let predicate = |_: &u32, _: &u32| panic!("a predicate that panics");
+    cache.invalidate_entries_if(predicate).unwrap();
+    cache.insert(1, 0);
+    // Within 64 of these a run asks the predicate.
+    let replaces = |value| catch_unwind(AssertUnwindSafe(|| cache.insert(1, value))).is_ok();
+    let replaced = (1..=100).take_while(|value| replaces(*value)).count() as u32 + 1;
+    assert!(replaced < 100);
+    assert_eq!(told.load(Ordering::SeqCst), replaced);
+}
+
+/// A key or value whose drop calls the cache that it is in.
+#[derive(Clone, PartialEq, Eq, Hash)]
+struct Caller(u32);
+
+static OF_CALLERS: OnceLock<Cache<Caller, Caller>> = OnceLock::new();
+
+impl Drop for Caller {
+    fn drop(&mut self) {
+        if let Some(cache) = OF_CALLERS.get() {
+            cache.entry_count();
+        }
+    }
+}
+
+#[test]
+fn what_leaves_is_dropped_without_a_lock() {
+    let cache = OF_CALLERS.get_or_init(|| Cache::builder().max_capacity(10).shards(1).build());
+    let insert = |key, value| cache.insert(Caller(key), Caller(value));
+    assert!(ends(move || insert(1, 1)));
+    assert!(
+        ends(move || insert(1, 2)),
+        "a value that is replaced, and a key that is there already"
+    );
+    assert!(
+        ends(|| cache.entry(Caller(1)).and_upsert_with(|_| Caller(3))),
+        "by an entry"
+    );
+    assert!(ends(|| cache.remove(&Caller(1))), "one that is taken out");
+    insert(1, 4);
+    assert!(ends(|| cache.invalidate(&Caller(1))), "one that is invalidated");
+    assert!(
+        ends(move || (0..1000).for_each(|key| insert(key, key))),
+        "some that are evicted"
+    );
+    assert!(ends(|| cache.run_pending_tasks()), "all that exceed the capacity");
+    assert_eq!((cache.entry_count(), cache.stats().explicit), (10, 2));
+}
+
+#[test]
+fn what_has_expired_leaves_while_only_another_shard_is_called() {
+    let told = Arc::new(AtomicU32::new(0));
+    let counts = Arc::clone(&told);
+    let builder = Cache::builder().shards(4).time_to_live(Duration::from_millis(1));
+    let cache = builder.eviction_listener(move |_, _, _| count(&counts)).build();
+    (0..100).for_each(|key| cache.insert(key, key));
+    let start = Instant::now();
+    let mut looks = 0;
+    while told.load(Ordering::SeqCst) < 100 && start.elapsed() < Duration::from_secs(10) {
+        cache.get(&1);
+        looks += 1;
+    }
+    assert_eq!(told.load(Ordering::SeqCst), 100);
+    assert_eq!(
+        cache.stats().hits + cache.stats().misses,
+        looks,
+        "a visit is no look-up"
+    );
+}
+
+#[test]
+fn an_iterator_finds_what_was_taken_out_and_put_back() {
+    let cache = Cache::new(1000);
+    (0..500).for_each(|key| cache.insert(key, 'a'));
+    let mut entries = cache.iter();
+    assert!(entries.next().is_some());
+    for key in 0..500 {
+        cache.invalidate(&key);
+        cache.insert(key, 'b');
+    }
+    assert_eq!(entries.filter(|(_, value)| *value == 'b').count(), 499);
+}
+
+#[test]
+fn causes_and_order_are_those_of_the_leaving() {
+    let told: Arc<Mutex<Vec<_>>> = Arc::default();
+    let list = Arc::clone(&told);
+    let listener = move |key: Arc<u32>, value, cause| list.lock().unwrap().push((*key, value, cause));
+    let cache = Cache::builder().eviction_listener(listener).build();
+    cache.insert(1, 'a');
+    cache.insert(1, 'b');
+    cache.insert(2, 'c');
+    cache.entry(1).and_upsert_with(|_| 'd');
+    cache.invalidate(&1);
+    assert_eq!(cache.remove(&2), Some('c'));
+    let expected = [
+        (1, 'a', RemovalCause::Replaced),
+        (1, 'b', RemovalCause::Replaced),
+        (1, 'd', RemovalCause::Explicit),
+        (2, 'c', RemovalCause::Explicit),
+    ];
+    assert_eq!(*told.lock().unwrap(), expected);
+}
+
+#[test]
+fn a_cache_may_be_taken_over_an_unwinding() {
+    fn is_safe<T: UnwindSafe + RefUnwindSafe>() {}
+    is_safe::<Cache<String, Arc<Mutex<u32>>>>();
+}
