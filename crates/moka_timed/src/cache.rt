@@ -243,8 +243,8 @@ impl<
     }
 
     /// A clone of a key's value, if the key is there and visible, and else of the value that `init` makes, which is
-    /// inserted. `init` is called only if the key is not there. The entry is inserted at the moment that was read before
-    /// `init` was called, so if that takes longer than the time to live the entry has expired already.
+    /// inserted. `init` is called only if the key is not there. The entry is inserted at the moment that was read
+    /// before `init` was called, so if that takes longer than the time to live the entry has expired already.
     ///
     /// # Errors
     /// As `Cache::get_with`.

@@ -36,8 +36,8 @@ impl<
         self.cache.save(alloc, now, &mut self.clock)
     }
 
-    /// Puts each entry back, in order, with the moments and the expiry that it had. Runs of maintenance that this starts
-    /// are made at the clock's moment.
+    /// Puts each entry back, in order, with the moments and the expiry that it had. Runs of maintenance that this
+    /// starts are made at the clock's moment.
     ///
     /// # Errors
     /// As `Cache::restore`.
