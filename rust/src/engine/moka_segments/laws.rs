@@ -78,8 +78,8 @@ pub fn get_with_keeps_keys<
 >()
 {}
 
-/// Each call that concerns all segments leaves keys in the segments that they belong to; `registering_keeps_keys` speaks
-/// of predicates.
+/// Each call that concerns all segments leaves keys in the segments that they belong to; `registering_keeps_keys`
+/// speaks of predicates.
 pub fn calls_of_all_keep_keys<
     K: Eq + Hash,
     V,
