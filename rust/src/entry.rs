@@ -81,7 +81,7 @@ impl<K, V> Entry<K, V> {
         self.is_fresh
     }
 
-    /// Whether the call put the value there in place of another.
+    /// Whether the call put the value there in place of another that it had seen.
     ///
     /// ```
     /// let cache = ravulemis::sync::Cache::new(100);
@@ -105,7 +105,8 @@ pub enum Op<V> {
     Remove,
 }
 
-/// What was done with an entry. moka: `ops::compute::CompResult`.
+/// What was done with an entry. Whether there was one is what the closure saw: an `insert` or `remove` of another
+/// thread may come between. moka: `ops::compute::CompResult`.
 #[derive(Debug)]
 pub enum CompResult<K, V> {
     /// There was none, and now there is this.
@@ -114,7 +115,7 @@ pub enum CompResult<K, V> {
     ReplacedWith(Entry<K, V>),
     /// This was taken out.
     Removed(Entry<K, V>),
-    /// There was none, and there is none.
+    /// No value was put there, and there is none that could be taken out.
     StillNone(Arc<K>),
     /// It stayed as it was.
     Unchanged(Entry<K, V>),
@@ -156,20 +157,22 @@ impl<K, V> CompResult<K, V> {
     }
 }
 
-/// Does what a caller wants done with an entry: `change` puts a value there, or takes the entry out.
+/// Does what a caller wants done with an entry: `change` puts a value there, or takes out the one that is there, and
+/// hands that out.
 pub(crate) fn computed<K, V: Clone>(
     key: Arc<K>,
     op: Op<V>,
     there: Option<Entry<K, V>>,
-    change: impl FnOnce(Option<V>),
+    change: impl FnOnce(Option<V>) -> Option<V>,
 ) -> CompResult<K, V> {
     match (op, there) {
         (Op::Nop, Some(entry)) => CompResult::Unchanged(entry),
         (Op::Nop | Op::Remove, None) => CompResult::StillNone(key),
-        (Op::Remove, Some(entry)) => {
-            change(None);
-            CompResult::Removed(entry)
-        }
+        // What the closure saw may have left since, or another value be there.
+        (Op::Remove, Some(entry)) => match change(None) {
+            Some(value) => CompResult::Removed(Entry { value, ..entry }),
+            None => CompResult::StillNone(key),
+        },
         (Op::Put(value), there) => {
             change(Some(value.clone()));
             let entry = Entry::put(key, value, there.is_some());

@@ -45,7 +45,7 @@ pub use policy::{EvictionPolicy, Expiry, Policy, Stats};
 #[doc(hidden)]
 pub use support::alloc::Global;
 
-/// What a listener is told. moka: `notification`.
+/// What a listener is notified of. moka: `notification`.
 pub mod notification {
     pub use crate::RemovalCause;
 }

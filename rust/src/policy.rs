@@ -143,8 +143,9 @@ impl Policy {
     }
 }
 
-/// What a cache has counted since it was built.
+/// What a cache has counted since it was built. Later versions may count more.
 #[derive(Clone, Copy, Debug, Default, PartialEq, Eq)]
+#[non_exhaustive]
 pub struct Stats {
     /// Look-ups that found a value.
     pub hits: u64,

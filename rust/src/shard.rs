@@ -36,7 +36,8 @@ type Told<K, V> = CountingListener<Teller<K, V>>;
 type Cache<K, V> =
     moka_drive::Cache<Key<'static, K>, V, Asked<K, V>, Told<K, V>, Testing<K, V>, Weighing<K, V>, Carried>;
 
-// Where no entry can expire the clock is read once in so many calls: a moment then says only when a run is due.
+// Where no entry can expire the clock is read once in so many calls: a moment then says only when a run is due, and a
+// reading makes an insert a quarter to a half dearer.
 const CALLS_A_READING: u32 = 64;
 // A run of maintenance asks predicates about so many entries.
 const ENTRIES_A_RUN: u64 = 384;
@@ -210,9 +211,17 @@ impl<K: Eq + Hash + 'static, V> Shard<K, V> {
             return;
         }
         self.now = now;
-        // The cache has no call for it alone. This one finds nothing, at the address of no key.
-        self.unasked += 1;
+        self.run_what_is_due(now);
+    }
+
+    // Makes the run that is due at a moment, if one is. The cache has no call for it alone. This one finds nothing, at
+    // the address of no key.
+    fn run_what_is_due(&mut self, now: Instant)
+    where
+        V: Clone,
+    {
         let _nothing = self.change(|cache, clock| cache.get(&Key::at(0, 0), now, clock));
+        self.unasked += 1;
     }
 
     // A moment after all writes before this call, and before all after it.
@@ -249,6 +258,14 @@ impl<K: Eq + Hash + 'static, V> Shard<K, V> {
         let now = self.read_clock();
         let found = self.change(|cache, clock| cache.get(key, now, clock));
         found.ok().flatten()
+    }
+
+    /// A clone of the value of the key that is kept, if one is, which counts as a read.
+    pub fn get_kept(&mut self, hash: u64, key: &Arc<K>) -> Option<V>
+    where
+        V: Clone,
+    {
+        self.get_found(&Key::at(hash, address(key)))
     }
 
     /// A clone of a key's value, which counts as a read.
@@ -301,8 +318,8 @@ impl<K: Eq + Hash + 'static, V> Shard<K, V> {
         }
     }
 
-    /// Puts a value under a key. One for which memory is refused leaves at once, and the listener is told. A key that
-    /// equals the one that is kept comes back.
+    /// Puts a value under a key. One for which memory is refused leaves at once, and the listener is notified. A key
+    /// that equals the one that is kept comes back.
     #[inline]
     pub fn insert(&mut self, hash: u64, key: Arc<K>, value: V) -> Option<Arc<K>>
     where
@@ -337,7 +354,7 @@ impl<K: Eq + Hash + 'static, V> Shard<K, V> {
     where
         V: Clone,
     {
-        if let Some(value) = self.get_found(&Key::at(hash, address(&key))) {
+        if let Some(value) = self.get_kept(hash, &key) {
             return Ok(Entry::found(key, value));
         }
         let value = self.make(init)?;
@@ -350,7 +367,7 @@ impl<K: Eq + Hash + 'static, V> Shard<K, V> {
     where
         V: Clone,
     {
-        self.get_found(&Key::at(hash, address(&key)));
+        self.get_kept(hash, &key);
         let Ok(value) = self.make(|| Ok::<_, Infallible>(init()));
         self.insert_kept(hash, Arc::clone(&key), value.clone());
         Entry::put(key, value, true)
@@ -365,7 +382,7 @@ impl<K: Eq + Hash + 'static, V> Shard<K, V> {
         Ok(value)
     }
 
-    /// Takes a key's entry out, and hands out its value, also one that has expired. The listener is told.
+    /// Takes a key's entry out, and hands out its value, also one that has expired. The listener is notified.
     pub fn remove(&mut self, hash: u64, test: Test<'_, K>) -> Option<V>
     where
         V: Clone,
@@ -376,20 +393,31 @@ impl<K: Eq + Hash + 'static, V> Shard<K, V> {
     }
 
     /// The same by the key that is kept, if one is.
-    pub fn invalidate_kept(&mut self, hash: u64, key: &Arc<K>)
+    pub fn remove_kept(&mut self, hash: u64, key: &Arc<K>) -> Option<V>
     where
         V: Clone,
     {
         let (key, now) = (Key::at(hash, address(key)), self.read_clock());
-        let _told = self.change(|cache, clock| cache.invalidate(&key, now, clock));
+        let removed = self.change(|cache, clock| cache.remove(&key, now, clock));
+        removed.unwrap_or_else(|NotTold { value, .. }| Some(value))
     }
 
     pub fn invalidate_all(&mut self) {
         let now = self.moment_between();
         self.change(|cache, _| cache.invalidate_all(now));
+        // The next call looks whether a run is due.
+        self.calls_until_reading = 0;
     }
 
-    pub fn invalidate_entries_if(&mut self, predicate: Tests<K, V>, id: u128) -> Result<(), PredicateError> {
+    /// Registers a predicate. First it makes the run that is due: each look-up asks all predicates that no run has done
+    /// with yet, so in a shard that has no other calls these must not pile up.
+    pub fn invalidate_entries_if(&mut self, predicate: Tests<K, V>, id: u128) -> Result<(), PredicateError>
+    where
+        V: Clone,
+    {
+        self.calls_until_reading = 0;
+        let now = self.read_clock();
+        self.run_what_is_due(now);
         let now = self.moment_between();
         let given = self.change(|cache, _| cache.invalidate_entries_if(Testing(predicate), now, &mut Chosen(id)));
         given.map(|_| ()).map_err(|refused| refused.error)

@@ -68,21 +68,22 @@ struct Shared<K: 'static, V, S> {
 /// are. A call that concerns all of them, as `invalidate_all`, `iter`, `stats` or `entry_count`, goes from one to the
 /// next, so its answer is no snapshot while other threads call.
 ///
-/// The listener is called after the lock was released, in the order in which values left the shard, by the thread by
-/// whose call they left, or by another that is telling already. So it may call the cache. A call by which nothing left
-/// neither calls the listener nor waits for it. If a maker or a closure of an entry calls the cache, the listener may
-/// be called within it: then it must not have a value made or computed for that key.
+/// The listener is called after the lock is released, in the order in which values left the shard, by the thread by
+/// whose call they left, or by another that is notifying already. So it may call the cache. It must not put back each
+/// value that leaves with `Size`: another leaves for it, so the call never ends. A call by which nothing left neither
+/// calls the listener nor waits for it. If a maker or a closure of an entry calls the cache, the listener may be called
+/// within it: then it must not have a value made or computed for that key.
 ///
 /// The weigher, the expiry and predicates, `Eq` of keys and `Clone` of values may be called under the lock of a shard:
 /// they must neither call the cache nor wait for a lock that a thread holds while it calls the cache. The same holds
-/// for `Drop` of keys and values after a panic and in a cache of capacity 0; else these are dropped when the lock was
-/// released.
+/// for `Drop` of keys and values after a panic and in a cache of capacity 0; otherwise they are dropped after the lock
+/// is released.
 ///
 /// # Panics of the caller's own code
 /// If the weigher, the expiry, a predicate or a clone of a value, be it in `get`, panics in the middle of a call, the
-/// shard is **emptied** by the next call for it: its entries are gone, and the listener is not told of them. That is
-/// the whole cache where there is one shard, as by default with a weigher or a capacity below 2,048. The panic goes on
-/// to the caller whose call it was. A panic of `Eq`, `Hash` or `Drop`, of a maker of `get_with`, of a closure of an
+/// shard is **emptied** by the next call for it: its entries are gone, and the listener is not notified of them. That
+/// is the whole cache where there is one shard, as by default with a weigher or a capacity below 2,048. The panic goes
+/// on to the caller whose call it was. A panic of `Eq`, `Hash` or `Drop`, of a maker of `get_with`, of a closure of an
 /// entry or of the listener changes nothing; after its first panic the listener is not notified again.
 pub struct Cache<K: 'static, V, S = RandomState>(Arc<Shared<K, V, S>>);
 
@@ -324,6 +325,10 @@ where
     /// `InvalidationClosuresDisabled` where the builder was not told `support_invalidation_closures`; `OutOfMemory`
     /// where a shard had no memory for one more predicate: then some shards may have it already.
     ///
+    /// # Panics
+    /// Where an earlier predicate panics in a run of maintenance that this call makes: then, too, some shards may have
+    /// it already.
+    ///
     /// ```
     /// # use ravulemis::sync::Cache;
     /// let cache = Cache::builder().max_capacity(100).support_invalidation_closures().build();
@@ -362,7 +367,7 @@ where
     pub fn run_pending_tasks(&self) {
         for place in &self.0.places.all {
             let mut runs = self.with(place, |shard| shard.run_pending_tasks());
-            // The lock is released between two, and the listener is told.
+            // The lock is released between two, and the listener is notified.
             while runs > 0 {
                 runs = self.with(place, |shard| shard.run_pending_tasks()).min(runs - 1);
             }
@@ -417,9 +422,10 @@ where
         stats
     }
 
-    /// All visible entries, shard by shard. A shard's keys are those at the moment when the iterator comes to it; an
-    /// entry that has gone since is left out, and of one that was put back the new value is given. No lock is held
-    /// between two items, and nothing counts as a read.
+    /// All visible entries, shard by shard. A shard's keys are those at the moment when the iterator comes to it: the
+    /// shard's keys are copied under its lock, about 0.1 µs each, and calls for it wait meanwhile. An entry that has
+    /// gone since is left out, and of one that was put back the new value is given. No lock is held between two items,
+    /// and nothing counts as a read.
     ///
     /// ```
     /// let cache = ravulemis::sync::Cache::new(100);

@@ -34,9 +34,9 @@ pub type PredicateId = String;
 ///
 /// # Panics of the caller's own code
 /// If the weigher, the expiry, a predicate or a clone of a value, be it in `get`, panics in the middle of a call, the
-/// cache is **emptied** by the next call that changes it: its entries are gone, and the listener is not told of them. A
-/// panic of `Eq`, `Hash` or `Drop`, of a maker of `get_with` or of the listener changes nothing; after its first panic
-/// the listener is not notified again.
+/// cache is **emptied** by the next call that changes it: its entries are gone, and the listener is not notified of
+/// them. A panic of `Eq`, `Hash` or `Drop`, of a maker of `get_with` or of the listener changes nothing; after its
+/// first panic the listener is not notified again.
 pub struct Cache<K: 'static, V, S = RandomState> {
     shard: Shard<K, V>,
     notices: Option<Notices<K, V>>,
@@ -396,7 +396,10 @@ impl<K: Eq + Hash + Sync + 'static, V: Clone + 'static, S: BuildHasher> Cache<K,
     /// assert!(cache.try_get_with(1, || "seven".parse::<u32>()).is_err());
     /// assert_eq!(cache.try_get_with(1, || "7".parse::<u32>()), Ok(7));
     /// ```
-    pub fn try_get_with<E>(&mut self, key: K, init: impl FnOnce() -> Result<V, E>) -> Result<V, E> {
+    pub fn try_get_with<F, E>(&mut self, key: K, init: F) -> Result<V, E>
+    where
+        F: FnOnce() -> Result<V, E>,
+    {
         self.entry(key).or_try_insert_with(init).map(Entry::into_value)
     }
 
@@ -409,8 +412,9 @@ impl<K: Eq + Hash + Sync + 'static, V: Clone + 'static, S: BuildHasher> Cache<K,
     /// let mut cache = ravulemis::unsync::Cache::<String, u32>::new(100);
     /// assert_eq!(cache.try_get_with_by_ref("key", || "7".parse::<u32>()), Ok(7));
     /// ```
-    pub fn try_get_with_by_ref<E, Q>(&mut self, key: &Q, init: impl FnOnce() -> Result<V, E>) -> Result<V, E>
+    pub fn try_get_with_by_ref<F, E, Q>(&mut self, key: &Q, init: F) -> Result<V, E>
     where
+        F: FnOnce() -> Result<V, E>,
         K: Borrow<Q>,
         Q: Eq + Hash + Sync + ToOwned<Owned = K> + ?Sized,
     {

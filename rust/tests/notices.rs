@@ -100,6 +100,17 @@ fn a_call_lets_one_batch_go_where_there_is_a_listener() {
 }
 
 #[test]
+fn a_shard_exceeds_its_capacity_by_64_entries_at_most() {
+    let cache = Cache::builder().max_capacity(100).shards(1).build();
+    let insert = |key| {
+        cache.insert(key, key);
+        cache.iter().count()
+    };
+    let most = (0..1000).map(insert).max();
+    assert!(most <= Some(164), "there were {most:?}");
+}
+
+#[test]
 fn the_turn_to_tell_goes_on_to_one_who_waits_for_it() {
     let lock = Arc::new(Mutex::new(()));
     let held = lock.lock().unwrap();
@@ -217,6 +228,45 @@ fn what_has_expired_leaves_while_only_another_shard_is_called() {
         cache.stats().hits + cache.stats().misses,
         looks,
         "a visit is no look-up"
+    );
+}
+
+#[test]
+fn what_was_invalidated_leaves_by_the_next_call_where_nothing_expires() {
+    let cache = Cache::builder().shards(1).build();
+    (0..10).for_each(|key| cache.insert(key, Arc::new(key)));
+    let value = cache.get(&1).unwrap();
+    cache.invalidate_all();
+    thread::sleep(Duration::from_millis(310));
+    assert_eq!(cache.get(&1), None);
+    assert_eq!(
+        (cache.entry_count(), Arc::strong_count(&value)),
+        (0, 1),
+        "a run was due"
+    );
+}
+
+#[test]
+fn predicates_do_not_pile_up_where_nothing_else_is_called() {
+    let asked = Arc::new(AtomicU32::new(0));
+    let cache = Cache::builder().shards(1).support_invalidation_closures().build();
+    cache.insert(1, 1);
+    for _ in 0..1000 {
+        let counts = Arc::clone(&asked);
+        let predicate = move |_: &u32, _: &u32| {
+            count(&counts);
+            false
+        };
+        cache.invalidate_entries_if(predicate).unwrap();
+    }
+    let before = asked.load(Ordering::SeqCst);
+    assert_eq!(cache.get(&1), Some(1));
+    let in_get = asked.load(Ordering::SeqCst) - before;
+    assert!(in_get < 200, "a get asked {in_get} predicates");
+    assert_eq!(
+        (cache.stats().hits, cache.stats().misses),
+        (1, 0),
+        "a registration is no look-up"
     );
 }
 

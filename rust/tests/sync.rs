@@ -1,6 +1,6 @@
 //! The cache that threads share.
 
-use ravulemis::ops::compute::Op;
+use ravulemis::ops::compute::{CompResult, Op};
 use ravulemis::sync::Cache;
 use ravulemis::{EvictionPolicy, RemovalCause};
 use std::sync::atomic::{AtomicU32, AtomicU64, Ordering};
@@ -96,7 +96,13 @@ fn shards_share_the_capacity() {
 #[test]
 fn the_builder_chooses_the_shards() {
     let shards = |capacity| Cache::<u32, u32>::new(capacity).policy().num_segments();
-    assert_eq!([0, 1, 2000, 2048, 10_000, 1 << 30].map(shards), [1, 1, 1, 2, 8, 64]);
+    assert_eq!(
+        [0, 1, 2000, 2048, 3100, 10_000, 1 << 30].map(shards),
+        [1, 1, 1, 2, 2, 8, 64]
+    );
+    let builder = Cache::<u32, u32>::builder;
+    let others = [builder(), builder().shards(3), builder().max_capacity(3).shards(4)];
+    assert_eq!(others.map(|it| it.build().policy().num_segments()), [64, 4, 2]);
     let weighed = Cache::builder()
         .max_capacity(1 << 30)
         .weigher(|_: &u32, _: &u32| 1)
@@ -163,6 +169,59 @@ fn upserts_of_a_key_follow_each_other() {
         }
     });
     assert_eq!(cache.get(&"key".to_string()), Some(2000));
+}
+
+#[test]
+fn an_entry_is_handed_out_once() {
+    let cache = Cache::new(100);
+    let claim = |meanwhile: &dyn Fn()| {
+        cache.entry(1).and_compute_with(|there| {
+            meanwhile();
+            there.map_or(Op::Nop, |_| Op::Remove)
+        })
+    };
+    cache.insert(1, 'a');
+    let answer = claim(&|| assert_eq!(cache.remove(&1), Some('a')));
+    assert!(matches!(answer, CompResult::StillNone(key) if *key == 1));
+    cache.insert(1, 'a');
+    let answer = claim(&|| cache.insert(1, 'b'));
+    assert!(matches!(answer, CompResult::Removed(entry) if *entry.value() == 'b'));
+    assert_eq!(cache.get(&1), None);
+}
+
+#[test]
+fn a_computation_that_fails_changes_nothing() {
+    let cache = Cache::new(100);
+    cache.insert(1, 'a');
+    // As with moka, the type of the error may be given after that of the closure.
+    let failed = cache
+        .entry(1)
+        .and_try_compute_with::<_, String>(|_| Err("no".to_string()));
+    assert!(failed.is_err_and(|error| error == "no"));
+    assert_eq!(cache.get(&1), Some('a'));
+}
+
+#[test]
+fn a_computation_is_a_look_up() {
+    let cache = Cache::new(100);
+    (0..100).for_each(|key| cache.insert(key, 0));
+    cache.run_pending_tasks();
+    for _ in 0..20 {
+        cache
+            .entry(1000)
+            .and_upsert_with(|old| old.map_or(1, |old| old.into_value() + 1));
+    }
+    cache.run_pending_tasks();
+    assert_eq!(cache.get(&1000), Some(20), "a key that is often asked for is admitted");
+    assert_eq!((cache.stats().hits, cache.stats().misses), (20, 1));
+    let policy = EvictionPolicy::lru();
+    let cache = Cache::builder().max_capacity(2).eviction_policy(policy).build();
+    (1..3).for_each(|key| cache.insert(key, key));
+    cache.run_pending_tasks();
+    cache.entry_by_ref(&1).and_compute_with(|_| Op::Nop);
+    cache.insert(3, 3);
+    cache.run_pending_tasks();
+    assert_eq!([1, 2, 3].map(|key| cache.contains_key(&key)), [true, false, true]);
 }
 
 #[test]

@@ -2,7 +2,7 @@
 
 import ctypes
 import sys
-from ctypes import POINTER, Structure, byref, c_int32, c_size_t, c_uint32, c_uint64, c_void_p
+from ctypes import POINTER, Structure, byref, c_char_p, c_int32, c_size_t, c_uint32, c_uint64, c_void_p
 
 LISTENER = ctypes.CFUNCTYPE(None, c_void_p, c_void_p, c_size_t, c_void_p, c_size_t, c_int32)
 NOT_FOUND, TRUNCATED = 1, 2
@@ -22,6 +22,10 @@ class Cache:
 
     def __init__(self, library, max_capacity, listener=None):
         self.library, self.cache = library, c_void_p()
+        library.ravulemis_message.restype = c_char_p
+        # Without these a text would pass for bytes, by the address of its characters.
+        library.ravulemis_insert.argtypes = [c_void_p, c_char_p, c_size_t, c_char_p, c_size_t]
+        library.ravulemis_get.argtypes = [c_void_p, c_char_p, c_size_t, c_char_p, c_size_t, POINTER(c_size_t)]
         self.settings = Settings(is_bounded=1, max_capacity=max_capacity)
         if listener:
             self.settings.listener = LISTENER(
@@ -64,10 +68,6 @@ class Cache:
 
 def main(path):
     library = ctypes.CDLL(path)
-    library.ravulemis_message.restype = ctypes.c_char_p
-    # Without these a text would pass for bytes, by the address of its characters.
-    library.ravulemis_insert.argtypes = [c_void_p, ctypes.c_char_p, c_size_t, ctypes.c_char_p, c_size_t]
-    library.ravulemis_get.argtypes = [c_void_p, ctypes.c_char_p, c_size_t, ctypes.c_char_p, c_size_t, POINTER(c_size_t)]
     told = []
     with Cache(library, 10, lambda *notice: told.append(notice)) as cache:
         cache[b"key"] = b"value"

@@ -6,7 +6,9 @@
    nanoseconds, lengths in bytes; a weight is 1 for an entry, or the lengths of its key and value together.
 
    Every function but `ravulemis_message` answers a code of `enum ravulemis_code`. One below 0 is a wrong call, which
-   has done nothing, or a fault. A pointer that is neither null nor from `ravulemis_create` cannot be told apart. */
+   has done nothing, or a fault. A pointer that is neither null nor from `ravulemis_create` cannot be told apart.
+
+   Compile against the header of the very library: structs grow with new settings. */
 
 #ifndef RAVULEMIS_H
 #define RAVULEMIS_H
@@ -46,7 +48,8 @@ enum ravulemis_cause {
 };
 
 /* Is lent key, value and cause of each value that leaves, until it returns, by the thread whose call found that or by
-   another that is telling already. It may call the cache. It must not throw or jump out. */
+   another that is notifying already. It may call the cache, but must not put back each value that leaves with
+   RAVULEMIS_SIZE: another leaves for it, so the call never ends. It must not throw or jump out. */
 typedef void (*ravulemis_listener)(void *context, const void *key, size_t key_length, const void *value,
                                    size_t value_length, int32_t cause);
 
@@ -61,8 +64,9 @@ typedef struct ravulemis_settings {
   uint64_t max_capacity;
   /* One of `enum ravulemis_weigher`. */
   int32_t weigher;
-  /* The number of shards, made a power of two, at most 65536, and no more than the capacity; 0 lets the library choose.
-     Each has its share of the capacity: an entry that weighs more than a share is not kept. */
+  /* The number of shards, rounded up to a power of two, at most 65536, and no more than the capacity; 0 lets the
+     library choose. Each has its share of the capacity: an entry that weighs more than a share is not kept. Each takes
+     about 11 KB, also empty. */
   uint32_t shards;
   /* The number of entries that room is made for at once, at most 2^24. */
   uint64_t initial_capacity;
@@ -85,8 +89,8 @@ int32_t ravulemis_settings_default(ravulemis_settings *settings);
    Errors: RAVULEMIS_BAD_ARGUMENT; RAVULEMIS_FAULT where there is no memory for the initial capacity. */
 int32_t ravulemis_create(const ravulemis_settings *settings, ravulemis_cache **cache);
 
-/* Lets all entries go; the listener is not told of them. A few bytes stay, by which a later call for the cache is told.
-   Errors: RAVULEMIS_BAD_ARGUMENT, and RAVULEMIS_DESTROYED for the second call. */
+/* Lets all entries go; the listener is not notified of them. A few bytes stay, by which a later call for the cache is
+   told. Errors: RAVULEMIS_BAD_ARGUMENT, and RAVULEMIS_DESTROYED for the second call. */
 int32_t ravulemis_destroy(ravulemis_cache *cache);
 
 /* Puts a copy of a value under a copy of a key of at least one byte. A value of no bytes may have a null pointer.

@@ -83,8 +83,9 @@ where
 
     setters!();
 
-    /// Is notified of each value that leaves, with key and cause, after the lock of its shard was released. By default
-    /// nobody is. With a listener a call lets a batch of at most 384 entries leave in each step of a run, however many
+    /// Is notified of each value that leaves, with key and cause, after the lock of its shard is released. By default
+    /// nobody is. It must not put back each value that leaves with `Size`: another leaves for it, so the call never
+    /// ends. With a listener a call lets a batch of at most 384 entries leave in each step of a run, however many
     /// are due, but for those with an expiry of their own, which leave at once; the calls that follow go on.
     ///
     /// ```
@@ -104,11 +105,12 @@ where
         self
     }
 
-    /// The number of shards, made a power of two, from 1 to 65,536, and at most the capacity. Each has its share of the
-    /// capacity, so an entry that weighs more than a share is not kept, and a shard whose keys come often evicts before
-    /// the whole is full.
+    /// The number of shards, rounded up to a power of two, from 1 to 65,536, and at most the capacity. Each has its
+    /// share of the capacity, so an entry that weighs more than a share is not kept, and a shard whose keys come often
+    /// evicts before the whole is full. Each takes about 11 KB, also empty.
     ///
-    /// By default a cache with a weigher has one shard, another one for each 1,024 entries of its capacity, up to 64.
+    /// By default a cache with a weigher has one shard; another has the greatest power of two that leaves each at least
+    /// 1,024 entries, at most 64, and 64 without a capacity.
     ///
     /// ```
     /// # use ravulemis::sync::Cache;

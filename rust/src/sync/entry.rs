@@ -61,7 +61,8 @@ where
         OwnedKeyEntrySelector { cache: self, hash, key }
     }
 
-    /// As [`entry`](Self::entry), by a borrowed form of the key; an owned one is made only where an entry is made.
+    /// As [`entry`](Self::entry), by a borrowed form of the key; an owned one is made where a value is to be made, and in
+    /// each of the calls `and_..`.
     ///
     /// ```
     /// let cache = ravulemis::sync::Cache::<String, u32>::new(100);
@@ -111,12 +112,15 @@ where
         // They end after the making, as those of a load.
         let mut calls = self.0.places.calls(place);
         place.makers.alone(hash, Arc::clone(&key), || {
-            let there = calls.make(|shard| shard.peek(hash, &|kept| *kept == *key));
+            let there = calls.make(|shard| shard.get_entry(hash, &|kept| *kept == *key));
             let there = there.map(|(key, value)| Entry::found(key, value));
             let op = decide(there.clone())?;
             Ok(computed(Arc::clone(&key), op, there, |value| match value {
-                Some(value) => drop(calls.make(|shard| shard.insert(hash, key, value))),
-                None => drop(calls.make(|shard| shard.remove(hash, &|kept| *kept == *key))),
+                Some(value) => {
+                    drop(calls.make(|shard| shard.insert(hash, key, value)));
+                    None
+                }
+                None => calls.make(|shard| shard.remove(hash, &|kept| *kept == *key)),
             }))
         })
     }
@@ -290,10 +294,10 @@ macro_rules! calls {
         /// assert!(answer.is_err());
         /// assert!(!cache.contains_key(&1));
         /// ```
-        pub fn and_try_compute_with<E>(
-            self,
-            f: impl FnOnce(Option<Entry<K, V>>) -> Result<Op<V>, E>,
-        ) -> Result<CompResult<K, V>, E> {
+        pub fn and_try_compute_with<F, E>(self, f: F) -> Result<CompResult<K, V>, E>
+        where
+            F: FnOnce(Option<Entry<K, V>>) -> Result<Op<V>, E>,
+        {
             let (cache, hash) = (self.cache, self.hash);
             cache.compute(hash, self.into_shared(), f)
         }

@@ -105,7 +105,10 @@ impl<'a, K: Eq + Hash + Sync + 'static, V: Clone + 'static, S: BuildHasher> Entr
     /// assert!(cache.entry(1).or_try_insert_with(|| "one".parse::<u32>()).is_err());
     /// assert!(cache.entry(1).or_try_insert_with(|| "1".parse::<u32>()).is_ok());
     /// ```
-    pub fn or_try_insert_with<E>(self, init: impl FnOnce() -> Result<V, E>) -> Result<Entry<K, V>, E> {
+    pub fn or_try_insert_with<F, E>(self, init: F) -> Result<Entry<K, V>, E>
+    where
+        F: FnOnce() -> Result<V, E>,
+    {
         let EntrySelector { cache, hash, key } = self;
         cache.with(|shard| shard.try_get_with(hash, key, init))
     }
@@ -153,18 +156,22 @@ impl<'a, K: Eq + Hash + Sync + 'static, V: Clone + 'static, S: BuildHasher> Entr
     /// assert!(answer.is_err());
     /// assert!(!cache.contains_key(&1));
     /// ```
-    pub fn and_try_compute_with<E>(
-        self,
-        f: impl FnOnce(Option<Entry<K, V>>) -> Result<Op<V>, E>,
-    ) -> Result<CompResult<K, V>, E> {
-        let there = self.peek().map(|value| Entry::found(Arc::clone(&self.key), value));
-        let op = f(there.clone())?;
+    pub fn and_try_compute_with<F, E>(self, f: F) -> Result<CompResult<K, V>, E>
+    where
+        F: FnOnce(Option<Entry<K, V>>) -> Result<Op<V>, E>,
+    {
         let EntrySelector { cache, hash, key } = self;
+        let there = cache.with(|shard| shard.get_kept(hash, &key));
+        let there = there.map(|value| Entry::found(Arc::clone(&key), value));
+        let op = f(there.clone())?;
         let kept = Arc::clone(&key);
         Ok(computed(key, op, there, |value| {
             cache.with(|shard| match value {
-                Some(value) => shard.insert_kept(hash, kept, value),
-                None => shard.invalidate_kept(hash, &kept),
+                Some(value) => {
+                    shard.insert_kept(hash, kept, value);
+                    None
+                }
+                None => shard.remove_kept(hash, &kept),
             })
         }))
     }
