@@ -6,17 +6,11 @@ use moka_engine::{BaseCache, CacheConfig};
 use moka_parts::calls::Ticket;
 use moka_parts::closures::{NoPredicate, Weigher};
 use moka_parts::error::{OutOfMemory, SendError};
-use moka_parts::housekeeper::FixedClock;
+use moka_parts::housekeeper::{EVICTION_BATCH_SIZE, FixedClock, MAX_LOG_SYNC_REPEATS};
 use moka_parts::notification::Listener;
 use moka_parts::policy::{Expiry, Instant};
 use std::alloc::Global;
 use std::hash::{BuildHasher, Hash};
-
-/// How many members a step of a run turns over.
-pub const BATCH: u32 = 384;
-
-// How often a run may go through its steps.
-const REPEATS: u32 = 4;
 
 /// No run has a time limit, so the clock is never read.
 pub const CLOCK: FixedClock = FixedClock(Instant(0));
@@ -99,7 +93,7 @@ impl<
             return Ok(false);
         }
         let hash = self.engine.hash(&key);
-        let Ok((ticket, _)) = self.engine.do_insert_with_hash(key, hash, value, now) else {
+        let Ok((ticket, _)) = self.engine.do_insert_with_own_hash(key, hash, value, now) else {
             return Err(OutOfMemory);
         };
         if may_run {
@@ -115,7 +109,7 @@ impl<
     fn send(&mut self, ticket: Ticket, now: Instant) -> Result<(), SendError> {
         match self.engine.send(ticket) {
             Err(SendError::QueueFull) => {
-                self.maintain(now, BATCH);
+                self.maintain(now, EVICTION_BATCH_SIZE);
                 self.engine.send(ticket)
             }
             sent => sent,
@@ -126,6 +120,6 @@ impl<
     pub fn maintain(&mut self, now: Instant, batch: u32) {
         let _left = self
             .engine
-            .run_pending_tasks(now, &mut CLOCK, None, REPEATS, batch);
+            .run_pending_tasks(now, &mut CLOCK, None, MAX_LOG_SYNC_REPEATS, batch);
     }
 }

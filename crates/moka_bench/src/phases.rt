@@ -3,8 +3,8 @@ ghost use Rattle.std.specs.Prelude.{◌≡◌, ◌<◌, length, is_some};
 ghost use Rattle.moka_bench.specs.Phases.{is_known, is_stream, number_at};
 
 use crate::driver::Driver;
-use crate::engines::BATCH;
 use crate::subject::Subject;
+use moka_parts::housekeeper::EVICTION_BATCH_SIZE;
 
 // How many words a phase begins with.
 const HEADER: usize = 4;
@@ -139,16 +139,16 @@ fn read_through<T: Subject>(driver: &mut Driver<T>, keys: &[[u8; 8]]) {
 fn get_and_run<T: Subject>(driver: &mut Driver<T>, keys: &[[u8; 8]], count: u64) {
     for some in keys.chunks((count as usize).max(1)) {
         get_all(driver, some);
-        driver.run(BATCH);
+        driver.run(EVICTION_BATCH_SIZE);
     }
-    driver.run(BATCH);
+    driver.run(EVICTION_BATCH_SIZE);
 }
 
 // Puts all keys, with a run after each `count` of them and at the end.
 fn put_and_run<T: Subject>(driver: &mut Driver<T>, keys: &[[u8; 8]], count: u64) {
     for some in keys.chunks((count as usize).max(1)) {
         put_all(driver, some, false);
-        driver.run(BATCH);
+        driver.run(EVICTION_BATCH_SIZE);
     }
-    driver.run(BATCH);
+    driver.run(EVICTION_BATCH_SIZE);
 }

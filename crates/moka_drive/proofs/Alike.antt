@@ -1,17 +1,14 @@
 -- What runs, sends and inserts leave of what hides records.
-use Rattle.std.proofs.Common.{◌≡◌, refl, ℕ, zero, suc, Bool, true, false, List, [], ◌∷◌, Option, Some, None, Result, Ok, Err, ap, sym, subst, ◌∙◌, MatchBool}
-use Rattle.std.specs.FinMap.{get}
+use Rattle.std.proofs.Common.{◌≡◌, refl, ℕ, zero, suc, Bool, List, [], ◌∷◌, Option, Some, None, Result, Ok, ap, sym, subst, ◌∙◌}
 use Rattle.moka_parts.specs.declared.policy.Instant.{Instant}
 use Rattle.moka_parts.specs.declared.records.Record.{Record}
-use Rattle.moka_parts.specs.declared.records.Operation.{Operation}
 use Rattle.moka_parts.specs.declared.calls.Ticket.{Ticket}
 use Rattle.moka_parts.specs.declared.error.SendError.{SendError}
-use Rattle.moka_parts.specs.declared.error.SendError.TheVariants.{UnknownTicket, QueueFull}
 use Rattle.moka_parts.specs.Records.{Notice, record_of_key}
-use Rattle.moka_parts.specs.State.{State, Settings, Events, is_disabled}
-use Rattle.moka_parts.specs.Housekeeping.{is_due}
-use Rattle.moka_parts.specs.Maintenance.{Choice, Removes, MovesToBack, Drops, Freedom, Terms, Course, DoesNothing, RunsBy, RunsWith, kept_by_choices}
-use Rattle.moka_parts.specs.Calls.{KeeperRun, RunsIfDue, Unchanged, SendsAt, SendStep, InsertsAt, InsertStep}
+use Rattle.moka_parts.specs.State.{State, Settings, Events}
+use Rattle.moka_parts.specs.Maintenance.{Choice, Removes, MovesToBack, Drops, Freedom, Terms, Course, RunsWith, kept_by_choices}
+use Rattle.moka_parts.specs.Calls.{RunsIfDue, SendStep, InsertsAt, InsertStep}
+use Rattle.moka_parts.proofs.Kept.{kept_by_run, kept_by_due, kept_by_send}
 use Rattle.moka_drive.specs.Unsent.{HidesNoMore, ShowsWrites}
 
 -- none is left of no predicates
@@ -31,28 +28,16 @@ module _ {K V X P W : Type 0} where
 
   module _ (says : P → K → V → Bool → Type 0) (Outcome : State K V X P W → Terms → Course → State K V X P W → Type 0) (Detail : State K V X P W → Terms → Freedom → Course → Type 0) where
     pub run_hides : (s : State K V X P W) (terms : Terms) (course : Course) (notices : List (Notice K V)) (t : State K V X P W) → RunsWith says Outcome Detail s terms course notices t → HidesNoMore s t
-    run_hides s terms course notices t run = go (is_disabled s.capacity) run.0
-      where
-        go : (b : Bool) → MatchBool b (DoesNothing s course notices t) ((ch : Freedom) × RunsBy says s terms ch course notices t × Detail s terms ch course) → HidesNoMore s t
-        go true nothing = subst (HidesNoMore s) (sym nothing.0) (itself s)
-        go false (ch, by, detail) = subst (HidesNoMore s) (sym by.1) (record { settings = refl; bound = refl; predicates = λ none. ap (λ ps. kept_by_choices ps ch.steps) none ∙ none_kept ch.steps })
+    run_hides s terms course notices t run =
+        kept_by_run (HidesNoMore s) s t (itself s) _ says terms course notices (λ ch enabled free. record { settings = refl; bound = refl; predicates = λ none. ap (λ ps. kept_by_choices ps ch.steps) none ∙ none_kept ch.steps }) run.0
 
   pub due_hides : (Runs : State K V X P W → Terms → Course → List (Notice K V) → State K V X P W → Type 0) → ((s : State K V X P W) (terms : Terms) (course : Course) (notices : List (Notice K V)) (t : State K V X P W) → Runs s terms course notices t → HidesNoMore s t) →
       (s : State K V X P W) (queued now : ℕ) (e : Events K V) (t : State K V X P W) → RunsIfDue Runs s queued now e t → HidesNoMore s t
-  due_hides Runs hides s queued now e t step = go (is_due s.housekeeping queued now) step
-    where
-      go : (b : Bool) → MatchBool b (KeeperRun Runs s now e t) (Unchanged s e t) → HidesNoMore s t
-      go true (answer, mid, (course, ran, same, told), changed) = then s mid t (hides s _ course e.notices mid ran) (subst (HidesNoMore mid) (sym changed) (record { settings = refl; bound = refl; predicates = λ none. none }))
-      go false (same, none) = subst (HidesNoMore s) (sym same) (itself s)
+  due_hides Runs hides s queued now e t step = kept_by_due (HidesNoMore s) s t (itself s) Runs queued now e
+      (λ course mid housekeeping run. let h = hides s _ course e.notices mid run in record { settings = h.settings; bound = h.bound; predicates = h.predicates }) step
 
   pub send_hides : (s : State K V X P W) (ticket : ℕ) (a : Result (Unit {0}) SendError) (t : State K V X P W) → SendStep s ticket a t → HidesNoMore s t
-  send_hides s ticket a t step = go (get s.outstanding ticket) a step
-    where
-      go : (o : Option Operation) (a : Result (Unit {0}) SendError) → SendsAt s ticket o a t → HidesNoMore s t
-      go (Some o) (Ok u) h = subst (HidesNoMore s) (sym h.1) (record { settings = refl; bound = refl; predicates = λ none. none })
-      go (Some o) (Err QueueFull) h = subst (HidesNoMore s) (sym h.1) (itself s)
-      go None (Err UnknownTicket) h = subst (HidesNoMore s) (sym h) (itself s)
-      go o a h = absurd h
+  send_hides s ticket a t step = kept_by_send (HidesNoMore s) s t (itself s) ticket a (λ o there room. record { settings = refl; bound = refl; predicates = λ none. none }) step
 
   pub insert_hides : (created : X → K → V → ℕ → Option ℕ) (updated : X → K → V → ℕ → Option ℕ → Option ℕ) (weighs : W → K → V → ℕ → Type 0) (eq : K → K → Bool) (s : State K V X P W) (key : K) (hash : ℕ) (value : V) (now : Instant) (a : Ticket × Instant) (e : Events K V) (t : State K V X P W)
       → InsertStep created updated weighs eq s key hash value now (Ok a) e t → HidesNoMore s t

@@ -6,17 +6,13 @@ use Rattle.std.specs.FinMap.{get, insert}
 use Rattle.std.proofs.lemmas.Option.{same_Some}
 use Rattle.moka_parts.specs.declared.calls.Entry.{Entry}
 use Rattle.moka_parts.specs.declared.policy.Instant.{Instant}
-use Rattle.moka_parts.specs.declared.records.Operation.{Operation}
 use Rattle.moka_parts.specs.declared.records.ReadOperation.{ReadOperation}
 use Rattle.moka_parts.specs.declared.records.Record.{Record}
 use Rattle.moka_parts.specs.declared.error.OutOfMemory.{OutOfMemory}
 use Rattle.moka_parts.specs.declared.error.SendError.{SendError}
-use Rattle.moka_parts.specs.declared.error.SendError.TheVariants.{UnknownTicket, QueueFull}
-use Rattle.moka_parts.specs.Bounds.{IsBounded}
-use Rattle.moka_parts.specs.Calls.{GetsAt, GetStep, RecordsRead, after_hit, hit_record, KeeperRun, RunStep, RunsIfDue, Unchanged, SendsAt, SendStep}
-use Rattle.moka_parts.specs.Housekeeping.{is_due}
-use Rattle.moka_parts.specs.Listed.{ListedRun, LeavesList}
-use Rattle.moka_parts.specs.Maintenance.{Freedom, Terms, Course, DoesNothing, RunsBy}
+use Rattle.moka_parts.specs.Calls.{GetsAt, GetStep, RecordsRead, after_hit, hit_record, RunStep, RunsIfDue, Unchanged, SendStep}
+use Rattle.moka_parts.specs.Listed.{ListedRun}
+use Rattle.moka_parts.specs.Maintenance.{Terms, Course}
 use Rattle.moka_parts.specs.Records.{Notice, Records, record_of_key}
 use Rattle.moka_parts.specs.Runs.{Engine}
 use Rattle.moka_parts.specs.Settling.{IsValid}
@@ -25,6 +21,7 @@ use Rattle.moka_parts.proofs.CallsKeep.{record_at_its_number}
 use Rattle.moka_parts.proofs.Lookup.{record_of_key_found, present_key}
 use Rattle.moka_parts.proofs.Maps.{get_inserted, get_past_insert, same_or_apart}
 use Rattle.moka_parts.proofs.RunKeeps.{Keeps, keeps_itself, run_keeps}
+use Rattle.moka_parts.proofs.Kept.{kept_by_run, kept_by_due, kept_by_send}
 use Rattle.moka_drive.specs.Saved.{KeepsRecords}
 
 -- one after the other
@@ -38,29 +35,15 @@ module _ {K V X P W : Type 0} where
   module _ (says : P → K → V → Bool → Type 0) (read : X → K → V → ℕ → Option ℕ → ℕ → Option ℕ) (before after : List ℕ) where
     -- a run
     pub listed_run_keeps : (s : State K V X P W) (terms : Terms) (course : Course) (notices : List (Notice K V)) (t : State K V X P W) → ListedRun says read before after s terms course notices t → KeepsRecords s t
-    listed_run_keeps s terms course notices t run = go (is_disabled s.capacity) run.0
-      where
-        go : (b : Bool) → MatchBool b (DoesNothing s course notices t) ((ch : Freedom) × RunsBy says s terms ch course notices t × (IsBounded says s terms ch course × LeavesList before after s terms ch course)) → KeepsRecords s t
-        go true nothing = subst (KeepsRecords s) (sym nothing.0) (keeps_itself s.records)
-        go false (ch, by, detail) = subst (KeepsRecords s) (sym by.1) (run_keeps s ch)
+    listed_run_keeps s terms course notices t run = kept_by_run (KeepsRecords s) s t (keeps_itself s.records) _ says terms course notices (λ ch enabled free. run_keeps s ch) run.0
 
     -- the housekeeper's run, if one is due
     pub due_keeps : (s : State K V X P W) (queued now : ℕ) (e : Events K V) (t : State K V X P W) → RunsIfDue (ListedRun says read before after) s queued now e t → KeepsRecords s t
-    due_keeps s queued now e t step = go (is_due s.housekeeping queued now) step
-      where
-        go : (b : Bool) → MatchBool b (KeeperRun (ListedRun says read before after) s now e t) (Unchanged s e t) → KeepsRecords s t
-        go true (answer, mid, (course, ran, same, told), changed) = subst (KeepsRecords s) (sym changed) (listed_run_keeps s _ course e.notices mid ran)
-        go false (same, none) = subst (KeepsRecords s) (sym same) (keeps_itself s.records)
+    due_keeps s queued now e t step = kept_by_due (KeepsRecords s) s t (keeps_itself s.records) (ListedRun says read before after) queued now e (λ course mid housekeeping run. listed_run_keeps s _ course e.notices mid run) step
 
   -- a send
   pub send_keeps : (s : State K V X P W) (ticket : ℕ) (a : Result (Unit {0}) SendError) (t : State K V X P W) → SendStep s ticket a t → KeepsRecords s t
-  send_keeps s ticket a t step = go (get s.outstanding ticket) a step
-    where
-      go : (o : Option Operation) (a : Result (Unit {0}) SendError) → SendsAt s ticket o a t → KeepsRecords s t
-      go (Some o) (Ok u) h = subst (KeepsRecords s) (sym h.1) (keeps_itself s.records)
-      go (Some o) (Err QueueFull) h = subst (KeepsRecords s) (sym h.1) (keeps_itself s.records)
-      go None (Err UnknownTicket) h = subst (KeepsRecords s) (sym h) (keeps_itself s.records)
-      go o a h = absurd h
+  send_keeps s ticket a t step = kept_by_send (KeepsRecords s) s t (keeps_itself s.records) ticket a (λ o there room. keeps_itself s.records) step
 
 module _ {K V S X L P W C : Type 0} (m : Meaning K V X L P W C (Unit {0})) (old mid : Engine K V S X L P W) (now : Instant) (e : Events K V) (due : RunsIfDue (ListedRun m.says m.read old.write_list mid.write_list) old.state (length old.state.writes) now.0 e mid.state) (ticket : ℕ) where
   -- a ticket is posted at once

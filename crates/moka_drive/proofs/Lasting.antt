@@ -1,5 +1,5 @@
 -- Where nothing but time takes a record out, what has not expired stays in runs and sends.
-use Rattle.std.proofs.Common.{◌≡◌, refl, ℕ, zero, suc, ◌<◌, ◌≤◌, Bool, true, false, ◌||◌, nat_lt, List, [], ◌∷◌, ◌++◌, append_assoc, length, Option, Some, None, is_some, Result, Ok, Err, ap, sym, subst, ◌∙◌, inl, inr, MatchBool, true≢false, arith, if◌then◌else◌}
+use Rattle.std.proofs.Common.{◌≡◌, refl, ℕ, zero, suc, ◌<◌, ◌≤◌, Bool, true, false, ◌||◌, nat_lt, List, [], ◌∷◌, ◌++◌, append_assoc, length, Option, Some, None, is_some, Result, Err, ap, sym, subst, ◌∙◌, inl, inr, true≢false, arith, if◌then◌else◌}
 use Rattle.std.specs.Prelude.{Contains}
 use Rattle.std.specs.Option.{option_map_or}
 use Rattle.std.specs.FinMap.{get, remove}
@@ -17,23 +17,21 @@ use Rattle.moka_parts.specs.declared.records.Ticketed.{Ticketed}
 use Rattle.moka_parts.specs.declared.notification.RemovalCause.{RemovalCause}
 use Rattle.moka_parts.specs.declared.notification.RemovalCause.TheVariants.{Expired, Explicit, Replaced, Size}
 use Rattle.moka_parts.specs.declared.error.SendError.{SendError}
-use Rattle.moka_parts.specs.declared.error.SendError.TheVariants.{UnknownTicket, QueueFull}
-use Rattle.moka_parts.specs.Bounds.{IsBounded}
-use Rattle.moka_parts.specs.Calls.{KeeperRun, RunStep, RunsIfDue, Unchanged, SendsAt, SendStep}
+use Rattle.moka_parts.specs.Calls.{RunStep, RunsIfDue, SendStep}
 use Rattle.moka_parts.specs.Exact.{weight_of_records}
-use Rattle.moka_parts.specs.Housekeeping.{is_due}
-use Rattle.moka_parts.specs.Listed.{ListedRun, LeavesList}
-use Rattle.moka_parts.specs.Maintenance.{Choice, Removes, MovesToBack, Drops, Freedom, Terms, Course, Tests, DoesNothing, RunsBy, HasCause, AreJustified, is_past_write, is_past_read, is_front, is_over, after_choice, after_choices, kept_by_choices, after_queued_reads, before_steps, at_end, after_run, tests_of, AreFree}
+use Rattle.moka_parts.specs.Listed.{ListedRun}
+use Rattle.moka_parts.specs.Maintenance.{Choice, Removes, MovesToBack, Drops, Freedom, Terms, Course, Tests, HasCause, AreJustified, is_past_write, is_past_read, is_front, is_over, after_choice, after_choices, kept_by_choices, after_queued_reads, before_steps, at_end, after_run, tests_of, AreFree}
 use Rattle.moka_parts.specs.Reads.{after_reads, after_read}
 use Rattle.moka_parts.specs.Records.{Notice, Records, counted_of, has_room, is_member}
 use Rattle.moka_parts.specs.Runs.{Engine}
 use Rattle.moka_parts.specs.Settling.{IsWaiting}
-use Rattle.moka_parts.specs.State.{State, Contents, Events, Meaning, contents, is_disabled}
+use Rattle.moka_parts.specs.State.{State, Contents, Events, Meaning, contents}
 use Rattle.moka_parts.specs.Visibility.{has_lapsed, is_expired, is_past_live, is_past_idle, is_written_before, is_read_before}
 use Rattle.moka_parts.specs.Writes.{Fate, Ignored, Overtaken, Counted, Admitted, TooHeavy, Preferred, Refused, with_applied, fate_by_policy, fate_of_newcomer, fate_of_record, after_fate, after_write, after_writes}
 use Rattle.moka_parts.proofs.Maps.{AreApart, same_or_apart, get_removed, get_past_remove}
 use Rattle.moka_parts.proofs.RunKeeps.{reads_keep}
 use Rattle.moka_parts.proofs.Options.{none_by_test}
+use Rattle.moka_parts.proofs.Kept.{kept_by_run, kept_by_due, kept_by_send}
 use Rattle.moka_engine.specs.declared.base_cache.restores.Restored.{Restored}
 use Rattle.moka_drive.specs.Saved.{HasRoomFor, IsRoomyFor, KeepsUnexpired, TakesOnlyExpired, WeighAtMost}
 use Rattle.moka_drive.proofs.Alike.{none_kept}
@@ -370,25 +368,18 @@ module _ {K V X P W : Type 0} (weighs : W → K → V → ℕ → Type 0) where
 
   module _ (says : P → K → V → Bool → Type 0) (read : X → K → V → ℕ → Option ℕ → ℕ → Option ℕ) (before after : List ℕ) where
     pub listed_run_lasts : (s : State K V X P W) (terms : Terms) (course : Course) (notices : List (Notice K V)) (t : State K V X P W) → ListedRun says read before after s terms course notices t → TakesOnlyExpired weighs [] terms.now s t
-    listed_run_lasts s terms course notices t run = go (is_disabled s.capacity) run.0
-      where
-        go : (b : Bool) → MatchBool b (DoesNothing s course notices t) ((ch : Freedom) × RunsBy says s terms ch course notices t × (IsBounded says s terms ch course × LeavesList before after s terms ch course)) → TakesOnlyExpired weighs [] terms.now s t
-        go true nothing = subst (TakesOnlyExpired weighs [] terms.now s) (sym nothing.0) (keeps_itself [] terms.now s)
-        go false (ch, by, detail) = subst (TakesOnlyExpired weighs [] terms.now s) (sym by.1) (λ others roomy. run_keeps_all says s terms.now ch by.0 others roomy)
+    listed_run_lasts s terms course notices t run = kept_by_run (TakesOnlyExpired weighs [] terms.now s) s t (keeps_itself [] terms.now s) _ says terms course notices (λ ch enabled free others roomy. run_keeps_all says s terms.now ch free others roomy) run.0
 
     -- the housekeeper's run, if one is due
     pub due_lasts : (s : State K V X P W) (queued now : ℕ) (e : Events K V) (t : State K V X P W) → RunsIfDue (ListedRun says read before after) s queued now e t → TakesOnlyExpired weighs [] now s t
-    due_lasts s queued now e t step = go (is_due s.housekeeping queued now) step
-      where
-        go : (b : Bool) → MatchBool b (KeeperRun (ListedRun says read before after) s now e t) (Unchanged s e t) → TakesOnlyExpired weighs [] now s t
-        go true (answer, mid, (course, ran, same, told), changed) =
-            keeps_to [] now s mid t (subst (IsSameCache mid) (sym changed) (record { records = refl; access = refl; settings = refl; capacity = refl; bound = refl; predicates = refl; waits = λ o is. is })) (listed_run_lasts s _ course e.notices mid ran)
-        go false (same, none) = subst (TakesOnlyExpired weighs [] now s) (sym same) (keeps_itself [] now s)
+    due_lasts s queued now e t step = kept_by_due (TakesOnlyExpired weighs [] now s) s t (keeps_itself [] now s) (ListedRun says read before after) queued now e
+        (λ course mid housekeeping run. keeps_to [] now s mid _ (record { records = refl; access = refl; settings = refl; capacity = refl; bound = refl; predicates = refl; waits = λ o is. is }) (listed_run_lasts s _ course e.notices mid run)) step
 
   -- ---- a send
 
   pub send_lasts : (now : ℕ) (s : State K V X P W) (ticket : ℕ) (a : Result (Unit {0}) SendError) (t : State K V X P W) → SendStep s ticket a t → TakesOnlyExpired weighs [] now s t
-  send_lasts now s ticket a t step = go (get s.outstanding ticket) refl a step
+  send_lasts now s ticket a t step = kept_by_send (TakesOnlyExpired weighs [] now s) s t (keeps_itself [] now s) ticket a
+      (λ o there room. keeps_to [] now s s _ (record { records = refl; access = refl; settings = refl; capacity = refl; bound = refl; predicates = refl; waits = sent o there }) (keeps_itself [] now s)) step
     where
       sent : (o : Operation) → get s.outstanding ticket ≡ Some o → (x : Operation) → IsWaiting (record s { outstanding = remove s.outstanding ticket; writes = s.writes ++ record { ticket = ticket; operation = o } ∷ [] }) x → IsWaiting s x
       sent o there x (inl (n, at)) = elim (same_or_apart n ticket) [
@@ -399,14 +390,6 @@ module _ {K V X P W : Type 0} (weighs : W → K → V → ℕ → Type 0) where
         | inl before ↦ inr (n, before)
         | inr e ↦ inl (ticket, there ∙ ap (λ (h : Ticketed). Some h.operation) e)
       ]
-
-      go : (o : Option Operation) → get s.outstanding ticket ≡ o → (a : Result (Unit {0}) SendError) → SendsAt s ticket o a t → TakesOnlyExpired weighs [] now s t
-      go (Some o) there (Ok u) h = keeps_to [] now s s t (subst (IsSameCache s) (sym h.1) (record { records = refl; access = refl; settings = refl; capacity = refl; bound = refl; predicates = refl; waits = sent o there })) (keeps_itself [] now s)
-      go (Some o) there (Err QueueFull) h = subst (TakesOnlyExpired weighs [] now s) (sym h.1) (keeps_itself [] now s)
-      go (Some o) there (Err UnknownTicket) h = absurd h
-      go None there (Err UnknownTicket) h = subst (TakesOnlyExpired weighs [] now s) (sym h) (keeps_itself [] now s)
-      go None there (Err QueueFull) h = absurd h
-      go None there (Ok u) h = absurd h
 
 module _ {K V S X L P W C : Type 0} (m : Meaning K V X L P W C (Unit {0})) (old mid : Engine K V S X L P W) (now : Instant) (e : Events K V) (due : RunsIfDue (ListedRun m.says m.read old.write_list mid.write_list) old.state (length old.state.writes) now.0 e mid.state) (ticket : ℕ) where
   -- a ticket is posted at once

@@ -10,6 +10,7 @@ pub mod Stays
 pub mod Put
 pub mod Getting
 pub mod Lists
+pub mod Anytime
 pub mod Alike
 mod Listing
 mod Counting

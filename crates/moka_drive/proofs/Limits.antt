@@ -1,31 +1,21 @@
 -- No call but a change of the capacity changes what limits a cache.
-use Rattle.std.proofs.Common.{◌≡◌, refl, ℕ, Bool, true, false, List, [], ◌∷◌, ◌++◌, Option, Some, None, Result, Ok, Err, ap, sym, subst, ◌∙◌, inl, inr}
-use Rattle.std.specs.Prelude.{MatchBool}
+use Rattle.std.proofs.Common.{◌≡◌, refl, ℕ, Bool, List, [], ◌∷◌, ◌++◌, Option, Some, None, Result, Ok, Err, ap, sym, subst, ◌∙◌, inl, inr}
 use Rattle.std.specs.FinMap.{get}
 use Rattle.moka_parts.specs.declared.calls.Call.{Call}
-use Rattle.moka_parts.specs.declared.calls.Call.TheVariants as call
-use Rattle.moka_parts.specs.declared.calls.Entry.{Entry}
 use Rattle.moka_parts.specs.declared.error.InsertRefused.{InsertRefused}
 use Rattle.moka_parts.specs.declared.policy.Instant.{Instant}
 use Rattle.moka_parts.specs.declared.calls.KvEntry.{KvEntry}
-use Rattle.moka_parts.specs.declared.records.Operation.{Operation}
 use Rattle.moka_parts.specs.declared.error.OutOfMemory.{OutOfMemory}
-use Rattle.moka_parts.specs.declared.records.ReadOperation.{ReadOperation}
 use Rattle.moka_parts.specs.declared.records.Record.{Record}
 use Rattle.moka_parts.specs.declared.calls.Reply.{Reply}
-use Rattle.moka_parts.specs.declared.calls.Reply.TheVariants as reply
-use Rattle.moka_parts.specs.declared.error.PredicateRefused.{PredicateRefused}
-use Rattle.uuid.specs.declared.Uuid.{Uuid}
-use Rattle.moka_parts.specs.declared.error.SendError.{SendError}
-use Rattle.moka_parts.specs.declared.error.SendError.TheVariants.{UnknownTicket, QueueFull}
 use Rattle.moka_parts.specs.declared.calls.Ticket.{Ticket}
-use Rattle.moka_parts.specs.Bounds.{IsBounded}
-use Rattle.moka_parts.specs.Calls.{InsertsAt, InsertStep, RemovesAt, RemoveStep, GetsAt, GetStep, RecordsRead, KeeperRun, RunsIfDue, SendsAt, SendStep, InvalidateStep, PeeksAt, PeekStep, Unchanged, after_hit}
-use Rattle.moka_parts.specs.Housekeeping.{is_due}
-use Rattle.moka_parts.specs.Maintenance.{Terms, Course, Freedom, RunsBy, DoesNothing}
+use Rattle.moka_parts.specs.Calls.{RemovesAt, RemoveStep}
+use Rattle.moka_parts.specs.Maintenance.{Terms, Course}
 use Rattle.moka_parts.specs.Records.{Notice, record_of_key}
 use Rattle.moka_parts.specs.Runs.{CallStep, Step, AreSteps, PromisedRun, calls_of, last_state}
-use Rattle.moka_parts.specs.State.{State, Meaning, Events, is_disabled}
+use Rattle.moka_parts.specs.State.{State, Meaning, Events}
+use Rattle.moka_parts.proofs.EachCall.{IsKept, kept_by_call}
+use Rattle.moka_parts.proofs.Kept.{kept_by_run}
 use Rattle.moka_drive.specs.Synchronous.{Posts, InsertsEntry, GetsValue, RemovesEntry, InsertsMade, GetsOrInserts, GetsOrInsertsIfMade, GetsOrInsertsIfNoError}
 use Rattle.moka_drive.specs.Computing.{Computed, Computes, Upserts}
 use Rattle.moka_drive.specs.Computing.Computed.{Left, LeftNone, Puts, Takes}
@@ -42,17 +32,6 @@ module _ {K V X P W : Type 0} where
   to : (s t u : State K V X P W) → t ≡ u → HasSameLimits s u → HasSameLimits s t
   to s t u same limits = subst (λ x. HasSameLimits s x) (sym same) limits
 
-  send_limits : (s t : State K V X P W) (ticket : ℕ) (a : Result (Unit {0}) SendError) → SendStep s ticket a t → HasSameLimits s t
-  send_limits s t ticket a step = go (get s.outstanding ticket) a step
-    where
-      go : (o : Option Operation) (a : Result (Unit {0}) SendError) → SendsAt s ticket o a t → HasSameLimits s t
-      go (Some o) (Ok x) h = to s t _ h.1 (record { settings = refl; capacity = refl })
-      go (Some o) (Err QueueFull) h = alike s t h.1
-      go (Some o) (Err UnknownTicket) h = absurd h
-      go None (Err UnknownTicket) h = alike s t h
-      go None (Err QueueFull) h = absurd h
-      go None (Ok x) h = absurd h
-
   -- a removal keeps the limits
   pub remove_limits : (eq : K → K → Bool) (s t : State K V X P W) (key : K) (a : Option (KvEntry K V × Ticket)) → RemoveStep eq s key a t → HasSameLimits s t
   remove_limits eq s t key a step = go (record_of_key eq s.records key) step
@@ -60,63 +39,6 @@ module _ {K V X P W : Type 0} where
       go : (o : Option (Record K V)) → RemovesAt s o a t → HasSameLimits s t
       go None h = alike s t h.1
       go (Some r) h = to s t _ h.1 (record { settings = refl; capacity = refl })
-
-  insert_limits : (created : X → K → V → ℕ → Option ℕ) (updated : X → K → V → ℕ → Option ℕ → Option ℕ) (weighs : W → K → V → ℕ → Type 0) (eq : K → K → Bool) (s t : State K V X P W) (key : K) (hash : ℕ) (value : V) (now : Instant) (a : Result (Ticket × Instant) (InsertRefused K V)) (e : Events K V) → InsertStep created updated weighs eq s key hash value now a e t → HasSameLimits s t
-  insert_limits created updated weighs eq s t key hash value now a e step = go (record_of_key eq s.records key) a step
-    where
-      go : (o : Option (Record K V)) (a : Result (Ticket × Instant) (InsertRefused K V)) → InsertsAt created updated weighs s o key hash value now a e t → HasSameLimits s t
-      go None (Ok a) h = to s t _ h.5 (record { settings = refl; capacity = refl })
-      go (Some r) (Ok a) h = to s t _ h.5 (record { settings = refl; capacity = refl })
-      go None (Err refused) h = alike s t h.1.0
-      go (Some r) (Err refused) h = alike s t h.1.0
-
-  module _ (says : P → K → V → Bool → Type 0) (read : X → K → V → ℕ → Option ℕ → ℕ → Option ℕ) where
-    run_limits : (s t : State K V X P W) (terms : Terms) (course : Course) (notices : List (Notice K V)) → PromisedRun says read s terms course notices t → HasSameLimits s t
-    run_limits s t terms course notices run = go (is_disabled s.capacity) run.0
-      where
-        go : (b : Bool) → MatchBool b (DoesNothing s course notices t) ((ch : Freedom) × RunsBy says s terms ch course notices t × IsBounded says s terms ch course) → HasSameLimits s t
-        go true h = alike s t h.0
-        go false (ch, by, detail) = to s t _ by.1 (record { settings = refl; capacity = refl })
-
-    due_limits : (s t : State K V X P W) (queued now : ℕ) (e : Events K V) → RunsIfDue (PromisedRun says read) s queued now e t → HasSameLimits s t
-    due_limits s t queued now e step = go (is_due s.housekeeping queued now) step
-      where
-        go : (b : Bool) → MatchBool b (KeeperRun (PromisedRun says read) s now e t) (Unchanged s e t) → HasSameLimits s t
-        go true (answer, mid, (course, run, is, events), same) = on s mid t (run_limits s mid _ course e.notices run) (to mid t _ same (record { settings = refl; capacity = refl }))
-        go false h = alike s t h.0
-
-    recorded_limits : (s t : State K V X P W) (now : ℕ) (r : ReadOperation) (e : Events K V) → RecordsRead (PromisedRun says read) s now r e t → HasSameLimits s t
-    recorded_limits s t now r e (mid, run, same) = on s mid t (due_limits s mid _ now e run) (to mid t _ same (record { settings = refl; capacity = refl }))
-
-    get_limits : (eq : K → K → Bool) (s t : State K V X P W) (key : K) (hash : ℕ) (need_key ignored : Bool) (now : ℕ) (a : Result (Option (Entry K V)) OutOfMemory) (e : Events K V) → GetStep says read (PromisedRun says read) eq s key hash need_key ignored now a e t → HasSameLimits s t
-    get_limits eq s t key hash need_key ignored now a e step = go (is_disabled s.capacity) step
-      where
-        at : (o : Option (Record K V)) (a : Result (Option (Entry K V)) OutOfMemory) → GetsAt says read (PromisedRun says read) s o hash need_key ignored now a e t → HasSameLimits s t
-        at None a h = recorded_limits s t now _ e h.1
-        at (Some r) (Ok None) h = recorded_limits s t now _ e h.1
-        at (Some r) (Ok (Some entry)) h = on s (after_hit read s r now) t (record { settings = refl; capacity = refl }) (recorded_limits (after_hit read s r now) t _ _ e h.3)
-        at (Some r) (Err x) h = alike s t h.1.0
-
-        go : (b : Bool) → MatchBool b ((a ≡ Ok None) × Unchanged s e t) (GetsAt says read (PromisedRun says read) s (record_of_key eq s.records key) hash need_key ignored now a e t) → HasSameLimits s t
-        go true h = alike s t h.1.0
-        go false h = at (record_of_key eq s.records key) a h
-
-    peek_limits : (eq : K → K → Bool) (s t : State K V X P W) (key : K) (ignored : Bool) (now : ℕ) (a : Result (Option V) OutOfMemory) → PeekStep says read eq s key ignored now a t → HasSameLimits s t
-    peek_limits eq s t key ignored now a step = go (is_disabled s.capacity) step
-      where
-        at : (o : Option (Record K V)) (a : Result (Option V) OutOfMemory) → PeeksAt says read s o ignored now a t → HasSameLimits s t
-        at None a h = alike s t h.1
-        at (Some r) (Ok None) h = alike s t h.1
-        at (Some r) (Ok (Some value)) h = to s t _ h.2 (record { settings = refl; capacity = refl })
-        at (Some r) (Err x) h = alike s t h.1
-
-        go : (b : Bool) → MatchBool b ((a ≡ Ok None) × (t ≡ s)) (PeeksAt says read s (record_of_key eq s.records key) ignored now a t) → HasSameLimits s t
-        go true h = alike s t h.1
-        go false h = at (record_of_key eq s.records key) a h
-
-  predicate_limits : (s t : State K V X P W) (predicate : P) (now : Instant) (a : Result Uuid (PredicateRefused P)) (ids : List Uuid) → InvalidateStep s predicate now a ids t → HasSameLimits s t
-  predicate_limits s t predicate now (Ok id) ids (on, few, free, same) = to s t _ same (record { settings = refl; capacity = refl })
-  predicate_limits s t predicate now (Err refused) ids (back, why, same) = alike s t same
 
 -- ---- lists of calls
 
@@ -205,28 +127,27 @@ calls_set_none K V P E key hash now = record {
 }
 
 module _ {K V X L P W C : Type 0} (m : Meaning K V X L P W C (Unit {0})) where
+  limits_kept : (s : State K V X P W) (c : Call K V P) → SetsNoCapacity c → IsKept m (HasSameLimits s) (HasSameLimits s) s c
+  limits_kept s c none = record {
+    begins = record { settings = refl; capacity = refl };
+    left = record { settings = refl; capacity = refl };
+    inserted = λ key hash value now w is enabled absent. record { settings = refl; capacity = refl };
+    replaced = λ r key hash value now w is found. record { settings = refl; capacity = refl };
+    removed = λ key hash now r is found. record { settings = refl; capacity = refl };
+    sent = λ ticket o is there room. record { settings = refl; capacity = refl };
+    hit = λ key r now moment found visible. (record { settings = refl; capacity = refl }, record { settings = refl; capacity = refl });
+    hidden = λ now is. record { settings = refl; capacity = refl };
+    registered = λ p. record { settings = refl; capacity = refl };
+    resized = λ capacity is enabled. absurd (subst SetsNoCapacity is none);
+    aside = λ t reads housekeeping same. record { settings = same.settings; capacity = same.capacity };
+  }
+
+  run_limits : (s t : State K V X P W) (terms : Terms) (course : Course) (notices : List (Notice K V)) → PromisedRun m.says m.read s terms course notices t → HasSameLimits s t
+  run_limits s t terms course notices run = kept_by_run (HasSameLimits s) s t (record { settings = refl; capacity = refl }) _ m.says terms course notices (λ ch enabled free. record { settings = refl; capacity = refl }) run.0
+
   step_limits : (s t : State K V X P W) (c : Call K V P) (r : Reply K V P) (e : Events K V) → SetsNoCapacity c → CallStep m (PromisedRun m.says m.read) s c r e t → HasSameLimits s t
-  step_limits s t (call.Get key hash need_key now) (reply.Get a) e none step = get_limits m.says m.read m.eq s t key hash need_key false now.0 a e step
-  step_limits s t (call.GetUnrecorded key hash now) (reply.GetUnrecorded a) e none step = peek_limits m.says m.read m.eq s t key false now.0 a step.0
-  step_limits s t (call.Contains key hash now) (reply.Contains shown) e none step = alike s t step.1.0
-  step_limits s t (call.Key key hash) (reply.Key a) e none step = alike s t step.1.0
-  step_limits s t (call.Scan key now) (reply.Scan a) e none step = alike s t step.1.0
-  step_limits s t (call.Insert key hash value now) (reply.Insert a) e none step = insert_limits m.created m.updated m.weighs m.eq s t key hash value now a e step.1
-  step_limits s t (call.Insert key hash value now) (reply.Disabled k v) e none step = alike s t step.3.0
-  step_limits s t (call.Remove key hash now) (reply.Remove a told) e none step = remove_limits m.eq s t key a step.0
-  step_limits s t (call.InvalidateAll now) reply.InvalidateAll e none step = to s t _ step.0 (record { settings = refl; capacity = refl })
-  step_limits s t (call.InvalidateIf predicate now) (reply.InvalidateIf a) e none step = predicate_limits s t predicate now a e.ids step.0
-  step_limits s t (call.Send ticket) (reply.Send a) e none step = send_limits s t ticket.0 a step.0
-  step_limits s t (call.RunIfDue now) reply.RunIfDue e none step = due_limits m.says m.read s t _ now.0 e step
-  step_limits s t (call.Run now limit repeats batch) (reply.Run more) e none (course, run, is, events) = run_limits m.says m.read s t _ course e.notices run
-  step_limits s t call.DisableAutoRun reply.DisableAutoRun e none step = to s t _ step.0 (record { settings = refl; capacity = refl })
-  step_limits s t (call.Keys segment) (reply.Keys (Ok (Some keys))) e none step = alike s t step.1.0
-  step_limits s t (call.Keys segment) (reply.Keys (Ok None)) e none step = alike s t step.1.0
-  step_limits s t (call.Keys segment) (reply.Keys (Err refused)) e none step = alike s t step.1.0
-  step_limits s t call.Report (reply.Report count weight predicates) e none step = alike s t step.3.0
-  step_limits s t call.Pending (reply.Pending handed oldest writes reads) e none step = alike s t step.4.0
-  step_limits s t (call.SetCapacity capacity) r e none step = absurd none
-  step_limits s t c r e none step = absurd step
+  step_limits s t c r e none step =
+      kept_by_call m (PromisedRun m.says m.read) (HasSameLimits s) (HasSameLimits s) (λ from terms course notices mid same run. on s from mid same (run_limits from mid terms course notices run)) s t c r e (limits_kept s c none) step
 
   steps_limits : (s : State K V X P W) (steps : List (Step K V X P W)) → SetNoCapacity (calls_of steps) → AreSteps m (PromisedRun m.says m.read) s steps → HasSameLimits s (last_state s steps)
   steps_limits s [] none are = record { settings = refl; capacity = refl }

@@ -1,5 +1,5 @@
 -- A record whose present operation was not sent yet stays in every run.
-use Rattle.std.proofs.Common.{◌≡◌, refl, ℕ, ◌<◌, Bool, true, false, cond, ◌==◌, ◌-◌, nat_lt, List, [], ◌∷◌, Option, Some, None, Result, Ok, Err, option_map, ap, sym, subst, ◌∙◌, ◌⊎◌, inl, inr, MatchBool, true≢false, arith, if◌then◌else◌}
+use Rattle.std.proofs.Common.{◌≡◌, refl, ℕ, ◌<◌, Bool, true, false, cond, ◌==◌, ◌-◌, nat_lt, List, [], ◌∷◌, Option, Some, None, Result, option_map, ap, sym, subst, ◌∙◌, ◌⊎◌, inl, inr, true≢false, arith, if◌then◌else◌}
 use Rattle.std.specs.Option.{option_map_or}
 use Rattle.std.specs.FinMap.{get, insert, remove}
 use Rattle.std.proofs.lemmas.Bool.{and_parts}
@@ -13,16 +13,15 @@ use Rattle.moka_parts.specs.declared.records.Operation.TheVariants.{Upsert, Remo
 use Rattle.moka_parts.specs.declared.records.Registered.{Registered}
 use Rattle.moka_parts.specs.declared.records.Ticketed.{Ticketed}
 use Rattle.moka_parts.specs.Records.{Notice, Records, is_settled, settled_members, is_member, has_room, total_weight}
-use Rattle.moka_parts.specs.State.{State, Contents, Events, contents, is_disabled}
+use Rattle.moka_parts.specs.State.{State, Contents, Events, contents}
 use Rattle.moka_parts.specs.Candidates.{prefix, victims_for, is_preferred}
 use Rattle.moka_parts.specs.Writes.{Fate, Ignored, Overtaken, Counted, Admitted, TooHeavy, Preferred, Refused, with_applied, without_records, rejected, fate_by_frequency, fate_by_policy, fate_of_newcomer, fate_of_record, after_fate, after_write, after_writes}
-use Rattle.moka_parts.specs.Maintenance.{Choice, Removes, MovesToBack, Drops, Freedom, Terms, Course, Tests, DoesNothing, RunsBy, RunsWith, IsJustified, AreJustified, after_choice, after_choices, kept_by_choice, after_queued_reads, before_steps, tests_of}
+use Rattle.moka_parts.specs.Maintenance.{Choice, Removes, MovesToBack, Drops, Freedom, Terms, Course, Tests, RunsWith, IsJustified, AreJustified, after_choice, after_choices, kept_by_choice, after_queued_reads, before_steps, tests_of}
 use Rattle.moka_parts.proofs.Maps.{AreApart, same_or_apart, get_inserted, get_past_insert, get_past_remove, apart_below}
 use Rattle.moka_parts.proofs.RunKeeps.{reads_keep}
+use Rattle.moka_parts.proofs.Kept.{kept_by_run, kept_by_due, kept_by_send}
 use Rattle.moka_parts.specs.declared.error.SendError.{SendError}
-use Rattle.moka_parts.specs.declared.error.SendError.TheVariants.{UnknownTicket, QueueFull}
-use Rattle.moka_parts.specs.Housekeeping.{is_due}
-use Rattle.moka_parts.specs.Calls.{KeeperRun, RunsIfDue, Unchanged, SendsAt, SendStep}
+use Rattle.moka_parts.specs.Calls.{RunsIfDue, SendStep}
 use Rattle.moka_drive.specs.Unsent.{IsHeld, IsOlder, AreOlder, HoldsUnsent}
 
 not_equal_back : (a g : ℕ) → a < g → (g == a) ≡ false
@@ -174,36 +173,22 @@ module _ {K V : Type 0} (n : ℕ) (r : Record K V) where
 module _ {K V X P W : Type 0} (says : P → K → V → Bool → Type 0) (Outcome : State K V X P W → Terms → Course → State K V X P W → Type 0) (Detail : State K V X P W → Terms → Freedom → Course → Type 0) where
   -- a run holds a record whose queued operations are older
   pub run_holds : (n : ℕ) (r : Record K V) (s : State K V X P W) (terms : Terms) (course : Course) (notices : List (Notice K V)) (t : State K V X P W) → AreOlder n r s.writes → IsHeld n r s.records → RunsWith says Outcome Detail s terms course notices t → IsHeld n r t.records
-  run_holds n r s terms course notices t older h run = go (is_disabled s.capacity) run.0
-    where
-      go : (b : Bool) → MatchBool b (DoesNothing s course notices t) ((ch : Freedom) × RunsBy says s terms ch course notices t × Detail s terms ch course) → IsHeld n r t.records
-      go true nothing = subst (λ (x : State K V X P W). IsHeld n r x.records) (sym nothing.0) h
-      go false (ch, by, detail) =
-          let read : IsHeld n r (after_queued_reads s).records = subst (IsHeld n r) (sym (reads_keep (contents s) s.reads)) h in
-          let written : IsHeld n r (before_steps s ch).records = writes_hold n r s.capacity s.settings.policy (after_queued_reads s) s.writes ch.moves older read in
-          subst (λ (x : State K V X P W). IsHeld n r x.records) (sym by.1) (choices_hold n r says (tests_of s terms.now) (before_steps s ch) s.predicates ch.steps by.0.1 written)
+  run_holds n r s terms course notices t older h run = kept_by_run (λ x. IsHeld n r x.records) s t h _ says terms course notices
+      (λ ch enabled free.
+      let read : IsHeld n r (after_queued_reads s).records = subst (IsHeld n r) (sym (reads_keep (contents s) s.reads)) h in
+      let written : IsHeld n r (before_steps s ch).records = writes_hold n r s.capacity s.settings.policy (after_queued_reads s) s.writes ch.moves older read in
+      choices_hold n r says (tests_of s terms.now) (before_steps s ch) s.predicates ch.steps free.1 written) run.0
 
   -- it empties the queue of writes or leaves it
   pub run_writes : (s : State K V X P W) (terms : Terms) (course : Course) (notices : List (Notice K V)) (t : State K V X P W) → RunsWith says Outcome Detail s terms course notices t → (t.writes ≡ []) ⊎ (t.writes ≡ s.writes)
-  run_writes s terms course notices t run = go (is_disabled s.capacity) run.0
-    where
-      go : (b : Bool) → MatchBool b (DoesNothing s course notices t) ((ch : Freedom) × RunsBy says s terms ch course notices t × Detail s terms ch course) → (t.writes ≡ []) ⊎ (t.writes ≡ s.writes)
-      go true nothing = inr (ap (λ (x : State K V X P W). x.writes) nothing.0)
-      go false (ch, by, detail) = inl (ap (λ (x : State K V X P W). x.writes) by.1)
+  run_writes s terms course notices t run = kept_by_run (λ x. (x.writes ≡ []) ⊎ (x.writes ≡ s.writes)) s t (inr refl) _ says terms course notices (λ ch enabled free. inl refl) run.0
 
 module _ {K V X P W : Type 0} (Runs : State K V X P W → Terms → Course → List (Notice K V) → State K V X P W → Type 0) (holds : (s : State K V X P W) (terms : Terms) (course : Course) (notices : List (Notice K V)) (t : State K V X P W) → Runs s terms course notices t → HoldsUnsent s t)
     (writes : (s : State K V X P W) (terms : Terms) (course : Course) (notices : List (Notice K V)) (t : State K V X P W) → Runs s terms course notices t → (t.writes ≡ []) ⊎ (t.writes ≡ s.writes)) where
   -- so does the run that is due, if one is
   pub due_holds : (s : State K V X P W) (queued now : ℕ) (e : Events K V) (t : State K V X P W) → RunsIfDue Runs s queued now e t → HoldsUnsent s t × ((t.writes ≡ []) ⊎ (t.writes ≡ s.writes))
-  due_holds s queued now e t step = go (is_due s.housekeeping queued now) step
-    where
-      go : (b : Bool) → MatchBool b (KeeperRun Runs s now e t) (Unchanged s e t) → HoldsUnsent s t × ((t.writes ≡ []) ⊎ (t.writes ≡ s.writes))
-      go true (answer, mid, (course, ran, same, told), changed) =
-          let h = holds s _ course e.notices mid ran in
-          let w = writes s _ course e.notices mid ran in
-          let out : t.writes ≡ mid.writes = ap (λ (x : State K V X P W). x.writes) changed in
-          ((λ n r older held. subst (λ (x : State K V X P W). IsHeld n r x.records) (sym changed) (h n r older held)), elim w [ inl none ↦ inl (out ∙ none) | inr left ↦ inr (out ∙ left) ])
-      go false (same, none) = ((λ n r older held. subst (λ (x : State K V X P W). IsHeld n r x.records) (sym same) held), inr (ap (λ (x : State K V X P W). x.writes) same))
+  due_holds s queued now e t step = kept_by_due (λ x. HoldsUnsent s x × ((x.writes ≡ []) ⊎ (x.writes ≡ s.writes))) s t ((λ n r older held. held), inr refl) Runs queued now e
+      (λ course mid housekeeping run. (holds s _ course e.notices mid run, writes s _ course e.notices mid run)) step
 
 -- what is older than a record in a queue is so in an empty one
 pub older_left : {K V : Type 0} (n : ℕ) (r : Record K V) (before after : List Ticketed) → (after ≡ []) ⊎ (after ≡ before) → AreOlder n r before → AreOlder n r after
@@ -212,10 +197,4 @@ older_left n r before after (inr same) older = subst (AreOlder n r) (sym same) o
 
 -- a send leaves the records
 pub send_holds : {K V X P W : Type 0} (s : State K V X P W) (ticket : ℕ) (a : Result (Unit {0}) SendError) (t : State K V X P W) → SendStep s ticket a t → t.records ≡ s.records
-send_holds {K} {V} {X} {P} {W} s ticket a t step = go (get s.outstanding ticket) a step
-  where
-    go : (o : Option Operation) (a : Result (Unit {0}) SendError) → SendsAt s ticket o a t → t.records ≡ s.records
-    go (Some o) (Ok u) h = ap (λ (x : State K V X P W). x.records) h.1
-    go (Some o) (Err QueueFull) h = ap (λ (x : State K V X P W). x.records) h.1
-    go None (Err UnknownTicket) h = ap (λ (x : State K V X P W). x.records) h
-    go o a h = absurd h
+send_holds s ticket a t step = kept_by_send (λ x. x.records ≡ s.records) s t refl ticket a (λ o there room. refl) step

@@ -9,7 +9,7 @@ use Rattle.moka_parts.specs.Surroundings.{Leads, Heard, NoticeStep}
 use Rattle.moka_parts.specs.Time.{greatest, plus}
 use Rattle.moka_drive.specs.declared.removals.Removals.{Removals}
 use Rattle.moka_drive.specs.declared.removals.CountingListener.{CountingListener}
-use Rattle.moka_drive.specs.Removed.{no_removals, after_removal, counting, removals_of, is_of, AreHeld, AreCounted, CountsRemovals, PassesOn}
+use Rattle.moka_drive.specs.Removed.{no_removals, after_removal, counting, removals_of, is_of, AreHeld, AreCounted, CountsHeard, CountsRemovals, PassesOn}
 use Rattle.moka_drive.specs.Synchronous.{hears_clones}
 use Rattle.moka_drive.proofs.Counting.{no_more, more_and_more, within, zero_plus, count_after}
 
@@ -62,11 +62,14 @@ module _ {K V : Type 0} where
     heard_counted None ns (Some after) held heard = absurd heard
     heard_counted (Some before) ns None held heard = absurd heard
 
+    pub counts_heard : CountsHeard tells
+    counts_heard before after ns held heard =
+        let counted = heard_counted before ns after held heard in
+        (counted, still_held ns (removals_of before) (removals_of after) counted)
+
     pub counts_removals : {X P W C : Type 0} (S : Type 0) (m : Meaning K V X (CountingListener L) P W C (Unit {0})) → m.tells ≡ tells → CountsRemovals S m
     counts_removals S m same calls replies old new clock clock_after held made =
-        let heard = subst (λ t. Heard t old.listener (notices_of made.steps) new.listener) same made.is_run.heard in
-        let counted = heard_counted old.listener (notices_of made.steps) new.listener held heard in
-        (counted, still_held (notices_of made.steps) (removals_of old.listener) (removals_of new.listener) counted)
+        counts_heard old.listener new.listener (notices_of made.steps) held (subst (λ t. Heard t old.listener (notices_of made.steps) new.listener) same made.is_run.heard)
 
   module _ {L : Type 0} (tells : L → K → V → RemovalCause → L → Type 0) where
     pub counting_counts : (before : CountingListener L) (key : K) (value : V) (cause : RemovalCause) (after : CountingListener L) → counting tells before key value cause after → after.removals ≡ after_removal cause before.removals

@@ -25,6 +25,7 @@ use Rattle.moka_parts.specs.Settling.{IsWellNumbered}
 use Rattle.moka_parts.proofs.Maps.{same_or_apart, get_inserted, get_past_insert, get_removed, get_past_remove}
 use Rattle.moka_parts.proofs.Lookup.{record_of_key_empty}
 use Rattle.moka_parts.proofs.Values.{empty_map}
+use Rattle.moka_parts.proofs.Kept.{kept_by_run}
 
 -- ---- one operation alone
 
@@ -59,11 +60,7 @@ module _ {K V X P W : Type 0} where
 
   module _ (says : P → K → V → Bool → Type 0) (Outcome : State K V X P W → Terms → Course → State K V X P W → Type 0) (Detail : State K V X P W → Terms → Freedom → Course → Type 0) where
     pub run_alike : (s : State K V X P W) (terms : Terms) (course : Course) (notices : List (Notice K V)) (t : State K V X P W) → RunsWith says Outcome Detail s terms course notices t → IsAlike s t
-    run_alike s terms course notices t run = go (is_disabled s.capacity) run.0
-      where
-        go : (b : Bool) → MatchBool b (DoesNothing s course notices t) ((ch : Freedom) × RunsBy says s terms ch course notices t × Detail s terms ch course) → IsAlike s t
-        go true nothing = subst (IsAlike s) (sym nothing.0) (alike_itself s)
-        go false (ch, by, detail) = subst (IsAlike s) (sym by.1) (record { outstanding = refl; capacity = refl })
+    run_alike s terms course notices t run = kept_by_run (IsAlike s) s t (alike_itself s) _ says terms course notices (λ ch enabled free. record { outstanding = refl; capacity = refl }) run.0
 
     -- a run of a map that is not disabled empties the queue of writes
     pub run_empties : (s : State K V X P W) (terms : Terms) (course : Course) (notices : List (Notice K V)) (t : State K V X P W) → is_disabled s.capacity ≡ false → RunsWith says Outcome Detail s terms course notices t → t.writes ≡ []

@@ -25,6 +25,20 @@ abbrev pub AreTimely : {K V X P W : Type 0} → State K V X P W → List (Step K
 AreTimely s [] = Unit {0}
 AreTimely s (x ∷ xs) = IsTimely s x.call × AreTimely x.after xs
 
+-- the same but for the clock, which may tell any moment: so it may be moved between two calls
+abbrev pub anytime : {K V X L P W C I : Type 0} → Meaning K V X L P W C I → Meaning K V X L P W (Unit {0}) I
+anytime m = record {
+  eq = m.eq;
+  tells = m.tells;
+  says = m.says;
+  weighs = m.weighs;
+  observes = λ _ _ _. Unit {0};
+  gives = m.gives;
+  created = m.created;
+  read = m.read;
+  updated = m.updated;
+}
+
 module _ {K V X L P W C : Type 0} (S : Type 0) (m : Meaning K V X L P W C (Unit {0})) where
   -- what was made after what was made is a run as well
   abbrev pub GoesOn : Type 0
@@ -76,3 +90,13 @@ module _ {K V X L P W C : Type 0} (S : Type 0) (m : Meaning K V X L P W C (Unit 
       (old new : Engine K V S X L P W) (clock clock_after : C) →
       Made (record m { tells = hears_clones is_key_clone is_value_clone m.tells }) calls replies old clock new
       clock_after → Made m calls replies old clock new clock_after
+
+-- calls on a clock that moves between them are one run as well, at moments of any kind
+pub record MadeAnytime {K V X L P W C : Type 0} (S : Type 0) (m : Meaning K V X L P W C (Unit {0})) : Type 0 where
+  -- what was made was made at some moments
+  pub made : (calls : List (Call K V P)) (replies : List (Reply K V P)) (old new : Engine K V S X L P W)
+      (clock clock_after : C) → Made m calls replies old clock new clock_after →
+      Made (anytime m) calls replies old tt new tt
+  pub goes_on : GoesOn S (anytime m)
+  pub keeps_promises : KeepsPromises S (anytime m)
+  pub ages_out : AgesOut S (anytime m)

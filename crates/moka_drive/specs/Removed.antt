@@ -64,7 +64,7 @@ pub record AreCounted {K V : Type 0} (notices : List (Notice K V)) (s t : Remova
 
 -- ---- laws
 
--- over any list of calls of a cache the counters are the notices of its run, by cause
+-- over any list of calls that were made (`Made`) the counters are the notices of its run, by cause
 abbrev pub CountsRemovals : {K V X L P W C : Type 0} → Type 0 → Meaning K V X (CountingListener L) P W C (Unit {0}) →
     Type 0
 CountsRemovals {K} {V} {X} {L} {P} {W} {C} S m = (calls : List (Call K V P)) (replies : List (Reply K V P))
@@ -72,6 +72,13 @@ CountsRemovals {K} {V} {X} {L} {P} {W} {C} S m = (calls : List (Call K V P)) (re
     (made : Made m calls replies old clock new clock_after) →
     AreCounted (notices_of made.steps) (removals_of old.listener) (removals_of new.listener)
     × AreHeld (removals_of new.listener)
+
+-- and over whatever was heard by this telling
+abbrev pub CountsHeard : {K V L : Type 0} → (CountingListener L → K → V → RemovalCause → CountingListener L → Type 0) →
+    Type 0
+CountsHeard {K} {V} {L} tells = (before after : Option (CountingListener L)) (notices : List (Notice K V)) →
+    AreHeld (removals_of before) → Heard tells before notices after →
+    AreCounted notices (removals_of before) (removals_of after) × AreHeld (removals_of after)
 
 -- and the listener within hears of each
 abbrev pub PassesOn : {K V L : Type 0} → (L → K → V → RemovalCause → L → Type 0) → Type 0

@@ -9,7 +9,6 @@ ghost use Rattle.moka_parts.specs.Runs.{Befalls};
 ghost use Rattle.moka_parts.specs.State.{Events, is_disabled, limits_of};
 ghost use Rattle.moka_parts.specs.Surroundings.{Leads};
 ghost use Rattle.moka_engine.specs.Config.{new_engine};
-ghost use Rattle.moka_parts.specs.declared.calls.Call.TheVariants as call;
 ghost use Rattle.moka_parts.specs.declared.calls.Reply.TheVariants as reply;
 ghost use Rattle.moka_parts.specs.declared.error.InsertRefused.{InsertRefused};
 ghost use Rattle.moka_parts.specs.declared.error.OutOfMemory.{OutOfMemory};
@@ -730,7 +729,8 @@ fn value_of<K: Drop, V>(
     }
 }
 
-// What a removal answers: the value that was taken out, or, where the listener could not be notified, the error with it.
+// What a removal answers: the value that was taken out, or, where the listener could not be notified, the error with
+// it.
 fn removed<V>(taken: Option<(V, Result<(), OutOfMemory>)>) -> Result<Option<V>, NotTold<V>>
     ensures { result ≡ removed taken }
 {
@@ -747,11 +747,8 @@ fn removed<V>(taken: Option<(V, Result<(), OutOfMemory>)>) -> Result<Option<V>, 
 fn invalidated<V: Drop>(taken: Option<(V, Result<(), OutOfMemory>)>) -> Result<(), NotTold<V>>
     ensures { result ≡ invalidated taken }
 {
-    let Some((value, told)) = taken else {
-        return Ok(());
-    };
-    match told {
-        Ok(()) => Ok(()),
-        Err(error) => Err(NotTold { error, value }),
+    match removed(taken) {
+        Ok(_) => Ok(()),
+        Err(refused) => Err(refused),
     }
 }

@@ -1,7 +1,7 @@
 //! Entry calls by moka's names: `cache.entry(key)` hands out a selector, and each of its methods is one call of the
 //! cache.
 //! moka: `sync::entry_selector`.
-ghost use Rattle.std.specs.Prelude.{◌≡◌, false, Option, None, Result, option_copied};
+ghost use Rattle.std.specs.Prelude.{◌≡◌, false, Option, Result, option_copied};
 ghost use Rattle.moka_parts.specs.Calls.{ContainsStep};
 ghost use Rattle.moka_parts.specs.declared.error.InsertRefused.{InsertRefused};
 ghost use Rattle.moka_drive.specs.Computing.{AndUpserts, AndComputes};

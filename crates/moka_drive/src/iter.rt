@@ -1,5 +1,5 @@
 //! The entries that are visible. moka: `sync::iter`.
-ghost use Rattle.std.specs.Prelude.{◌≡◌, IfOk};
+ghost use Rattle.std.specs.Prelude.{IfOk};
 ghost use Rattle.std.specs.Vec.Iter.{into_iter_items};
 ghost use Rattle.moka_parts.specs.Copies.{ClonesAreEqual};
 ghost use Rattle.moka_parts.specs.declared.policy.Instant.{Instant};
@@ -40,6 +40,7 @@ impl<
         self.engine().invariant_holds();
         match self.engine().keys(0)? {
             Some(keys) => Ok(Self::look_up_all(self.engine(), keys, now)?.into_iter()),
+            // Segment 0 is always there.
             None => Err(OutOfMemory),
         }
     }

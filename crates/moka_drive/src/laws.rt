@@ -1,6 +1,6 @@
 //! Laws of the calls that a synchronous cache made. None of these functions does anything: the contract of each is a
 //! law.
-ghost use Rattle.moka_drive.specs.Removed.{counting, CountsRemovals, PassesOn};
+ghost use Rattle.moka_drive.specs.Removed.{counting, CountsHeard, CountsRemovals, PassesOn};
 ghost use Rattle.moka_drive.specs.Limits.{CallsSetNoCapacity, KeepsLimits};
 ghost use Rattle.moka_drive.specs.Saved.{AnswersAlike, EmptyHasRoom, MadeAgainAnswersAlike};
 ghost use Rattle.moka_parts.specs.declared.policy.Instant.{Instant};
@@ -9,7 +9,7 @@ ghost use Rattle.moka_drive.specs.Synchronous.{meaning_of, hears_clones};
 ghost use Rattle.moka_drive.specs.Counted.{CountsCalls, AddsUp, SumsToLookUps};
 ghost use Rattle.moka_parts.specs.State.{meaning_of as asking_meaning_of};
 ghost use Rattle.moka_drive.specs.Registering.{JoinsRegistrations};
-ghost use Rattle.moka_drive.specs.Laws.{GoesOn, KeepsPromises, AgesOut, HearsClones, HearsThemselves, InvalidateAllIsMade, SetMaxCapacityIsMade};
+ghost use Rattle.moka_drive.specs.Laws.{GoesOn, KeepsPromises, AgesOut, HearsClones, HearsThemselves, InvalidateAllIsMade, MadeAnytime, SetMaxCapacityIsMade, anytime};
 
 use moka_parts::closures::{PredicateFn, Weigher};
 use moka_parts::housekeeper::Clock;
@@ -18,8 +18,9 @@ use moka_parts::notification::Listener;
 use moka_parts::policy::Expiry;
 
 /// Calls that are chains of steps (`Made`), one after the other, are one run of the reference cache, however many there
-/// are. `restore` and `restore_entry` are none, since the reference cache has no such call; nor is
-/// `invalidate_entries_if`, which asks for identifiers (`joins_registrations`).
+/// are, where each goes on with the clock that the one before it left (else `made_anytime`). `restore` and
+/// `restore_entry` are none, since the reference cache has no such call; nor is `invalidate_entries_if`, which asks for
+/// identifiers (`joins_registrations`).
 pub fn goes_on<
     K: Eq,
     V,
@@ -51,9 +52,30 @@ pub fn makes_one_step<
         (meaning_of K.eq L.tells P.says W.weighs C.reads X.created X.read X.updated) }
 {}
 
+/// Calls between which the clock moves are one run too: what was made by a clock was made by one that may tell any
+/// moment (`anytime`), such calls join, and their run keeps all that is promised of a list of calls; whether the
+/// listener hears of keys and values or of clones. So the calls of a cache that owns its clock join, each of which
+/// reads it first, and those of a cache that is handed a fresh clock at each.
+pub fn made_anytime<
+    K: Eq + Clone,
+    V: Clone,
+    S,
+    X: Expiry<K, V>,
+    L: Listener<K, V>,
+    P: PredicateFn<K, V>,
+    W: Weigher<K, V>,
+    C: Clock,
+>()
+    ensures themselves { MadeAnytime S
+        (meaning_of K.eq L.tells P.says W.weighs C.reads X.created X.read X.updated) }
+    ensures clones { MadeAnytime S
+        (meaning_of K.eq (hears_clones K.is_clone V.is_clone L.tells) P.says W.weighs C.reads
+        X.created X.read X.updated) }
+{}
+
 /// Chains of steps (`Made`) and calls of `invalidate_entries_if` are one run, in which identifiers are asked for
 /// (`MadeAsking`), and which keeps all that is promised of a list of calls; whether the listener hears of keys and
-/// values or of clones.
+/// values or of clones, and also where the clock moves between them (`made_anytime`).
 pub fn joins_registrations<
     K: Eq + Clone,
     V: Clone,
@@ -73,6 +95,11 @@ pub fn joins_registrations<
         X.created X.read X.updated)
         (asking_meaning_of K.eq (hears_clones K.is_clone V.is_clone L.tells) P.says W.weighs C.reads I.gives
         X.created X.read X.updated) }
+    ensures at_any_time { JoinsRegistrations S L.tells
+        (anytime (meaning_of K.eq (hears_clones K.is_clone V.is_clone L.tells) P.says W.weighs C.reads
+        X.created X.read X.updated))
+        (anytime (asking_meaning_of K.eq (hears_clones K.is_clone V.is_clone L.tells) P.says W.weighs C.reads I.gives
+        X.created X.read X.updated)) }
 {}
 
 /// The run that `goes_on` joins keeps all that is promised of a list of calls.
@@ -144,8 +171,10 @@ pub fn counts_look_ups<K, V: Clone, P, E>()
     ensures look_ups { SumsToLookUps K V P }
 {}
 
-/// Over any list of calls of a cache with a `CountingListener`, each counter rises by the removals of its cause in the
-/// run of the reference cache, saturating; and the listener within hears of each.
+/// Over calls that are chains of steps (`Made`) of a cache with a `CountingListener`, each counter rises by the
+/// removals of its cause in the run of the reference cache, saturating; and the listener within hears of each. The same
+/// holds of whatever such a listener heard (`heard`, `clones_heard`), so of each list of calls whose run says what was
+/// heard (`is_run`), as `joins_registrations` and `made_anytime` give it.
 pub fn counts_removals<
     K: Eq + Clone,
     V: Clone,
@@ -160,6 +189,8 @@ pub fn counts_removals<
         (meaning_of K.eq (counting L.tells) P.says W.weighs C.reads X.created X.read X.updated) }
     ensures clones { CountsRemovals S (meaning_of K.eq (hears_clones K.is_clone V.is_clone (counting L.tells)) P.says
         W.weighs C.reads X.created X.read X.updated) }
+    ensures heard { CountsHeard (counting L.tells) }
+    ensures clones_heard { CountsHeard (hears_clones K.is_clone V.is_clone (counting L.tells)) }
     ensures passed_on { PassesOn L.tells }
 {}
 
@@ -184,8 +215,9 @@ pub fn made_again_answers_alike<
     ensures room { EmptyHasRoom X P W.weighs }
 {}
 
-/// Times, policy and the like stay as they were built, and so does the capacity unless a call sets it; and none of the
-/// calls that `insert`, `get`, `remove`, `get_with` and the entry calls stand for does.
+/// Over calls that are chains of steps (`Made`), times, policy and the like stay as they were built, and so does the
+/// capacity unless a call sets it; and none of the calls that `insert`, `get`, `remove`, `get_with` and the entry calls
+/// stand for does.
 pub fn keeps_limits<
     K: Eq,
     V,

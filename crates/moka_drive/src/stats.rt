@@ -30,7 +30,7 @@ impl Stats {
 
     /// Counts a look-up.
     #[inline(always)]
-    pub fn count_look_up<V>(&mut self, found: &Result<Option<V>, OutOfMemory>)
+    pub(crate) fn count_look_up<V>(&mut self, found: &Result<Option<V>, OutOfMemory>)
         ensures { self.new ≡ after_look_up found.now self.old }
     {
         match found {
@@ -41,7 +41,7 @@ impl Stats {
     }
 
     /// Counts a call of a maker.
-    pub fn count_load(&mut self)
+    pub(crate) fn count_load(&mut self)
         ensures { self.new ≡ after_load self.old }
     {
         self.loads = self.loads.saturating_add(1);

@@ -167,6 +167,27 @@ fn ages_by_its_own_clock(rt: HostRuntime) -> Result<(), Fail> {
 }
 
 #[test]
+fn invalidates_by_its_own_clock(rt: HostRuntime) -> Result<(), Fail> {
+    let clock = ManualClock { now: NOW };
+    let Ok(mut cache) = TimedCache::build(CacheConfig::default(), rt.alloc(), clock) else {
+        return Err("memory".into());
+    };
+    for key in 1..4 {
+        assert!(rt; cache.insert(key, key).is_ok());
+    }
+    cache.run_pending_tasks();
+    assert_equal(&rt, cache.weighted_size(), 3);
+    assert!(rt; cache.invalidate(&1).is_ok());
+    assert!(rt; !cache.contains_key(&1));
+    assert!(rt; cache.contains_key(&2));
+    cache.clock.advance(Duration::from_secs(1));
+    cache.invalidate_all();
+    assert!(rt; !cache.contains_key(&2));
+    assert_equal(&rt, cache.get(&3).ok(), Some(None));
+    Ok(())
+}
+
+#[test]
 fn reads_the_system_clock(rt: HostRuntime) -> Result<(), Fail> {
     let config = CacheConfig::default().time_to_live(Duration::from_secs(1_000));
     let Ok(mut cache) = TimedCache::build(config, rt.alloc(), SystemClock::new(&rt)) else {

@@ -145,3 +145,18 @@ fn takes_many_at_once(rt: HostRuntime) -> Result<(), Fail> {
     assert!(rt; !cache.contains_key(&1, NOW));
     Ok(())
 }
+
+#[test]
+fn takes_many_at_once_by_its_own_clock(rt: HostRuntime) -> Result<(), Fail> {
+    let alloc = rt.alloc();
+    let mut cache = timed(alloc)?;
+    let items = vec![in alloc; (1, 10), (2, 20)]?;
+    assert!(rt; cache.insert_many(items).is_ok());
+    let Ok(found) = cache.get_many(alloc, &[2, 3, 1]) else {
+        return Err("memory".into());
+    };
+    assert!(rt; matches!(found.as_slice(), [Some(20), None, Some(10)]));
+    assert!(rt; cache.invalidate_many(&[1, 2]).is_ok());
+    assert!(rt; !cache.contains_key(&1));
+    Ok(())
+}

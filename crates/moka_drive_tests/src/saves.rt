@@ -4,6 +4,7 @@ use moka_drive::Cache;
 use moka_engine::{
     CacheConfig, ExpireAfter, FixedClock, Instant, NoExpiry, RestoreError, Restored,
 };
+use moka_timed::{ManualClock, TimedCache};
 use std::alloc::Global;
 use std::test::Fail;
 use std::time::Duration;
@@ -178,5 +179,16 @@ fn asks_no_expiry(rt: HostRuntime) -> Result<(), Fail> {
         ),
         (true, false),
     );
+    Ok(())
+}
+
+#[test]
+fn puts_an_entry_back_by_its_own_clock(rt: HostRuntime) -> Result<(), Fail> {
+    let clock = ManualClock { now: START };
+    let Ok(mut cache) = TimedCache::build(CacheConfig::default(), rt.alloc(), clock) else {
+        return Err("memory".into());
+    };
+    assert!(rt; cache.restore_entry(entry_of(1, None)).is_ok());
+    assert!(rt; cache.contains_key(&1));
     Ok(())
 }

@@ -6,7 +6,7 @@ use Rattle.moka_parts.specs.declared.policy.Instant.{Instant}
 use Rattle.moka_parts.specs.declared.records.Record.{Record}
 use Rattle.moka_parts.specs.Expiry.{answer_to_hit, remaining, renewed}
 use Rattle.moka_parts.specs.Records.{counted_of, is_applied}
-use Rattle.moka_parts.specs.Settling.{IsConsistentState, IsTracked, IsWaiting}
+use Rattle.moka_parts.specs.Settling.{IsConsistentState, IsTracked, IsWaiting, NeverRenews}
 use Rattle.moka_parts.specs.State.{State, Settings, keeps_write_list}
 use Rattle.moka_parts.specs.Time.{is_same_duration, moment_of}
 use Rattle.moka_parts.proofs.Maps.{itself_tested, nothing_at}
@@ -16,7 +16,7 @@ use Rattle.moka_store.specs.declared.store.Update.{Update}
 use Rattle.moka_store.proofs.Gets.{after_insert, after_remove}
 use Rattle.moka_maintenance.specs.Timers.{KeepsTimers}
 use Rattle.moka_maintenance.proofs.Timing.{still-timed}
-use Rattle.moka_engine.specs.BaseCache.{IsStocked, NeverRenews}
+use Rattle.moka_engine.specs.BaseCache.{IsStocked}
 use Rattle.moka_inner.specs.Interior.{Interior, nothing_inside}
 
 module _ {K V X W S : Type 0} {read : X → K → V → ℕ → Option ℕ → ℕ → Option ℕ} {settings : Settings X W} {kept : Kept K V S} (h : IsStocked read settings kept) where

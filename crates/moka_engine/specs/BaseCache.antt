@@ -9,7 +9,7 @@ use Rattle.moka_parts.specs.declared.records.Registered.{Registered}
 use Rattle.moka_parts.specs.Housekeeper.{Keeper}
 use Rattle.moka_parts.specs.Policy.{Expirations}
 use Rattle.moka_parts.specs.Records.{Records}
-use Rattle.moka_parts.specs.Settling.{IsValid}
+use Rattle.moka_parts.specs.Settling.{IsValid, NeverRenews}
 use Rattle.moka_parts.specs.Runs.{Engine}
 use Rattle.moka_parts.specs.State.{State, Settings, keeps_write_list, new_state}
 use Rattle.moka_store.specs.Store.{Kept}
@@ -94,11 +94,6 @@ NoneExpires records = (n : ℕ) (r : Record _ _) → get records n ≡ Some r �
 pub record IsServed {K V X P W : Type 0} (s : State K V X P W) : Type 0 where
   pub unsupported : s.settings.invalidator ≡ false → s.predicates ≡ []
   pub unexpiring : s.settings.expiry ≡ None → NoneExpires s.records
-
--- a hit never changes an expiry, also where none is set
-abbrev pub NeverRenews : {K V X : Type 0} → (X → K → V → ℕ → Option ℕ → ℕ → Option ℕ) → Option X → Type 0
-NeverRenews {K} {V} {X} read expiry = (x : X) (k : K) (v : V) (now : ℕ) (told : Option ℕ) (written : ℕ)
-    → expiry ≡ Some x → read x k v now told written ≡ told
 
 -- the store keeps the order of writing and timers where the settings ask for them; where no hit renews an expiry, the
 -- timer of each settled member stands at its record's

@@ -45,62 +45,36 @@ module _ {X L W : Type 0} where
     first_ticket = 1;
   }
 
-  -- the same with this expiry
-  abbrev pub with_expiry : {Y : Type 0} → Config X L W → Y → Config Y L W
-  with_expiry c expiry = record {
+  -- the same with these in place of its own
+  abbrev pub with_these : {Y M U : Type 0} → Config X L W → Option Y → Option U → Option M → Config Y M U
+  with_these c expiry weigher listener = record {
     name = c.name;
     max_capacity = c.max_capacity;
     initial_capacity = c.initial_capacity;
     policy = c.policy;
     time_to_live = c.time_to_live;
     time_to_idle = c.time_to_idle;
-    expiry = Some expiry;
-    weigher = c.weigher;
-    listener = c.listener;
+    expiry = expiry;
+    weigher = weigher;
+    listener = listener;
     invalidator = c.invalidator;
     run_limit = c.run_limit;
     run_repeats = c.run_repeats;
     run_batch = c.run_batch;
     first_ticket = c.first_ticket;
   }
+
+  -- the same with this expiry
+  abbrev pub with_expiry : {Y : Type 0} → Config X L W → Y → Config Y L W
+  with_expiry c expiry = with_these c (Some expiry) c.weigher c.listener
 
   -- the same with this weigher
   abbrev pub with_weigher : {U : Type 0} → Config X L W → U → Config X L U
-  with_weigher c weigher = record {
-    name = c.name;
-    max_capacity = c.max_capacity;
-    initial_capacity = c.initial_capacity;
-    policy = c.policy;
-    time_to_live = c.time_to_live;
-    time_to_idle = c.time_to_idle;
-    expiry = c.expiry;
-    weigher = Some weigher;
-    listener = c.listener;
-    invalidator = c.invalidator;
-    run_limit = c.run_limit;
-    run_repeats = c.run_repeats;
-    run_batch = c.run_batch;
-    first_ticket = c.first_ticket;
-  }
+  with_weigher c weigher = with_these c c.expiry (Some weigher) c.listener
 
   -- the same with this listener
   abbrev pub with_listener : {M : Type 0} → Config X L W → M → Config X M W
-  with_listener c listener = record {
-    name = c.name;
-    max_capacity = c.max_capacity;
-    initial_capacity = c.initial_capacity;
-    policy = c.policy;
-    time_to_live = c.time_to_live;
-    time_to_idle = c.time_to_idle;
-    expiry = c.expiry;
-    weigher = c.weigher;
-    listener = Some listener;
-    invalidator = c.invalidator;
-    run_limit = c.run_limit;
-    run_repeats = c.run_repeats;
-    run_batch = c.run_batch;
-    first_ticket = c.first_ticket;
-  }
+  with_listener c listener = with_these c c.expiry c.weigher (Some listener)
 
   -- what of it never changes
   abbrev pub chosen_settings : Config X L W → Settings X W

@@ -53,12 +53,14 @@ module _ {K V X P W : Type 0} where
   }) (Upsert s.next_number 1 w hash)
 
   module _ (weighs : W → K → V → ℕ → Type 0) (eq : K → K → Bool) (s : State K V X P W) (item : Restored K V) where
-    -- why an entry is not put back
+    -- why an entry is not put back: the first reason in this order
     abbrev pub HasRestoreError : RestoreError → Type 0
     HasRestoreError KeyPresent = is_some (record_of_key eq s.records item.key) ≡ true
-    HasRestoreError NoExpiry = is_unsupported s item ≡ true
-    HasRestoreError NumbersUsedUp = are_numbers_used_up s 1 ≡ true
-    HasRestoreError OutOfMemory = are_numbers_used_up s 1 ≡ false
+    HasRestoreError NoExpiry = (record_of_key eq s.records item.key ≡ None) × (is_unsupported s item ≡ true)
+    HasRestoreError NumbersUsedUp = (record_of_key eq s.records item.key ≡ None) × (is_unsupported s item ≡ false)
+        × (are_numbers_used_up s 1 ≡ true)
+    HasRestoreError OutOfMemory = (record_of_key eq s.records item.key ≡ None) × (is_unsupported s item ≡ false)
+        × (are_numbers_used_up s 1 ≡ false)
 
     -- the entry is put back under the hash of its key, or comes back
     abbrev pub RestoreStep : ℕ → Result Ticket (RestoreRefused K V) → State K V X P W → Type 0

@@ -1,5 +1,5 @@
 //! The cache. moka: `sync::base_cache`.
-ghost use Rattle.std.specs.Prelude.{◌≡◌, ◌≤◌, ◌||◌, true, false, [], length, map, is_some, List, Option, Some, None, Ok, Err, IfOk, IfErr, option_map, option_copied, unwrap_or};
+ghost use Rattle.std.specs.Prelude.{◌≡◌, ◌≤◌, ◌||◌, true, false, length, is_some, List, Option, Some, None, Ok, Err, IfOk, IfErr, option_map, option_copied, unwrap_or};
 ghost use Rattle.std.specs.List.{AllZip};
 ghost use Rattle.std.specs.String.{string_bytes};
 ghost use Rattle.moka_parts.specs.Hashing.{key_hash};
@@ -195,8 +195,8 @@ impl<
     P: PredicateFn<K, V>,
     W: Weigher<K, V>,
 > BaseCache<K, V, S, X, L, P, W> {
-    /// An empty cache. Gets start runs of maintenance until `disable_auto_run` is called. `CacheConfig` has a default
-    /// for most of the arguments.
+    /// An empty cache. Gets start runs of maintenance; after `disable_auto_run` only if the housekeeper's last run left
+    /// more. `CacheConfig` has a default for most of the arguments.
     ///
     /// - `alloc`: gives the memory that the cache takes.
     /// - `name`: for the caller alone.

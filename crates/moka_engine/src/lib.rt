@@ -2,10 +2,13 @@
 //! the laws and the structures. So a crate which uses a cache names this crate alone, also in its proofs: the folder
 //! `specs/` hands on the definitions of the reference cache.
 //!
-//! A caller makes do with `hash`, `do_insert_with_hash`, `send`, `get_with_hash`, `contains_key_with_hash`,
-//! `remove_entry` with `notify_invalidate`, `invalidate_all`, `invalidate_entries_if` and `run_pending_tasks`. The
-//! other methods report, or stand for what moka's layers above the engine call: `apply_reads_writes_if_needed` before
-//! each send, `keys`, `num_cht_segments` and `scanning_get` in an iteration.
+//! A caller makes do with `hash`, `do_insert_with_own_hash`, `send`, `get_with_own_hash`, `contains_key_with_own_hash`,
+//! `remove_entry_with_own_hash` with `notify_invalidate`, `invalidate_all`, `invalidate_entries_if` and
+//! `run_pending_tasks`. Their namesakes `.._with_hash` and `remove_entry` take any hash, as moka's do, and make that
+//! of the map themselves; `.._by` spare the key. `set_max_capacity`, `snapshot` with `restore`, and `disable_auto_run`
+//! are calls of our own or of moka's housekeeper. The others report, or stand for what moka's layers above the engine
+//! call: `apply_reads_writes_if_needed` before each send, `keys`, `num_cht_segments` and `scanning_get` in an
+//! iteration.
 #![tactic(auto)]
 
 pub mod base_cache;
@@ -23,11 +26,13 @@ pub use moka_parts::error::{
     CapacityError, InsertError, InsertRefused, OutOfMemory, PredicateError, PredicateRefused,
     SendError,
 };
-pub use moka_parts::expiry::{deadline_of, has_lapsed, remaining, renewed};
-pub use moka_parts::housekeeper::{Clock, FixedClock, Housekeeper, HousekeeperConfig, InnerSync};
-pub use moka_parts::invalidator::{IdSource, Invalidator, PredicateId};
+pub use moka_parts::expiry::remaining;
+pub use moka_parts::housekeeper::{
+    Clock, EVICTION_BATCH_SIZE, FixedClock, HousekeeperConfig, MAX_LOG_SYNC_REPEATS,
+};
+pub use moka_parts::invalidator::{IdSource, PredicateId};
 pub use moka_parts::key_test::KeyTest;
-pub use moka_parts::notification::{Listener, NoListener, RemovalCause, RemovalNotifier};
+pub use moka_parts::notification::{Listener, NoListener, RemovalCause};
 pub use moka_parts::policy::{
     EvictionPolicy, ExpirationPolicy, ExpireAfter, ExpireAfterCreate, ExpireAfterRead,
     ExpireAfterUpdate, Expiry, Instant, NoExpiry, Policy,

@@ -212,6 +212,7 @@ fn keys_of(cache: &ScriptCache) -> Result<Vec<u32>, OutOfMemory>
     ensures keys { IfOk result (λ keys. IsPermutation (map (λ r. r.key) (values cache.now.state.records)) keys.items) }
     ensures order { IfOk result (λ keys. IsNonDecreasing keys.items) }
 {
+    // Segment 0 is always there.
     let Some(mut keys) = cache.keys(0)? else {
         return Err(OutOfMemory);
     };

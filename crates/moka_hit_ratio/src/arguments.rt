@@ -196,8 +196,10 @@ fn zipf(text: &str) -> Result<Origin<'_>> {
     let Some((exponent, keys)) = text.split_once(':') else {
         bail!("a trace by a Zipf law is named zipf:HUNDREDTHS:KEYS");
     };
-    let hundredths = count(exponent)?;
-    if hundredths >= 100 {
+    let hundredths = exponent
+        .parse::<u32>()
+        .context(format_args!("reading {exponent:?}"))?;
+    if hundredths == 0 || hundredths >= 100 {
         bail!("an exponent is from 1 to 99 hundredths");
     }
     Ok(Origin::Made(Shape::Zipf(hundredths), count(keys)?))

@@ -44,7 +44,7 @@ impl ReadThrough {
         let mut clock = FixedClock(NOW);
         let found = self
             .cache
-            .get_with_hash(&key, hash, false, NOW, &mut clock)?;
+            .get_with_own_hash(&key, hash, false, NOW, &mut clock)?;
         if found.is_none() && !self.cache.is_map_disabled() {
             let (ticket, _) = self.cache.do_insert_with_hash(key, hash, key, NOW)?;
             self.cache.send(ticket)?;

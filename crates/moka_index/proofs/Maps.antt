@@ -1,39 +1,16 @@
 -- The map that the lanes make, and how it follows a change of one lane.
-use Rattle.std.proofs.Common.{◌≡◌, ◌≢◌, ℕ, zero, suc, ◌+◌, ◌-◌, ◌<◌, ◌≤◌, Option, Some, None, ◌⊎◌, inl, inr, refl, sym, ap, subst, ◌∙◌, arith}
-use Rattle.std.proofs.lemmas.Bool.{cases_lt, cases_eq, cond-true, cond-false, eq-eqb, ne_eqb}
-use Rattle.std.specs.Prelude.{is_some}
-use Rattle.std.specs.FinMap.{FinMap, get, insert, remove, empty, len, get-empty, get-insert, get-remove, same_map, nat_cmp-IsAntisymmetric, len-insert, len-remove, len-empty, empty_of_len}
-use Rattle.std.specs.Ordering.{nat_cmp, eq_by_cmp}
-use Rattle.std.specs.Cmp.{nat_cmp_total, unsigned_tied}
+use Rattle.std.proofs.Common.{◌≡◌, ◌≢◌, ℕ, zero, suc, ◌+◌, ◌<◌, ◌≤◌, Option, Some, None, ◌⊎◌, inl, inr, refl, sym, ap, subst, ◌∙◌, arith}
+use Rattle.std.proofs.lemmas.Bool.{cases_eq}
+use Rattle.std.specs.FinMap.{FinMap, get, insert, remove, empty, len, get-empty, same_map, nat_cmp-IsAntisymmetric, len-empty}
+use Rattle.std.specs.Ordering.{nat_cmp}
+use Rattle.std.specs.Cmp.{nat_cmp_total}
+pub use Rattle.moka_links.proofs.FinMaps.{option-cases, get-inserted, get-past_insert, get-removed, get-past_remove, len-inserted, len-kept, len-removed, len-some}
 use Rattle.moka_index.specs.Groups.{put_entry, upto, IsApart}
-
-pub option-cases : {X : Type 0} (o : Option X) → (o ≡ None) ⊎ ((x : X) × (o ≡ Some x))
-option-cases None = inl refl
-option-cases (Some x) = inr (x, refl)
 
 pub option-same : {X : Type 0} (a b : Option X) → ((x : X) → a ≡ Some x → b ≡ Some x) → ((x : X) → b ≡ Some x → a ≡ Some x) → a ≡ b
 option-same None None p q = refl
 option-same None (Some y) p q = q y refl
 option-same (Some x) b p q = sym (p x refl)
-
-module _ {X : Type 0} where
-  pub get-inserted : (m : FinMap nat_cmp X) (n : ℕ) (x : X) → get (insert m n x) n ≡ Some x
-  get-inserted m n x = get-insert nat_cmp_total m n x n ∙ cond-true (eq_by_cmp nat_cmp n n) (Some x) (get m n) (unsigned_tied n n ∙ eq-eqb n n refl)
-
-  pub get-past_insert : (m : FinMap nat_cmp X) (n : ℕ) (x : X) (q : ℕ) → q ≢ n → get (insert m n x) q ≡ get m q
-  get-past_insert m n x q h = get-insert nat_cmp_total m n x q ∙ cond-false (eq_by_cmp nat_cmp q n) (Some x) (get m q) (unsigned_tied q n ∙ ne_eqb q n h)
-
-  pub get-removed : (m : FinMap nat_cmp X) (n : ℕ) → get (remove m n) n ≡ None
-  get-removed m n = get-remove nat_cmp_total m n n ∙ cond-true (eq_by_cmp nat_cmp n n) None (get m n) (unsigned_tied n n ∙ eq-eqb n n refl)
-
-  pub get-past_remove : (m : FinMap nat_cmp X) (n q : ℕ) → q ≢ n → get (remove m n) q ≡ get m q
-  get-past_remove m n q h = get-remove nat_cmp_total m n q ∙ cond-false (eq_by_cmp nat_cmp q n) None (get m q) (unsigned_tied q n ∙ ne_eqb q n h)
-
-  pub len-inserted : (m : FinMap nat_cmp X) (n : ℕ) (x : X) → get m n ≡ None → len (insert m n x) ≡ len m + 1
-  len-inserted m n x h = len-insert nat_cmp_total m n x ∙ cond-false (is_some (get m n)) (len m) (len m + 1) (ap is_some h)
-
-  pub len-removed : (m : FinMap nat_cmp X) (n : ℕ) (x : X) → get m n ≡ Some x → len (remove m n) ≡ len m - 1
-  len-removed m n x h = len-remove nat_cmp_total m n ∙ cond-true (is_some (get m n)) (len m - 1) (len m) (ap is_some h)
 
 -- a place and its hash are in one of the first lanes
 pub record Holds (at : ℕ → Option (ℕ × ℕ)) (k p h : ℕ) : Type 0 where
@@ -226,12 +203,3 @@ module _ (old new : ℕ → Option (ℕ × ℕ)) (n : ℕ) (d : IsApart old) whe
                     ]
               ]));
         }
-
--- a map with a value is not empty
-pub len-positive : (m : Map) (n x : ℕ) → get m n ≡ Some x → 0 < len m
-len-positive m n x h = elim (cases_lt 0 (len m)) as (λ _. 0 < len m) [
-  | inl l ↦ l
-  | inr l ↦
-      let e = empty_of_len m (omega arith) in
-      let bad : None ≡ Some x = sym (get-empty nat_cmp n) ∙ ap (λ m. get m n) (sym e) ∙ h in cc
-]

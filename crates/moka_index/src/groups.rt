@@ -73,7 +73,7 @@ fn find_in_group<F: Fn(usize) -> bool>(
         → F.post is_match.now p false) }
 {
     let mut matches = group.matches(hash);
-    'matches: while matches != 0 {
+    while matches != 0 {
         let lane = lowest_set_bit(matches);
         if lane < group.count as usize {
             let place = group.places[lane] as usize;

@@ -4,8 +4,7 @@ use Rattle.std.specs.Prelude.{Contains}
 use Rattle.std.proofs.lemmas.List.{length-append, map-append}
 use Rattle.std.proofs.lemmas.List.Elements.{Contains-push_cases}
 use Rattle.std.proofs.lemmas.Bool.{cases_eq}
-use Rattle.std.specs.Cmp.{nat_cmp_total}
-use Rattle.std.specs.FinMap.{FinMap, get, insert, remove, len, len-insert, empty, get-empty, len-empty}
+use Rattle.std.specs.FinMap.{FinMap, get, insert, remove, len, empty, get-empty, len-empty}
 use Rattle.std.specs.Ordering.{nat_cmp}
 use Rattle.circular_buffer.specs.Buffer.{Buffer, buffer}
 use Rattle.moka_parts.specs.declared.records.Operation.{Operation}
@@ -22,7 +21,7 @@ use Rattle.moka_parts.proofs.Values.{len_removed, remove_absent}
 use Rattle.moka_parts.proofs.Waiting.{hands_out, waits_sent}
 use Rattle.moka_structures.specs.Pending.{Pending}
 use Rattle.moka_store.specs.Store.{Kept}
-use Rattle.moka_store.proofs.Gets.{after_insert, after_remove, get-inserted, get-past_insert, get-past_remove, len-kept, option-cases}
+use Rattle.moka_store.proofs.Gets.{after_insert, after_remove, get-inserted, get-past_insert, get-past_remove, len-inserted, len-kept, option-cases}
 use Rattle.moka_maintenance.proofs.Popped.{nothing_there}
 use Rattle.moka_maintenance.specs.declared.queued.PlacedWrite.{PlacedWrite}
 use Rattle.moka_maintenance.specs.declared.queued.QueuedWrite.{QueuedWrite}
@@ -132,9 +131,9 @@ ticketed-handed items t w below u x there = elim (after_insert items t w u x the
 
 module _ {X : Type 0} (m : FinMap nat_cmp X) (n : ℕ) where
   -- no more than one more
-  len-inserted : (x : X) → len (insert m n x) ≤ len m + 1
-  len-inserted x = elim (option-cases (get m n)) [
-    | inl none ↦ (let e : len (insert m n x) ≡ len m + 1 = len-insert nat_cmp_total m n x ∙ rw none refl in omega arith)
+  len-one_more : (x : X) → len (insert m n x) ≤ len m + 1
+  len-one_more x = elim (option-cases (get m n)) [
+    | inl none ↦ (let e = len-inserted m n x none in omega arith)
     | inr some ↦ (let e = len-kept m n x some.0 some.1 in omega arith)
   ]
 
@@ -158,7 +157,7 @@ module _ {K V S : Type 0} (kept after : Kept K V S) (out handed : Pending Placed
   -- a new record with its operation
   pub inner-inserted : (r : Record K V) (w : PlacedWrite) → after.records ≡ insert kept.records n r → after.places ≡ insert kept.places n w.place → handed.items ≡ insert out.items t w → r.generation ≡ 1 → number_of w.operation ≡ n → t + len kept.records + 1 < 2 ^ 64 → len kept.records + 1 ≤ handed.room → IsInner after handed writes reads (t + 1) (n + 1)
   inner-inserted r w records places items generation number tickets room =
-      let count = len-inserted kept.records n r in
+      let count = len-one_more kept.records n r in
       let same = ap len records in
       record {
         located = rw (places, items) (located-inserted kept.places n w.place out.items writes.items reads.items t w h.located number refl);

@@ -20,7 +20,6 @@ use Rattle.moka_maintenance.specs.Queued.{writes_of}
 use Rattle.moka_sketch.specs.Frequency.{Table}
 use Rattle.moka_maintenance.specs.Queues.{AreApplied, LeavesNoRowBy}
 use Rattle.moka_maintenance.specs.Steps.{Stock, AddsNoPlace, LeavesNoRow, IsStepped, contents_in, contents_with, stock_in}
-use Rattle.moka_maintenance.proofs.Seen.{steps-seen}
 use Rattle.moka_maintenance.proofs.Popped.{nothing_there}
 use Rattle.moka_inner.specs.Inner.{IsInner}
 use Rattle.moka_inner.specs.Interior.{operations_of}
@@ -48,5 +47,5 @@ module _ {K V L S : Type 0} (tells : L → K → V → RemovalCause → L → Ty
   pub inner-passed : (May : Stock K V → Choice → Type 0) → IsStepped tells May (stock_in kept) (stock_in after) l m → AddsNoPlace kept after → LeavesNoRow kept after → IsInner after out writes reads t n
   inner-passed May by fewer rows =
       inner-left kept after out out writes reads t n h writes.items reads.items (λ q there. there) (λ q there. there) (omega arith) (omega arith) fewer
-      (subst (λ (c : Stock K V). Keeps kept.records c.records) (sym (by.led ∙ steps-seen (contents_in kept) kept.written by.steps)) (keeps_choices (contents_in kept) by.steps))
+      (subst (λ (c : Stock K V). Keeps kept.records c.contents.records) (sym by.led) (keeps_choices (contents_in kept) by.steps))
       (λ k p row gone. h.used k p (fewer k p row) (rows k p row gone))

@@ -1,5 +1,5 @@
 //! The map, the operations that wait, and both queues.
-ghost use Rattle.std.specs.Prelude.{◌≡◌, ◌+◌, ◌^◌, ◌<◌, ◌≤◌, ◌↔◌, true, [], ◌∷◌, ◌++◌, None, Some, Ok, Err, OnOk, OnErr, IfOk, IfSome, if◌then◌else◌, length, nat_lt, option_map, slice_get};
+ghost use Rattle.std.specs.Prelude.{◌≡◌, ◌+◌, ◌^◌, ◌<◌, ◌≤◌, ◌↔◌, true, [], ◌∷◌, ◌++◌, None, Some, Ok, Err, OnOk, OnErr, IfOk, IfSome, IsOk, if◌then◌else◌, length, nat_lt, option_map, slice_get};
 ghost use Rattle.std.specs.Duration.{as_nanos};
 ghost use Rattle.std.specs.FinMap as finite;
 ghost use Rattle.moka_parts.specs.Hashing.{key_hash};
@@ -99,7 +99,6 @@ impl<K: Eq + Hash, V, S: BuildHasher> Model for Inner<K, V, S> {
     ghost use Rattle.std.specs.Prelude.{◌+◌, ◌-◌};
     ghost use Rattle.std.specs.Coded.{codes, coded_ℕ};
     ghost use Rattle.std.specs.FinMap as finite;
-    ghost use Rattle.moka_store.specs.Store.{kept_code};
     ghost use Rattle.moka_maintenance.specs.Queued.{writes_of, reads_of};
     ghost use Rattle.moka_inner.specs.Interior.{Interior, operations_of};
 
@@ -200,6 +199,8 @@ impl<K: Eq + Hash, V, S: BuildHasher> Inner<K, V, S> {
             (2 ^ 64 ≤ self.old.next_ticket + finite.len self.old.kept.records + 1) }
         ensures rows { OnOk result (0 < self.new.kept.room) }
         ensures operations { OnOk result (1 < self.new.operation_room) }
+        ensures succeeds { 0 < self.old.kept.room → 1 < self.old.operation_room
+            → self.old.next_ticket + finite.len self.old.kept.records + 1 < 2 ^ 64 → IsOk result }
         ensures enough { 0 < self.old.kept.room → 1 < self.old.operation_room → self.new ≡ self.old }
         ensures rest { self.new ≡ record self.old {
           kept = record self.old.kept { room = self.new.kept.room };
@@ -222,6 +223,8 @@ impl<K: Eq + Hash, V, S: BuildHasher> Inner<K, V, S> {
         ensures used_up { (result ≡ Err NumbersUsedUp) ↔
             (2 ^ 64 ≤ self.old.next_ticket + finite.len self.old.kept.records) }
         ensures operations { OnOk result (0 < self.new.operation_room) }
+        ensures succeeds { 0 < self.old.operation_room
+            → self.old.next_ticket + finite.len self.old.kept.records < 2 ^ 64 → IsOk result }
         ensures enough { 0 < self.old.operation_room → self.new ≡ self.old }
         ensures rest { self.new ≡ record self.old { operation_room = self.new.operation_room } }
     {
@@ -258,6 +261,7 @@ impl<K: Eq + Hash, V, S: BuildHasher> Inner<K, V, S> {
             (Upsert self.old.next_number 1 update.weight hashes.hash) self.new) {
               next_number = self.old.next_number + 1;
             } }
+        ensures room { self.old.kept.room ≤ self.new.kept.room + 1 }
     {
         let read = update.now;
         self.restore(key, hashes, update, read)

@@ -11,18 +11,19 @@ use Rattle.moka_parts.specs.declared.notification.RemovalCause.TheVariants.{Expi
 use Rattle.moka_parts.specs.declared.records.Record.{Record}
 use Rattle.moka_parts.specs.Records.{is_applied, is_member, is_settled}
 use Rattle.moka_parts.specs.Time.{has_passed, moment_of}
-use Rattle.moka_parts.specs.Maintenance.{Choice, Removes, MovesToBack, Drops}
+use Rattle.moka_parts.specs.Maintenance.{Choice, Removes, MovesToBack, Drops, left_by_choice}
 use Rattle.moka_parts.proofs.AccessList.{counted-to_back}
 use Rattle.moka_parts.proofs.Values.{remove_absent, values_inserted, values_removed}
 use Rattle.moka_store.specs.Store.{Kept, with_timer}
 use Rattle.moka_store.proofs.Gets.{after_remove, get-past_insert, get-past_remove}
 use Rattle.moka_maintenance.specs.declared.sweep.Tests.{Tests}
-use Rattle.moka_maintenance.specs.Steps.{Stock, Told, after_step, after_steps, left_by_step, stock_in, MayLeave}
+use Rattle.moka_maintenance.specs.Steps.{Stock, Told, after_step, after_steps, stock_in, MayLeave}
 use Rattle.moka_maintenance.specs.Sweeps.{MayExpire, ExpiresDue}
 use Rattle.moka_maintenance.specs.Timers.{IsReset, KeepsTimers}
 use Rattle.moka_maintenance.specs.Upkeep.{Upkeep}
 use Rattle.moka_maintenance.proofs.Stepped.{may-also, removed-on, shrinks, stepped-none, stepped-one, stepped-on}
-use Rattle.moka_maintenance.proofs.Timing.{member-was, set-own}
+use Rattle.moka_maintenance.proofs.Timing.{member-was}
+use Rattle.moka_store.proofs.TableMaps.{get-altered}
 
 -- ---- how many timers are due
 
@@ -55,16 +56,16 @@ module _ (now : ℕ) (timers : FinMap nat_cmp ℕ) (n t : ℕ) where
 -- ---- records and members were there before
 
 module _ {K V : Type 0} where
-  pub still-was : (c : Stock K V) (xs : List Choice) (k : ℕ) (r : Record K V) → get (after_steps c xs).records k ≡ Some r → get c.records k ≡ Some r
+  pub still-was : (c : Stock K V) (xs : List Choice) (k : ℕ) (r : Record K V) → get (after_steps c xs).contents.records k ≡ Some r → get c.contents.records k ≡ Some r
   still-was c [] k r there = there
-  still-was c (Removes n cause ∷ xs) k r there = (after_remove c.records n k r (still-was (after_step c (Removes n cause)) xs k r there)).1
+  still-was c (Removes n cause ∷ xs) k r there = (after_remove c.contents.records n k r (still-was (after_step c (Removes n cause)) xs k r there)).1
   still-was c (MovesToBack n ∷ xs) k r there = still-was (after_step c (MovesToBack n)) xs k r there
   still-was c (Drops i ∷ xs) k r there = still-was c xs k r there
 
-  pub still-member : (c : Stock K V) (xs : List Choice) (k : ℕ) → is_member k (after_steps c xs).access ≡ true → is_member k c.access ≡ true
+  pub still-member : (c : Stock K V) (xs : List Choice) (k : ℕ) → is_member k (after_steps c xs).contents.access ≡ true → is_member k c.contents.access ≡ true
   still-member c [] k there = there
-  still-member c (Removes n cause ∷ xs) k there = member-was n k c.access (still-member (after_step c (Removes n cause)) xs k there)
-  still-member c (MovesToBack n ∷ xs) k there = sym (ap is_some (counted-to_back n k c.access)) ∙ still-member (after_step c (MovesToBack n)) xs k there
+  still-member c (Removes n cause ∷ xs) k there = member-was n k c.contents.access (still-member (after_step c (Removes n cause)) xs k there)
+  still-member c (MovesToBack n ∷ xs) k there = sym (ap is_some (counted-to_back n k c.contents.access)) ∙ still-member (after_step c (MovesToBack n)) xs k there
   still-member c (Drops i ∷ xs) k there = still-member c xs k there
 
 -- ---- one timer
@@ -105,7 +106,7 @@ module _ {K V S : Type 0} (now n : ℕ) (old new : Kept K V S) (untimed : get ol
     timers = subst (λ ts. (ts ≡ old.timers) ⊎ ((t : ℕ) × (now < t) × (ts ≡ insert old.timers n t))) (sym (ap (λ (k : Kept K V S). k.timers) step)) (set old.timed (moment_of r.expires) later);
     own = λ kept p there applied.
         (let is : r ≡ p = (let f = sym found ∙ (sym (ap (λ (k : Kept K V S). get k.records n) step) ∙ there) in cc) in
-        ap (λ (k : Kept K V S). get k.timers n) step ∙ ap (λ b. get (if b then with_timer old.timers n (moment_of r.expires) else old.timers) n) kept ∙ set-own old.timers n (moment_of r.expires) ∙ ap (λ (x : Record K V). moment_of x.expires) is);
+        ap (λ (k : Kept K V S). get k.timers n) step ∙ ap (λ b. get (if b then with_timer old.timers n (moment_of r.expires) else old.timers) n) kept ∙ get-altered old.timers n (moment_of r.expires) ∙ ap (λ (x : Record K V). moment_of x.expires) is);
     places = λ k p at. sym (ap (λ (s : Kept K V S). get s.places k) step) ∙ at;
     rows = λ k p at gone. sym (ap (λ (s : Kept K V S). get s.records k) step) ∙ gone;
     room = (let same = ap (λ (s : Kept K V S). s.room) step in omega arith);
@@ -128,7 +129,7 @@ module _ {K V L : Type 0} (tells : L → K → V → RemovalCause → L → Type
   unfolding stepped-none
   expires-none c l = record { by = stepped-none tells (MayExpire q) c l; count = refl }
 
-  pub expires-one : (a b : Stock K V) (l m : Option L) (n : ℕ) → MayExpire q a (Removes n Expired) → b ≡ after_step a (Removes n Expired) → Told tells l (left_by_step a (Removes n Expired)) m → ExpiresDue tells q a b l m 1
+  pub expires-one : (a b : Stock K V) (l m : Option L) (n : ℕ) → MayExpire q a (Removes n Expired) → b ≡ after_step a (Removes n Expired) → Told tells l (left_by_choice a.contents (Removes n Expired)) m → ExpiresDue tells q a b l m 1
   unfolding stepped-one
   expires-one a b l m n may led told = record { by = stepped-one tells (MayExpire q) a b l m (Removes n Expired) may led told; count = refl }
 
@@ -145,7 +146,7 @@ module _ {K V L : Type 0} (tells : L → K → V → RemovalCause → L → Type
   expiry_leaves c (Drops i) may = absurd may
 
   -- no more leave than there are members
-  pub expires-few : (a b : Stock K V) (l m : Option L) (r : ℕ) → ExpiresDue tells q a b l m r → r ≤ length a.access
+  pub expires-few : (a b : Stock K V) (l m : Option L) (r : ℕ) → ExpiresDue tells q a b l m r → r ≤ length a.contents.access
   expires-few a b l m r h = let less = shrinks a h.by.steps (may-also (MayExpire q) MayLeave expiry_leaves a h.by.steps h.by.may) in let count = h.count in omega arith
 
   -- a timer that was due is taken out, and then its member leaves or stays
@@ -158,8 +159,8 @@ module _ {K V L : Type 0} (tells : L → K → V → RemovalCause → L → Type
       set = λ kept k p there is_in applied. elim (cases_eq k n) [
         | inl same ↦ inr (ap (get new.timers) same ∙ reset.own (ap (λ (k : Kept K V S). k.timed) taken ∙ kept) p (sym (ap (get new.records) same) ∙ there) applied)
         | inr other ↦ inl (
-          sym (ap (λ (s : Kept K V S). get s.records k) taken) ∙ still-was (stock_in mid) expired.by.steps k p (sym (ap (λ (s : Stock K V). get s.records k) expired.by.led) ∙ there),
-          sym (ap (λ (s : Kept K V S). is_member k s.access) taken) ∙ still-member (stock_in mid) expired.by.steps k (sym (ap (λ (s : Stock K V). is_member k s.access) expired.by.led) ∙ is_in),
+          sym (ap (λ (s : Kept K V S). get s.records k) taken) ∙ still-was (stock_in mid) expired.by.steps k p (sym (ap (λ (s : Stock K V). get s.contents.records k) expired.by.led) ∙ there),
+          sym (ap (λ (s : Kept K V S). is_member k s.access) taken) ∙ still-member (stock_in mid) expired.by.steps k (sym (ap (λ (s : Stock K V). is_member k s.contents.access) expired.by.led) ∙ is_in),
           others k other ∙ ap (λ (s : Kept K V S). get s.timers k) taken ∙ get-past_remove old.timers n k other,
         )
       ];

@@ -1,5 +1,5 @@
 -- What becomes of an upsert, by its fate.
-use Rattle.std.proofs.Common.{◌≡◌, refl, ℕ, ◌<◌, ◌≤◌, Bool, true, false, List, [], ◌∷◌, ◌++◌, Option, Some, None, ◌⊎◌, inl, inr, nat_lt, ap, sym, ◌∙◌, subst, arith, if◌then◌else◌}
+use Rattle.std.proofs.Common.{◌≡◌, refl, ℕ, ◌<◌, ◌≤◌, Bool, true, false, List, [], ◌∷◌, ◌++◌, Option, Some, None, ◌⊎◌, inl, inr, is_some, nat_lt, ap, sym, ◌∙◌, subst, arith, if◌then◌else◌}
 use Rattle.std.specs.Option.{option_map_or}
 use Rattle.std.proofs.lemmas.Bool.{cond-false, eq-eqb}
 use Rattle.std.specs.FinMap.{get, remove}
@@ -17,10 +17,17 @@ use Rattle.moka_parts.specs.Writes.{AreMoves, Fate, Ignored, Overtaken, Counted,
 use Rattle.moka_parts.specs.Maintenance.{Removes, after_choice}
 use Rattle.moka_parts.specs.Order.{IsListOf, written_after_fate}
 use Rattle.moka_parts.proofs.AccessList.{absent_taken_out}
-use Rattle.moka_store.proofs.Gets.{none_by_test}
+use Rattle.moka_sketch.specs.Frequency.{Table}
+use Rattle.moka_store.specs.Store.{Kept}
+use Rattle.moka_store.proofs.Gets.{none_by_test, some_is}
 use Rattle.moka_store.proofs.Members.{absent_to_back}
-use Rattle.moka_maintenance.specs.Steps.{Told}
-use Rattle.moka_maintenance.specs.Queues.{IsApplied, IsCompared}
+use Rattle.moka_maintenance.specs.declared.admission.PlacedUpsert.{PlacedUpsert}
+use Rattle.moka_maintenance.specs.declared.bounds.Bounds.{Bounds}
+use Rattle.moka_maintenance.specs.Handles.{IsOutside}
+use Rattle.moka_maintenance.specs.Steps.{Told, contents_in, contents_with}
+use Rattle.moka_maintenance.specs.Queues.{AppliesUpsert, IsApplied, IsCompared}
+use Rattle.moka_maintenance.specs.Upkeep.{Upkeep}
+use Rattle.moka_maintenance.proofs.AllApplied.{applies-upsert}
 use Rattle.moka_maintenance.proofs.Told.{told-none}
 
 module _ {K V : Type 0} (capacity : Option ℕ) (policy : EvictionPolicy) (c : Contents K V) (weight hash : ℕ) where
@@ -114,21 +121,31 @@ module _ {K V L : Type 0} (tells : L → K → V → RemovalCause → L → Type
     pub applied-counted : r.applied < generation → is_member number c.access ≡ true → d ≡ entered number generation weight r (record c { access = without_member number c.access }) → (ordered ≡ true → ms ≡ number_to_back number ns) → m ≡ l → IsApplied tells capacity policy ordered c d ns ms (Upsert number generation weight hash) l m
     applied-counted new there led listed same = by_fate [] Counted (fate_newer new ∙ ap newer there) (inl refl) led listed (none same)
 
-    module _ (new : r.applied < generation) (apart : is_member number c.access ≡ false) where
-      outside : (f : Fate) → fate_of_newcomer capacity policy c weight hash ≡ f → fate_of_record capacity policy c number generation weight hash r ≡ f
-      outside f is = fate_newer new ∙ ap newer apart ∙ is
+    -- it is outside the list
+    applied-newcomer : r.applied < generation → is_member number c.access ≡ false → (moved : List ℕ) (f : Fate) → fate_of_newcomer capacity policy c weight hash ≡ f → (moved ≡ []) ⊎ ((is_compared f ≡ true) × (are_unsettled c.records moved ≡ true)) → d ≡ after_fate c number generation weight moved r f → (ordered ≡ true → ms ≡ written_after_fate true number ns f) → Told tells l (left_by_fate c generation r f) m → IsApplied tells capacity policy ordered c d ns ms (Upsert number generation weight hash) l m
+    applied-newcomer new apart moved f is = by_fate moved f (fate_newer new ∙ ap newer apart ∙ is)
 
-      -- it enters
-      pub applied-admitted : fate_of_newcomer capacity policy c weight hash ≡ Admitted → d ≡ entered number generation weight r c → (ordered ≡ true → ms ≡ entered_by true number ns) → m ≡ l → IsApplied tells capacity policy ordered c d ns ms (Upsert number generation weight hash) l m
-      applied-admitted is led listed same = by_fate [] Admitted (outside Admitted is) (inl refl) led listed (none same)
+-- an upsert of a record outside the access list, in a store
+module _ {K V S L : Type 0} (tells : L → K → V → RemovalCause → L → Type 0) (bounds : Bounds) (sketch : Option Table) (old new : Kept K V S) (u : PlacedUpsert) (l m : Option L) (outside : IsOutside old u.handle) (newer : (r : Record K V) → get old.records u.handle.number ≡ Some r → r.applied < u.generation) (upkeep : Upkeep old new) where
+  there : (r : Record K V) × (get old.records u.handle.number ≡ Some r)
+  there = some_is (get old.records u.handle.number) outside.handle.stored
 
-      -- it is rejected
-      pub applied-rejected : fate_of_newcomer capacity policy c weight hash ≡ TooHeavy → d ≡ rejected number generation r c → (ordered ≡ true → ms ≡ ns) → Told tells l (left_by_rejection generation r) m → IsApplied tells capacity policy ordered c d ns ms (Upsert number generation weight hash) l m
-      applied-rejected is led listed told = by_fate [] TooHeavy (outside TooHeavy is) (inl refl) led listed told
+  applies : (moved : List ℕ) (f : Fate) → fate_of_newcomer bounds.capacity bounds.policy (contents_with sketch old) u.weight u.hash ≡ f → (moved ≡ []) ⊎ ((is_compared f ≡ true) × (are_unsettled old.records moved ≡ true)) → contents_with sketch new ≡ after_fate (contents_with sketch old) u.handle.number u.generation u.weight moved there.0 f
+      → (old.ordered ≡ true → new.written ≡ written_after_fate true u.handle.number old.written f) → Told tells l (left_by_fate (contents_with sketch old) u.generation there.0 f) m → AppliesUpsert tells bounds sketch old new u l m
+  applies moved f is may led listed told =
+      applies-upsert tells bounds sketch old new u l m (applied-newcomer tells bounds.capacity bounds.policy old.ordered (contents_with sketch old) u.handle.number u.generation u.weight u.hash (contents_with sketch new) old.written new.written there.0 there.1 l m (newer there.0 there.1) (ap is_some outside.apart) moved f is may led listed told) upkeep
 
-      -- TinyLFU has compared it
-      pub applied-compared : fate_of_newcomer capacity policy c weight hash ≡ fate_by_policy TinyLfu c weight hash → IsCompared tells ordered c d ns ms number generation weight hash r l m → IsApplied tells capacity policy ordered c d ns ms (Upsert number generation weight hash) l m
-      applied-compared is by = by_fate by.moved (fate_by_frequency c hash (victims_for c weight)) (outside (fate_by_frequency c hash (victims_for c weight)) is) (inr (compared c hash (victims_for c weight), by.unsettled)) by.led by.listed by.told
+  -- it enters
+  pub applies-admitted : fate_of_newcomer bounds.capacity bounds.policy (contents_with sketch old) u.weight u.hash ≡ Admitted → ((r : Record K V) → get old.records u.handle.number ≡ Some r → contents_in new ≡ entered u.handle.number u.generation u.weight r (contents_in old)) → new.written ≡ entered_by old.ordered u.handle.number old.written → m ≡ l → AppliesUpsert tells bounds sketch old new u l m
+  applies-admitted is step written same = applies [] Admitted is (inl refl) (ap (λ (c : Contents K V). record c { sketch = sketch }) (step there.0 there.1)) (λ kept. written ∙ ap (λ b. entered_by b u.handle.number old.written) kept) (subst (λ k. Told {K = K} {V = V} tells l [] k) (sym same) (told-none tells l))
+
+  -- it is rejected
+  pub applies-rejected : fate_of_newcomer bounds.capacity bounds.policy (contents_with sketch old) u.weight u.hash ≡ TooHeavy → ((r : Record K V) → get old.records u.handle.number ≡ Some r → contents_in new ≡ rejected u.handle.number u.generation r (contents_in old)) → (old.ordered ≡ true → new.written ≡ old.written) → ((r : Record K V) → get old.records u.handle.number ≡ Some r → Told tells l (left_by_rejection u.generation r) m) → AppliesUpsert tells bounds sketch old new u l m
+  applies-rejected is step listed told = applies [] TooHeavy is (inl refl) (ap (λ (c : Contents K V). record c { sketch = sketch }) (step there.0 there.1)) listed (told there.0 there.1)
+
+  -- TinyLFU has compared it
+  pub applies-compared : fate_of_newcomer bounds.capacity bounds.policy (contents_with sketch old) u.weight u.hash ≡ fate_by_policy TinyLfu (contents_with sketch old) u.weight u.hash → ((r : Record K V) → get old.records u.handle.number ≡ Some r → IsCompared tells old.ordered (contents_with sketch old) (contents_with sketch new) old.written new.written u.handle.number u.generation u.weight u.hash r l m) → AppliesUpsert tells bounds sketch old new u l m
+  applies-compared is all = (let by = all there.0 there.1 in let victims = victims_for (contents_with sketch old) u.weight in applies by.moved (fate_by_frequency (contents_with sketch old) u.hash victims) is (inr (compared (contents_with sketch old) u.hash victims, by.unsettled)) by.led by.listed by.told)
 
 -- a record that no list has leaves as one that is rejected
 pub rejected-gone : {K V : Type 0} (c d : Contents K V) (number generation : ℕ) (r : Record K V) → r.generation ≡ generation → counted_of number c.access ≡ None → d ≡ after_choice c (Removes number Size) → d ≡ rejected number generation r c

@@ -14,9 +14,10 @@ use Rattle.moka_maintenance.specs.declared.sweep.Tests.{Tests}
 use Rattle.moka_maintenance.specs.declared.sweep.Sweep.{Sweep}
 use Rattle.moka_maintenance.specs.declared.sweep.Sweep.TheVariants.{Written, Read, Surplus}
 use Rattle.moka_maintenance.specs.Scanning.{MayScan}
-use Rattle.moka_maintenance.specs.Steps.{Stock, MayAll, MayRun, after_step, after_steps, contents_of}
+use Rattle.moka_maintenance.specs.Steps.{Stock, MayAll, MayRun, after_step, after_steps}
 use Rattle.moka_maintenance.specs.Sweeps.{IsDone, MayExpire, MayTurn, ground_of, tests_in}
 use Rattle.moka_maintenance.proofs.Dropping.{choices-append}
+use Rattle.moka_maintenance.proofs.Seen.{choices_sketched}
 
 -- ---- the cause that a step tells fits the record
 
@@ -117,8 +118,8 @@ module _ {K V : Type 0} (Covered Other : Record K V → Type 0) (also : (r : Rec
 
 module _ {K V P : Type 0} (says : P → K → V → Bool → Type 0) (ps : List (Registered P)) where
   -- each step of a pass is one of a run
-  pub take_runs : (q : parts.Tests) (ground : Ground) (c : Stock K V) (x : Choice) → MayTake (SomeCovers says ps) q ground (contents_of c) x → MayRun says ps q c x
-  take_runs q ground c (Removes n cause) may = (may.0, may.1, may.2, cause_fits q (contents_of c) n may.0 says ps ground cause may.3)
+  pub take_runs : (q : parts.Tests) (ground : Ground) (c : Stock K V) (x : Choice) → MayTake (SomeCovers says ps) q ground c.contents x → MayRun says ps q c x
+  take_runs q ground c (Removes n cause) may = (may.0, may.1, may.2, cause_fits q c.contents n may.0 says ps ground cause may.3)
   take_runs q ground c (MovesToBack n) may = (may.1, may.2)
   take_runs q ground c (Drops i) may = absurd may
 
@@ -127,17 +128,17 @@ module _ {K V P : Type 0} (says : P → K → V → Bool → Type 0) (ps : List 
   sweeps Read = refl
   sweeps Surplus = refl
 
-  pub turn_takes : (q : Tests) (sweep : Sweep) (c : Stock K V) (x : Choice) → MayTurn q sweep c x → MayTake (SomeCovers says ps) (tests_in q) (ground_of sweep) (contents_of c) x
-  turn_takes q sweep c (Removes n cause) may = take-also (λ _. ⊥) (SomeCovers says ps) (λ r none. absurd none) (tests_in q) (ground_of sweep) (contents_of c) (Removes n cause) may.1
+  pub turn_takes : (q : Tests) (sweep : Sweep) (c : Stock K V) (x : Choice) → MayTurn q sweep c x → MayTake (SomeCovers says ps) (tests_in q) (ground_of sweep) c.contents x
+  turn_takes q sweep c (Removes n cause) may = take-also (λ _. ⊥) (SomeCovers says ps) (λ r none. absurd none) (tests_in q) (ground_of sweep) c.contents (Removes n cause) may.1
   turn_takes q sweep c (MovesToBack n) may = (sweeps sweep, may.1.0, may.1.1)
   turn_takes q sweep c (Drops i) may = absurd may
 
-  pub expiry_takes : (q : Tests) (c : Stock K V) (x : Choice) → MayExpire q c x → MayTake (SomeCovers says ps) (tests_in q) ByTimer (contents_of c) x
+  pub expiry_takes : (q : Tests) (c : Stock K V) (x : Choice) → MayExpire q c x → MayTake (SomeCovers says ps) (tests_in q) ByTimer c.contents x
   expiry_takes q c (Removes n cause) may = may
   expiry_takes q c (MovesToBack n) may = absurd may
   expiry_takes q c (Drops i) may = absurd may
 
-  pub scan_takes : (q : parts.Tests) (c : Stock K V) (x : Choice) → MayScan says ps c x → MayTake (SomeCovers says ps) q ByPredicate (contents_of c) x
+  pub scan_takes : (q : parts.Tests) (c : Stock K V) (x : Choice) → MayScan says ps c x → MayTake (SomeCovers says ps) q ByPredicate c.contents x
   scan_takes q c (Removes n cause) may = (may.0, may.1, may.2, (may.3, may.4))
   scan_takes q c (MovesToBack n) may = absurd may
   scan_takes q c (Drops i) may = absurd may
@@ -145,14 +146,12 @@ module _ {K V P : Type 0} (says : P → K → V → Bool → Type 0) (ps : List 
 -- ---- steps of a stock
 
 module _ {K V : Type 0} (Covered : Record K V → Type 0) (q : parts.Tests) where
-  all_taken : (May : Stock K V → Choice → Type 0) (ground : Ground) → ((c : Stock K V) (x : Choice) → May c x → MayTake Covered q ground (contents_of c) x) → (c : Stock K V) (xs : List Choice) → MayAll May c xs → AreTaken Covered q ground (contents_of c) xs
+  all_taken : (May : Stock K V → Choice → Type 0) (ground : Ground) → ((c : Stock K V) (x : Choice) → May c x → MayTake Covered q ground c.contents x) → (c : Stock K V) (xs : List Choice) → MayAll May c xs → AreTaken Covered q ground c.contents xs
   all_taken May ground takes c [] may = tt
-  all_taken May ground takes c (Removes n cause ∷ xs) may = (takes c (Removes n cause) may.0, all_taken May ground takes (after_step c (Removes n cause)) xs may.1)
-  all_taken May ground takes c (MovesToBack n ∷ xs) may = (takes c (MovesToBack n) may.0, all_taken May ground takes (after_step c (MovesToBack n)) xs may.1)
-  all_taken May ground takes c (Drops i ∷ xs) may = (takes c (Drops i) may.0, all_taken May ground takes c xs may.1)
+  all_taken May ground takes c (x ∷ xs) may = (takes c x may.0, all_taken May ground takes (after_step c x) xs may.1)
 
   -- those of one ground
-  pub grounds-one : (batch : ℕ) (May : Stock K V → Choice → Type 0) (ground : Ground) → ((c : Stock K V) (x : Choice) → May c x → MayTake Covered q ground (contents_of c) x) → (c : Stock K V) (xs : List Choice) → MayAll May c xs → (is_batched ground ≡ true → length xs ≤ batch) → EndsStep q ground batch (length xs) (after_choices (contents_of c) xs) → FollowsGrounds Covered q batch (ground ∷ []) (contents_of c) xs
+  pub grounds-one : (batch : ℕ) (May : Stock K V → Choice → Type 0) (ground : Ground) → ((c : Stock K V) (x : Choice) → May c x → MayTake Covered q ground c.contents x) → (c : Stock K V) (xs : List Choice) → MayAll May c xs → (is_batched ground ≡ true → length xs ≤ batch) → EndsStep q ground batch (length xs) (after_choices c.contents xs) → FollowsGrounds Covered q batch (ground ∷ []) c.contents xs
   grounds-one batch May ground takes c xs may few ends = (xs, [], sym (append-nil xs), all_taken May ground takes c xs may, (few, ends), refl)
 
   grounds-append : (batch : ℕ) (gs hs : List Ground) (c : Contents K V) (xs ys : List Choice) → FollowsGrounds Covered q batch gs c xs → FollowsGrounds Covered q batch hs (after_choices c xs) ys → FollowsGrounds Covered q batch (gs ++ hs) c (xs ++ ys)
@@ -167,15 +166,9 @@ module _ {K V : Type 0} (Covered : Record K V → Type 0) (q : parts.Tests) wher
     grounds-append batch gs hs (after_choices c h.0) h.1 ys h.5 (subst (λ d. FollowsGrounds Covered q batch hs d ys) (ap (after_choices c) h.2 ∙ choices-append c h.0 h.1) later),
   )
 
-  stock_after : (c : Stock K V) (xs : List Choice) → contents_of (after_steps c xs) ≡ after_choices (contents_of c) xs
-  stock_after c [] = refl
-  stock_after c (Removes n cause ∷ xs) = stock_after (after_step c (Removes n cause)) xs
-  stock_after c (MovesToBack n ∷ xs) = stock_after (after_step c (MovesToBack n)) xs
-  stock_after c (Drops i ∷ xs) = stock_after c xs
-
   -- those of some grounds, and then those of others
-  pub grounds-on : (batch : ℕ) (gs hs : List Ground) (a b : Stock K V) (xs ys : List Choice) → b ≡ after_steps a xs → FollowsGrounds Covered q batch gs (contents_of a) xs → FollowsGrounds Covered q batch hs (contents_of b) ys → FollowsGrounds Covered q batch (gs ++ hs) (contents_of a) (xs ++ ys)
-  grounds-on batch gs hs a b xs ys led first later = grounds-append batch gs hs (contents_of a) xs ys first (subst (λ d. FollowsGrounds Covered q batch hs d ys) (ap contents_of led ∙ stock_after a xs) later)
+  pub grounds-on : (batch : ℕ) (gs hs : List Ground) (a b : Stock K V) (xs ys : List Choice) → b ≡ after_steps a xs → FollowsGrounds Covered q batch gs a.contents xs → FollowsGrounds Covered q batch hs b.contents ys → FollowsGrounds Covered q batch (gs ++ hs) a.contents (xs ++ ys)
+  grounds-on batch gs hs a b xs ys led first later = grounds-append batch gs hs a.contents xs ys first (subst (λ d. FollowsGrounds Covered q batch hs d ys) (ap (λ (s : Stock K V). s.contents) led) later)
 
   -- ---- whatever sketch the contents have
 
@@ -191,12 +184,6 @@ module _ {K V : Type 0} (Covered : Record K V → Type 0) (q : parts.Tests) wher
       leaves BySurplus r h = h
   taken_sketched ground sketch c (MovesToBack n ∷ xs) h = (h.0, taken_sketched ground sketch (after_choice c (MovesToBack n)) xs h.1)
   taken_sketched ground sketch c (Drops i ∷ xs) h = absurd h.0
-
-  choices_sketched : (sketch : Option Table) (c : Contents K V) (xs : List Choice) → after_choices (record c { sketch = sketch }) xs ≡ record (after_choices c xs) { sketch = sketch }
-  choices_sketched sketch c [] = refl
-  choices_sketched sketch c (Removes n cause ∷ xs) = choices_sketched sketch (after_choice c (Removes n cause)) xs
-  choices_sketched sketch c (MovesToBack n ∷ xs) = choices_sketched sketch (after_choice c (MovesToBack n)) xs
-  choices_sketched sketch c (Drops i ∷ xs) = choices_sketched sketch c xs
 
   ends_sketched : (ground : Ground) (batch choices : ℕ) (sketch : Option Table) (c : Contents K V) → EndsStep q ground batch choices c → EndsStep q ground batch choices (record c { sketch = sketch })
   ends_sketched ByTimer batch choices sketch c h = h
@@ -217,16 +204,16 @@ module _ {K V : Type 0} (Covered : Record K V → Type 0) (q : parts.Tests) wher
   )
 
 -- where a sweep of the passes ended is where the step is to end
-ends_done : {K V : Type 0} (q : Tests) (sweep : Sweep) (batch turns : ℕ) (c : Stock K V) → IsDone q sweep batch turns c → EndsStep (tests_in q) (ground_of sweep) batch turns (contents_of c)
+ends_done : {K V : Type 0} (q : Tests) (sweep : Sweep) (batch turns : ℕ) (c : Stock K V) → IsDone q sweep batch turns c → EndsStep (tests_in q) (ground_of sweep) batch turns c.contents
 ends_done q Written batch turns c h = tt
 ends_done q Read batch turns c (inl stopped) = inl stopped.0
 ends_done q Read batch turns c (inr spent) = inr spent
 ends_done q Surplus batch turns c (inl stopped) = inl stopped.0
 ends_done q Surplus batch turns c (inr spent) = inr spent
 
-pub ends-swept : {K V : Type 0} (q : Tests) (sweep : Sweep) (batch : ℕ) (a b : Stock K V) (xs : List Choice) → b ≡ after_steps a xs → IsDone q sweep batch (length xs) b → EndsStep (tests_in q) (ground_of sweep) batch (length xs) (after_choices (contents_of a) xs)
+pub ends-swept : {K V : Type 0} (q : Tests) (sweep : Sweep) (batch : ℕ) (a b : Stock K V) (xs : List Choice) → b ≡ after_steps a xs → IsDone q sweep batch (length xs) b → EndsStep (tests_in q) (ground_of sweep) batch (length xs) (after_choices a.contents xs)
 ends-swept q sweep batch a b xs led h =
-    subst (λ d. EndsStep (tests_in q) (ground_of sweep) batch (length xs) d) (ap contents_of led ∙ stock_after (λ _. ⊥) (tests_in q) a xs) (ends_done q sweep batch (length xs) b h)
+    subst (λ d. EndsStep (tests_in q) (ground_of sweep) batch (length xs) d) (ap (λ (s : Stock _ _). s.contents) led) (ends_done q sweep batch (length xs) b h)
 
 -- one pass more
 last_pass : (passes : ℕ) → grounds_of (suc passes) ≡ grounds_of passes ++ grounds_of_pass

@@ -22,7 +22,7 @@ use Rattle.moka_maintenance.specs.declared.sweep.Tests.{Tests}
 use Rattle.moka_maintenance.specs.declared.sweep.Sweep.{Sweep}
 use Rattle.moka_maintenance.specs.declared.sweep.Sweep.TheVariants.{Written, Read, Surplus}
 use Rattle.moka_maintenance.specs.Scanning.{MayScan, AreDropped, IsScanned}
-use Rattle.moka_maintenance.specs.Steps.{Stock, MayLeave, MayRun, MayAll, AreAllMembers, HasNoSettled, HasUnsettled, IsStepped, after_step, after_steps, contents_of, is_timely, makes_room, stock_in}
+use Rattle.moka_maintenance.specs.Steps.{Stock, MayLeave, MayRun, MayAll, AreAllMembers, HasNoSettled, HasUnsettled, IsStepped, after_step, after_steps, is_timely, makes_room, stock_in}
 use Rattle.moka_maintenance.specs.Sweeps.{tests_in, ground_of, is_taken, sweeps_reads, sweeps_writes, HasStopped, IsAtRest, IsDone, AreAllTurns, MayTurn, MayExpire, IsSwept, ExpiresDue}
 use Rattle.moka_maintenance.specs.Passes.{IsPass}
 use Rattle.moka_maintenance.proofs.Fronts.{within-not_over}
@@ -60,7 +60,7 @@ module _ {K V L : Type 0} (tells : L → K → V → RemovalCause → L → Type
       go : AreAllTurns q batch (length h.by.steps) b ⊎ HasStopped q sweep b → IsDone q sweep batch (length h.by.steps) b
       go (inr stopped) = inl stopped
       go (inl (rounds, made, inr none)) = inr (inl none)
-      go (inl (rounds, made, inl none)) = inr (inr (all (length h.by.steps) (rounds * length b.access) made (ap (λ r. r * length b.access) none ∙ omega arith)))
+      go (inl (rounds, made, inl none)) = inr (inr (all (length h.by.steps) (rounds * length b.contents.access) made (ap (λ r. r * length b.contents.access) none ∙ omega arith)))
 
 -- a step that is not taken has nothing to do
 no_duration : {D : Type 0} (f : D → ℕ) (o : Option D) (t now : ℕ) → is_some o ≡ false → has_passed (deadline (option_map f o) t) now ≡ false
@@ -74,12 +74,12 @@ no_bound (Some i) t e = cc
 three : (a b c : Bool) → (a || b || c) ≡ false → (a ≡ false) × (c ≡ false)
 three a b c e = (let both = or_parts (a || b) c e in ((or_parts a b both.0).0, both.1))
 
-at_rest : {K V : Type 0} (q : Tests) (sweep : Sweep) (c : Stock K V) → is_taken q sweep c.access ≡ false → IsAtRest q sweep c
+at_rest : {K V : Type 0} (q : Tests) (sweep : Sweep) (c : Stock K V) → is_taken q sweep c.contents.access ≡ false → IsAtRest q sweep c
 at_rest q Read c e = λ n r front there. (let both = or_parts (is_some q.time_to_idle) (is_some q.valid_after) e in (no_duration as_nanos q.time_to_idle r.read.0 q.now.0 both.0, no_bound q.valid_after r.read.0 both.1))
 at_rest q Written c e = λ n r front there. (let both = three (is_some q.time_to_live) (is_some q.time_to_idle) (is_some q.valid_after) e in (no_duration as_nanos q.time_to_live r.written.0 q.now.0 both.0, no_bound q.valid_after r.written.0 both.1))
-at_rest q Surplus c e = within-not_over q.capacity c.access e
+at_rest q Surplus c e = within-not_over q.capacity c.contents.access e
 
-pub not_taken : {K V : Type 0} (q : Tests) (sweep : Sweep) (c : Stock K V) → is_taken q sweep c.access ≡ false → HasStopped q sweep c
+pub not_taken : {K V : Type 0} (q : Tests) (sweep : Sweep) (c : Stock K V) → is_taken q sweep c.contents.access ≡ false → HasStopped q sweep c
 not_taken q sweep c e = (at_rest q sweep c e, λ is. absurd (true≢false (sym is ∙ e)))
 
 -- ---- steps by moments
@@ -92,11 +92,8 @@ turn_allowed says ps q sweep c x may = take_runs says ps (tests_in q) (ground_of
 expiry_allowed : {K V P : Type 0} (says : P → K → V → Bool → Type 0) (ps : List (Registered P)) (q : Tests) (c : Stock K V) (x : Choice) → MayExpire q c x → MayRun says ps (tests_in q) c x
 expiry_allowed says ps q c x may = take_runs says ps (tests_in q) ByTimer c x (expiry_takes says ps q c x may)
 
--- neither makes room
-no_room : (cause : RemovalCause) → is_timely cause ≡ true → not (is_timely cause) ≡ false
-no_room cause e = ap not e
-
-timely_once : (a b : Bool) (cause : RemovalCause) → (if a then Some Expired else (if b then Some Explicit else None)) ≡ Some cause → is_timely cause ≡ true
+-- neither makes room, nor does one of a scan
+timely_once : (a b : Bool) (cause : RemovalCause) → (if a then Some Expired else (if b then Some Explicit else None)) ≡ Some cause → not (is_timely cause) ≡ false
 timely_once a b Expired e = refl
 timely_once a b Explicit e = refl
 timely_once a b Replaced e = refl
@@ -110,42 +107,35 @@ is_by_moment Written = true
 is_by_moment Read = true
 is_by_moment Surplus = false
 
-timely_turn : {K V : Type 0} (q : Tests) (sweep : Sweep) → is_by_moment sweep ≡ true → (c : Stock K V) (n : ℕ) (cause : RemovalCause) → MayTurn q sweep c (Removes n cause) → is_timely cause ≡ true
-timely_turn q Written timely c n cause may = timely_once (is_past_write (tests_in q) may.1.0) (is_written_before q.valid_after may.1.0) cause may.1.3
-timely_turn q Read timely c n cause may = timely_once (is_past_read (tests_in q) may.1.0) (is_read_before q.valid_after may.1.0) cause may.1.3.1
-timely_turn q Surplus timely c n cause may = absurd (true≢false (sym timely))
+timely_turn : {K V : Type 0} (q : Tests) (sweep : Sweep) → is_by_moment sweep ≡ true → (c : Stock K V) (x : Choice) → MayTurn q sweep c x → makes_room x ≡ false
+timely_turn q Written timely c (Removes n cause) may = timely_once (is_past_write (tests_in q) may.1.0) (is_written_before q.valid_after may.1.0) cause may.1.3
+timely_turn q Read timely c (Removes n cause) may = timely_once (is_past_read (tests_in q) may.1.0) (is_read_before q.valid_after may.1.0) cause may.1.3.1
+timely_turn q Surplus timely c (Removes n cause) may = absurd (true≢false (sym timely))
+timely_turn q sweep timely c (MovesToBack n) may = refl
+timely_turn q sweep timely c (Drops i) may = refl
 
-none_makes_room : {K V : Type 0} (q : Tests) (sweep : Sweep) → is_by_moment sweep ≡ true → (c : Stock K V) (xs : List Choice) → MayAll (MayTurn q sweep) c xs → list_all makes_room xs ≡ true → xs ≡ []
-none_makes_room q sweep timely c [] may all = refl
-none_makes_room q sweep timely c (Removes n cause ∷ xs) may all = absurd (true≢false (sym all ∙ ap (λ b. b && list_all makes_room xs) (no_room cause (timely_turn q sweep timely c n cause may.0))))
-none_makes_room q sweep timely c (MovesToBack n ∷ xs) may all = absurd (true≢false (sym all))
-none_makes_room q sweep timely c (Drops i ∷ xs) may all = absurd may.0
+timely_expiry : {K V : Type 0} (q : Tests) (c : Stock K V) (x : Choice) → MayExpire q c x → makes_room x ≡ false
+timely_expiry q c (Removes n cause) may = ap (λ k. not (is_timely k)) may.3.1
+timely_expiry q c (MovesToBack n) may = refl
+timely_expiry q c (Drops i) may = refl
 
-none_by_timers : {K V : Type 0} (q : Tests) (c : Stock K V) (xs : List Choice) → MayAll (MayExpire q) c xs → list_all makes_room xs ≡ true → xs ≡ []
-none_by_timers q c [] may all = refl
-none_by_timers q c (Removes n cause ∷ xs) may all = absurd (true≢false (sym all ∙ ap (λ b. b && list_all makes_room xs) (ap (λ k. not (is_timely k)) may.0.3.1)))
-none_by_timers q c (MovesToBack n ∷ xs) may all = absurd may.0
-none_by_timers q c (Drops i ∷ xs) may all = absurd may.0
+timely_scan : {K V P : Type 0} (says : P → K → V → Bool → Type 0) (ps : List (Registered P)) (c : Stock K V) (x : Choice) → MayScan says ps c x → makes_room x ≡ false
+timely_scan says ps c (Removes n cause) may = ap (λ k. not (is_timely k)) may.4
+timely_scan says ps c (MovesToBack n) may = refl
+timely_scan says ps c (Drops i) may = refl
 
--- so each is a removal
-all_removals : {K V : Type 0} (q : Tests) (c : Stock K V) (xs : List Choice) → MayAll (MayExpire q) c xs → length xs ≡ length (removed_by xs)
-all_removals q c [] may = refl
-all_removals q c (Removes n cause ∷ xs) may = let rest = all_removals q (after_step c (Removes n cause)) xs may.1 in omega arith
-all_removals q c (MovesToBack n ∷ xs) may = absurd may.0
-all_removals q c (Drops i ∷ xs) may = absurd may.0
+module _ {K V : Type 0} (May : Stock K V → Choice → Type 0) where
+  -- where no step may make room, all of them do only if there is none
+  none_makes_room : ((c : Stock K V) (x : Choice) → May c x → makes_room x ≡ false) → (c : Stock K V) (xs : List Choice) → MayAll May c xs → list_all makes_room xs ≡ true → xs ≡ []
+  none_makes_room timely c [] may all = refl
+  none_makes_room timely c (x ∷ xs) may all = absurd (true≢false (sym all ∙ ap (λ b. b && list_all makes_room xs) (timely c x may.0)))
 
--- a scan's steps are removals that make no room
-none_by_scan : {K V P : Type 0} (says : P → K → V → Bool → Type 0) (ps : List (Registered P)) (c : Stock K V) (xs : List Choice) → MayAll (MayScan says ps) c xs → list_all makes_room xs ≡ true → xs ≡ []
-none_by_scan says ps c [] may all = refl
-none_by_scan says ps c (Removes n cause ∷ xs) may all = absurd (true≢false (sym all ∙ ap (λ b. b && list_all makes_room xs) (ap (λ k. not (is_timely k)) may.0.4)))
-none_by_scan says ps c (MovesToBack n ∷ xs) may all = absurd may.0
-none_by_scan says ps c (Drops i ∷ xs) may all = absurd may.0
-
-all_scanned : {K V P : Type 0} (says : P → K → V → Bool → Type 0) (ps : List (Registered P)) (c : Stock K V) (xs : List Choice) → MayAll (MayScan says ps) c xs → length xs ≡ length (removed_by xs)
-all_scanned says ps c [] may = refl
-all_scanned says ps c (Removes n cause ∷ xs) may = let rest = all_scanned says ps (after_step c (Removes n cause)) xs may.1 in omega arith
-all_scanned says ps c (MovesToBack n ∷ xs) may = absurd may.0
-all_scanned says ps c (Drops i ∷ xs) may = absurd may.0
+  -- as many records leave as there are removals
+  all_removals : ((c : Stock K V) (n : ℕ) → May c (MovesToBack n) → ⊥) → ((c : Stock K V) (i : ℕ) → May c (Drops i) → ⊥) → (c : Stock K V) (xs : List Choice) → MayAll May c xs → length xs ≡ length (removed_by xs)
+  all_removals moves drops c [] may = refl
+  all_removals moves drops c (Removes n cause ∷ xs) may = let rest = all_removals moves drops (after_step c (Removes n cause)) xs may.1 in omega arith
+  all_removals moves drops c (MovesToBack n ∷ xs) may = absurd (moves c n may.0)
+  all_removals moves drops c (Drops i ∷ xs) may = absurd (drops c i may.0)
 
 pub both_make_room : (xs ys : List Choice) → list_all makes_room (xs ++ ys) ≡ true → (list_all makes_room xs ≡ true) × (list_all makes_room ys ≡ true)
 both_make_room xs ys all = and_parts (list_all makes_room xs) (list_all makes_room ys) (sym (list_all-append makes_room xs ys) ∙ all)
@@ -158,39 +148,35 @@ empty_list (x ∷ xs) h = absurd (omega arith)
 pub record AreTimely {K V L P : Type 0} (tells : L → K → V → RemovalCause → L → Type 0) (says : P → K → V → Bool → Type 0) (ps : List (Registered P)) (q : Tests) (batch turns : ℕ) (a b : Stock K V) (l m : Option L) (removed : ℕ) (left : Bool) : Type 0 where
   pub by : IsStepped tells (MayRun says ps (tests_in q)) a b l m
   pub count : removed ≡ length (removed_by by.steps)
-  pub many : length by.steps + length b.access ≤ turns + length a.access
+  pub many : length by.steps + length b.contents.access ≤ turns + length a.contents.access
   pub full : left ≡ true → batch ≤ removed
   pub none : list_all makes_room by.steps ≡ true → by.steps ≡ []
 
 module _ {K V L P : Type 0} (tells : L → K → V → RemovalCause → L → Type 0) (says : P → K → V → Bool → Type 0) (ps : List (Registered P)) (q : Tests) (batch : ℕ) where
-  shorter : (a b : Stock K V) (l m : Option L) (h : IsStepped tells (MayRun says ps (tests_in q)) a b l m) → length b.access + length (removed_by h.steps) ≤ length a.access
-  shorter a b l m h = subst (λ (x : Stock K V). length x.access + length (removed_by h.steps) ≤ length a.access) (sym h.led) (shrinks a h.steps (may-also (MayRun says ps (tests_in q)) MayLeave (run_leaves (tests_in q) says ps) a h.steps h.may))
+  shorter : (a b : Stock K V) (l m : Option L) (h : IsStepped tells (MayRun says ps (tests_in q)) a b l m) → length b.contents.access + length (removed_by h.steps) ≤ length a.contents.access
+  shorter a b l m h = subst (λ (x : Stock K V). length x.contents.access + length (removed_by h.steps) ≤ length a.contents.access) (sym h.led) (shrinks a h.steps (may-also (MayRun says ps (tests_in q)) MayLeave (run_leaves (tests_in q) says ps) a h.steps h.may))
+
+  -- removals by other tests than a sweep's
+  timely-removals : (May : Stock K V → Choice → Type 0) → ((c : Stock K V) (x : Choice) → May c x → MayRun says ps (tests_in q) c x) → ((c : Stock K V) (x : Choice) → May c x → makes_room x ≡ false) → ((c : Stock K V) (n : ℕ) → May c (MovesToBack n) → ⊥) → ((c : Stock K V) (i : ℕ) → May c (Drops i) → ⊥) →
+      (a b : Stock K V) (l m : Option L) (removed : ℕ) (h : IsStepped tells May a b l m) → removed ≡ length (removed_by h.steps) → AreTimely tells says ps q batch 0 a b l m removed false
+  unfolding stepped-also
+  timely-removals May runs timely moves drops a b l m removed h count =
+      let by = stepped-also tells May (MayRun says ps (tests_in q)) runs a b l m h in
+      record {
+        by = by;
+        count = count;
+        many = (let less = shorter a b l m by in let all = all_removals May moves drops a h.steps h.may in omega arith);
+        full = λ is. absurd (true≢false (sym is));
+        none = none_makes_room May timely a h.steps h.may;
+      }
 
   -- those of the timers
   pub timely-due : (a b : Stock K V) (l m : Option L) (removed : ℕ) → ExpiresDue tells q a b l m removed → AreTimely tells says ps q batch 0 a b l m removed false
-  unfolding stepped-also
-  timely-due a b l m removed h =
-      let by = stepped-also tells (MayExpire q) (MayRun says ps (tests_in q)) (expiry_allowed says ps q) a b l m h.by in
-      record {
-        by = by;
-        count = h.count;
-        many = (let less = shorter a b l m by in let all = all_removals q a h.by.steps h.by.may in omega arith);
-        full = λ is. absurd (true≢false (sym is));
-        none = none_by_timers q a h.by.steps h.by.may;
-      }
+  timely-due a b l m removed h = timely-removals (MayExpire q) (expiry_allowed says ps q) (timely_expiry q) (λ c n none. none) (λ c i none. none) a b l m removed h.by h.count
 
   -- those of the scan
   pub timely-scanned : (a b : Stock K V) (l m : Option L) → (h : IsStepped tells (MayScan says ps) a b l m) → AreTimely tells says ps q batch 0 a b l m (length h.steps) false
-  unfolding stepped-also
-  timely-scanned a b l m h =
-      let by = stepped-also tells (MayScan says ps) (MayRun says ps (tests_in q)) (scan_runs (tests_in q) says ps) a b l m h in
-      record {
-        by = by;
-        count = all_scanned says ps a h.steps h.may;
-        many = (let less = shorter a b l m by in let all = all_scanned says ps a h.steps h.may in omega arith);
-        full = λ is. absurd (true≢false (sym is));
-        none = none_by_scan says ps a h.steps h.may;
-      }
+  timely-scanned a b l m h = timely-removals (MayScan says ps) (scan_runs (tests_in q) says ps) (timely_scan says ps) (λ c n none. none) (λ c i none. none) a b l m (length h.steps) h (all_removals (MayScan says ps) (λ c n none. none) (λ c i none. none) a h.steps h.may)
 
   -- those of a sweep by moments
   pub timely-swept : (sweep : Sweep) → is_by_moment sweep ≡ true → (a b : Stock K V) (l m : Option L) (removed : ℕ) (left : Bool) → IsSwept tells q sweep batch a b l m removed left → AreTimely tells says ps q batch batch a b l m removed left
@@ -202,7 +188,7 @@ module _ {K V L P : Type 0} (tells : L → K → V → RemovalCause → L → Ty
         count = h.count;
         many = (let less = shorter a b l m by in let few = h.few in omega arith);
         full = λ is. (let used = h.full is in omega arith);
-        none = none_makes_room q sweep timely a h.by.steps h.by.may;
+        none = none_makes_room (MayTurn q sweep) (timely_turn q sweep timely) a h.by.steps h.by.may;
       }
 
   -- some, and then others
@@ -308,7 +294,7 @@ module _ {K V L P S : Type 0} (tells : L → K → V → RemovalCause → L → 
       ]
 
   scanned_are : scanned.by.steps ≡ moments.by.steps ++ by_scan.by.steps
-  unfolding scanned timely-on timely-scanned stepped-on stepped-also
+  unfolding scanned timely-on timely-scanned timely-removals stepped-on stepped-also
   scanned_are = refl
 
   many_steps : length (scanned.by.steps ++ last.steps) ≡ length moments.by.steps + gone + length surplus.by.steps
@@ -324,7 +310,7 @@ module _ {K V L P S : Type 0} (tells : L → K → V → RemovalCause → L → 
       go false f is = (let e = surplus.full is in let less = removed-few surplus.by.steps in let count = surplus.count in let all = many_steps in omega arith)
 
   first_are : first.by.steps ≡ by_timers.by.steps ++ by_write.by.steps
-  unfolding first timely-on timely-due timely-swept stepped-on stepped-also
+  unfolding first timely-on timely-due timely-removals timely-swept stepped-on stepped-also
   first_are = refl
 
   moments_are : moments.by.steps ≡ first.by.steps ++ by_read.by.steps
@@ -335,22 +321,22 @@ module _ {K V L P S : Type 0} (tells : L → K → V → RemovalCause → L → 
   Covered = SomeCovers says ps
 
   -- the steps one after the other, each with its own causes
-  ordered_moments : FollowsGrounds Covered (tests_in q) batch (ByTimer ∷ ByWrite ∷ ByRead ∷ []) (contents_of a) moments.by.steps
+  ordered_moments : FollowsGrounds Covered (tests_in q) batch (ByTimer ∷ ByWrite ∷ ByRead ∷ []) a.contents moments.by.steps
   ordered_moments =
       let timers = grounds-one Covered (tests_in q) batch (MayExpire q) ByTimer (expiry_takes says ps q) a by_timers.by.steps by_timers.by.may (λ e. absurd (true≢false (sym e))) tt in
       let writes = grounds-one Covered (tests_in q) batch (MayTurn q Written) ByWrite (turn_takes says ps q Written) b by_write.by.steps by_write.by.may (λ _. by_write.few) (ends-swept q Written batch b c by_write.by.steps by_write.by.led (swept-done tells q Written batch b c m n wrote x by_write)) in
       let reads = grounds-one Covered (tests_in q) batch (MayTurn q Read) ByRead (turn_takes says ps q Read) c by_read.by.steps by_read.by.may (λ _. by_read.few) (ends-swept q Read batch c d by_read.by.steps by_read.by.led (swept-done tells q Read batch c d n o read y by_read)) in
       let both = grounds-on Covered (tests_in q) batch (ByTimer ∷ []) (ByWrite ∷ []) a b by_timers.by.steps by_write.by.steps by_timers.by.led timers writes in
-      subst (λ xs. FollowsGrounds Covered (tests_in q) batch (ByTimer ∷ ByWrite ∷ ByRead ∷ []) (contents_of a) xs) (sym moments_are)
-      (grounds-on Covered (tests_in q) batch (ByTimer ∷ ByWrite ∷ []) (ByRead ∷ []) a c first.by.steps by_read.by.steps first.by.led (subst (λ xs. FollowsGrounds Covered (tests_in q) batch (ByTimer ∷ ByWrite ∷ []) (contents_of a) xs) (sym first_are) both) reads)
+      subst (λ xs. FollowsGrounds Covered (tests_in q) batch (ByTimer ∷ ByWrite ∷ ByRead ∷ []) a.contents xs) (sym moments_are)
+      (grounds-on Covered (tests_in q) batch (ByTimer ∷ ByWrite ∷ []) (ByRead ∷ []) a c first.by.steps by_read.by.steps first.by.led (subst (λ xs. FollowsGrounds Covered (tests_in q) batch (ByTimer ∷ ByWrite ∷ []) a.contents xs) (sym first_are) both) reads)
 
-  ordered : FollowsGrounds Covered (tests_in q) batch grounds_of_pass (contents_of a) (scanned.by.steps ++ last.steps)
+  ordered : FollowsGrounds Covered (tests_in q) batch grounds_of_pass a.contents (scanned.by.steps ++ last.steps)
   unfolding last stepped-also
   ordered =
       let scan = grounds-one Covered (tests_in q) batch (MayScan says ps) ByPredicate (scan_takes says ps (tests_in q)) d by_scan.by.steps by_scan.by.may (λ _. (let few = by_scan.few in let most = by_scan.goes.most in omega arith)) tt in
       let last_of = grounds-one Covered (tests_in q) batch (MayTurn q Surplus) BySurplus (turn_takes says ps q Surplus) f surplus.by.steps surplus.by.may (λ _. surplus.few) (ends-swept q Surplus batch f e surplus.by.steps surplus.by.led (swept-done tells q Surplus batch f e u p room z surplus)) in
       let four = grounds-on Covered (tests_in q) batch (ByTimer ∷ ByWrite ∷ ByRead ∷ []) (ByPredicate ∷ []) a d moments.by.steps by_scan.by.steps moments.by.led ordered_moments scan in
-      grounds-on Covered (tests_in q) batch (ByTimer ∷ ByWrite ∷ ByRead ∷ ByPredicate ∷ []) (BySurplus ∷ []) a f scanned.by.steps surplus.by.steps scanned.by.led (subst (λ xs. FollowsGrounds Covered (tests_in q) batch (ByTimer ∷ ByWrite ∷ ByRead ∷ ByPredicate ∷ []) (contents_of a) xs) (sym scanned_are) four) last_of
+      grounds-on Covered (tests_in q) batch (ByTimer ∷ ByWrite ∷ ByRead ∷ ByPredicate ∷ []) (BySurplus ∷ []) a f scanned.by.steps surplus.by.steps scanned.by.led (subst (λ xs. FollowsGrounds Covered (tests_in q) batch (ByTimer ∷ ByWrite ∷ ByRead ∷ ByPredicate ∷ []) a.contents xs) (sym scanned_are) four) last_of
 
   wrote_steps : length by_write.by.steps ≤ length first.by.steps
   wrote_steps = let both = ap length first_are ∙ length-on by_timers.by.steps by_write.by.steps in omega arith
@@ -381,12 +367,12 @@ module _ {K V L P S : Type 0} (tells : L → K → V → RemovalCause → L → 
   used_last : IsDone q Surplus batch (length (scanned.by.steps ++ last.steps)) e
   used_last = still_done q Surplus batch (length surplus.by.steps) (length (scanned.by.steps ++ last.steps)) e (let all = many_steps in omega arith) (swept-done tells q Surplus batch f e u p room z surplus)
 
-  many_turns : length (scanned.by.steps ++ last.steps) + length e.access ≤ batch + batch + batch + length a.access
+  many_turns : length (scanned.by.steps ++ last.steps) + length e.contents.access ≤ batch + batch + batch + length a.contents.access
   unfolding last stepped-also
   many_turns = let few = scanned.many in let fewer = surplus.few in let shorter = shorter tells says ps q batch f e u p last in let both : length (scanned.by.steps ++ last.steps) ≡ length scanned.by.steps + length surplus.by.steps = length-on scanned.by.steps last.steps in omega arith
 
-  unmoved : batch ≡ 0 → f.access ≡ e.access
-  unmoved none = ap (λ (s : Stock K V). s.access) (sym (surplus.by.led ∙ ap (after_steps f) (empty_list surplus.by.steps (let few = surplus.few in omega arith))))
+  unmoved : batch ≡ 0 → f.contents.access ≡ e.contents.access
+  unmoved none = ap (λ (s : Stock K V). s.contents.access) (sym (surplus.by.led ∙ ap (after_steps f) (empty_list surplus.by.steps (let few = surplus.few in omega arith))))
 
   counts : due + wrote + read + room ≤ length (removed_by (scanned.by.steps ++ last.steps))
   unfolding last stepped-also
@@ -401,20 +387,20 @@ module _ {K V L P S : Type 0} (tells : L → K → V → RemovalCause → L → 
 
   -- what the scan left is left after the surplus
   settled_none : HasNoSettled f → HasNoSettled e
-  settled_none none = none_settled e.records e.access (λ n there. subst (λ (s : Stock K V). is_member n s.access ≡ true → is_settled s.records n ≡ false) (sym last.led) (none-steps f last.steps (may-also (MayRun says ps (tests_in q)) MayLeave (run_leaves (tests_in q) says ps) f last.steps last.may) (each_unsettled f.records f.access none) n) there)
+  settled_none none = none_settled e.contents.records e.contents.access (λ n there. subst (λ (s : Stock K V). is_member n s.contents.access ≡ true → is_settled s.contents.records n ≡ false) (sym last.led) (none-steps f last.steps (may-also (MayRun says ps (tests_in q)) MayLeave (run_leaves (tests_in q) says ps) f last.steps last.may) (each_unsettled f.contents.records f.contents.access none) n) there)
 
   unfinished_after : d0.ordered ≡ true → 1 ≤ batch → 0 < length qs → (scan ≡ true) ⊎ HasNoSettled e
   unfinished_after ordered some there = elim (by_scan.unfinished ordered some there) [ inl is ↦ inl is | inr none ↦ inr (settled_none none) ]
 
-  gone_predicates : d0.ordered ≡ true → length a.access ≤ batch → AreAllMembers a → qs ≡ []
+  gone_predicates : d0.ordered ≡ true → length a.contents.access ≤ batch → AreAllMembers a → qs ≡ []
   gone_predicates ordered large all =
       let less = shorter tells says ps q batch a d l o moments.by in
       by_scan.whole ordered (omega arith) (subst AreAllMembers (sym moments.by.led) (members-steps a moments.by.steps all))
 
-  dropped_after : AreDropped says (contents_of e) ps qs
-  dropped_after = dropped-later says (contents_of f) (contents_of e) (λ n r at. still_there f last.steps n r (sym (ap (λ (s : Stock K V). get s.records n) last.led) ∙ at)) ps qs by_scan.dropped
+  dropped_after : AreDropped says e.contents ps qs
+  dropped_after = dropped-later says f.contents e.contents (λ n r at. still_there f last.steps n r (sym (ap (λ (s : Stock K V). get s.contents.records n) last.led) ∙ at)) ps qs by_scan.dropped
 
-  pub pass-five : (batch ≡ 0 → x ≡ is_taken q Written b.access) → (batch ≡ 0 → y ≡ is_taken q Read c.access) → (batch ≡ 0 → z ≡ is_taken q Surplus f.access) → IsPass tells says q batch d0.ordered ps qs a e l p (due + wrote + read + room) (x || y || z) scan
+  pub pass-five : (batch ≡ 0 → x ≡ is_taken q Written b.contents.access) → (batch ≡ 0 → y ≡ is_taken q Read c.contents.access) → (batch ≡ 0 → z ≡ is_taken q Surplus f.contents.access) → IsPass tells says q batch d0.ordered ps qs a e l p (due + wrote + read + room) (x || y || z) scan
   unfolding last stepped-on stepped-also
   pass-five wrote_due read_due over = record {
     by = stepped-on tells (MayRun says ps (tests_in q)) a f e l u p scanned.by last;
@@ -433,7 +419,7 @@ module _ {K V L P S : Type 0} (tells : L → K → V → RemovalCause → L → 
     reads_swept = (moments.by.steps, by_scan.by.steps ++ last.steps, ap (λ zs. zs ++ last.steps) scanned_are ∙ append_assoc moments.by.steps by_scan.by.steps last.steps, reads_done.0, reads_done.1);
     idle = λ none.
         ap (λ t. t || y || z) (wrote_due none) ∙ ap (λ t. sweeps_writes q || t || z) (read_due none) ∙ ap (λ t. sweeps_writes q || sweeps_reads q || t) (over none ∙ ap (is_over q.capacity) (unmoved none))
-        ∙ idle_sweeps (is_some q.time_to_live) (is_some q.time_to_idle) (is_some q.valid_after) (is_over q.capacity e.access);
+        ∙ idle_sweeps (is_some q.time_to_live) (is_some q.time_to_idle) (is_some q.valid_after) (is_over q.capacity e.contents.access);
     unregistered = λ none. (by_scan.unregistered none).1;
     scan_idle = by_scan.idle;
     scan_more = by_scan.more;

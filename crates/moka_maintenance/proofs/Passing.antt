@@ -14,7 +14,7 @@ use Rattle.moka_parts.specs.Bounds.{removed_by}
 use Rattle.moka_parts.specs.Grounds.{FollowsGrounds, grounds_of, grounds_of_pass}
 use Rattle.moka_maintenance.specs.declared.sweep.Tests.{Tests}
 use Rattle.moka_maintenance.specs.Scanning.{AreDropped}
-use Rattle.moka_maintenance.specs.Steps.{Stock, MayLeave, MayRun, AreAllMembers, HasUnsettled, IsStepped, after_steps, contents_of, makes_room}
+use Rattle.moka_maintenance.specs.Steps.{Stock, MayLeave, MayRun, AreAllMembers, HasUnsettled, IsStepped, after_steps, makes_room}
 use Rattle.moka_maintenance.specs.declared.sweep.Sweep.{Sweep}
 use Rattle.moka_maintenance.specs.declared.sweep.Sweep.TheVariants.{Written, Read, Surplus}
 use Rattle.moka_maintenance.specs.Sweeps.{tests_in, IsAtRest, IsDone}
@@ -40,23 +40,23 @@ not_due false removed e is = absurd (true≢false (sym is))
 -- passes each of which left more and removed a record beside the scan
 pub record IsMoving {K V L P : Type 0} (tells : L → K → V → RemovalCause → L → Type 0) (says : P → K → V → Bool → Type 0) (q : Tests) (batch : ℕ) (ordered : Bool) (ps qs : List (Registered P)) (first now : Stock K V) (l m : Option L) (passes : ℕ) : Type 0 where
   pub by : IsStepped tells (MayRun says ps (tests_in q)) first now l m
-  pub dropped : AreDropped says (contents_of now) ps qs
-  pub in_order : FollowsGrounds (SomeCovers says ps) (tests_in q) batch (grounds_of passes) (contents_of first) by.steps
+  pub dropped : AreDropped says now.contents ps qs
+  pub in_order : FollowsGrounds (SomeCovers says ps) (tests_in q) batch (grounds_of passes) first.contents by.steps
   pub few : passes ≤ length (removed_by by.steps)
   pub turned : ps ≡ [] → passes * batch ≤ length by.steps
-  pub many : length by.steps + length now.access ≤ passes * (batch + batch + batch) + length first.access
+  pub many : length by.steps + length now.contents.access ≤ passes * (batch + batch + batch) + length first.contents.access
   pub exact : ps ≡ [] → list_all makes_room by.steps ≡ true → length (removed_by by.steps) ≡ passes * batch
   pub none : passes ≡ 0 → by.steps ≡ []
 
 pub moving-none : {K V L P : Type 0} (tells : L → K → V → RemovalCause → L → Type 0) (says : P → K → V → Bool → Type 0) (q : Tests) (batch : ℕ) (ordered : Bool) (ps : List (Registered P)) (c : Stock K V) (l : Option L) → IsMoving tells says q batch ordered ps ps c c l l 0
 unfolding stepped-none
-moving-none tells says q batch ordered ps c l = record { by = stepped-none tells (MayRun says ps (tests_in q)) c l; dropped = dropped-none says (contents_of c) ps ps refl; in_order = refl; few = omega arith; turned = λ _. omega arith; many = omega arith; exact = λ _ _. omega arith; none = λ _. refl }
+moving-none tells says q batch ordered ps c l = record { by = stepped-none tells (MayRun says ps (tests_in q)) c l; dropped = dropped-none says c.contents ps ps refl; in_order = refl; few = omega arith; turned = λ _. omega arith; many = omega arith; exact = λ _ _. omega arith; none = λ _. refl }
 
-shorter : {K V L P : Type 0} (tells : L → K → V → RemovalCause → L → Type 0) (says : P → K → V → Bool → Type 0) (ps : List (Registered P)) (q : Tests) (a b : Stock K V) (l m : Option L) (h : IsStepped tells (MayRun says ps (tests_in q)) a b l m) → length b.access + length (removed_by h.steps) ≤ length a.access
-shorter tells says ps q a b l m h = subst (λ (x : Stock _ _). length x.access + length (removed_by h.steps) ≤ length a.access) (sym h.led) (shrinks a h.steps (may-also (MayRun says ps (tests_in q)) MayLeave (run_leaves (tests_in q) says ps) a h.steps h.may))
+shorter : {K V L P : Type 0} (tells : L → K → V → RemovalCause → L → Type 0) (says : P → K → V → Bool → Type 0) (ps : List (Registered P)) (q : Tests) (a b : Stock K V) (l m : Option L) (h : IsStepped tells (MayRun says ps (tests_in q)) a b l m) → length b.contents.access + length (removed_by h.steps) ≤ length a.contents.access
+shorter tells says ps q a b l m h = subst (λ (x : Stock _ _). length x.contents.access + length (removed_by h.steps) ≤ length a.contents.access) (sym h.led) (shrinks a h.steps (may-also (MayRun says ps (tests_in q)) MayLeave (run_leaves (tests_in q) says ps) a h.steps h.may))
 
 -- there are no more passes than members
-pub moving-few : {K V L P : Type 0} (tells : L → K → V → RemovalCause → L → Type 0) (says : P → K → V → Bool → Type 0) (q : Tests) (batch : ℕ) (ordered : Bool) (ps qs : List (Registered P)) (first now : Stock K V) (l m : Option L) (passes : ℕ) → IsMoving tells says q batch ordered ps qs first now l m passes → passes ≤ length first.access
+pub moving-few : {K V L P : Type 0} (tells : L → K → V → RemovalCause → L → Type 0) (says : P → K → V → Bool → Type 0) (q : Tests) (batch : ℕ) (ordered : Bool) (ps qs : List (Registered P)) (first now : Stock K V) (l m : Option L) (passes : ℕ) → IsMoving tells says q batch ordered ps qs first now l m passes → passes ≤ length first.contents.access
 moving-few tells says q batch ordered ps qs first now l m passes h = let s = shorter tells says ps q first now l m h.by in let f = h.few in omega arith
 
 times_next : (passes batch : ℕ) → (passes + 1) * batch ≡ passes * batch + batch
@@ -70,7 +70,7 @@ one_more passes batch a b c h k e = let plus = times_next passes batch in omega 
 
 module _ {K V L P : Type 0} (tells : L → K → V → RemovalCause → L → Type 0) (says : P → K → V → Bool → Type 0) (q : Tests) (batch : ℕ) (ordered : Bool) (ps rs qs : List (Registered P)) (first now next : Stock K V) (l m n : Option L) (passes removed : ℕ) (more scan : Bool) (h : IsMoving tells says q batch ordered ps rs first now l m passes) (p : IsPass tells says q batch ordered rs qs now next m n removed more scan) where
   -- the access list became shorter by what was removed
-  fewer : length next.access + removed ≤ length now.access
+  fewer : length next.contents.access + removed ≤ length now.contents.access
   fewer = let s = shorter tells says rs q now next m n p.by in let c = p.count in omega arith
 
   covered_before : (r : Record K V) → SomeCovers says rs r → SomeCovers says ps r
@@ -80,14 +80,14 @@ module _ {K V L P : Type 0} (tells : L → K → V → RemovalCause → L → Ty
   later : IsStepped tells (MayRun says ps (tests_in q)) now next m n
   later = stepped-also tells (MayRun says rs (tests_in q)) (MayRun says ps (tests_in q)) (fewer_run (tests_in q) says ps rs covered_before) now next m n p.by
 
-  dropped_all : AreDropped says (contents_of next) ps qs
-  dropped_all = dropped-on says (contents_of next) ps rs qs (dropped-later says (contents_of now) (contents_of next) (λ k r at. still_there now p.by.steps k r (sym (ap (λ (s : Stock K V). get s.records k) p.by.led) ∙ at)) ps rs h.dropped) p.dropped
+  dropped_all : AreDropped says next.contents ps qs
+  dropped_all = dropped-on says next.contents ps rs qs (dropped-later says now.contents next.contents (λ k r at. still_there now p.by.steps k r (sym (ap (λ (s : Stock K V). get s.contents.records k) p.by.led) ∙ at)) ps rs h.dropped) p.dropped
 
-  in_order_all : FollowsGrounds (SomeCovers says ps) (tests_in q) batch (grounds_of (passes + 1)) (contents_of first) (h.by.steps ++ p.by.steps)
+  in_order_all : FollowsGrounds (SomeCovers says ps) (tests_in q) batch (grounds_of (passes + 1)) first.contents (h.by.steps ++ p.by.steps)
   in_order_all =
-      subst (λ gs. FollowsGrounds (SomeCovers says ps) (tests_in q) batch gs (contents_of first) (h.by.steps ++ p.by.steps)) (sym (grounds-next passes))
+      subst (λ gs. FollowsGrounds (SomeCovers says ps) (tests_in q) batch gs first.contents (h.by.steps ++ p.by.steps)) (sym (grounds-next passes))
       (grounds-on (SomeCovers says ps) (tests_in q) batch (grounds_of passes) grounds_of_pass first now h.by.steps p.by.steps h.by.led h.in_order
-      (grounds-also (SomeCovers says rs) (SomeCovers says ps) covered_before (tests_in q) batch grounds_of_pass (contents_of now) p.by.steps p.in_order))
+      (grounds-also (SomeCovers says rs) (SomeCovers says ps) covered_before (tests_in q) batch grounds_of_pass now.contents p.by.steps p.in_order))
 
   -- no predicates are added
   none_yet : ps ≡ [] → rs ≡ []
@@ -99,8 +99,8 @@ module _ {K V L P : Type 0} (tells : L → K → V → RemovalCause → L → Ty
   counted_all : list_all makes_room p.by.steps ≡ true → length (removed_by (h.by.steps ++ p.by.steps)) ≡ length (removed_by h.by.steps) + removed
   counted_all rooms = let c = p.counted rooms in let a = removed-on h.by.steps p.by.steps in omega arith
 
-  many_all : length (h.by.steps ++ p.by.steps) + length next.access ≤ (passes + 1) * (batch + batch + batch) + length first.access
-  many_all = one_less passes (batch + batch + batch) (length h.by.steps) (length p.by.steps) (length (h.by.steps ++ p.by.steps)) (length first.access) (length now.access) (length next.access) h.many p.many (length-on h.by.steps p.by.steps)
+  many_all : length (h.by.steps ++ p.by.steps) + length next.contents.access ≤ (passes + 1) * (batch + batch + batch) + length first.contents.access
+  many_all = one_less passes (batch + batch + batch) (length h.by.steps) (length p.by.steps) (length (h.by.steps ++ p.by.steps)) (length first.contents.access) (length now.contents.access) (length next.contents.access) h.many p.many (length-on h.by.steps p.by.steps)
 
   full_all : ps ≡ [] → (passes + 1 - 1) * batch ≤ length (h.by.steps ++ p.by.steps)
   full_all none = let turned = h.turned none in let both = length-on h.by.steps p.by.steps in let same : passes + 1 - 1 ≡ passes = omega arith in subst (λ k. k * batch ≤ length (h.by.steps ++ p.by.steps)) (sym same) (omega arith)
@@ -110,7 +110,7 @@ module _ {K V L P : Type 0} (tells : L → K → V → RemovalCause → L → Ty
   by_sweeps none is = sym (ap (λ b. more || b) (p.unregistered (none_yet none)) ∙ or-false more) ∙ is
 
   -- each record is still a settled member, and there are no more of them
-  pub predicates_gone : ordered ≡ true → length first.access ≤ batch → AreAllMembers first → qs ≡ []
+  pub predicates_gone : ordered ≡ true → length first.contents.access ≤ batch → AreAllMembers first → qs ≡ []
   predicates_gone order large all =
       let less = shorter tells says ps q first now l m h.by in
       p.predicates order (omega arith) (subst AreAllMembers (sym h.by.led) (members-steps first h.by.steps all))
@@ -131,7 +131,7 @@ module _ {K V L P : Type 0} (tells : L → K → V → RemovalCause → L → Ty
   }
 
   -- the access list became shorter
-  pub moving-less : 1 ≤ removed → length next.access + 1 ≤ length now.access
+  pub moving-less : 1 ≤ removed → length next.contents.access + 1 ≤ length now.contents.access
   moving-less some = let f = fewer in omega arith
 
   turned_all : ps ≡ [] → (sweep : Sweep) (c : Stock K V) (turns more : ℕ) → more ≡ length h.by.steps + turns → IsDone q sweep batch turns c → IsDone q sweep ((passes + 1) * batch) more c

@@ -41,7 +41,7 @@ use Rattle.moka_parts.proofs.Surplus.{removes_enough, removes_first, removes_for
 use Rattle.moka_maintenance.specs.declared.sweep.Tests.{Tests}
 use Rattle.moka_maintenance.specs.declared.sweep.Sweep.{Sweep}
 use Rattle.moka_maintenance.specs.declared.sweep.Sweep.TheVariants.{Written, Read, Surplus}
-use Rattle.moka_maintenance.specs.Steps.{Stock, stock_of, contents_of, after_steps, left_by_steps, MayLeave, MayRun, MayAll, HasUnsettled, Told, makes_room}
+use Rattle.moka_maintenance.specs.Steps.{Stock, after_steps, MayLeave, MayRun, MayAll, HasUnsettled, Told, makes_room}
 use Rattle.moka_maintenance.specs.Queues.{ArePrepared}
 use Rattle.moka_maintenance.specs.Sweeps.{tests_in, sweeps_writes, IsAtRest, IsDone}
 use Rattle.moka_maintenance.specs.Passes.{IsRan}
@@ -51,7 +51,7 @@ use Rattle.moka_maintenance.proofs.Fewer.{len-fewer}
 use Rattle.moka_maintenance.proofs.Grounded.{grounds-sketched}
 use Rattle.moka_maintenance.proofs.Scanned.{drops_later, justified-append, nothing_kept}
 use Rattle.moka_maintenance.proofs.Stepped.{length-on, may-also, may-second, run_leaves, steps-append, unsettled-steps}
-use Rattle.moka_maintenance.proofs.Seen.{steps-seen, led-seen, listed-seen, left-seen, steps_justified, steps_keep_predicates}
+use Rattle.moka_maintenance.proofs.Seen.{stock_of, steps-seen, led-seen, listed-seen, left-seen, steps_justified, steps_keep_predicates}
 
 -- ---- small facts
 
@@ -275,7 +275,7 @@ module _ {K V X P W L C : Type 0} {tells : L → K → V → RemovalCause → L 
 
       spent : (turns : ℕ) → IsDone q sweep turns (length first) (after_steps (stock_of c ms) first) → Rests after ⊎ ((settled_members after.records after.access ≡ []) ⊎ (turns ≤ length first))
       spent turns (inl stopped) = inl (rests stopped.0)
-      spent turns (inr (inl none)) = inr (inl (subst (λ (e : Stock K V). settled_members e.records e.access ≡ []) (sym (seen_after first)) none))
+      spent turns (inr (inl none)) = inr (inl (subst (λ (e : Stock K V). settled_members e.contents.records e.contents.access ≡ []) (sym (seen_after first)) none))
       spent turns (inr (inr all)) = inr (inr all)
 
       none_left : HasUnsettled (after_steps (stock_of c ms) first) → IsAllSent s ⊎ (list_any (λ a. not (is_settled after.records a.number)) after.access ≡ false) → ⊥
@@ -289,7 +289,7 @@ module _ {K V X P W L C : Type 0} {tells : L → K → V → RemovalCause → L 
   written_front kept first rest =
       subst (λ t. IsAtRestByWrite t (after_choices (before_steps s choices) first).records (written_after_choices (write_list_before_steps s ns choices) first)) by_state
       (subst (λ xs. IsAtRestByWrite (tests_in q) (after_choices (before_steps s choices) first).records (written_after_choices xs first)) (list_before kept)
-      (subst (λ (e : Stock K V). IsAtRestByWrite (tests_in q) e.records e.written) (sym (seen_after first)) rest))
+      (subst (λ (e : Stock K V). IsAtRestByWrite (tests_in q) e.contents.records e.written) (sym (seen_after first)) rest))
 
   comes_to_rest : IsWhole s terms course → IsAllSent s → keeps_write_list s.settings ≡ true → ComesToRest s ns choices terms.now
   comes_to_rest whole all kept =
@@ -350,7 +350,7 @@ module _ {K V X P W L C : Type 0} {tells : L → K → V → RemovalCause → L 
         (subst (λ b. AreJustified says (tests_in q) b s.predicates (ran.by.steps ++ ran.dropped.steps)) (sym before_same)
         (justified-append says (tests_in q) c s.predicates ran.by.steps ran.dropped.steps (steps_justified (tests_in q) says s.predicates c ms ran.by.steps ran.by.may)
         (subst (λ ps. AreJustified says (tests_in q) (after_choices c ran.by.steps) ps ran.dropped.steps) (sym (steps_keep_predicates s.predicates (stock_of c ms) ran.by.steps each_leaves))
-        (drops_sketched says (tests_in q) (contents_of (stock_of d ks)) (after_choices c ran.by.steps) (ap (λ (e : Contents K V). e.records) (led-seen c d ms ks ran.by.steps ran.by.led sketched)) s.predicates ran.dropped.steps ran.dropped.drops (ran.dropped.justified (tests_in q))))))
+        (drops_sketched says (tests_in q) (stock_of d ks).contents (after_choices c ran.by.steps) (ap (λ (e : Contents K V). e.records) (led-seen c d ms ks ran.by.steps ran.by.led sketched)) s.predicates ran.dropped.steps ran.dropped.drops (ran.dropped.justified (tests_in q))))))
 
     is_free : AreFree says s terms.now choices
     is_free = (applied.may, justified)
@@ -416,7 +416,7 @@ module _ {K V X P W L C : Type 0} {tells : L → K → V → RemovalCause → L 
     ordered =
         subst (λ t. FollowsGrounds (SomeCovers says s.predicates) t terms.batch (grounds_of passes) (before_steps s choices) ran.by.steps) by_state
         (subst (λ b. FollowsGrounds (SomeCovers says s.predicates) (tests_in q) terms.batch (grounds_of passes) b ran.by.steps) (sym before_same)
-        (grounds-sketched (SomeCovers says s.predicates) (tests_in q) terms.batch c.sketch (grounds_of passes) (contents_of (stock_of c ms)) ran.by.steps ran.in_order))
+        (grounds-sketched (SomeCovers says s.predicates) (tests_in q) terms.batch c.sketch (grounds_of passes) (stock_of c ms).contents ran.by.steps ran.in_order))
 
     -- no reading but the last is late by the limit given, whether the clock is read at all or not
     ends_by_terms : (b : Bool) → s.settings.listening ≡ b → is_late (if b then terms.limit else None) (take (length ran.readings - 1) ran.readings) ≡ false → is_late terms.limit (take (length ran.readings - 1) ran.readings) ≡ false
@@ -458,7 +458,7 @@ module _ {K V X P W L C : Type 0} {tells : L → K → V → RemovalCause → L 
       (told-on tells l m n (left_by_writes s.capacity s.settings.policy (after_queued_reads s) s.writes applied.moves) (left_by_choices (before_steps s choices) (ran.by.steps ++ ran.dropped.steps)) applied.told
       (subst (λ b. Told tells m (left_by_choices b (ran.by.steps ++ ran.dropped.steps)) n) (sym before_same)
       (subst (λ xs. Told tells m xs n) (sym (gone-append c ran.by.steps ran.dropped.steps ∙ ap (λ xs. left_by_choices c ran.by.steps ++ xs) (drops_silent (after_choices c ran.by.steps) ran.dropped.steps ran.dropped.drops) ∙ append-nil (left_by_choices c ran.by.steps)))
-      (subst (λ xs. Told tells m xs n) (left-seen c ms ran.by.steps) ran.by.told))))
+      (subst (λ xs. Told tells m xs n) (left-seen None c ran.by.steps) ran.by.told))))
 
 -- ---- the run, with the premises as they come
 
@@ -488,7 +488,7 @@ module _ {K V X P W L C : Type 0} {tells : L → K → V → RemovalCause → L 
 
   -- a listener stays set
   pub run_keeps_listening : is_some n ≡ is_some l
-  run_keeps_listening = told_same tells m n (left_by_steps (stock_of c ms) ran.by.steps) ran.by.told ∙ told_same tells l m (left_by_writes s.capacity s.settings.policy b s.writes applied.moves) applied.told
+  run_keeps_listening = told_same tells m n (left_by_choices (stock_of c ms).contents ran.by.steps) ran.by.told ∙ told_same tells l m (left_by_writes s.capacity s.settings.policy b s.writes applied.moves) applied.told
 
   -- where no record has an expiry of its own, none has one
   pub run_leaves_lasting : ((k : ℕ) (r : Record K V) → get s.records k ≡ Some r → r.expires ≡ None) → (k : ℕ) (r : Record K V) → get d.records k ≡ Some r → r.expires ≡ None

@@ -1,5 +1,5 @@
 -- A scan's walk from the cursor to the end, and then from the front on.
-use Rattle.std.proofs.Common.{◌≡◌, ◌≢◌, refl, ℕ, suc, ◌+◌, ◌-◌, ◌≤◌, nat_le, ◌<◌, ◌⊎◌, Bool, true, false, true≢false, cond, not, ◌==◌, ◌||◌, List, [], ◌∷◌, ◌++◌, length, Option, Some, None, is_some, is_none, slice_get, inl, inr, ap, sym, subst, ◌∙◌, arith, append_assoc, append-nil}
+use Rattle.std.proofs.Common.{◌≡◌, ◌≢◌, refl, ℕ, ◌+◌, ◌-◌, ◌≤◌, nat_le, ◌<◌, ◌⊎◌, Bool, true, false, true≢false, cond, not, ◌==◌, ◌||◌, List, [], ◌∷◌, ◌++◌, length, Option, Some, None, is_some, is_none, slice_get, inl, inr, ap, sym, subst, ◌∙◌, arith, append_assoc, append-nil}
 use Rattle.std.proofs.lemmas.Bool.{ne_eqb, cond-true, cond-false}
 use Rattle.std.proofs.lemmas.List.{length-map}
 use Rattle.std.proofs.lemmas.List.Sorted.{IsPermutation-append_comm}
@@ -80,9 +80,9 @@ each_unsettled records (a ∷ access) none n there = go (is_settled records a.nu
     go false e false f later none there = later none there
 
 -- what is left by steps was there before
-pub still_there : {K V : Type 0} (c : Stock K V) (xs : List Choice) (n : ℕ) (r : Record K V) → get (after_steps c xs).records n ≡ Some r → get c.records n ≡ Some r
+pub still_there : {K V : Type 0} (c : Stock K V) (xs : List Choice) (n : ℕ) (r : Record K V) → get (after_steps c xs).contents.records n ≡ Some r → get c.contents.records n ≡ Some r
 still_there c [] n r at = at
-still_there c (Removes m cause ∷ xs) n r at = (after_remove c.records m n r (still_there (after_step c (Removes m cause)) xs n r at)).1
+still_there c (Removes m cause ∷ xs) n r at = (after_remove c.contents.records m n r (still_there (after_step c (Removes m cause)) xs n r at)).1
 still_there c (MovesToBack m ∷ xs) n r at = still_there (after_step c (MovesToBack m)) xs n r at
 still_there c (Drops i ∷ xs) n r at = still_there c xs n r at
 
@@ -353,7 +353,7 @@ module _ {K V L P S : Type 0} (tells : L → K → V → RemovalCause → L → 
     same_records : (n : ℕ) → is_listed n j.walked ≡ true → get mid.records n ≡ get old.records n
     same_records n there =
         let listed : is_listed n mid.written ≡ true = ap (is_listed n) j.split ∙ listed_first n j.walked j.ahead there in
-        ap (λ (c : Stock K V). get c.records n) h.by.led ∙ (stands_still says ps (stock_in old) h.by.steps n h.by.may (ap (λ (c : Stock K V). is_listed n c.written) (sym h.by.led) ∙ listed)).1
+        ap (λ (c : Stock K V). get c.contents.records n) h.by.led ∙ (stands_still says ps (stock_in old) h.by.steps n h.by.may (ap (λ (c : Stock K V). is_listed n c.written) (sym h.by.led) ∙ listed)).1
 
     goes-whole : GoesRound says ps batch old new (looked + looked_then)
     goes-whole = record {
@@ -374,7 +374,7 @@ module _ {K V L P S : Type 0} (tells : L → K → V → RemovalCause → L → 
         round = ap (λ zs. zs ++ before) all_walked ∙ ap (λ zs. h.walked ++ zs) part.longer ∙ sym (append_assoc h.walked j.walked part.left)
 
         first : AreUncovered says ps new.records h.walked
-        first = uncovered-kept says ps mid.records new.records h.walked (λ n r at. still_there (stock_in mid) j.by.steps n r (sym (ap (λ (c : Stock K V). get c.records n) j.by.led) ∙ at)) h.uncovered
+        first = uncovered-kept says ps mid.records new.records h.walked (λ n r at. still_there (stock_in mid) j.by.steps n r (sym (ap (λ (c : Stock K V). get c.contents.records n) j.by.led) ∙ at)) h.uncovered
 
         ahead_is : j.ahead ≡ part.left ++ h.kept
         ahead_is = part.rest ∙ ap (λ zs. part.left ++ (h.kept ++ zs)) none_ahead ∙ ap (λ zs. part.left ++ zs) (append-nil h.kept)

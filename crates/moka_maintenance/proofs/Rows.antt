@@ -16,7 +16,7 @@ use Rattle.moka_parts.proofs.WriteList.{unlisted_taken_out, unlisted_all}
 use Rattle.moka_maintenance.specs.declared.sweep.Tests.{Tests}
 use Rattle.moka_maintenance.specs.declared.sweep.Sweep.{Sweep}
 use Rattle.moka_maintenance.specs.declared.sweep.Sweep.TheVariants.{Written, Read, Surplus}
-use Rattle.moka_maintenance.specs.Steps.{Stock, HasNoSettled, after_step, contents_of}
+use Rattle.moka_maintenance.specs.Steps.{Stock, HasNoSettled, after_step}
 use Rattle.moka_maintenance.specs.Sweeps.{IsNext}
 use Rattle.moka_maintenance.proofs.Stepped.{length-on}
 use Rattle.moka_maintenance.proofs.Fronts.{front_of, length-without, all_unsettled, none-to_back}
@@ -24,30 +24,30 @@ use Rattle.moka_maintenance.proofs.Fronts.{front_of, length-without, all_unsettl
 -- the numbers along which a sweep goes
 abbrev pub along : {K V : Type 0} → Sweep → Stock K V → List ℕ
 along Written c = c.written
-along Read c = numbers_of c.access
-along Surplus c = numbers_of c.access
+along Read c = numbers_of c.contents.access
+along Surplus c = numbers_of c.contents.access
 
 -- they are none, where the order is not kept, or all members' numbers
 abbrev pub IsAlong : {K V : Type 0} → Sweep → Stock K V → Type 0
-IsAlong Written c = (c.written ≡ []) ⊎ IsListOf c.access c.written
+IsAlong Written c = (c.written ≡ []) ⊎ IsListOf c.contents.access c.written
 IsAlong Read c = Unit {0}
 IsAlong Surplus c = Unit {0}
 
 -- of a store
-pub is_along : {K V : Type 0} (sweep : Sweep) (c : Stock K V) (ordered : Bool) → (ordered ≡ true → IsListOf c.access c.written) → (ordered ≡ false → c.written ≡ []) → IsAlong sweep c
+pub is_along : {K V : Type 0} (sweep : Sweep) (c : Stock K V) (ordered : Bool) → (ordered ≡ true → IsListOf c.contents.access c.written) → (ordered ≡ false → c.written ≡ []) → IsAlong sweep c
 is_along Read c ordered kept unkept = tt
 is_along Surplus c ordered kept unkept = tt
 is_along Written c true kept unkept = inr (kept refl)
 is_along Written c false kept unkept = inl (unkept refl)
 
 -- it stays so
-pub along-step : {K V : Type 0} (sweep : Sweep) (c : Stock K V) (x : Choice) → IsDistinct (◌==◌) (numbers_of c.access) → IsAlong sweep c → IsAlong sweep (after_step c x)
+pub along-step : {K V : Type 0} (sweep : Sweep) (c : Stock K V) (x : Choice) → IsDistinct (◌==◌) (numbers_of c.contents.access) → IsAlong sweep c → IsAlong sweep (after_step c x)
 along-step Read c x once h = h
 along-step Surplus c x once h = h
 along-step Written c (Removes n cause) once (inl none) = inl (ap (without_number n) none)
-along-step Written c (Removes n cause) once (inr is) = inr (choice_listed (contents_of c) c.written (Removes n cause) is)
+along-step Written c (Removes n cause) once (inr is) = inr (choice_listed c.contents c.written (Removes n cause) is)
 along-step Written c (MovesToBack n) once (inl none) = inl (ap (number_to_back n) none)
-along-step Written c (MovesToBack n) once (inr is) = inr (choice_listed (contents_of c) c.written (MovesToBack n) is)
+along-step Written c (MovesToBack n) once (inr is) = inr (choice_listed c.contents c.written (MovesToBack n) is)
 along-step Written c (Drops i) once h = h
 
 -- ---- lists of the same numbers
@@ -122,29 +122,29 @@ numbers_push : (xs : List Member) (a : Member) → numbers_of (xs ++ a ∷ []) �
 numbers_push [] a = refl
 numbers_push (x ∷ xs) a = ap (λ ns. x.number ∷ ns) (numbers_push xs a)
 
-module _ {K V : Type 0} (sweep : Sweep) (c : Stock K V) (once : IsDistinct (◌==◌) (numbers_of c.access)) (order : IsAlong sweep c) where
+module _ {K V : Type 0} (sweep : Sweep) (c : Stock K V) (once : IsDistinct (◌==◌) (numbers_of c.contents.access)) (order : IsAlong sweep c) where
   -- where none of all numbers is settled, no member is
-  none_along : (along sweep c ≡ [] → c.access ≡ []) → are_waiting c.records (along sweep c) ≡ true → HasNoSettled c
+  none_along : (along sweep c ≡ [] → c.contents.access ≡ []) → are_waiting c.contents.records (along sweep c) ≡ true → HasNoSettled c
   none_along bare all = go sweep order bare all
     where
-      go : (s : Sweep) → IsAlong s c → (along s c ≡ [] → c.access ≡ []) → are_waiting c.records (along s c) ≡ true → HasNoSettled c
-      go Read h bare all = all_unsettled c.records c.access (λ k there. waiting_in c.records k (numbers_of c.access) all (listed_number k c.access there))
-      go Surplus h bare all = all_unsettled c.records c.access (λ k there. waiting_in c.records k (numbers_of c.access) all (listed_number k c.access there))
-      go Written (inl none) bare all = ap (settled_members c.records) (bare none)
-      go Written (inr is) bare all = all_unsettled c.records c.access (λ k there. waiting_in c.records k c.written all (is.1 k ∙ there))
+      go : (s : Sweep) → IsAlong s c → (along s c ≡ [] → c.contents.access ≡ []) → are_waiting c.contents.records (along s c) ≡ true → HasNoSettled c
+      go Read h bare all = all_unsettled c.contents.records c.contents.access (λ k there. waiting_in c.contents.records k (numbers_of c.contents.access) all (listed_number k c.contents.access there))
+      go Surplus h bare all = all_unsettled c.contents.records c.contents.access (λ k there. waiting_in c.contents.records k (numbers_of c.contents.access) all (listed_number k c.contents.access there))
+      go Written (inl none) bare all = ap (settled_members c.contents.records) (bare none)
+      go Written (inr is) bare all = all_unsettled c.contents.records c.contents.access (λ k there. waiting_in c.contents.records k c.written all (is.1 k ∙ there))
 
   -- where the row is as long as there are members, none is settled
-  pub row-whole : (many : ℕ) → EndsUnsettled c.records (along sweep c) many → many ≡ length c.access → HasNoSettled c
+  pub row-whole : (many : ℕ) → EndsUnsettled c.contents.records (along sweep c) many → many ≡ length c.contents.access → HasNoSettled c
   row-whole many h all = go h.before h.split
     where
-      as_many : (s : Sweep) → IsAlong s c → (along s c ≡ []) ⊎ (length (along s c) ≡ length c.access)
-      as_many Read o = inr (length-map c.access (λ (a : Member). a.number))
-      as_many Surplus o = inr (length-map c.access (λ (a : Member). a.number))
+      as_many : (s : Sweep) → IsAlong s c → (along s c ≡ []) ⊎ (length (along s c) ≡ length c.contents.access)
+      as_many Read o = inr (length-map c.contents.access (λ (a : Member). a.number))
+      as_many Surplus o = inr (length-map c.contents.access (λ (a : Member). a.number))
       as_many Written (inl none) = inl none
-      as_many Written (inr is) = inr (sym (same_length c.records c.written c.access once is))
+      as_many Written (inr is) = inr (sym (same_length c.contents.records c.written c.contents.access once is))
 
       go : (xs : List ℕ) → along sweep c ≡ xs ++ h.end → HasNoSettled c
-      go [] e = none_along (λ bare. (let none = ap length (sym bare ∙ e) in let count = h.count in nil_from_length c.access (omega arith))) (ap (are_waiting c.records) e ∙ h.none)
+      go [] e = none_along (λ bare. (let none = ap length (sym bare ∙ e) in let count = h.count in nil_from_length c.contents.access (omega arith))) (ap (are_waiting c.contents.records) e ∙ h.none)
       go (x ∷ xs) e = elim (as_many sweep order) [
         | inl none ↦ (let bad : [] ≡ x ∷ xs ++ h.end = sym none ∙ e in cc)
         | inr same ↦ (let more : length (along sweep c) ≡ length (x ∷ xs) + length h.end = ap length e ∙ length-on (x ∷ xs) h.end in let count = h.count in absurd (omega arith))
@@ -160,15 +160,15 @@ module _ {K V : Type 0} (sweep : Sweep) (c : Stock K V) (once : IsDistinct (◌=
     heads : Heads n
     heads = (let h = go sweep order next in record { behind = h.0; split = h.1; moved = h.2 })
       where
-        accessed : is_front n c.access ≡ true → (behind : List ℕ) × (numbers_of c.access ≡ n ∷ behind) × (numbers_of (to_back n c.access) ≡ behind ++ n ∷ [])
+        accessed : is_front n c.contents.access ≡ true → (behind : List ℕ) × (numbers_of c.contents.access ≡ n ∷ behind) × (numbers_of (to_back n c.contents.access) ≡ behind ++ n ∷ [])
         accessed is =
-            let f = front_of n c.access once is in (
+            let f = front_of n c.contents.access once is in (
               numbers_of f.behind,
               ap numbers_of f.split ∙ ap (λ k. k ∷ numbers_of f.behind) f.number,
               ap numbers_of f.moved ∙ numbers_push f.behind f.first ∙ ap (λ k. numbers_of f.behind ++ k ∷ []) f.number,
             )
 
-        wrote : (ns : List ℕ) → c.written ≡ ns → IsListOf c.access ns → slice_get ns 0 ≡ Some n → (behind : List ℕ) × (c.written ≡ n ∷ behind) × (number_to_back n c.written ≡ behind ++ n ∷ [])
+        wrote : (ns : List ℕ) → c.written ≡ ns → IsListOf c.contents.access ns → slice_get ns 0 ≡ Some n → (behind : List ℕ) × (c.written ≡ n ∷ behind) × (number_to_back n c.written ≡ behind ++ n ∷ [])
         wrote [] e is first = cc
         wrote (m ∷ ms) e is first =
             let same : m ≡ n = cc in
@@ -177,19 +177,19 @@ module _ {K V : Type 0} (sweep : Sweep) (c : Stock K V) (once : IsDistinct (◌=
 
         go : (s : Sweep) → IsAlong s c → IsNext q s c n → (behind : List ℕ) × (along s c ≡ n ∷ behind) × (along s (after_step c (MovesToBack n)) ≡ behind ++ n ∷ [])
         go Read o is = accessed is
-        go Surplus o is = accessed (and_parts (is_front n c.access) (is_over q.capacity c.access) is).0
+        go Surplus o is = accessed (and_parts (is_front n c.contents.access) (is_over q.capacity c.contents.access) is).0
         go Written (inl none) is = (let bad : slice_get [] 0 ≡ Some n = ap (λ ns. slice_get ns 0) (sym none) ∙ is in cc)
         go Written (inr o) is = wrote c.written refl o is
 
     -- one more turn that removed nothing
-    pub row-passed : is_settled c.records n ≡ false → (many : ℕ) → EndsUnsettled c.records (along sweep c) many → HasNoSettled (after_step c (MovesToBack n)) ⊎ EndsUnsettled c.records (along sweep (after_step c (MovesToBack n))) (many + 1)
+    pub row-passed : is_settled c.contents.records n ≡ false → (many : ℕ) → EndsUnsettled c.contents.records (along sweep c) many → HasNoSettled (after_step c (MovesToBack n)) ⊎ EndsUnsettled c.contents.records (along sweep (after_step c (MovesToBack n))) (many + 1)
     row-passed waiting many h = go h.before h.split
       where
-        pushed : (ns : List ℕ) → are_waiting c.records ns ≡ true → are_waiting c.records (ns ++ n ∷ []) ≡ true
-        pushed ns all = list_all-append (λ n. not (is_settled c.records n)) ns (n ∷ []) ∙ ap (λ b. b && (not (is_settled c.records n) && true)) all ∙ ap (λ b. not b && true) waiting
+        pushed : (ns : List ℕ) → are_waiting c.contents.records ns ≡ true → are_waiting c.contents.records (ns ++ n ∷ []) ≡ true
+        pushed ns all = list_all-append (λ n. not (is_settled c.contents.records n)) ns (n ∷ []) ∙ ap (λ b. b && (not (is_settled c.contents.records n) && true)) all ∙ ap (λ b. not b && true) waiting
 
-        go : (xs : List ℕ) → along sweep c ≡ xs ++ h.end → HasNoSettled (after_step c (MovesToBack n)) ⊎ EndsUnsettled c.records (along sweep (after_step c (MovesToBack n))) (many + 1)
-        go [] e = inl (none-to_back c.records n c.access waiting (none_along (λ bare. (let bad : [] ≡ n ∷ heads.behind = sym bare ∙ heads.split in cc)) (ap (are_waiting c.records) e ∙ h.none)))
+        go : (xs : List ℕ) → along sweep c ≡ xs ++ h.end → HasNoSettled (after_step c (MovesToBack n)) ⊎ EndsUnsettled c.contents.records (along sweep (after_step c (MovesToBack n))) (many + 1)
+        go [] e = inl (none-to_back c.contents.records n c.contents.access waiting (none_along (λ bare. (let bad : [] ≡ n ∷ heads.behind = sym bare ∙ heads.split in cc)) (ap (are_waiting c.contents.records) e ∙ h.none)))
         go (x ∷ xs) e =
             let same : heads.behind ≡ xs ++ h.end = (let t = sym heads.split ∙ e in cc) in
             inr (record {

@@ -209,7 +209,7 @@ module _ {K V L P S : Type 0} (tells : L → K → V → RemovalCause → L → 
             joined d.dropped
             (λ ordered large all. nothing_left qs (λ p there.
             (let used = d.used p there in
-            let is = all used.0 used.1 (still_there (stock_in old) h.by.steps used.0 used.1 (sym (ap (λ (c : Stock K V). get c.records used.0) h.by.led) ∙ used.2)) in
+            let is = all used.0 used.1 (still_there (stock_in old) h.by.steps used.0 used.1 (sym (ap (λ (c : Stock K V). get c.contents.records used.0) h.by.led) ∙ used.2)) in
             let none = (h.whole ordered large).0.settled used.0 used.1 ((known ordered).1 used.0 ∙ is.1) used.2 is.0 in
             not_one_covers says ps p used.1 none (kept_there ps d.dropped.steps p (subst (λ rs. Contains rs p) d.dropped.kept there)) used.3)))
             over

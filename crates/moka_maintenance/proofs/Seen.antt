@@ -1,5 +1,5 @@
 -- Steps of a stock are those of the reference cache, whatever sketch its contents have; the write list goes along.
-use Rattle.std.proofs.Common.{◌≡◌, refl, ℕ, Bool, List, [], ◌∷◌, ◌++◌, ap, sym, ◌∙◌, Option}
+use Rattle.std.proofs.Common.{◌≡◌, refl, ℕ, Bool, List, [], ◌∷◌, ◌++◌, ap, sym, ◌∙◌, Option, None}
 use Rattle.moka_sketch.specs.Frequency.{Table}
 use Rattle.moka_parts.specs.declared.notification.RemovalCause.{RemovalCause}
 use Rattle.moka_parts.specs.declared.notification.RemovalCause.TheVariants.{Expired, Explicit, Replaced, Size}
@@ -7,37 +7,38 @@ use Rattle.moka_parts.specs.declared.records.Registered.{Registered}
 use Rattle.moka_parts.specs.State.{Contents}
 use Rattle.moka_parts.specs.Maintenance.{Choice, Removes, MovesToBack, Drops, Tests, after_choice, after_choices, left_by_choice, left_by_choices, kept_by_choices, IsJustified, AreJustified}
 use Rattle.moka_parts.specs.Order.{written_after_choice, written_after_choices}
-use Rattle.moka_maintenance.specs.Steps.{Stock, stock_of, after_step, after_steps, left_by_steps, MayLeave, MayRun, MayAll}
+use Rattle.moka_maintenance.specs.Steps.{Stock, after_step, after_steps, MayLeave, MayRun, MayAll}
 
 module _ {K V : Type 0} where
+  -- these contents without their sketch, with a write list
+  abbrev pub stock_of : Contents K V → List ℕ → Stock K V
+  stock_of c ns = record { contents = record c { sketch = None }; written = ns }
+
+  pub choices_sketched : (sketch : Option Table) (c : Contents K V) (xs : List Choice) → after_choices (record c { sketch = sketch }) xs ≡ record (after_choices c xs) { sketch = sketch }
+  choices_sketched sketch c [] = refl
+  choices_sketched sketch c (Removes n cause ∷ xs) = choices_sketched sketch (after_choice c (Removes n cause)) xs
+  choices_sketched sketch c (MovesToBack n ∷ xs) = choices_sketched sketch (after_choice c (MovesToBack n)) xs
+  choices_sketched sketch c (Drops i ∷ xs) = choices_sketched sketch c xs
+
   -- they lead to the same
   pub steps-seen : (c : Contents K V) (ns : List ℕ) (xs : List Choice) → after_steps (stock_of c ns) xs ≡ stock_of (after_choices c xs) (written_after_choices ns xs)
-  steps-seen c ns [] = refl
-  steps-seen c ns (Removes n cause ∷ xs) = steps-seen (after_choice c (Removes n cause)) (written_after_choice ns (Removes n cause)) xs
-  steps-seen c ns (MovesToBack n ∷ xs) = steps-seen (after_choice c (MovesToBack n)) (written_after_choice ns (MovesToBack n)) xs
-  steps-seen c ns (Drops i ∷ xs) = steps-seen c ns xs
-
-  sketch_stays : (c : Contents K V) (xs : List Choice) → (after_choices c xs).sketch ≡ c.sketch
-  sketch_stays c [] = refl
-  sketch_stays c (Removes n cause ∷ xs) = sketch_stays (after_choice c (Removes n cause)) xs
-  sketch_stays c (MovesToBack n ∷ xs) = sketch_stays (after_choice c (MovesToBack n)) xs
-  sketch_stays c (Drops i ∷ xs) = sketch_stays c xs
+  steps-seen c ns xs = ap (λ (e : Contents K V). record { contents = e; written = written_after_choices ns xs }) (choices_sketched None c xs)
 
   module _ (c d : Contents K V) (ns ms : List ℕ) (xs : List Choice) (led : stock_of d ms ≡ after_steps (stock_of c ns) xs) where
     pub led-seen : d.sketch ≡ c.sketch → d ≡ after_choices c xs
     led-seen same =
-        ap (λ (e : Stock K V). record d { records = e.records; access = e.access }) (led ∙ steps-seen c ns xs)
-        ∙ ap (λ (t : Option Table). record (after_choices c xs) { sketch = t }) (same ∙ sym (sketch_stays c xs))
+        ap (λ (e : Stock K V). record e.contents { sketch = d.sketch }) (led ∙ steps-seen c ns xs)
+        ∙ ap (λ (t : Option Table). record (after_choices c xs) { sketch = t }) same ∙ sym (choices_sketched c.sketch c xs)
 
     pub listed-seen : ms ≡ written_after_choices ns xs
-    listed-seen = ap (λ (e : Stock K V). e.written) (led ∙ steps-seen c ns xs)
+    listed-seen = ap (λ (e : Stock K V). e.written) led
 
   -- and the same leaves
-  pub left-seen : (c : Contents K V) (ns : List ℕ) (xs : List Choice) → left_by_steps (stock_of c ns) xs ≡ left_by_choices c xs
-  left-seen c ns [] = refl
-  left-seen c ns (Removes n cause ∷ xs) = ap (λ xs. left_by_choice c (Removes n cause) ++ xs) (left-seen (after_choice c (Removes n cause)) (written_after_choice ns (Removes n cause)) xs)
-  left-seen c ns (MovesToBack n ∷ xs) = left-seen (after_choice c (MovesToBack n)) (written_after_choice ns (MovesToBack n)) xs
-  left-seen c ns (Drops i ∷ xs) = left-seen c ns xs
+  pub left-seen : (sketch : Option Table) (c : Contents K V) (xs : List Choice) → left_by_choices (record c { sketch = sketch }) xs ≡ left_by_choices c xs
+  left-seen sketch c [] = refl
+  left-seen sketch c (Removes n cause ∷ xs) = ap (λ xs. left_by_choice c (Removes n cause) ++ xs) (left-seen sketch (after_choice c (Removes n cause)) xs)
+  left-seen sketch c (MovesToBack n ∷ xs) = left-seen sketch (after_choice c (MovesToBack n)) xs
+  left-seen sketch c (Drops i ∷ xs) = left-seen sketch c xs
 
   module _ (q : Tests) {P : Type 0} (says : P → K → V → Bool → Type 0) (ps : List (Registered P)) where
     step_justified : (c : Contents K V) (ns : List ℕ) (n : ℕ) (cause : RemovalCause) → MayRun says ps q (stock_of c ns) (Removes n cause) → IsJustified says q c ps (Removes n cause)

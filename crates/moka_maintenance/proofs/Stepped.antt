@@ -1,5 +1,5 @@
 -- Steps one after the other, what they tell, and what they leave.
-use Rattle.std.proofs.Common.{◌≡◌, ◌≢◌, refl, ℕ, ◌+◌, ◌≤◌, Bool, true, false, true≢false, cond, not, ◌==◌, List, [], ◌∷◌, ◌++◌, length, Option, Some, None, is_some, inl, inr, ap, sym, subst, ◌∙◌, arith, append_assoc, append-nil}
+use Rattle.std.proofs.Common.{◌≡◌, ◌≢◌, refl, ℕ, ◌+◌, ◌≤◌, Bool, true, false, true≢false, cond, not, ◌==◌, List, [], ◌∷◌, ◌++◌, length, Option, Some, None, is_some, inl, inr, ap, sym, subst, ◌∙◌, arith, append-nil}
 use Rattle.std.proofs.lemmas.Bool.{ne_eqb, cond-false, and_parts}
 use Rattle.std.specs.Option.{option_map, option_map_or}
 use Rattle.std.specs.Prelude.{option_to_list}
@@ -10,14 +10,15 @@ use Rattle.moka_parts.specs.declared.records.Record.{Record}
 use Rattle.moka_parts.specs.declared.records.Registered.{Registered}
 use Rattle.moka_parts.specs.Visibility.{SomeCovers}
 use Rattle.moka_parts.specs.Records.{counted_of, is_applied, is_member, is_settled, member, without_member, to_back}
-use Rattle.moka_parts.specs.Maintenance.{Choice, Removes, MovesToBack, Drops, Tests}
+use Rattle.moka_parts.specs.Maintenance.{Choice, Removes, MovesToBack, Drops, Tests, left_by_choice, left_by_choices}
 use Rattle.moka_parts.specs.Bounds.{removed_by}
 use Rattle.moka_parts.proofs.OneMore.{removed_by_append}
 use Rattle.moka_store.proofs.Gets.{after_remove, get-past_remove}
 use Rattle.moka_parts.proofs.AccessList.{counted-to_back}
 use Rattle.moka_store.proofs.Members.{counted-without}
-use Rattle.moka_maintenance.specs.Steps.{Stock, after_step, after_steps, left_by_step, left_by_steps, MayLeave, MayRun, MayAll, AreAllMembers, HasUnsettled, Told, IsStepped}
+use Rattle.moka_maintenance.specs.Steps.{Stock, after_step, after_steps, MayLeave, MayRun, MayAll, AreAllMembers, HasUnsettled, Told, IsStepped}
 use Rattle.moka_maintenance.specs.Scanning.{MayScan}
+use Rattle.moka_maintenance.proofs.Dropping.{gone-append}
 use Rattle.moka_maintenance.proofs.Told.{told-none, told-on}
 
 pub length-on : {A : Type 0} (xs ys : List A) → length (xs ++ ys) ≡ length xs + length ys
@@ -38,10 +39,6 @@ module _ {K V : Type 0} where
   pub steps-append : (c : Stock K V) (xs ys : List Choice) → after_steps c (xs ++ ys) ≡ after_steps (after_steps c xs) ys
   steps-append c [] ys = refl
   steps-append c (x ∷ xs) ys = steps-append (after_step c x) xs ys
-
-  pub left-append : (c : Stock K V) (xs ys : List Choice) → left_by_steps c (xs ++ ys) ≡ left_by_steps c xs ++ left_by_steps (after_steps c xs) ys
-  left-append c [] ys = refl
-  left-append c (x ∷ xs) ys = ap (λ ns. left_by_step c x ++ ns) (left-append (after_step c x) xs ys) ∙ sym (append_assoc (left_by_step c x) (left_by_steps (after_step c x) xs) (left_by_steps (after_steps (after_step c x) xs) ys))
 
   module _ (May : Stock K V → Choice → Type 0) where
     pub may-append : (c : Stock K V) (xs ys : List Choice) → MayAll May c xs → MayAll May (after_steps c xs) ys → MayAll May c (xs ++ ys)
@@ -81,10 +78,10 @@ one_at_most n (Some w) = omega arith
 length-back : (n : ℕ) (xs : List Member) → is_member n xs ≡ true → length (to_back n xs) ≤ length xs
 length-back n xs e = let less = length-removed n xs e in let plus = length-on (without_member n xs) (option_to_list (option_map (member n) (counted_of n xs))) in let one = one_at_most n (counted_of n xs) in omega arith
 
-pub shrinks : {K V : Type 0} (c : Stock K V) (xs : List Choice) → MayAll MayLeave c xs → length (after_steps c xs).access + length (removed_by xs) ≤ length c.access
+pub shrinks : {K V : Type 0} (c : Stock K V) (xs : List Choice) → MayAll MayLeave c xs → length (after_steps c xs).contents.access + length (removed_by xs) ≤ length c.contents.access
 shrinks c [] may = omega arith
-shrinks c (Removes n cause ∷ xs) may = let rest = shrinks (after_step c (Removes n cause)) xs may.1 in let less = length-removed n c.access (and_parts (is_member n c.access) (is_settled c.records n) may.0.2).0 in omega arith
-shrinks c (MovesToBack n ∷ xs) may = let rest = shrinks (after_step c (MovesToBack n)) xs may.1 in let less = length-back n c.access may.0.0 in omega arith
+shrinks c (Removes n cause ∷ xs) may = let rest = shrinks (after_step c (Removes n cause)) xs may.1 in let less = length-removed n c.contents.access (and_parts (is_member n c.contents.access) (is_settled c.contents.records n) may.0.2).0 in omega arith
+shrinks c (MovesToBack n ∷ xs) may = let rest = shrinks (after_step c (MovesToBack n)) xs may.1 in let less = length-back n c.contents.access may.0.0 in omega arith
 shrinks c (Drops i ∷ xs) may = absurd may.0
 
 -- ---- what one rule allows, another does
@@ -115,19 +112,19 @@ module _ {K V P : Type 0} (q : Tests) (says : P → K → V → Bool → Type 0)
 -- ---- members that are not settled
 
 module _ {K V : Type 0} where
-  apart : {n m : ℕ} (c : Stock K V) → is_settled c.records n ≡ true → is_settled c.records m ≡ false → m ≢ n
-  apart c settled unsettled same = true≢false (sym settled ∙ (ap (is_settled c.records) (sym same) ∙ unsettled))
+  apart : {n m : ℕ} (c : Stock K V) → is_settled c.contents.records n ≡ true → is_settled c.contents.records m ≡ false → m ≢ n
+  apart c settled unsettled same = true≢false (sym settled ∙ (ap (is_settled c.contents.records) (sym same) ∙ unsettled))
 
   -- a member that is not settled stays
   pub unsettled-step : (c : Stock K V) (x : Choice) → MayLeave c x → HasUnsettled c → HasUnsettled (after_step c x)
   unsettled-step c (Removes n cause) may u =
-      let other = apart {n = n} {m = u.number} c (and_parts (is_member n c.access) (is_settled c.records n) may.2).1 u.unsettled in
+      let other = apart {n = n} {m = u.number} c (and_parts (is_member n c.contents.access) (is_settled c.contents.records n) may.2).1 u.unsettled in
       record {
         number = u.number;
-        is_in = ap is_some (counted-without n u.number c.access ∙ cond-false (u.number == n) None (counted_of u.number c.access) (ne_eqb u.number n other)) ∙ u.is_in;
-        unsettled = ap (λ o. option_map_or is_applied o false) (get-past_remove c.records n u.number other) ∙ u.unsettled;
+        is_in = ap is_some (counted-without n u.number c.contents.access ∙ cond-false (u.number == n) None (counted_of u.number c.contents.access) (ne_eqb u.number n other)) ∙ u.is_in;
+        unsettled = ap (λ o. option_map_or is_applied o false) (get-past_remove c.contents.records n u.number other) ∙ u.unsettled;
       }
-  unsettled-step c (MovesToBack n) may u = record { number = u.number; is_in = ap is_some (counted-to_back n u.number c.access) ∙ u.is_in; unsettled = u.unsettled }
+  unsettled-step c (MovesToBack n) may u = record { number = u.number; is_in = ap is_some (counted-to_back n u.number c.contents.access) ∙ u.is_in; unsettled = u.unsettled }
   unsettled-step c (Drops i) may u = absurd may
 
   -- nor does one that goes to the back leave
@@ -143,10 +140,10 @@ module _ {K V : Type 0} where
   -- each record stays a settled member
   members-step : (c : Stock K V) (x : Choice) → AreAllMembers c → AreAllMembers (after_step c x)
   members-step c (Removes m cause) all = λ n r at.
-      let old = after_remove c.records m n r at in
+      let old = after_remove c.contents.records m n r at in
       let is = all n r old.1 in
-      (is.0, ap is_some (counted-without m n c.access ∙ cond-false (n == m) None (counted_of n c.access) (ne_eqb n m old.0)) ∙ is.1)
-  members-step c (MovesToBack m) all = λ n r at. ((all n r at).0, ap is_some (counted-to_back m n c.access) ∙ (all n r at).1)
+      (is.0, ap is_some (counted-without m n c.contents.access ∙ cond-false (n == m) None (counted_of n c.contents.access) (ne_eqb n m old.0)) ∙ is.1)
+  members-step c (MovesToBack m) all = λ n r at. ((all n r at).0, ap is_some (counted-to_back m n c.contents.access) ∙ (all n r at).1)
   members-step c (Drops i) all = all
 
   pub members-steps : (c : Stock K V) (xs : List Choice) → AreAllMembers c → AreAllMembers (after_steps c xs)
@@ -154,12 +151,12 @@ module _ {K V : Type 0} where
   members-steps c (x ∷ xs) all = members-steps (after_step c x) xs (members-step c x all)
 
   -- where no member is settled, none leaves, and none is later
-  none-step : (c : Stock K V) (x : Choice) → MayLeave c x → ((n : ℕ) → is_member n c.access ≡ true → is_settled c.records n ≡ false) → (n : ℕ) → is_member n (after_step c x).access ≡ true → is_settled (after_step c x).records n ≡ false
-  none-step c (Removes m cause) may none n there = absurd (true≢false (sym (and_parts (is_member m c.access) (is_settled c.records m) may.2).1 ∙ none m (and_parts (is_member m c.access) (is_settled c.records m) may.2).0))
-  none-step c (MovesToBack m) may none n there = none n (sym (ap is_some (counted-to_back m n c.access)) ∙ there)
+  none-step : (c : Stock K V) (x : Choice) → MayLeave c x → ((n : ℕ) → is_member n c.contents.access ≡ true → is_settled c.contents.records n ≡ false) → (n : ℕ) → is_member n (after_step c x).contents.access ≡ true → is_settled (after_step c x).contents.records n ≡ false
+  none-step c (Removes m cause) may none n there = absurd (true≢false (sym (and_parts (is_member m c.contents.access) (is_settled c.contents.records m) may.2).1 ∙ none m (and_parts (is_member m c.contents.access) (is_settled c.contents.records m) may.2).0))
+  none-step c (MovesToBack m) may none n there = none n (sym (ap is_some (counted-to_back m n c.contents.access)) ∙ there)
   none-step c (Drops i) may none n there = absurd may
 
-  pub none-steps : (c : Stock K V) (xs : List Choice) → MayAll MayLeave c xs → ((n : ℕ) → is_member n c.access ≡ true → is_settled c.records n ≡ false) → (n : ℕ) → is_member n (after_steps c xs).access ≡ true → is_settled (after_steps c xs).records n ≡ false
+  pub none-steps : (c : Stock K V) (xs : List Choice) → MayAll MayLeave c xs → ((n : ℕ) → is_member n c.contents.access ≡ true → is_settled c.contents.records n ≡ false) → (n : ℕ) → is_member n (after_steps c xs).contents.access ≡ true → is_settled (after_steps c xs).contents.records n ≡ false
   none-steps c [] may none = none
   none-steps c (x ∷ xs) may none = none-steps (after_step c x) xs may.1 (none-step c x may.0 none)
 
@@ -174,12 +171,12 @@ module _ {K V L : Type 0} (tells : L → K → V → RemovalCause → L → Type
     steps = h.steps ++ j.steps;
     may = may-append May a h.steps j.steps h.may (subst (λ x. MayAll May x j.steps) h.led j.may);
     led = j.led ∙ (ap (λ x. after_steps x j.steps) h.led ∙ sym (steps-append a h.steps j.steps));
-    told = subst (λ ns. Told tells l ns k) (ap (λ x. left_by_steps a h.steps ++ left_by_steps x j.steps) h.led ∙ sym (left-append a h.steps j.steps)) (told-on tells l m k (left_by_steps a h.steps) (left_by_steps b j.steps) h.told j.told);
+    told = subst (λ ns. Told tells l ns k) (ap (λ (x : Stock K V). left_by_choices a.contents h.steps ++ left_by_choices x.contents j.steps) h.led ∙ sym (gone-append a.contents h.steps j.steps)) (told-on tells l m k (left_by_choices a.contents h.steps) (left_by_choices b.contents j.steps) h.told j.told);
   }
 
   -- one step
-  unfoldable pub stepped-one : (a b : Stock K V) (l m : Option L) (x : Choice) → May a x → b ≡ after_step a x → Told tells l (left_by_step a x) m → IsStepped tells May a b l m
-  stepped-one a b l m x may led told = record { steps = x ∷ []; may = (may, tt); led = led; told = subst (λ ns. Told tells l ns m) (sym (append-nil (left_by_step a x))) told }
+  unfoldable pub stepped-one : (a b : Stock K V) (l m : Option L) (x : Choice) → May a x → b ≡ after_step a x → Told tells l (left_by_choice a.contents x) m → IsStepped tells May a b l m
+  stepped-one a b l m x may led told = record { steps = x ∷ []; may = (may, tt); led = led; told = subst (λ ns. Told tells l ns m) (sym (append-nil (left_by_choice a.contents x))) told }
 
   -- the same steps by another rule
   unfoldable pub stepped-also : (Other : Stock K V → Choice → Type 0) → ((c : Stock K V) (x : Choice) → May c x → Other c x) → (a b : Stock K V) (l m : Option L) → IsStepped tells May a b l m → IsStepped tells Other a b l m

@@ -23,11 +23,11 @@ pub record Sweeping {K V L : Type 0} (tells : L → K → V → RemovalCause →
   pub by : IsStepped tells (MayTurn q sweep) first now l m
   pub count : removed ≡ length (removed_by by.steps)
   pub rounds : ℕ
-  pub made : length by.steps + turns + rounds * length now.access ≡ batch
+  pub made : length by.steps + turns + rounds * length now.contents.access ≡ batch
   pub round : (rounds ≡ 0) ⊎ HasNoSettled now
-  pub row : HasNoSettled now ⊎ EndsUnsettled now.records (along sweep now) passed
+  pub row : HasNoSettled now ⊎ EndsUnsettled now.contents.records (along sweep now) passed
   pub order : IsAlong sweep now
-  pub once : IsDistinct (◌==◌) (numbers_of now.access)
+  pub once : IsDistinct (◌==◌) (numbers_of now.contents.access)
   pub most : removed + turns ≤ batch
   pub few : passed + turns ≤ batch
   pub settled : all ≡ true → removed + turns ≡ batch
@@ -35,7 +35,7 @@ pub record Sweeping {K V L : Type 0} (tells : L → K → V → RemovalCause →
 
 module _ {K V L : Type 0} (tells : L → K → V → RemovalCause → L → Type 0) (q : Tests) (sweep : Sweep) (batch : ℕ) where
   -- no turn was taken
-  pub sweeping-none : (c : Stock K V) (l : Option L) → IsDistinct (◌==◌) (numbers_of c.access) → IsAlong sweep c → Sweeping tells q sweep batch c c l l 0 batch 0 true
+  pub sweeping-none : (c : Stock K V) (l : Option L) → IsDistinct (◌==◌) (numbers_of c.contents.access) → IsAlong sweep c → Sweeping tells q sweep batch c c l l 0 batch 0 true
   unfolding stepped-none
   sweeping-none c l once order = record {
     by = stepped-none tells (MayTurn q sweep) c l;
@@ -43,7 +43,7 @@ module _ {K V L : Type 0} (tells : L → K → V → RemovalCause → L → Type
     rounds = 0;
     made = omega arith;
     round = inl refl;
-    row = inr (row-start c.records (along sweep c));
+    row = inr (row-start c.contents.records (along sweep c));
     order = order;
     once = once;
     most = omega arith;
@@ -56,12 +56,12 @@ module _ {K V L : Type 0} (tells : L → K → V → RemovalCause → L → Type
   one-on : (x : Choice) → length (h.by.steps ++ x ∷ []) ≡ length h.by.steps + 1
   one-on x = length-on h.by.steps (x ∷ [])
 
-  no_rounds : (n : ℕ) → (is_member n now.access && is_settled now.records n) ≡ true → length h.by.steps + turns ≡ batch
+  no_rounds : (n : ℕ) → (is_member n now.contents.access && is_settled now.contents.records n) ≡ true → length h.by.steps + turns ≡ batch
   no_rounds n is = go h.round
     where
       go : (h.rounds ≡ 0) ⊎ HasNoSettled now → length h.by.steps + turns ≡ batch
-      go (inl none) = (let made = h.made in let gone : h.rounds * length now.access ≡ 0 = ap (λ r. r * length now.access) none ∙ omega arith in omega arith)
-      go (inr none) = absurd (true≢false (sym (and_parts (is_member n now.access) (is_settled now.records n) is).1 ∙ none_settled now.records n now.access none (and_parts (is_member n now.access) (is_settled now.records n) is).0))
+      go (inl none) = (let made = h.made in let gone : h.rounds * length now.contents.access ≡ 0 = ap (λ r. r * length now.contents.access) none ∙ omega arith in omega arith)
+      go (inr none) = absurd (true≢false (sym (and_parts (is_member n now.contents.access) (is_settled now.contents.records n) is).1 ∙ none_settled now.contents.records n now.contents.access none (and_parts (is_member n now.contents.access) (is_settled now.contents.records n) is).0))
 
   pub sweeping-removed : (less : ℕ) → turns ≡ less + 1 → TakesTurn tells q sweep now next m k Removed → Sweeping tells q sweep batch first next l k (removed + 1) less 0 all
   unfolding stepped-on stepped-one
@@ -71,9 +71,9 @@ module _ {K V L : Type 0} (tells : L → K → V → RemovalCause → L → Type
     rounds = 0;
     made = (let made = no_rounds t.0 t.2.1.2 in let one = one-on (Removes t.0 t.1) in omega arith);
     round = inl refl;
-    row = inr (row-start next.records (along sweep next));
+    row = inr (row-start next.contents.records (along sweep next));
     order = subst (λ c. IsAlong sweep c) (sym t.3) (along-step sweep now (Removes t.0 t.1) h.once h.order);
-    once = subst (λ (c : Stock K V). IsDistinct (◌==◌) (numbers_of c.access)) (sym t.3) (distinct_taken_out t.0 now.access h.once);
+    once = subst (λ (c : Stock K V). IsDistinct (◌==◌) (numbers_of c.contents.access)) (sym t.3) (distinct_taken_out t.0 now.contents.access h.once);
     most = (let most = h.most in omega arith);
     few = (let few = h.few in omega arith);
     settled = λ is. (let s = h.settled is in omega arith);
@@ -85,19 +85,19 @@ module _ {K V L : Type 0} (tells : L → K → V → RemovalCause → L → Type
   sweeping-passed less e t =
       let n = t.0 in
       let told = subst (λ k. Told {K = K} {V = V} tells m [] k) (sym t.3) (told-none tells m) in
-      let same : length next.access ≡ length now.access = ap (λ (c : Stock K V). length c.access) t.2 ∙ length-to_back n now.access h.once t.1.1.0 in
+      let same : length next.contents.access ≡ length now.contents.access = ap (λ (c : Stock K V). length c.contents.access) t.2 ∙ length-to_back n now.contents.access h.once t.1.1.0 in
       record {
         by = stepped-on tells (MayTurn q sweep) first now next l m k h.by (stepped-one tells (MayTurn q sweep) now next m k (MovesToBack n) t.1 t.2 told);
         count = (let count = h.count in let more = removed-on h.by.steps (MovesToBack n ∷ []) in omega arith);
         rounds = h.rounds;
-        made = (let made = h.made in let one = one-on (MovesToBack n) in let all_same : h.rounds * length next.access ≡ h.rounds * length now.access = ap (λ a. h.rounds * a) same in joined (length h.by.steps) turns less (h.rounds * length now.access) (length (h.by.steps ++ MovesToBack n ∷ [])) (h.rounds * length next.access) made one e all_same);
-        round = elim h.round [ inl none ↦ inl none | inr none ↦ inr (subst (λ c. HasNoSettled c) (sym t.2) (none-to_back now.records n now.access t.1.1.1 none)) ];
+        made = (let made = h.made in let one = one-on (MovesToBack n) in let all_same : h.rounds * length next.contents.access ≡ h.rounds * length now.contents.access = ap (λ a. h.rounds * a) same in joined (length h.by.steps) turns less (h.rounds * length now.contents.access) (length (h.by.steps ++ MovesToBack n ∷ [])) (h.rounds * length next.contents.access) made one e all_same);
+        round = elim h.round [ inl none ↦ inl none | inr none ↦ inr (subst (λ c. HasNoSettled c) (sym t.2) (none-to_back now.contents.records n now.contents.access t.1.1.1 none)) ];
         row = elim h.row [
-          | inl none ↦ inl (subst (λ c. HasNoSettled c) (sym t.2) (none-to_back now.records n now.access t.1.1.1 none))
-          | inr row ↦ subst (λ c. HasNoSettled c ⊎ EndsUnsettled c.records (along sweep c) (passed + 1)) (sym t.2) (row-passed sweep now h.once h.order q n t.1.0 t.1.1.1 passed row)
+          | inl none ↦ inl (subst (λ c. HasNoSettled c) (sym t.2) (none-to_back now.contents.records n now.contents.access t.1.1.1 none))
+          | inr row ↦ subst (λ c. HasNoSettled c ⊎ EndsUnsettled c.contents.records (along sweep c) (passed + 1)) (sym t.2) (row-passed sweep now h.once h.order q n t.1.0 t.1.1.1 passed row)
         ];
         order = subst (λ c. IsAlong sweep c) (sym t.2) (along-step sweep now (MovesToBack n) h.once h.order);
-        once = subst (λ (c : Stock K V). IsDistinct (◌==◌) (numbers_of c.access)) (sym t.2) (distinct-to_back n now.access h.once);
+        once = subst (λ (c : Stock K V). IsDistinct (◌==◌) (numbers_of c.contents.access)) (sym t.2) (distinct-to_back n now.contents.access h.once);
         most = (let most = h.most in omega arith);
         few = (let few = h.few in omega arith);
         settled = λ is. absurd (true≢false (sym is));
@@ -114,7 +114,7 @@ module _ {K V L : Type 0} (tells : L → K → V → RemovalCause → L → Type
       (subst (λ k. IsSwept tells q sweep batch first now l k removed false) (sym t.3)
       (record {
         by = h.by;
-        few = at_most (length h.by.steps) turns (h.rounds * length now.access) h.made;
+        few = at_most (length h.by.steps) turns (h.rounds * length now.contents.access) h.made;
         turns = inr (t.0, λ _. t.1);
         count = h.count;
         full = λ is. absurd (true≢false (sym is));
@@ -127,7 +127,7 @@ module _ {K V L : Type 0} (tells : L → K → V → RemovalCause → L → Type
 
 module _ {K V L : Type 0} (tells : L → K → V → RemovalCause → L → Type 0) (q : Tests) (sweep : Sweep) (batch : ℕ) (first now : Stock K V) (l m : Option L) (removed turns passed : ℕ) where
   -- whole rounds over unsettled members are left out
-  pub sweeping-rounds : (less : ℕ) → passed ≡ length now.access → less ≡ turns % passed → Sweeping tells q sweep batch first now l m removed turns passed false → Sweeping tells q sweep batch first now l m removed less passed false
+  pub sweeping-rounds : (less : ℕ) → passed ≡ length now.contents.access → less ≡ turns % passed → Sweeping tells q sweep batch first now l m removed turns passed false → Sweeping tells q sweep batch first now l m removed less passed false
   sweeping-rounds less whole e h = record {
     by = h.by;
     count = h.count;
@@ -164,8 +164,8 @@ module _ {K V L : Type 0} (tells : L → K → V → RemovalCause → L → Type
   pub sweeping-over : (all : Bool) → turns ≡ 0 → Sweeping tells q sweep batch first now l m removed turns passed all → IsSwept tells q sweep batch first now l m removed all
   sweeping-over all e h = record {
     by = h.by;
-    few = at_most (length h.by.steps) turns (h.rounds * length now.access) h.made;
-    turns = inl (h.rounds, no_turns (length h.by.steps) turns (h.rounds * length now.access) e h.made, h.round);
+    few = at_most (length h.by.steps) turns (h.rounds * length now.contents.access) h.made;
+    turns = inl (h.rounds, no_turns (length h.by.steps) turns (h.rounds * length now.contents.access) e h.made, h.round);
     count = h.count;
     full = λ is. (let s = h.settled is in omega arith);
     more = λ used _. sweeping-all all h used;

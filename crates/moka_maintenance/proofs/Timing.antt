@@ -10,7 +10,8 @@ use Rattle.moka_parts.specs.Time.{has_passed, moment_of}
 use Rattle.moka_parts.specs.Visibility.{is_expired}
 use Rattle.moka_parts.proofs.AccessList.{counted_taken_out, uncounted_taken_out}
 use Rattle.moka_store.specs.Store.{Kept, cursor_past, with_timer}
-use Rattle.moka_store.proofs.Gets.{get-inserted, get-past_insert, get-removed, get-past_remove}
+use Rattle.moka_store.proofs.Gets.{get-past_remove}
+use Rattle.moka_store.proofs.TableMaps.{get-altered, get-past_altered}
 use Rattle.moka_maintenance.specs.Timers.{AreTimed, HasNoneDue, KeepsTimers, StandsAtExpiry}
 
 -- who is a member once one was taken out was one before
@@ -20,17 +21,6 @@ member-was n k access there = go (counted_of k access) refl
     go : (o : Option ℕ) → counted_of k access ≡ o → is_member k access ≡ true
     go (Some w) e = ap is_some e
     go None e = absurd (true≢false (sym there ∙ ap is_some (uncounted_taken_out n k access e)))
-
--- ---- the timer of a number that is set
-
-module _ (timers : FinMap nat_cmp ℕ) (n : ℕ) where
-  pub set-own : (o : Option ℕ) → get (with_timer timers n o) n ≡ o
-  set-own None = get-removed timers n
-  set-own (Some at) = get-inserted timers n at
-
-  pub set-other : (o : Option ℕ) (k : ℕ) → k ≢ n → get (with_timer timers n o) k ≡ get timers k
-  set-other None k other = get-past_remove timers n k other
-  set-other (Some at) k other = get-past_insert timers n at k other
 
 module _ {K V : Type 0} where
   pub keeps-none : {S : Type 0} → (k : Kept K V S) → KeepsTimers k k
@@ -99,11 +89,11 @@ module _ {K V : Type 0} where
           | inl same ↦
               let own : get mid.records n ≡ Some p = sym (ap (get mid.records) same) ∙ there' in
               let is : r ≡ p = (let f = found in cc) in
-              inr (ap (λ m. get m k) set ∙ ap (get (with_timer mid.timers n (moment_of r.expires))) same ∙ set-own mid.timers n (moment_of r.expires) ∙ ap (λ (x : Record K V). moment_of x.expires) is)
+              inr (ap (λ m. get m k) set ∙ ap (get (with_timer mid.timers n (moment_of r.expires))) same ∙ get-altered mid.timers n (moment_of r.expires) ∙ ap (λ (x : Record K V). moment_of x.expires) is)
           | inr other ↦ inl (
             sym (records k other) ∙ there',
             sym (ap is_some (counted k other)) ∙ is_in',
-            ap (λ m. get m k) set ∙ set-other mid.timers n (moment_of r.expires) k other ∙ ap (λ m. get m k) timers,
+            ap (λ m. get m k) set ∙ get-past_altered mid.timers n (moment_of r.expires) k other ∙ ap (λ m. get m k) timers,
           )
         ]);
   }
@@ -118,14 +108,14 @@ module _ {K V : Type 0} where
     stands-set kept p there is_in =
         let own : get mid.records n ≡ Some p = sym (ap (λ (s : Kept K V S). get s.records n) step) ∙ there in
         let is : r ≡ p = (let f = found in cc) in
-        ap (λ m. get m n) (set_to kept) ∙ set-own mid.timers n (moment_of r.expires) ∙ ap (λ (x : Record K V). moment_of x.expires) is
+        ap (λ m. get m n) (set_to kept) ∙ get-altered mid.timers n (moment_of r.expires) ∙ ap (λ (x : Record K V). moment_of x.expires) is
 
     pub stands-past : (k : ℕ) → StandsAtExpiry k mid → StandsAtExpiry k new
     stands-past k stands kept p there is_in = elim (cases_eq k n) [
       | inl same ↦
           ap (get new.timers) same ∙ stands-set kept p (sym (ap (get new.records) same) ∙ there) (sym (ap (λ x. is_member x new.access) same) ∙ is_in)
       | inr other ↦
-          ap (λ m. get m k) (set_to kept) ∙ set-other mid.timers n (moment_of r.expires) k other
+          ap (λ m. get m k) (set_to kept) ∙ get-past_altered mid.timers n (moment_of r.expires) k other
           ∙ stands (sym (ap (λ (s : Kept K V S). s.timed) step) ∙ kept) p (sym (ap (λ (s : Kept K V S). get s.records k) step) ∙ there) (sym (ap (λ (s : Kept K V S). is_member k s.access) step) ∙ is_in)
     ]
 

@@ -1,5 +1,5 @@
 -- What stays of a store while a scan looks at a member.
-use Rattle.std.proofs.Common.{◌≡◌, ◌≢◌, refl, ℕ, ◌≤◌, Bool, true, false, true≢false, cond, ◌==◌, List, [], ◌∷◌, Option, Some, None, IfSome, IsSome, is_some, slice_get, inl, inr, ap, sym, subst, ◌∙◌}
+use Rattle.std.proofs.Common.{◌≡◌, ◌≢◌, refl, ℕ, ◌≤◌, Bool, true, false, true≢false, cond, ◌==◌, List, [], ◌∷◌, Option, Some, None, IfSome, IsSome, is_some, option_map, slice_get, inl, inr, ap, sym, subst, ◌∙◌}
 use Rattle.std.proofs.lemmas.Bool.{ne_eqb, cond-false}
 use Rattle.std.specs.List.{IsDistinct}
 use Rattle.moka_parts.specs.declared.notification.RemovalCause.{RemovalCause}
@@ -17,7 +17,7 @@ use Rattle.moka_maintenance.specs.Upkeep.{SetsNoTimer}
 use Rattle.moka_maintenance.proofs.Upkeep.{untimed-none, untimed-gone}
 
 -- what stands behind a number is another
-pub next_other : (ns : List ℕ) (n m : ℕ) → IsDistinct (◌==◌) ns → number_after n ns ≡ Some m → m ≢ n
+next_other : (ns : List ℕ) (n m : ℕ) → IsDistinct (◌==◌) ns → number_after n ns ≡ Some m → m ≢ n
 unfolding IsDistinct
 next_other [] n m once e = cc
 next_other (x ∷ xs) n m once e = go (x == n) refl (λ at. next_other xs n m once.1 at) e
@@ -30,7 +30,7 @@ next_other (x ∷ xs) n m once e = go (x == n) refl (λ at. next_other xs n m on
     go true is later at same = true≢false (sym (itself_tested x) ∙ ap (λ k. x == k) (same_by_test x n is ∙ sym same) ∙ first xs once at)
     go false is later at same = later at same
 
-pub if_some : {A : Type 0} {P Q : A → Type 0} (o : Option A) → ((a : A) → o ≡ Some a → P a → Q a) → IfSome o P → IfSome o Q
+if_some : {A : Type 0} {P Q : A → Type 0} (o : Option A) → ((a : A) → o ≡ Some a → P a → Q a) → IfSome o P → IfSome o Q
 if_some None f h = h
 if_some (Some a) f h = f a refl h
 
@@ -44,8 +44,12 @@ pub record KeepsOthers {K V S : Type 0} (old new : Kept K V S) (n : ℕ) : Type 
 
 module _ {K V : Type 0} where
   -- another member stays in the order of writing
-  pub still-ordered : {S : Type 0} → (old new : Kept K V S) (n : ℕ) → KeepsOthers old new n → (h : Handle) → h.number ≢ n → IsOrdered old h → IsOrdered new h
+  still-ordered : {S : Type 0} → (old new : Kept K V S) (n : ℕ) → KeepsOthers old new n → (h : Handle) → h.number ≢ n → IsOrdered old h → IsOrdered new h
   still-ordered old new n keeps h other at = record { placed = keeps.placed h other at.placed; member = keeps.members h.number other at.member; listed = keeps.listed h.number other at.listed }
+
+  -- and so does the one behind that number
+  pub next-ordered : {S : Type 0} → (old new : Kept K V S) (n : ℕ) → KeepsOthers old new n → IsDistinct (◌==◌) old.written → (next : Option Handle) → option_map (λ h. h.number) next ≡ number_after n old.written → IfSome next (IsOrdered old) → IfSome next (IsOrdered new)
+  next-ordered old new n keeps once next behind = if_some next (λ h is. still-ordered old new n keeps h (next_other old.written n h.number once (sym behind ∙ ap (option_map (λ (h : Handle). h.number)) is)))
 
   keeps_same : {S : Type 0} → (old : Kept K V S) (n : ℕ) → KeepsOthers old old n
   keeps_same old n = record { placed = λ h other at. at; members = λ k other there. there; listed = λ k other there. there; once = λ o. o; upkeep = untimed-none old }

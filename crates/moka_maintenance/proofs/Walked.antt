@@ -2,6 +2,7 @@
 use Rattle.std.proofs.Common.{◌≡◌, ◌≢◌, refl, ℕ, ◌+◌, ◌≤◌, Bool, true, false, true≢false, cond, not, ◌==◌, ◌||◌, List, [], ◌∷◌, ◌++◌, length, Option, Some, slice_get, inl, inr, ap, sym, subst, ◌∙◌, arith, append_assoc, append-nil}
 use Rattle.std.proofs.lemmas.Bool.{cond-true, cond-false}
 use Rattle.std.proofs.lemmas.List.Elements.{filter-append}
+use Rattle.std.specs.Int.{from_bool}
 use Rattle.std.specs.FinMap.{get, remove}
 use Rattle.std.specs.List.{IsDistinct, AllByRecursion}
 use Rattle.std.specs.Option.{option_map_or}
@@ -120,18 +121,23 @@ listed_still n m ns there = elim (same_or_apart n m) [
 
 module _ {K V P : Type 0} (says : P → K → V → Bool → Type 0) (ps : List (Registered P)) where
   -- what still stands in the order of writing after steps of a scan stood there before, and has the record that it had
-  pub stands_still : (c : Stock K V) (xs : List Choice) (n : ℕ) → MayAll (MayScan says ps) c xs → is_listed n (after_steps c xs).written ≡ true → (is_listed n c.written ≡ true) × (get (after_steps c xs).records n ≡ get c.records n)
+  pub stands_still : (c : Stock K V) (xs : List Choice) (n : ℕ) → MayAll (MayScan says ps) c xs → is_listed n (after_steps c xs).written ≡ true → (is_listed n c.written ≡ true) × (get (after_steps c xs).contents.records n ≡ get c.contents.records n)
   stands_still c [] n may there = (there, refl)
   stands_still c (Removes m cause ∷ xs) n may there =
       let rest = stands_still (after_step c (Removes m cause)) xs n may.1 there in
       let now = listed_still n m c.written rest.0 in
-      (now.1, rest.1 ∙ get-past_remove c.records m n now.0)
+      (now.1, rest.1 ∙ get-past_remove c.contents.records m n now.0)
   stands_still c (MovesToBack m ∷ xs) n may there = absurd may.0
   stands_still c (Drops i ∷ xs) n may there = absurd may.0
 
 pub no_steps : (xs : List Choice) → length xs ≤ 0 → xs ≡ []
 no_steps [] h = refl
 no_steps (x ∷ xs) h = absurd (omega arith)
+
+-- one member was looked at, or none
+pub at_most_one : (settled : Bool) (more : ℕ) → more ≡ from_bool settled → more ≤ 1
+at_most_one false more none = omega arith
+at_most_one true more one = omega arith
 
 -- ---- the walk
 
@@ -153,9 +159,13 @@ module _ {K V L P S : Type 0} (tells : L → K → V → RemovalCause → L → 
     uncovered = uncovered-none says ps old.records;
   }
 
-  module _ (mid : Kept K V S) (m : Option L) (n looked passed : ℕ) (h : IsWalked tells says ps old mid l m before rest (Some n) looked passed) (once : IsDistinct (◌==◌) mid.written) where
+  -- and then at this member, behind which the next stands
+  module _ (mid : Kept K V S) (m : Option L) (at next : Option ℕ) (n looked passed : ℕ) (h : IsWalked tells says ps old mid l m before rest at looked passed) (is : at ≡ Some n) (behind : next ≡ number_after n mid.written) (once : IsDistinct (◌==◌) mid.written) where
+    abbrev Goes : Kept K V S → Option L → ℕ → Type 0
+    Goes new k more = IsWalked tells says ps old new l k before rest next (looked + more) (passed + 1)
+
     here : Head n h.ahead
-    here = head_of n h.ahead h.at
+    here = head_of n h.ahead (sym is ∙ h.at)
 
     list_is : mid.written ≡ (before ++ h.kept) ++ n ∷ here.behind
     list_is = h.list ∙ ap (λ zs. before ++ (h.kept ++ zs)) here.is ∙ sym (append_assoc before h.kept (n ∷ here.behind))
@@ -163,8 +173,8 @@ module _ {K V L P S : Type 0} (tells : L → K → V → RemovalCause → L → 
     once_there : IsDistinct (◌==◌) ((before ++ h.kept) ++ n ∷ here.behind)
     once_there = subst (IsDistinct (◌==◌)) list_is once
 
-    next_is : number_after n mid.written ≡ slice_get here.behind 0
-    next_is = ap (number_after n) list_is ∙ after_split (before ++ h.kept) here.behind n once_there
+    next_is : next ≡ slice_get here.behind 0
+    next_is = behind ∙ ap (number_after n) list_is ∙ after_split (before ++ h.kept) here.behind n once_there
 
     split_is : rest ≡ (h.walked ++ n ∷ []) ++ here.behind
     split_is = h.split ∙ ap (λ zs. h.walked ++ zs) here.is ∙ sym (append_assoc h.walked (n ∷ []) here.behind)
@@ -174,14 +184,14 @@ module _ {K V L P S : Type 0} (tells : L → K → V → RemovalCause → L → 
 
     -- it has the record that it had
     same_record : get mid.records n ≡ get old.records n
-    same_record = ap (λ (c : Stock K V). get c.records n) h.by.led ∙ (stands_still says ps (stock_in old) h.by.steps n h.by.may (ap (λ (c : Stock K V). is_listed n c.written) (sym h.by.led) ∙ ap (is_listed n) list_is ∙ listed_between (before ++ h.kept) here.behind n)).1
+    same_record = ap (λ (c : Stock K V). get c.contents.records n) h.by.led ∙ (stands_still says ps (stock_in old) h.by.steps n h.by.may (ap (λ (c : Stock K V). is_listed n c.written) (sym h.by.led) ∙ ap (is_listed n) list_is ∙ listed_between (before ++ h.kept) here.behind n)).1
 
     same_settled : is_settled old.records n ≡ is_settled mid.records n
     same_settled = ap (λ o. option_map_or is_applied o false) (sym same_record)
 
     -- it stays
-    stays : (more : ℕ) → looked ≤ more → more ≡ length (settled_numbers old.records (h.walked ++ n ∷ [])) → ((r : Record K V) → get mid.records n ≡ Some r → is_applied r ≡ true → NoneCovers says ps r) → IsWalked tells says ps old mid l m before rest (number_after n mid.written) more (passed + 1)
-    stays more least looks found = record {
+    stays : (more : ℕ) → looked + more ≡ length (settled_numbers old.records (h.walked ++ n ∷ [])) → ((r : Record K V) → get mid.records n ≡ Some r → is_applied r ≡ true → NoneCovers says ps r) → Goes mid m more
+    stays more looks found = record {
       walked = h.walked ++ n ∷ [];
       kept = h.kept ++ n ∷ [];
       ahead = here.behind;
@@ -196,22 +206,16 @@ module _ {K V L P S : Type 0} (tells : L → K → V → RemovalCause → L → 
       uncovered = uncovered-push says ps mid.records h.walked n found h.uncovered;
     }
 
-    pub walked-unsettled : (new : Kept K V S) (k : Option L) → LooksAt tells says ps mid new m k n false → IsWalked tells says ps old new l k before rest (number_after n mid.written) looked (passed + 1)
-    walked-unsettled new k turn =
-        subst (λ k. IsWalked tells says ps old new l k before rest (number_after n mid.written) looked (passed + 1)) (sym turn.2)
-        (subst (λ new. IsWalked tells says ps old new l m before rest (number_after n mid.written) looked (passed + 1)) (sym turn.1)
-        (stays looked (omega arith) (h.looks ∙ sym (no_more old.records h.walked n (same_settled ∙ turn.0))) (λ r at applied. absurd (true≢false (sym applied ∙ sym (settled_is r at) ∙ turn.0)))))
+    pub walked-on : (settled : Bool) (new : Kept K V S) (k : Option L) (more : ℕ) → more ≡ from_bool settled → LooksAt tells says ps mid new m k n settled → Goes new k more
+    unfolding stepped-one stepped-on
+    walked-on false new k more none turn =
+        subst (λ k. Goes new k more) (sym turn.2) (subst (λ new. Goes new m more) (sym turn.1)
+        (stays more (let looks = h.looks ∙ sym (no_more old.records h.walked n (same_settled ∙ turn.0)) in omega arith) (λ r at applied. absurd (true≢false (sym applied ∙ sym (settled_is r at) ∙ turn.0)))))
       where
         settled_is : (r : Record K V) → get mid.records n ≡ Some r → is_settled mid.records n ≡ is_applied r
         settled_is r at = ap (λ o. option_map_or is_applied o false) at
-
-    pub walked-settled : (new : Kept K V S) (k : Option L) → LooksAt tells says ps mid new m k n true → IsWalked tells says ps old new l k before rest (number_after n mid.written) (looked + 1) (passed + 1)
-    unfolding stepped-one stepped-on
-    walked-settled new k turn = let looked_now = ap (λ i. i + 1) h.looks ∙ sym (one_more old.records h.walked n (same_settled ∙ turn.0)) in elim turn.1 [
-      | inl same ↦
-          subst (λ k. IsWalked tells says ps old new l k before rest (number_after n mid.written) (looked + 1) (passed + 1)) (sym same.1)
-          (subst (λ new. IsWalked tells says ps old new l m before rest (number_after n mid.written) (looked + 1) (passed + 1)) (sym same.0)
-          (stays (looked + 1) (omega arith) looked_now (λ r at applied. same.2 r at)))
+    walked-on true new k more one turn = let looks : looked + more ≡ length (settled_numbers old.records (h.walked ++ n ∷ [])) = (let all = h.looks in let next = one_more old.records h.walked n (same_settled ∙ turn.0) in omega arith) in elim turn.1 [
+      | inl same ↦ subst (λ k. Goes new k more) (sym same.1) (subst (λ new. Goes new m more) (sym same.0) (stays more looks (λ r at applied. same.2 r at)))
       | inr left ↦
           let records : new.records ≡ remove mid.records n = ap (λ (s : Kept K V S). s.records) left.1.whole in
           let gone : (j : ℕ) (r : Record K V) → get new.records j ≡ Some r → (j ≡ n → ⊥) × (get mid.records j ≡ Some r) = λ j r at. after_remove mid.records n j r (sym (ap (λ rs. get rs j) records) ∙ at) in
@@ -224,7 +228,7 @@ module _ {K V L P S : Type 0} (tells : L → K → V → RemovalCause → L → 
             at = next_is;
             count = count_is;
             stay = subst (LeavesSome (h.walked ++ n ∷ [])) (append-nil h.kept) (some-append h.walked h.kept (n ∷ []) [] h.stay (one_leaves n));
-            looks = looked_now;
+            looks = looks;
             by = stepped-on tells (MayScan says ps) (stock_in old) (stock_in mid) (stock_in new) l m k h.by (stepped-one tells (MayScan says ps) (stock_in mid) (stock_in new) m k (Removes n Explicit) left.0 left.1.step left.1.told);
             few = (let f = h.few in let both = length-on h.by.steps (Removes n Explicit ∷ []) in omega arith);
             uncovered = uncovered-push says ps new.records h.walked n (λ r at applied. absurd ((gone n r at).0 refl)) (uncovered-kept says ps mid.records new.records h.walked (λ j r at. (gone j r at).1) h.uncovered);

@@ -3,9 +3,9 @@ use Rattle.std.specs.Prelude.{◌≡◌, ℕ, Option}
 use Rattle.std.specs.FinMap as finite
 use Rattle.moka_parts.specs.Records.{without_member, without_number}
 use Rattle.moka_parts.specs.declared.notification.RemovalCause.{RemovalCause}
-use Rattle.moka_parts.specs.Maintenance.{Removes}
+use Rattle.moka_parts.specs.Maintenance.{Removes, left_by_choice}
 use Rattle.moka_store.specs.Store.{Kept, cursor_past}
-use Rattle.moka_maintenance.specs.Steps.{stock_in, after_step, left_by_step, Told}
+use Rattle.moka_maintenance.specs.Steps.{contents_in, stock_in, after_step, Told}
 use Rattle.moka_maintenance.specs.Upkeep.{SetsNoTimer}
 
 -- the store without this number, with so much room: it has left the map, both orders and the timers, and its row is
@@ -26,6 +26,6 @@ without_record n room k = record k {
 pub record Expels {K V L S : Type 0} (tells : L → K → V → RemovalCause → L → Type 0) (n : ℕ) (cause : RemovalCause)
     (old new : Kept K V S) (l m : Option L) : Type 0 where
   pub step : stock_in new ≡ after_step (stock_in old) (Removes n cause)
-  pub told : Told tells l (left_by_step (stock_in old) (Removes n cause)) m
+  pub told : Told tells l (left_by_choice (contents_in old) (Removes n cause)) m
   pub whole : new ≡ without_record n new.room old
   pub upkeep : SetsNoTimer old new

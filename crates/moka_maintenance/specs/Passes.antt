@@ -13,7 +13,7 @@ use Rattle.moka_parts.specs.Grounds.{FollowsGrounds, grounds_of, grounds_of_pass
 use Rattle.moka_maintenance.specs.declared.sweep.Tests.{Tests}
 use Rattle.moka_maintenance.specs.declared.sweep.Sweep.TheVariants.{Written, Read, Surplus}
 use Rattle.moka_maintenance.specs.Scanning.{AreDropped}
-use Rattle.moka_maintenance.specs.Steps.{Stock, MayRun, AreAllMembers, HasNoSettled, HasUnsettled, IsStepped, after_steps, contents_of, makes_room}
+use Rattle.moka_maintenance.specs.Steps.{Stock, MayRun, AreAllMembers, HasNoSettled, HasUnsettled, IsStepped, after_steps, makes_room}
 use Rattle.moka_maintenance.specs.Sweeps.{tests_in, sweeps_writes, IsAtRest, IsDone}
 
 module _ {C : Type 0} (reads : C → Instant → C → Type 0) where
@@ -35,20 +35,21 @@ module _ {K V L P : Type 0} (tells : L → K → V → RemovalCause → L → Ty
   pub record IsPass (batch : ℕ) (ordered : Bool) (ps qs : List (Registered P)) (before after : Stock K V)
       (l m : Option L) (removed : ℕ) (left scan : Bool) : Type 0 where
     pub by : IsStepped tells (MayRun says ps (tests_in q)) before after l m
-    pub dropped : AreDropped says (contents_of after) ps qs
+    pub dropped : AreDropped says after.contents ps qs
     -- timers, the sweep by the last write, the one by the last read, the scan and the sweep of the surplus, each with
     -- its own causes
-    pub in_order : FollowsGrounds (SomeCovers says ps) (tests_in q) batch grounds_of_pass (contents_of before)
+    pub in_order : FollowsGrounds (SomeCovers says ps) (tests_in q) batch grounds_of_pass before.contents
         by.steps
     pub count : removed ≤ length (removed_by by.steps)
     pub more : left ≡ true → 1 ≤ batch → 1 ≤ removed
     -- beside timers and the scan, each of its steps takes at most a batch of turns
-    pub many : length by.steps + length after.access ≤ batch + batch + batch + length before.access
+    pub many : length by.steps + length after.contents.access
+        ≤ batch + batch + batch + length before.contents.access
     -- where all its steps make room, it removed a batch if it left more, and else less than that
     pub counted : list_all makes_room by.steps ≡ true → removed ≡ length (removed_by by.steps)
     pub fewer : left ≡ false → 1 ≤ batch → list_all makes_room by.steps ≡ true → removed < batch
     pub batch_used : left ≡ true → 1 ≤ removed → list_all makes_room by.steps ≡ true → removed ≡ batch
-    pub rest : left ≡ false → HasUnsettled after ⊎ IsWithin q.capacity after.access
+    pub rest : left ≡ false → HasUnsettled after ⊎ IsWithin q.capacity after.contents.access
     -- unsettled members are passed over up to the last turn
     pub turned : left ≡ true → batch ≤ length by.steps
     pub used : IsDone q Surplus batch (length by.steps) after
@@ -61,7 +62,7 @@ module _ {K V L P : Type 0} (tells : L → K → V → RemovalCause → L → Ty
         × IsDone q Read batch (length first) (after_steps before first)
         × (left ≡ false → HasUnsettled (after_steps before first) ⊎ IsAtRest q Read (after_steps before first))
     -- with a batch of 0 more is left wherever a sweep is made
-    pub idle : batch ≡ 0 → left ≡ (sweeps_writes q || is_over q.capacity after.access)
+    pub idle : batch ≡ 0 → left ≡ (sweeps_writes q || is_over q.capacity after.contents.access)
     -- without predicates, or with a batch of 0, the scan leaves nothing
     pub unregistered : ps ≡ [] → scan ≡ false
     pub scan_idle : batch ≡ 0 → scan ≡ false
@@ -69,20 +70,21 @@ module _ {K V L P : Type 0} (tells : L → K → V → RemovalCause → L → Ty
     pub scan_more : scan ≡ true → 0 < length qs
     pub unfinished : ordered ≡ true → 1 ≤ batch → 0 < length qs → (scan ≡ true) ⊎ HasNoSettled after
     -- with a batch for all members, no predicate is left where each record is a settled one
-    pub predicates : ordered ≡ true → length before.access ≤ batch → AreAllMembers before → qs ≡ []
+    pub predicates : ordered ≡ true → length before.contents.access ≤ batch → AreAllMembers before → qs ≡ []
 
   module _ {C : Type 0} (reads : C → Instant → C → Type 0) (limit : Option ℕ) where
     -- passes one after the other, each but the last of which removed a record beside the scan and left more
     pub record IsRan (batch : ℕ) (ordered : Bool) (ps qs : List (Registered P)) (before after : Stock K V)
         (l m : Option L) (c d : C) (passes : ℕ) (left : Bool) : Type 0 where
       pub by : IsStepped tells (MayRun says ps (tests_in q)) before after l m
-      pub dropped : AreDropped says (contents_of after) ps qs
+      pub dropped : AreDropped says after.contents ps qs
       -- the steps of each pass have their order and their causes
       pub in_order : FollowsGrounds (SomeCovers says ps) (tests_in q) batch (grounds_of passes)
-          (contents_of before) by.steps
+          before.contents by.steps
       pub made : 1 ≤ passes
       pub few : passes ≤ length (removed_by by.steps) + 1
-      pub many : length by.steps + length after.access ≤ passes * (batch + batch + batch) + length before.access
+      pub many : length by.steps + length after.contents.access
+          ≤ passes * (batch + batch + batch) + length before.contents.access
       -- without predicates each pass but the last makes a batch of steps
       pub full : ps ≡ [] → (passes - 1) * batch ≤ length by.steps
       pub readings : List Instant
@@ -98,7 +100,8 @@ module _ {K V L P : Type 0} (tells : L → K → V → RemovalCause → L → Ty
       pub cut : is_late limit readings ≡ true → left ≡ true
       -- each pass of a run that was cut removed a record
       pub removing : is_late limit readings ≡ true → passes ≤ length (removed_by by.steps)
-      pub rest : is_late limit readings ≡ false → 1 ≤ batch → HasUnsettled after ⊎ IsWithin q.capacity after.access
+      pub rest : is_late limit readings ≡ false → 1 ≤ batch → HasUnsettled after
+          ⊎ IsWithin q.capacity after.contents.access
       -- unsettled members are passed over up to the last turn of the last pass and, without predicates, of each
       pub used : IsDone q Surplus batch (length by.steps) after
           × (ps ≡ [] → IsDone q Surplus (passes * batch) (length by.steps) after)
@@ -115,7 +118,7 @@ module _ {K V L P : Type 0} (tells : L → K → V → RemovalCause → L → Ty
           × (is_late limit readings ≡ false → 1 ≤ batch → HasUnsettled (after_steps before first)
           ⊎ IsAtRest q Read (after_steps before first))
       -- with a batch of 0 more is left wherever a sweep is made
-      pub idle : batch ≡ 0 → left ≡ (sweeps_writes q || is_over q.capacity after.access)
+      pub idle : batch ≡ 0 → left ≡ (sweeps_writes q || is_over q.capacity after.contents.access)
       -- where all its steps make room, each pass but the last of a whole run removed a batch
       pub exact : is_late limit readings ≡ false → 1 ≤ batch → ps ≡ [] → list_all makes_room by.steps ≡ true →
           passes ≡ length (removed_by by.steps) / batch + 1
@@ -123,4 +126,4 @@ module _ {K V L P : Type 0} (tells : L → K → V → RemovalCause → L → Ty
       pub batch_used : is_late limit readings ≡ true → passes ≡ 1 → ps ≡ [] → list_all makes_room by.steps ≡ true →
           length (removed_by by.steps) ≡ batch
       -- with a batch for all members, no predicate is left where each record is a settled one
-      pub predicates : ordered ≡ true → length before.access ≤ batch → AreAllMembers before → qs ≡ []
+      pub predicates : ordered ≡ true → length before.contents.access ≤ batch → AreAllMembers before → qs ≡ []

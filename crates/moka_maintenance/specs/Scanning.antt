@@ -62,8 +62,9 @@ module _ {K V P : Type 0} (says : P → K → V → Bool → Type 0) where
 
   -- a scan may remove a settled member that one of the predicates covers
   abbrev pub MayScan : List (Registered P) → Stock K V → Choice → Type 0
-  MayScan ps c (Removes n cause) = (r : Record K V) × (get c.records n ≡ Some r)
-      × (is_member n c.access && is_settled c.records n ≡ true) × SomeCovers says ps r × (cause ≡ Explicit)
+  MayScan ps c (Removes n cause) = (r : Record K V) × (get c.contents.records n ≡ Some r)
+      × (is_member n c.contents.access && is_settled c.contents.records n ≡ true)
+      × SomeCovers says ps r × (cause ≡ Explicit)
   MayScan ps c (MovesToBack n) = ⊥
   MayScan ps c (Drops i) = ⊥
 

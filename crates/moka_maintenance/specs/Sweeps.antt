@@ -10,7 +10,7 @@ use Rattle.moka_parts.specs.Order.{IsAtRestByWrite}
 use Rattle.moka_parts.specs.Records.{is_settled}
 use Rattle.moka_parts.specs.Visibility.{is_read_before}
 use Rattle.moka_parts.specs.Maintenance as parts
-use Rattle.moka_parts.specs.Maintenance.{Choice, Removes, MovesToBack, Drops, is_front, is_over, is_past_read}
+use Rattle.moka_parts.specs.Maintenance.{Choice, Removes, MovesToBack, Drops, left_by_choice, is_front, is_over, is_past_read}
 use Rattle.moka_parts.specs.Bounds.{removed_by}
 use Rattle.moka_parts.specs.Grounds.{Ground, ByTimer, ByWrite, ByRead, BySurplus, LeavesBy, MayTake}
 use Rattle.moka_maintenance.specs.declared.sweep.Tests.{Tests}
@@ -18,7 +18,7 @@ use Rattle.moka_maintenance.specs.declared.sweep.Sweep.{Sweep}
 use Rattle.moka_maintenance.specs.declared.sweep.Sweep.TheVariants.{Written, Read, Surplus}
 use Rattle.moka_maintenance.specs.declared.sweep.Turn.{Turn}
 use Rattle.moka_maintenance.specs.declared.sweep.Turn.TheVariants.{Removed, Passed, Ended}
-use Rattle.moka_maintenance.specs.Steps.{Stock, MayLeave, HasUnsettled, HasNoSettled, IsStepped, Told, after_step, contents_of, left_by_step}
+use Rattle.moka_maintenance.specs.Steps.{Stock, MayLeave, HasUnsettled, HasNoSettled, IsStepped, Told, after_step}
 
 -- the reference cache's tests of these
 abbrev pub tests_in : Tests → parts.Tests
@@ -54,44 +54,44 @@ module _ {K V : Type 0} (q : Tests) where
   -- the number is that of the front to which the sweep has come
   abbrev pub IsNext : Sweep → Stock K V → ℕ → Type 0
   IsNext Written c n = slice_get c.written 0 ≡ Some n
-  IsNext Read c n = is_front n c.access ≡ true
-  IsNext Surplus c n = (is_front n c.access && is_over q.capacity c.access) ≡ true
+  IsNext Read c n = is_front n c.contents.access ≡ true
+  IsNext Surplus c n = (is_front n c.contents.access && is_over q.capacity c.contents.access) ≡ true
 
   -- the front is none that the sweep removes
   abbrev pub IsAtRest : Sweep → Stock K V → Type 0
-  IsAtRest Written c = IsAtRestByWrite (tests_in q) c.records c.written
-  IsAtRest Read c = (n : ℕ) (r : Record K V) → is_front n c.access ≡ true → get c.records n ≡ Some r
+  IsAtRest Written c = IsAtRestByWrite (tests_in q) c.contents.records c.written
+  IsAtRest Read c = (n : ℕ) (r : Record K V) → is_front n c.contents.access ≡ true → get c.contents.records n ≡ Some r
       → (is_past_read (tests_in q) r ≡ false) × (is_read_before q.valid_after r ≡ false)
-  IsAtRest Surplus c = IsWithin q.capacity c.access
+  IsAtRest Surplus c = IsWithin q.capacity c.contents.access
 
   -- the front to which the sweep has come, if there is one, is settled
   abbrev pub HasSettledNext : Sweep → Stock K V → Type 0
-  HasSettledNext sweep c = (n : ℕ) → IsNext sweep c n → is_settled c.records n ≡ true
+  HasSettledNext sweep c = (n : ℕ) → IsNext sweep c n → is_settled c.contents.records n ≡ true
 
   -- the front is none that the sweep removes, and none that it would pass over if it is made
   abbrev pub HasStopped : Sweep → Stock K V → Type 0
-  HasStopped sweep c = IsAtRest sweep c × (is_taken q sweep c.access ≡ true → HasSettledNext sweep c)
+  HasStopped sweep c = IsAtRest sweep c × (is_taken q sweep c.contents.access ≡ true → HasSettledNext sweep c)
 
   -- the sweep removes the record, to which it has come, and tells this cause
   abbrev pub LeavesIn : Sweep → Stock K V → ℕ → Record K V → RemovalCause → Type 0
-  LeavesIn sweep c n r cause = LeavesBy (λ _. ⊥) (tests_in q) (ground_of sweep) (contents_of c) n r cause
+  LeavesIn sweep c n r cause = LeavesBy (λ _. ⊥) (tests_in q) (ground_of sweep) c.contents n r cause
 
   -- the step may be a turn of the sweep
   abbrev pub MayTurn : Sweep → Stock K V → Choice → Type 0
   MayTurn sweep c (Removes n cause) = IsNext sweep c n
-      × MayTake (λ _. ⊥) (tests_in q) (ground_of sweep) (contents_of c) (Removes n cause)
+      × MayTake (λ _. ⊥) (tests_in q) (ground_of sweep) c.contents (Removes n cause)
   MayTurn sweep c (MovesToBack n) = IsNext sweep c n × MayLeave c (MovesToBack n)
   MayTurn sweep c (Drops i) = ⊥
 
   -- the step removes a settled member whose own expiry has come
   abbrev pub MayExpire : Stock K V → Choice → Type 0
-  MayExpire c (Removes n cause) = MayTake (λ _. ⊥) (tests_in q) ByTimer (contents_of c) (Removes n cause)
+  MayExpire c (Removes n cause) = MayTake (λ _. ⊥) (tests_in q) ByTimer c.contents (Removes n cause)
   MayExpire c (MovesToBack n) = ⊥
   MayExpire c (Drops i) = ⊥
 
   -- so many turns are all of the batch, but for whole rounds over members none of which is settled
   abbrev pub AreAllTurns : ℕ → ℕ → Stock K V → Type 0
-  AreAllTurns batch turns c = (rounds : ℕ) × (turns + rounds * length c.access ≡ batch)
+  AreAllTurns batch turns c = (rounds : ℕ) × (turns + rounds * length c.contents.access ≡ batch)
       × ((rounds ≡ 0) ⊎ HasNoSettled c)
 
   -- the sweep has stopped, or no member is settled, or all turns of the batch were made
@@ -102,7 +102,8 @@ module _ {K V L : Type 0} (tells : L → K → V → RemovalCause → L → Type
   -- one turn of a sweep
   abbrev pub TakesTurn : Sweep → Stock K V → Stock K V → Option L → Option L → Turn → Type 0
   TakesTurn sweep before after l m Removed = (n : ℕ) × (cause : RemovalCause) × MayTurn q sweep before (Removes n cause)
-      × (after ≡ after_step before (Removes n cause)) × Told tells l (left_by_step before (Removes n cause)) m
+      × (after ≡ after_step before (Removes n cause))
+      × Told tells l (left_by_choice before.contents (Removes n cause)) m
   TakesTurn sweep before after l m Passed = (n : ℕ) × MayTurn q sweep before (MovesToBack n)
       × (after ≡ after_step before (MovesToBack n)) × (m ≡ l)
   TakesTurn sweep before after l m Ended = IsAtRest q sweep before × HasSettledNext q sweep before × (after ≡ before)

@@ -40,7 +40,7 @@ impl Tests {
     // Why a sweep removes a settled record that it has come to, if it does.
     fn cause_of<K, V>(self, sweep: Sweep, found: &RecordRef<'_, K, V>) -> Option<RemovalCause>
         ensures { MatchOption result
-            ((c : Stock K V) (n : ℕ) → finite.get c.records n ≡ Some found.now → IsNext self sweep c n
+            ((c : Stock K V) (n : ℕ) → finite.get c.contents.records n ≡ Some found.now → IsNext self sweep c n
             → IsAtRest self sweep c)
             (λ cause. (c : Stock K V) (n : ℕ) → IsNext self sweep c n → LeavesIn self sweep c n found.now cause) }
     {

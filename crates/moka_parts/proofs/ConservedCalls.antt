@@ -1,39 +1,29 @@
 -- Where a listener is set, every call tells each value that leaves the map in it, once.
-use Rattle.std.proofs.Common.{◌≡◌, refl, ℕ, Bool, true, false, List, [], ◌∷◌, ◌++◌, length, Option, Some, None, option_map, Result, Ok, Err, ap, sym, ◌∙◌, subst, append-nil, MatchBool}
+use Rattle.std.proofs.Common.{◌≡◌, refl, ℕ, Bool, true, false, List, [], ◌∷◌, ◌++◌, Option, Some, None, Result, Ok, Err, ap, sym, ◌∙◌, subst, append-nil, MatchBool, inl, inr}
 use Rattle.std.specs.Prelude.{IsPermutation}
 use Rattle.std.specs.Cmp.{IsEquivalence}
-use Rattle.std.specs.Duration.{as_nanos}
 use Rattle.std.proofs.lemmas.List.Sorted.{IsPermutation-refl, IsPermutation-sym, IsPermutation-trans, IsPermutation-map, IsPermutation-to_front}
-use Rattle.std.specs.FinMap.{get, insert, remove, values}
+use Rattle.std.specs.FinMap.{insert, remove, values}
 use Rattle.moka_parts.specs.declared.policy.Instant.{Instant}
 use Rattle.moka_parts.specs.declared.records.Record.{Record}
-use Rattle.moka_parts.specs.declared.records.ReadOperation.{ReadOperation}
-use Rattle.moka_parts.specs.declared.records.ReadOperation.TheVariants.{Miss}
-use Rattle.moka_parts.specs.declared.records.Operation.{Operation}
 use Rattle.moka_parts.specs.declared.calls.Ticket.{Ticket}
-use Rattle.moka_parts.specs.declared.calls.Entry.{Entry}
 use Rattle.moka_parts.specs.declared.calls.KvEntry.{KvEntry}
 use Rattle.moka_parts.specs.declared.error.OutOfMemory.{OutOfMemory}
 use Rattle.moka_parts.specs.declared.error.InsertRefused.{InsertRefused}
-use Rattle.moka_parts.specs.declared.error.SendError.{SendError}
-use Rattle.moka_parts.specs.declared.error.SendError.TheVariants.{UnknownTicket, QueueFull}
-use Rattle.moka_parts.specs.declared.error.PredicateRefused.{PredicateRefused}
-use Rattle.moka_parts.specs.declared.error.CapacityError.{CapacityError}
 use Rattle.moka_parts.specs.declared.calls.Call.{Call}
 use Rattle.moka_parts.specs.declared.calls.Call.TheVariants as call
 use Rattle.moka_parts.specs.declared.calls.Reply.{Reply}
 use Rattle.moka_parts.specs.declared.calls.Reply.TheVariants as reply
-use Rattle.uuid.specs.declared.Uuid.{Uuid}
-use Rattle.moka_parts.specs.Housekeeping.{is_due}
 use Rattle.moka_parts.specs.Records.{Notice, when_listening, record_of_key}
-use Rattle.moka_parts.specs.State.{State, Meaning, Events, is_disabled}
+use Rattle.moka_parts.specs.State.{State, Settings, Meaning, Events, is_disabled}
 use Rattle.moka_parts.specs.Maintenance.{Terms, Course, Freedom, RunsBy, DoesNothing, MaintenanceRun, left_in_run}
 use Rattle.moka_parts.specs.Settling.{IsWellNumbered}
-use Rattle.moka_parts.specs.Calls.{no_events, Unchanged, new_record, updated_record, InsertsAt, InsertStep, SendsAt, SendStep, RemovesAt, RemoveStep, RunStep, KeeperRun, RunsIfDue, RecordsRead, keeper_terms, hit_record, after_hit, hit_at, hit_operation, PeeksAt, PeekStep, GetsAt, GetStep, InvalidateStep, CapacityStep}
+use Rattle.moka_parts.specs.Calls.{no_events, Unchanged, new_record, updated_record, InsertsAt, InsertStep, RemovesAt, RemoveStep, hit_record, after_hit}
 use Rattle.moka_parts.specs.Runs.{CallStep}
 use Rattle.moka_parts.specs.Laws.{values_of, values_put, values_handed, values_told, ConservesValues, TellsEachOnce}
 use Rattle.moka_parts.proofs.Values.{values_inserted, values_replaced, values_removed}
 use Rattle.moka_parts.proofs.Conserved.{told, Splits, splits_itself, splits_on, splits_updated, tells_what_leaves}
+use Rattle.moka_parts.proofs.EachCall.{IsPlain, IsKept, each_call}
 use Rattle.moka_parts.proofs.CallsKeep.{next_number_free, record_at_its_number}
 use Rattle.moka_parts.proofs.StepsKeep.{call_keeps}
 
@@ -66,57 +56,39 @@ module _ {K V X P W : Type 0} where
               settings = ap (λ (x : State K V X P W). x.settings) by.1;
             }
 
-    asked_follows : (s t : State K V X P W) (terms : Terms) (answer : Bool) (e : Events K V) → s.settings.listening ≡ true → RunStep (MaintenanceRun says) s terms answer e t → Follows s e.notices t
-    asked_follows s t terms answer e on (course, run, same, events) = run_follows s t terms course e.notices on run
+-- ---- calls that are no insert and no removal
 
-    due_follows : (s t : State K V X P W) (queued now : ℕ) (e : Events K V) → s.settings.listening ≡ true → RunsIfDue (MaintenanceRun says) s queued now e t → Follows s e.notices t
-    due_follows s t queued now e on step = go (is_due s.housekeeping queued now) step
-      where
-        go : (b : Bool) → MatchBool b (KeeperRun (MaintenanceRun says) s now e t) (Unchanged s e t) → Follows s e.notices t
-        go true (answer, mid, run, same) =
-            let f = asked_follows s mid (keeper_terms s.settings now) answer e on run in
-            record { splits = subst (λ (x : State K V X P W). Splits s.records e.notices x.records) (sym same) f.splits; settings = ap (λ (x : State K V X P W). x.settings) same ∙ f.settings }
-        go false step = follows_itself s t e step
+module _ {K V X L P W C I : Type 0} (m : Meaning K V X L P W C I) where
+  stays_followed : (s : State K V X P W) (c : Call K V P) → IsWellNumbered m.eq s → IsPlain c → IsKept m (Follows s []) (Follows s []) s c
+  stays_followed s c h plain = record {
+    begins = itself;
+    left = itself;
+    inserted = λ key hash value now w is on absent. absurd (subst IsPlain is plain);
+    replaced = λ r key hash value now w is found. absurd (subst IsPlain is plain);
+    removed = λ key hash now r is found. absurd (subst IsPlain is plain);
+    sent = λ ticket o is there room. record { splits = itself.splits; settings = refl };
+    hit = λ key r now moment found visible.
+        let after : Follows s [] (after_hit m.read s r now) = record { splits = splits_updated s.records r.number r (hit_record m.read s r now) (record_at_its_number m.eq s key r h found) refl; settings = refl } in
+        (after, after);
+    hidden = λ now is. record { splits = itself.splits; settings = refl };
+    registered = λ p. record { splits = itself.splits; settings = refl };
+    resized = λ capacity is on. record { splits = itself.splits; settings = refl };
+    aside = λ t reads housekeeping f. record { splits = f.splits; settings = f.settings };
+  }
+    where
+      itself : Follows s [] s
+      itself = follows_itself s s no_events (refl, refl)
 
-    recorded_follows : (s t : State K V X P W) (now : ℕ) (r : ReadOperation) (e : Events K V) → s.settings.listening ≡ true → RecordsRead (MaintenanceRun says) s now r e t → Follows s e.notices t
-    recorded_follows s t now r e on (mid, run, same) =
-        let f = due_follows s mid (length s.reads) now e on run in
-        record { splits = subst (λ (x : State K V X P W). Splits s.records e.notices x.records) (sym same) f.splits; settings = ap (λ (x : State K V X P W). x.settings) same ∙ f.settings }
-
-    module _ (read : X → K → V → ℕ → Option ℕ → ℕ → Option ℕ) where
-      hit_splits : (s : State K V X P W) (key : K) (r : Record K V) (now : ℕ) → IsWellNumbered eq s → record_of_key eq s.records key ≡ Some r → Splits s.records [] (after_hit read s r now).records
-      hit_splits s key r now h found = splits_updated s.records r.number r (hit_record read s r now) (record_at_its_number eq s key r h found) refl
-
-      get_follows : (s t : State K V X P W) (key : K) (hash : ℕ) (need_key ignored : Bool) (now : ℕ) (a : Result (Option (Entry K V)) OutOfMemory) (e : Events K V) → s.settings.listening ≡ true → IsWellNumbered eq s → GetStep says read (MaintenanceRun says) eq s key hash need_key ignored now a e t → Follows s e.notices t
-      get_follows s t key hash need_key ignored now a e on h step = go (is_disabled s.capacity) step
-        where
-          at : (o : Option (Record K V)) (a : Result (Option (Entry K V)) OutOfMemory) → record_of_key eq s.records key ≡ o → GetsAt says read (MaintenanceRun says) s o hash need_key ignored now a e t → Follows s e.notices t
-          at None a found (none, recorded) = recorded_follows s t now (Miss hash) e on recorded
-          at (Some r) (Ok None) found (missed, recorded) = recorded_follows s t now (Miss hash) e on recorded
-          at (Some r) (Ok (Some entry)) found (hit, value, k, recorded) =
-              let f = recorded_follows (after_hit read s r now) t (hit_at read s r now) (hit_operation read s r now) e on recorded in
-              record { splits = splits_on s.records (after_hit read s r now).records t.records [] e.notices (hit_splits s key r now h found) f.splits; settings = f.settings }
-          at (Some r) (Err x) found (hit, same) = follows_itself s t e same
-
-          go : (b : Bool) → MatchBool b ((a ≡ Ok None) × Unchanged s e t) (GetsAt says read (MaintenanceRun says) s (record_of_key eq s.records key) hash need_key ignored now a e t) → Follows s e.notices t
-          go true (none, same) = follows_itself s t e same
-          go false step = at (record_of_key eq s.records key) a refl step
-
-      peek_follows : (s t : State K V X P W) (key : K) (ignored : Bool) (now : ℕ) (a : Result (Option V) OutOfMemory) → IsWellNumbered eq s → PeekStep says read eq s key ignored now a t → Follows s [] t
-      peek_follows s t key ignored now a h step = go (is_disabled s.capacity) step
-        where
-          stays : t ≡ s → Follows s [] t
-          stays same = follows_itself s t no_events (same, refl)
-
-          at : (o : Option (Record K V)) (a : Result (Option V) OutOfMemory) → record_of_key eq s.records key ≡ o → PeeksAt says read s o ignored now a t → Follows s [] t
-          at None a found (none, same) = stays same
-          at (Some r) (Ok None) found (missed, same) = stays same
-          at (Some r) (Ok (Some value)) found (hit, is, same) = record { splits = subst (λ (x : State K V X P W). Splits s.records [] x.records) (sym same) (hit_splits s key r now h found); settings = ap (λ (x : State K V X P W). x.settings) same }
-          at (Some r) (Err x) found (hit, same) = stays same
-
-          go : (b : Bool) → MatchBool b ((a ≡ Ok None) × (t ≡ s)) (PeeksAt says read s (record_of_key eq s.records key) ignored now a t) → Follows s [] t
-          go true (none, same) = stays same
-          go false step = at (record_of_key eq s.records key) a refl step
+  plain_follows : (s t : State K V X P W) (c : Call K V P) (r : Reply K V P) (e : Events K V) → IsPlain c → s.settings.listening ≡ true → IsWellNumbered m.eq s → CallStep m (MaintenanceRun m.says) s c r e t → Follows s e.notices t
+  plain_follows s t c r e plain on h step = elim (each_call m (MaintenanceRun m.says) (MaintenanceRun m.says) (Follows s []) (Follows s []) s t c r e (stays_followed s c h plain) step) [
+    | inl x ↦
+        let f = run_follows m.eq m.says x.from x.mid x.terms x.course e.notices (ap (λ (y : Settings X W). y.listening) x.begins.settings ∙ on) x.run in
+        record {
+          splits = splits_on s.records x.from.records t.records [] e.notices x.begins.splits (subst (λ (y : State K V X P W). Splits x.from.records e.notices y.records) (sym x.ends) f.splits);
+          settings = ap (λ (y : State K V X P W). y.settings) x.ends ∙ f.settings ∙ x.begins.settings;
+        }
+    | inr (none, after, again) ↦ record { splits = rw (none.notices plain) after.splits; settings = after.settings }
+  ]
 
 -- ---- inserts and removals
 
@@ -170,57 +142,29 @@ module _ {K V X L P W C I : Type 0} (m : Meaning K V X L P W C I) where
 
   -- ---- every call
 
-  same_state : (s t : State K V X P W) (c : Call K V P) (r : Reply K V P) (e : Events K V) → values_put c r ≡ [] → values_handed r ≡ [] → values_told c e.notices ≡ told e.notices → Unchanged s e t → Conserves s c r e t
-  same_state s t c r e put handed tells same = of_follows s t c r e put handed tells (follows_itself s t e same)
-
-  -- nothing is told, and the records stay
-  quiet : (s t : State K V X P W) (c : Call K V P) (r : Reply K V P) (e : Events K V) → values_put c r ≡ [] → values_handed r ≡ [] → values_told c e.notices ≡ told e.notices → e.notices ≡ [] → t.records ≡ s.records → t.settings ≡ s.settings → Conserves s c r e t
-  quiet s t c r e put handed tells none records settings = of_follows s t c r e put handed tells (record { splits = rw (none, records) (splits_itself s.records); settings = settings })
-
-  send_conserves : (s t : State K V X P W) (ticket : Ticket) (a : Result (Unit {0}) SendError) (e : Events K V) → SendStep s ticket.0 a t → e ≡ no_events → Conserves s (call.Send ticket) (reply.Send a) e t
-  send_conserves s t ticket a e step none = go (get s.outstanding ticket.0) a step
-    where
-      go : (o : Option Operation) (a : Result (Unit {0}) SendError) → SendsAt s ticket.0 o a t → Conserves s (call.Send ticket) (reply.Send a) e t
-      go (Some o) (Ok u) step = quiet s t _ _ e refl refl refl (ap (λ (x : Events K V). x.notices) none) (ap (λ (x : State K V X P W). x.records) step.1) (ap (λ (x : State K V X P W). x.settings) step.1)
-      go (Some o) (Err QueueFull) step = quiet s t _ _ e refl refl refl (ap (λ (x : Events K V). x.notices) none) (ap (λ (x : State K V X P W). x.records) step.1) (ap (λ (x : State K V X P W). x.settings) step.1)
-      go (Some o) (Err UnknownTicket) step = absurd step
-      go None (Err UnknownTicket) step = quiet s t _ _ e refl refl refl (ap (λ (x : Events K V). x.notices) none) (ap (λ (x : State K V X P W). x.records) step) (ap (λ (x : State K V X P W). x.settings) step)
-      go None (Err QueueFull) step = absurd step
-      go None (Ok u) step = absurd step
-
-  predicate_conserves : (s t : State K V X P W) (predicate : P) (now : Instant) (a : Result Uuid (PredicateRefused P)) (e : Events K V) → InvalidateStep s predicate now a e.ids t → e.notices ≡ [] → Conserves s (call.InvalidateIf predicate now) (reply.InvalidateIf a) e t
-  predicate_conserves s t predicate now (Ok id) e (on, few, free, same) none = quiet s t _ _ e refl refl refl none (ap (λ (x : State K V X P W). x.records) same) (ap (λ (x : State K V X P W). x.settings) same)
-  predicate_conserves s t predicate now (Err refused) e (back, why, same) none = quiet s t _ _ e refl refl refl none (ap (λ (x : State K V X P W). x.records) same) (ap (λ (x : State K V X P W). x.settings) same)
-
-  capacity_conserves : (s t : State K V X P W) (capacity : Option ℕ) (a : Result (Unit {0}) CapacityError) (e : Events K V) → CapacityStep s capacity a t → e.notices ≡ [] → Conserves s (call.SetCapacity capacity) (reply.SetCapacity a) e t
-  capacity_conserves s t capacity (Ok u) e (neither, same) none = quiet s t _ _ e refl refl refl none (ap (λ (x : State K V X P W). x.records) same) (ap (λ (x : State K V X P W). x.settings) same)
-  capacity_conserves s t capacity (Err refused) e (zero, same) none = quiet s t _ _ e refl refl refl none (ap (λ (x : State K V X P W). x.records) same) (ap (λ (x : State K V X P W). x.settings) same)
+  plain_conserves : (s t : State K V X P W) (c : Call K V P) (r : Reply K V P) (e : Events K V) → IsPlain c → values_put c r ≡ [] → values_handed r ≡ [] → values_told c e.notices ≡ told e.notices → s.settings.listening ≡ true → IsWellNumbered m.eq s → CallStep m (MaintenanceRun m.says) s c r e t → Conserves s c r e t
+  plain_conserves s t c r e plain put handed tells on h step = of_follows s t c r e put handed tells (plain_follows m s t c r e plain on h step)
 
   -- each call of the reference cache
   pub call_conserves : (s t : State K V X P W) (c : Call K V P) (r : Reply K V P) (e : Events K V) → s.settings.listening ≡ true → IsWellNumbered m.eq s → CallStep m (MaintenanceRun m.says) s c r e t → Conserves s c r e t
-  call_conserves s t (call.Insert key hash value now) (reply.Insert a) e on h (enabled, step) = insert_conserves s t key hash value now a e on h step
-  call_conserves s t (call.Insert key hash value now) (reply.Disabled k v) e on h (off, key_back, value_back, same) = same_state s t _ _ e refl refl refl same
-  call_conserves s t (call.Send ticket) (reply.Send a) e on h (step, none) = send_conserves s t ticket a e step none
-  call_conserves s t (call.Get key hash need_key now) (reply.Get a) e on h step = of_follows s t _ _ e refl refl refl (get_follows m.eq m.says m.read s t key hash need_key false now.0 a e on h step)
-  call_conserves s t (call.GetUnrecorded key hash now) (reply.GetUnrecorded a) e on h (step, none) =
-      let f = peek_follows m.eq m.says m.read s t key false now.0 a h step in
-      let nothing : e.notices ≡ [] = ap (λ (x : Events K V). x.notices) none in
-      of_follows s t _ _ e refl refl refl (record { splits = rw nothing f.splits; settings = f.settings })
-  call_conserves s t (call.Contains key hash now) (reply.Contains shown) e on h (step, same) = same_state s t _ _ e refl refl refl same
-  call_conserves s t (call.Key key hash) (reply.Key a) e on h (step, same) = same_state s t _ _ e refl refl refl same
-  call_conserves s t (call.Scan key now) (reply.Scan a) e on h (step, same) = same_state s t _ _ e refl refl refl same
-  call_conserves s t (call.Remove key hash now) (reply.Remove removed tells) e on h (step, told_after, none) = remove_conserves s t key hash now removed tells e h step
-  call_conserves s t (call.InvalidateAll now) reply.InvalidateAll e on h (same, none) = quiet s t _ _ e refl refl refl (ap (λ (x : Events K V). x.notices) none) (ap (λ (x : State K V X P W). x.records) same) (ap (λ (x : State K V X P W). x.settings) same)
-  call_conserves s t (call.InvalidateIf predicate now) (reply.InvalidateIf a) e on h (step, none) = predicate_conserves s t predicate now a e step (ap (λ (x : Events K V). x.notices) none)
-  call_conserves s t (call.Run now limit repeats batch) (reply.Run more) e on h step = of_follows s t _ _ e refl refl refl (asked_follows m.eq m.says s t (record { now = now.0; limit = option_map as_nanos limit; batch = batch }) more e on step)
-  call_conserves s t (call.RunIfDue now) reply.RunIfDue e on h step = of_follows s t _ _ e refl refl refl (due_follows m.eq m.says s t (length s.writes) now.0 e on step)
-  call_conserves s t call.DisableAutoRun reply.DisableAutoRun e on h (same, none) = quiet s t _ _ e refl refl refl (ap (λ (x : Events K V). x.notices) none) (ap (λ (x : State K V X P W). x.records) same) (ap (λ (x : State K V X P W). x.settings) same)
-  call_conserves s t (call.Keys segment) (reply.Keys (Ok (Some keys))) e on h (step, same) = same_state s t _ _ e refl refl refl same
-  call_conserves s t (call.Keys segment) (reply.Keys (Ok None)) e on h (step, same) = same_state s t _ _ e refl refl refl same
-  call_conserves s t (call.Keys segment) (reply.Keys (Err refused)) e on h (step, same) = same_state s t _ _ e refl refl refl same
-  call_conserves s t call.Report (reply.Report count weight predicates) e on h (a, b, c, same) = same_state s t _ _ e refl refl refl same
-  call_conserves s t call.Pending (reply.Pending handed oldest writes reads) e on h (a, b, c, d, same) = same_state s t _ _ e refl refl refl same
-  call_conserves s t (call.SetCapacity capacity) (reply.SetCapacity a) e on h (step, none) = capacity_conserves s t capacity a e step (ap (λ (x : Events K V). x.notices) none)
+  call_conserves s t (call.Insert key hash value now) (reply.Insert a) e on h step = insert_conserves s t key hash value now a e on h step.1
+  call_conserves s t (call.Insert key hash value now) (reply.Disabled k v) e on h step = of_follows s t _ _ e refl refl refl (follows_itself s t e step.3)
+  call_conserves s t (call.Remove key hash now) (reply.Remove removed tells) e on h step = remove_conserves s t key hash now removed tells e h step.0
+  call_conserves s t (call.Send ticket) (reply.Send a) e on h step = plain_conserves s t _ _ e tt refl refl refl on h step
+  call_conserves s t (call.Get key hash need_key now) (reply.Get a) e on h step = plain_conserves s t _ _ e tt refl refl refl on h step
+  call_conserves s t (call.GetUnrecorded key hash now) (reply.GetUnrecorded a) e on h step = plain_conserves s t _ _ e tt refl refl refl on h step
+  call_conserves s t (call.Contains key hash now) (reply.Contains shown) e on h step = plain_conserves s t _ _ e tt refl refl refl on h step
+  call_conserves s t (call.Key key hash) (reply.Key a) e on h step = plain_conserves s t _ _ e tt refl refl refl on h step
+  call_conserves s t (call.Scan key now) (reply.Scan a) e on h step = plain_conserves s t _ _ e tt refl refl refl on h step
+  call_conserves s t (call.InvalidateAll now) reply.InvalidateAll e on h step = plain_conserves s t _ _ e tt refl refl refl on h step
+  call_conserves s t (call.InvalidateIf predicate now) (reply.InvalidateIf a) e on h step = plain_conserves s t _ _ e tt refl refl refl on h step
+  call_conserves s t (call.Run now limit repeats batch) (reply.Run more) e on h step = plain_conserves s t _ _ e tt refl refl refl on h step
+  call_conserves s t (call.RunIfDue now) reply.RunIfDue e on h step = plain_conserves s t _ _ e tt refl refl refl on h step
+  call_conserves s t call.DisableAutoRun reply.DisableAutoRun e on h step = plain_conserves s t _ _ e tt refl refl refl on h step
+  call_conserves s t (call.Keys segment) (reply.Keys a) e on h step = plain_conserves s t _ _ e tt refl refl refl on h step
+  call_conserves s t call.Report (reply.Report count weight predicates) e on h step = plain_conserves s t _ _ e tt refl refl refl on h step
+  call_conserves s t call.Pending (reply.Pending handed oldest writes reads) e on h step = plain_conserves s t _ _ e tt refl refl refl on h step
+  call_conserves s t (call.SetCapacity capacity) (reply.SetCapacity a) e on h step = plain_conserves s t _ _ e tt refl refl refl on h step
   call_conserves s t c r e on h step = absurd step
 
   -- every list of calls

@@ -20,6 +20,8 @@ pub mod OrderedStates
 pub mod OrderedCalls
 pub mod AgedOut
 pub mod CallsKeep
+pub mod Kept
+pub mod EachCall
 pub mod StepsKeep
 pub mod Promises
 pub mod Surplus

@@ -1,6 +1,6 @@
 -- One call in the order of time, and lists of them: each keeps a state in order, and each whole run with all sent
 -- leaves nothing that is past its time.
-use Rattle.std.proofs.Common.{◌≡◌, refl, ℕ, Bool, true, false, ◌<◌, List, [], ◌∷◌, ◌++◌, map, filter, ap, sym, ◌∙◌, subst, inl, inr, ◌||◌, MatchBool, true≢false, arith}
+use Rattle.std.proofs.Common.{◌≡◌, refl, ℕ, true, false, ◌<◌, List, [], ◌∷◌, ◌++◌, map, filter, ap, sym, ◌∙◌, subst, inl, inr, ◌||◌, true≢false, arith}
 use Rattle.std.specs.Prelude.{Contains, filter_map}
 use Rattle.std.specs.List.Sorted.{IsNonDecreasing, IsStrictlyIncreasing}
 use Rattle.std.specs.FinMap.{entries}
@@ -10,8 +10,8 @@ use Rattle.moka_parts.specs.declared.records.Operation.{Operation}
 use Rattle.moka_parts.specs.declared.calls.Call.{Call}
 use Rattle.moka_parts.specs.declared.calls.Reply.{Reply}
 use Rattle.moka_parts.specs.Records.{Notice, is_listed, is_member, is_settled}
-use Rattle.moka_parts.specs.State.{State, Settings, Meaning, is_disabled, keeps_write_list}
-use Rattle.moka_parts.specs.Maintenance.{Freedom, Terms, Course, RunsBy, DoesNothing, MaintenanceRun}
+use Rattle.moka_parts.specs.State.{State, Settings, Meaning, keeps_write_list}
+use Rattle.moka_parts.specs.Maintenance.{Terms, Course, MaintenanceRun}
 use Rattle.moka_parts.specs.Settling.{IsValid}
 use Rattle.moka_parts.specs.Order.{waiting_by_ticket, written_at, written_by, IsWriteList, IsInOrder, IsOrderly, write_list_at_end}
 use Rattle.moka_parts.specs.Laws.{StaysInOrder}
@@ -24,6 +24,7 @@ use Rattle.moka_parts.proofs.StepsKeep.{hit_valid, call_keeps}
 use Rattle.moka_parts.proofs.Promises.{weaker_call}
 use Rattle.moka_parts.proofs.OrderedStates.{run_in_order}
 use Rattle.moka_parts.proofs.OrderedCalls.{order_with, hit_in_order}
+use Rattle.moka_parts.proofs.Kept.{kept_by_run}
 use Rattle.moka_parts.proofs.OrderedSteps.{IsListedIn, call_ends}
 use Rattle.moka_parts.proofs.ListsOfCalls.{calls_tell_each_once}
 use Rattle.moka_parts.proofs.OrderedRuns.{listed_is_promised, listed_run_ends, listed_is_orderly}
@@ -64,11 +65,8 @@ module _ {K V X L P W C I : Type 0} (m : Meaning K V X L P W C I) where
   HasOrder settings t = (t.settings ≡ settings) × (keeps_write_list settings ≡ true → (after : List ℕ) × IsInOrder t after)
 
   run_has_order : (settings : Settings X W) (ns : List ℕ) (s : State K V X P W) (terms : Terms) (course : Course) (notices : List (Notice K V)) (t : State K V X P W) → IsValid m.eq s → IsListedIn settings ns s → MaintenanceRun m.says s terms course notices t → HasOrder settings t
-  run_has_order settings ns s terms course notices t valid h run = go (is_disabled s.capacity) run.0
-    where
-      go : (b : Bool) → MatchBool b (DoesNothing s course notices t) ((ch : Freedom) × RunsBy m.says s terms ch course notices t × Unit {0}) → HasOrder settings t
-      go true nothing = subst (HasOrder settings) (sym nothing.0) (h.0, λ kept. (ns, h.1 kept))
-      go false (ch, by, done) = subst (HasOrder settings) (sym by.1) (h.0, λ kept. (write_list_at_end s ns ch, run_in_order m.says s terms.now ns ch (ap keeps_write_list h.0 ∙ kept) by.0 valid.rising (h.1 kept)))
+  run_has_order settings ns s terms course notices t valid h run = kept_by_run (HasOrder settings) s t (h.0, λ kept. (ns, h.1 kept)) _ m.says terms course notices
+      (λ ch on free. (h.0, λ kept. (write_list_at_end s ns ch, run_in_order m.says s terms.now ns ch (ap keeps_write_list h.0 ∙ kept) free valid.rising (h.1 kept)))) run.0
 
   -- calls in the order of time keep a state in order
   pub stays_in_order : IsEquivalence m.eq → StaysInOrder m

@@ -81,7 +81,7 @@ module _ {K V X P W : Type 0} (s : State K V X P W) where
   refusal : (error : PredicateError) (ids : List Uuid) → s.settings.invalidator ≡ true → RegistrationRefusal s.predicates error ids → calls.PredicateRefusal s error ids
   refusal predicate_error.InvalidationClosuresDisabled ids on h = absurd h
   refusal predicate_error.OutOfMemory ids on h = (on, h)
-  refusal predicate_error.NoFreeId ids on h = (on, h.0, h.1)
+  refusal predicate_error.NoFreeId ids on h = (on, h)
 
   -- where predicates are supported, a registration is a call's step
   pub invalidate_step : (predicate : P) (now : Instant) (a : Result Uuid (PredicateRefused P)) (ids : List Uuid) (qs : List (Registered P)) → s.settings.invalidator ≡ true → RegistrationStep s.predicates predicate now a ids qs → calls.InvalidateStep s predicate now a ids (record s { predicates = qs })

@@ -1,45 +1,31 @@
 -- A key that is hidden stays so until it is inserted again.
-use Rattle.std.proofs.Common.{◌≡◌, refl, ℕ, ◌<◌, ◌≤◌, Bool, true, false, ◌||◌, List, [], ◌∷◌, ◌++◌, length, Option, Some, None, option_map, Result, Ok, Err, ap, sym, ◌∙◌, subst, inl, inr, MatchBool, arith, true≢false}
+use Rattle.std.proofs.Common.{◌≡◌, refl, ℕ, ◌<◌, ◌≤◌, Bool, true, false, ◌||◌, List, [], ◌∷◌, ◌++◌, Option, Some, None, ap, sym, ◌∙◌, subst, inl, inr, arith, true≢false}
 use Rattle.std.specs.Prelude.{Contains}
 use Rattle.std.specs.Cmp.{IsEquivalence}
-use Rattle.std.specs.Duration.{as_nanos}
 use Rattle.std.proofs.lemmas.List.Elements.{Contains-append_left, Contains-append_right, Contains-append_cases, Contains-push, Contains-push_cases}
 use Rattle.std.specs.FinMap.{get, insert, remove}
 use Rattle.moka_parts.specs.declared.policy.Instant.{Instant}
 use Rattle.moka_parts.specs.declared.records.Record.{Record}
 use Rattle.moka_parts.specs.declared.records.Registered.{Registered}
-use Rattle.moka_parts.specs.declared.records.ReadOperation.{ReadOperation}
-use Rattle.moka_parts.specs.declared.records.ReadOperation.TheVariants.{Miss}
-use Rattle.moka_parts.specs.declared.records.Operation.{Operation}
-use Rattle.moka_parts.specs.declared.calls.Ticket.{Ticket}
-use Rattle.moka_parts.specs.declared.calls.Entry.{Entry}
-use Rattle.moka_parts.specs.declared.calls.KvEntry.{KvEntry}
 use Rattle.moka_parts.specs.declared.calls.Call.{Call}
 use Rattle.moka_parts.specs.declared.calls.Call.TheVariants as call
 use Rattle.moka_parts.specs.declared.calls.Reply.{Reply}
-use Rattle.moka_parts.specs.declared.calls.Reply.TheVariants as reply
-use Rattle.moka_parts.specs.declared.error.OutOfMemory.{OutOfMemory}
-use Rattle.moka_parts.specs.declared.error.InsertRefused.{InsertRefused}
-use Rattle.moka_parts.specs.declared.error.SendError.{SendError}
-use Rattle.moka_parts.specs.declared.error.SendError.TheVariants.{UnknownTicket, QueueFull}
-use Rattle.moka_parts.specs.declared.error.PredicateRefused.{PredicateRefused}
-use Rattle.moka_parts.specs.declared.error.CapacityError.{CapacityError}
-use Rattle.uuid.specs.declared.Uuid.{Uuid}
-use Rattle.moka_parts.specs.Housekeeping.{is_due}
 use Rattle.moka_parts.specs.Settling.{IsWellNumbered, IsValid}
-use Rattle.moka_parts.specs.Calls.{Unchanged, keeper_terms, new_record, updated_record, InsertsAt, InsertStep, SendsAt, SendStep, RemovesAt, RemoveStep, RunStep, KeeperRun, RunsIfDue, RecordsRead, hit_record, after_hit, hit_at, hit_operation, PeeksAt, PeekStep, GetsAt, GetStep, ContainsStep, InvalidateStep, CapacityStep}
+use Rattle.moka_parts.specs.Calls.{new_record, updated_record, hit_record, ContainsStep}
 use Rattle.moka_parts.specs.Runs.{CallStep, Step, AreSteps, last_state}
 use Rattle.moka_parts.specs.Laws.{moment_in, later_of, IsNoEarlier, is_insert_of, NeverLowers, NeverGoesBack, InsertsNever, last_moment, StaysHidden}
 use Rattle.moka_parts.proofs.Maps.{same_or_apart, get_inserted, get_past_insert, get_removed, get_past_remove}
 use Rattle.moka_parts.proofs.Lookup.{record_of_key_found, absent_key, present_key}
 use Rattle.moka_parts.proofs.Contained.{not_both}
 use Rattle.moka_parts.proofs.CallsKeep.{record_at_its_number}
+use Rattle.moka_parts.proofs.Kept.{kept_by_run}
+use Rattle.moka_parts.proofs.EachCall.{IsKept, kept_by_call}
 use Rattle.moka_parts.proofs.StepsKeep.{call_keeps}
 use Rattle.moka_parts.specs.Time.{has_passed, is_before, deadline, moment_of}
 use Rattle.moka_parts.specs.Records.{Notice, record_of_key}
-use Rattle.moka_parts.specs.State.{State, Settings, Meaning, Events, is_disabled}
+use Rattle.moka_parts.specs.State.{State, Settings, Meaning, Events}
 use Rattle.moka_parts.specs.Visibility.{is_expired, is_past_live, is_past_idle, is_written_before, is_read_before, has_lapsed, Covers, SomeCovers, IsVisible, IsHidden, IsShown}
-use Rattle.moka_parts.specs.Maintenance.{predicates_at_end, Terms, Course, Freedom, RunsBy, DoesNothing, MaintenanceRun, AreFree, after_run, at_end}
+use Rattle.moka_parts.specs.Maintenance.{predicates_at_end, Terms, Course, Freedom, MaintenanceRun, AreFree, after_run, at_end}
 use Rattle.moka_parts.proofs.RunKeeps.{run_keeps}
 use Rattle.moka_parts.proofs.Dropped.{covering_stays}
 
@@ -121,28 +107,8 @@ module _ {K V X P W : Type 0} (eq : K → K → Bool) (says : P → K → V → 
 -- ---- calls
 
 module _ {K V X P W : Type 0} (eq : K → K → Bool) (says : P → K → V → Bool → Type 0) (key : K) where
-  hidden_alike : (s t : State K V X P W) (u : ℕ) → t ≡ s → IsKeyHidden eq says s key u → IsKeyHidden eq says t key u
-  hidden_alike s t u same h = subst (λ x. IsKeyHidden eq says x key u) (sym same) h
-
   run_hides : (s t : State K V X P W) (terms : Terms) (course : Course) (notices : List (Notice K V)) (u : ℕ) → IsKeyHidden eq says s key u → MaintenanceRun says s terms course notices t → IsKeyHidden eq says t key u
-  run_hides s t terms course notices u h run = go (is_disabled s.capacity) (run.0)
-    where
-      go : (b : Bool) → MatchBool b (DoesNothing s course notices t) ((ch : Freedom) × RunsBy says s terms ch course notices t × Unit {0}) → IsKeyHidden eq says t key u
-      go true (same, none, nothing) = hidden_alike s t u same h
-      go false (ch, by, done) = subst (λ x. IsKeyHidden eq says x key u) (sym by.1) (hidden_run eq says key s terms.now ch u by.0 h)
-
-  asked_hides : (s t : State K V X P W) (terms : Terms) (answer : Bool) (e : Events K V) (u : ℕ) → IsKeyHidden eq says s key u → RunStep (MaintenanceRun says) s terms answer e t → IsKeyHidden eq says t key u
-  asked_hides s t terms answer e u h (course, run, same, events) = run_hides s t terms course e.notices u h run
-
-  due_hides : (s t : State K V X P W) (queued now : ℕ) (e : Events K V) (u : ℕ) → IsKeyHidden eq says s key u → RunsIfDue (MaintenanceRun says) s queued now e t → IsKeyHidden eq says t key u
-  due_hides s t queued now e u h step = go (is_due s.housekeeping queued now) step
-    where
-      go : (b : Bool) → MatchBool b (KeeperRun (MaintenanceRun says) s now e t) (Unchanged s e t) → IsKeyHidden eq says t key u
-      go true (answer, mid, run, same) = subst (λ x. IsKeyHidden eq says x key u) (sym same) (asked_hides s mid (keeper_terms s.settings now) answer e u h run)
-      go false step = hidden_alike s t u step.0 h
-
-  recorded_hides : (s t : State K V X P W) (now : ℕ) (r : ReadOperation) (e : Events K V) (u : ℕ) → IsKeyHidden eq says s key u → RecordsRead (MaintenanceRun says) s now r e t → IsKeyHidden eq says t key u
-  recorded_hides s t now r e u h (mid, run, same) = subst (λ x. IsKeyHidden eq says x key u) (sym same) (due_hides s mid (length s.reads) now e u h run)
+  run_hides s t terms course notices u h run = kept_by_run (λ x. IsKeyHidden eq says x key u) s t h _ says terms course notices (λ ch on free. hidden_run eq says key s terms.now ch u free h) run.0
 
   -- a record in place of another that is not of the hidden key
   put_hides : (s : State K V X P W) (m : ℕ) (q : Record K V) (u : ℕ) → (eq key q.key ≡ true → ⊥) → IsKeyHidden eq says s key u → (n : ℕ) (r : Record K V) → get (insert s.records m q) n ≡ Some r → eq key r.key ≡ true → IsHidden says s r u
@@ -154,93 +120,6 @@ module _ {K V X P W : Type 0} (eq : K → K → Bool) (says : P → K → V → 
     | inr apart ↦ h n r (sym (get_past_insert s.records m q n apart) ∙ there) same
   ]
 
-  module _ (read : X → K → V → ℕ → Option ℕ → ℕ → Option ℕ) where
-    hit_hides : (s : State K V X P W) (other : K) (r : Record K V) (now : ℕ) → IsWellNumbered eq s → record_of_key eq s.records other ≡ Some r → IsVisible says s r now → IsKeyHidden eq says s key now → IsKeyHidden eq says (after_hit read s r now) key now
-    hit_hides s other r now numbered found visible h n q there same =
-        put_hides s r.number (hit_record read s r now) now (λ mine. not_both says s r now (h r.number r (record_at_its_number eq s other r numbered found) mine) visible) h n q there same
-
-    get_hides : (s t : State K V X P W) (other : K) (hash : ℕ) (need_key ignored : Bool) (now : ℕ) (a : Result (Option (Entry K V)) OutOfMemory) (e : Events K V) → IsWellNumbered eq s → IsKeyHidden eq says s key now → GetStep says read (MaintenanceRun says) eq s other hash need_key ignored now a e t → IsKeyHidden eq says t key now
-    get_hides s t other hash need_key ignored now a e numbered h step = go (is_disabled s.capacity) step
-      where
-        at : (o : Option (Record K V)) (a : Result (Option (Entry K V)) OutOfMemory) → record_of_key eq s.records other ≡ o → GetsAt says read (MaintenanceRun says) s o hash need_key ignored now a e t → IsKeyHidden eq says t key now
-        at None a found (none, recorded) = recorded_hides s t now (Miss hash) e now h recorded
-        at (Some r) (Ok None) found (missed, recorded) = recorded_hides s t now (Miss hash) e now h recorded
-        at (Some r) (Ok (Some entry)) found (hit, value, k, recorded) =
-            recorded_hides (after_hit read s r now) t (hit_at read s r now) (hit_operation read s r now) e now (hit_hides s other r now numbered found hit.1 h) recorded
-        at (Some r) (Err x) found (hit, same) = hidden_alike s t now same.0 h
-
-        go : (b : Bool) → MatchBool b ((a ≡ Ok None) × Unchanged s e t) (GetsAt says read (MaintenanceRun says) s (record_of_key eq s.records other) hash need_key ignored now a e t) → IsKeyHidden eq says t key now
-        go true (none, same) = hidden_alike s t now same.0 h
-        go false step = at (record_of_key eq s.records other) a refl step
-
-    peek_hides : (s t : State K V X P W) (other : K) (ignored : Bool) (now : ℕ) (a : Result (Option V) OutOfMemory) → IsWellNumbered eq s → IsKeyHidden eq says s key now → PeekStep says read eq s other ignored now a t → IsKeyHidden eq says t key now
-    peek_hides s t other ignored now a numbered h step = go (is_disabled s.capacity) step
-      where
-        at : (o : Option (Record K V)) (a : Result (Option V) OutOfMemory) → record_of_key eq s.records other ≡ o → PeeksAt says read s o ignored now a t → IsKeyHidden eq says t key now
-        at None a found (none, same) = hidden_alike s t now same h
-        at (Some r) (Ok None) found (missed, same) = hidden_alike s t now same h
-        at (Some r) (Ok (Some value)) found (hit, is, same) = subst (λ x. IsKeyHidden eq says x key now) (sym same) (hit_hides s other r now numbered found hit.1 h)
-        at (Some r) (Err x) found (hit, same) = hidden_alike s t now same h
-
-        go : (b : Bool) → MatchBool b ((a ≡ Ok None) × (t ≡ s)) (PeeksAt says read s (record_of_key eq s.records other) ignored now a t) → IsKeyHidden eq says t key now
-        go true (none, same) = hidden_alike s t now same h
-        go false step = at (record_of_key eq s.records other) a refl step
-
-  -- an insert of another key
-  insert_hides : (created : X → K → V → ℕ → Option ℕ) (updated : X → K → V → ℕ → Option ℕ → Option ℕ) (weighs : W → K → V → ℕ → Type 0) (s t : State K V X P W) (other : K) (hash : ℕ) (value : V) (now : Instant) (a : Result (Ticket × Instant) (InsertRefused K V)) (e : Events K V) (u : ℕ) →
-      IsEquivalence eq → eq other key ≡ false → IsKeyHidden eq says s key u → InsertStep created updated weighs eq s other hash value now a e t → IsKeyHidden eq says t key u
-  insert_hides created updated weighs s t other hash value now a e u laws apart h step = go (record_of_key eq s.records other) a refl step
-    where
-      go : (o : Option (Record K V)) (a : Result (Ticket × Instant) (InsertRefused K V)) → record_of_key eq s.records other ≡ o → InsertsAt created updated weighs s o other hash value now a e t → IsKeyHidden eq says t key u
-      go None (Ok a) found (w, weighs, free, ticket, moment, same, none) =
-          subst (λ x. IsKeyHidden eq says x key u) (sym same) (put_hides s s.next_number (new_record created updated s other hash value now w) u (λ mine. true≢false (sym mine ∙ laws.symm key other ∙ apart)) h)
-      go (Some r) (Ok a) found (w, weighs, free, ticket, moment, same, tells) =
-          subst (λ x. IsKeyHidden eq says x key u) (sym same) (put_hides s r.number (updated_record created updated s r other value now w) u (λ mine.
-          true≢false (sym mine ∙ laws.symm key r.key ∙ sym (laws.congr other r.key key (record_of_key_found eq s.records other r found).2) ∙ apart)) h)
-      go None (Err refused) found step = hidden_alike s t u step.1.0 h
-      go (Some r) (Err refused) found step = hidden_alike s t u step.1.0 h
-
-  remove_hides : (s t : State K V X P W) (other : K) (a : Option (KvEntry K V × Ticket)) (u : ℕ) → IsKeyHidden eq says s key u → RemoveStep eq s other a t → IsKeyHidden eq says t key u
-  remove_hides s t other a u h step = go (record_of_key eq s.records other) step
-    where
-      old : (m n : ℕ) (r : Record K V) → get (remove s.records m) n ≡ Some r → get s.records n ≡ Some r
-      old m n r there = elim (same_or_apart n m) [
-        | inl at ↦ let no : None ≡ Some r = sym (get_removed s.records m) ∙ sym (ap (get (remove s.records m)) at) ∙ there in cc
-        | inr apart ↦ sym (get_past_remove s.records m n apart) ∙ there
-      ]
-
-      go : (o : Option (Record K V)) → RemovesAt s o a t → IsKeyHidden eq says t key u
-      go None (none, same) = hidden_alike s t u same h
-      go (Some r) (some, same) = subst (λ x. IsKeyHidden eq says x key u) (sym same) (λ n q there mine. h n q (old r.number n q there) mine)
-
-  send_hides : (s t : State K V X P W) (ticket : ℕ) (a : Result (Unit {0}) SendError) (u : ℕ) → IsKeyHidden eq says s key u → SendStep s ticket a t → IsKeyHidden eq says t key u
-  send_hides s t ticket a u h step = go (get s.outstanding ticket) a step
-    where
-      go : (o : Option Operation) (a : Result (Unit {0}) SendError) → SendsAt s ticket o a t → IsKeyHidden eq says t key u
-      go (Some o) (Ok x) step = subst (λ x. IsKeyHidden eq says x key u) (sym step.1) h
-      go (Some o) (Err QueueFull) step = hidden_alike s t u step.1 h
-      go (Some o) (Err UnknownTicket) step = absurd step
-      go None (Err UnknownTicket) step = hidden_alike s t u step h
-      go None (Err QueueFull) step = absurd step
-      go None (Ok x) step = absurd step
-
-  all_hides : (s t : State K V X P W) (now : Instant) (u : ℕ) → is_before now.0 (moment_of s.invalid_before) ≡ false → t ≡ record s { invalid_before = Some now } → IsKeyHidden eq says s key u → IsKeyHidden eq says t key u
-  all_hides s t now u low same h = subst (λ x. IsKeyHidden eq says x key u) (sym same) (λ n r there mine. elim (h n r there mine) [
-    | inl e ↦ inl (lapsed_raised s.settings s.invalid_before now r u low e)
-    | inr c ↦ inr c
-  ])
-
-  predicate_hides : (s t : State K V X P W) (predicate : P) (now : Instant) (a : Result Uuid (PredicateRefused P)) (ids : List Uuid) (u : ℕ) → IsKeyHidden eq says s key u → InvalidateStep s predicate now a ids t → IsKeyHidden eq says t key u
-  predicate_hides s t predicate now (Ok id) ids u h (on, few, free, same) = subst (λ x. IsKeyHidden eq says x key u) (sym same) (λ n r there mine. elim (h n r there mine) [
-    | inl e ↦ inl e
-    | inr c ↦ inr (covers_more says s.predicates (record { id = id; predicate = predicate; registered = now }) r c)
-  ])
-  predicate_hides s t predicate now (Err refused) ids u h (back, why, same) = hidden_alike s t u same h
-
-  capacity_hides : (s t : State K V X P W) (capacity : Option ℕ) (a : Result (Unit {0}) CapacityError) (u : ℕ) → IsKeyHidden eq says s key u → CapacityStep s capacity a t → IsKeyHidden eq says t key u
-  capacity_hides s t capacity (Ok x) u h (neither, same) = subst (λ x. IsKeyHidden eq says x key u) (sym same) h
-  capacity_hides s t capacity (Err refused) u h (zero, same) = hidden_alike s t u same h
-
 -- ---- lists of calls
 
 no_earlier : (t : ℕ) (o : Option ℕ) → IsNoEarlier t o → t ≤ later_of t o
@@ -248,30 +127,45 @@ no_earlier t None h = omega arith
 no_earlier t (Some u) h = h
 
 module _ {K V X L P W C I : Type 0} (m : Meaning K V X L P W C I) (laws : IsEquivalence m.eq) (key : K) where
+  hidden_kept : (s : State K V X P W) (c : Call K V P) (u : ℕ) → ((now : ℕ) → moment_in c ≡ Some now → u ≡ now) → IsWellNumbered m.eq s → IsKeyHidden m.eq m.says s key u → NeverLowers c s.invalid_before → is_insert_of m.eq key c ≡ false →
+      IsKept m (λ x. IsKeyHidden m.eq m.says x key u) (λ x. IsKeyHidden m.eq m.says x key u) s c
+  hidden_kept s c u at numbered h low apart = record {
+    begins = h;
+    left = h;
+    inserted = λ other hash value now w is on absent. put_hides m.eq m.says key s s.next_number (new_record m.created m.updated s other hash value now w) u (λ mine. true≢false (sym mine ∙ laws.symm key other ∙ another other hash value now is)) h;
+    replaced = λ r other hash value now w is found. put_hides m.eq m.says key s r.number (updated_record m.created m.updated s r other value now w) u
+        (λ mine. true≢false (sym mine ∙ laws.symm key r.key ∙ sym (laws.congr other r.key key (record_of_key_found m.eq s.records other r found).2) ∙ another other hash value now is)) h;
+    removed = λ other hash now r is found n q there mine. elim (same_or_apart n r.number) [
+      | inl at ↦ let no : None ≡ Some q = sym (get_removed s.records r.number) ∙ sym (ap (get (remove s.records r.number)) at) ∙ there in cc
+      | inr apart ↦ h n q (sym (get_past_remove s.records r.number n apart) ∙ there) mine
+    ];
+    sent = λ ticket o is there room. h;
+    hit = λ other r now moment found visible.
+        let seen : IsVisible m.says s r u = subst (IsVisible m.says s r) (sym (at now moment)) visible in
+        let after = put_hides m.eq m.says key s r.number (hit_record m.read s r now) u (λ mine. not_both m.says s r u (h r.number r (record_at_its_number m.eq s other r numbered found) mine) seen) h in
+        (after, after);
+    hidden = λ now is n r there mine. elim (h n r there mine) [
+      | inl e ↦ inl (lapsed_raised s.settings s.invalid_before now r u (subst (λ c. NeverLowers c s.invalid_before) is low) e)
+      | inr c ↦ inr c
+    ];
+    registered = λ p n r there mine. elim (h n r there mine) [
+      | inl e ↦ inl e
+      | inr c ↦ inr (covers_more m.says s.predicates p r c)
+    ];
+    resized = λ capacity is on. h;
+    aside = λ t reads housekeeping h. h;
+  }
+    where
+      another : (other : K) (hash : ℕ) (value : V) (now : Instant) → c ≡ call.Insert other hash value now → m.eq other key ≡ false
+      another other hash value now is = sym (ap (is_insert_of m.eq key) is) ∙ apart
+
   -- the key is hidden at the moment of the call
   call_hides : (s t : State K V X P W) (c : Call K V P) (r : Reply K V P) (e : Events K V) (now : ℕ) → IsWellNumbered m.eq s → IsKeyHidden m.eq m.says s key (later_of now (moment_in c)) → NeverLowers c s.invalid_before → is_insert_of m.eq key c ≡ false →
       CallStep m (MaintenanceRun m.says) s c r e t → IsKeyHidden m.eq m.says t key (later_of now (moment_in c))
-  call_hides s t (call.Insert other hash value at) (reply.Insert a) e now n h low apart (on, step) = insert_hides m.eq m.says key m.created m.updated m.weighs s t other hash value at a e at.0 laws apart h step
-  call_hides s t (call.Insert other hash value at) (reply.Disabled k v) e now n h low apart (off, key_back, value_back, same) = hidden_alike m.eq m.says key s t at.0 same.0 h
-  call_hides s t (call.Send ticket) (reply.Send a) e now n h low apart (step, none) = send_hides m.eq m.says key s t ticket.0 a now h step
-  call_hides s t (call.Get other hash need_key at) (reply.Get a) e now n h low apart step = get_hides m.eq m.says key m.read s t other hash need_key false at.0 a e n h step
-  call_hides s t (call.GetUnrecorded other hash at) (reply.GetUnrecorded a) e now n h low apart (step, none) = peek_hides m.eq m.says key m.read s t other false at.0 a n h step
-  call_hides s t (call.Contains other hash at) (reply.Contains shown) e now n h low apart (step, same) = hidden_alike m.eq m.says key s t at.0 same.0 h
-  call_hides s t (call.Key other hash) (reply.Key a) e now n h low apart (step, same) = hidden_alike m.eq m.says key s t now same.0 h
-  call_hides s t (call.Scan other at) (reply.Scan a) e now n h low apart (step, same) = hidden_alike m.eq m.says key s t at.0 same.0 h
-  call_hides s t (call.Remove other hash at) (reply.Remove removed told) e now n h low apart (step, tells, none) = remove_hides m.eq m.says key s t other removed (later_of now (moment_of at)) h step
-  call_hides s t (call.InvalidateAll at) reply.InvalidateAll e now n h low apart (same, none) = all_hides m.eq m.says key s t at at.0 low same h
-  call_hides s t (call.InvalidateIf predicate at) (reply.InvalidateIf a) e now n h low apart (step, none) = predicate_hides m.eq m.says key s t predicate at a e.ids at.0 h step
-  call_hides s t (call.Run at limit repeats batch) (reply.Run more) e now n h low apart step = asked_hides m.eq m.says key s t (record { now = at.0; limit = option_map as_nanos limit; batch = batch }) more e at.0 h step
-  call_hides s t (call.RunIfDue at) reply.RunIfDue e now n h low apart step = due_hides m.eq m.says key s t (length s.writes) at.0 e at.0 h step
-  call_hides s t call.DisableAutoRun reply.DisableAutoRun e now n h low apart (same, none) = subst (λ x. IsKeyHidden m.eq m.says x key now) (sym same) h
-  call_hides s t (call.Keys segment) (reply.Keys (Ok (Some keys))) e now n h low apart (step, same) = hidden_alike m.eq m.says key s t now same.0 h
-  call_hides s t (call.Keys segment) (reply.Keys (Ok None)) e now n h low apart (step, same) = hidden_alike m.eq m.says key s t now same.0 h
-  call_hides s t (call.Keys segment) (reply.Keys (Err refused)) e now n h low apart (step, same) = hidden_alike m.eq m.says key s t now same.0 h
-  call_hides s t call.Report (reply.Report count weight predicates) e now n h low apart (a, b, c, same) = hidden_alike m.eq m.says key s t now same.0 h
-  call_hides s t call.Pending (reply.Pending handed oldest writes reads) e now n h low apart (a, b, c, d, same) = hidden_alike m.eq m.says key s t now same.0 h
-  call_hides s t (call.SetCapacity capacity) (reply.SetCapacity a) e now n h low apart (step, none) = capacity_hides m.eq m.says key s t capacity a now h step
-  call_hides s t c r e now n h low apart step = absurd step
+  call_hides s t c r e now numbered h low apart step =
+      let u : ℕ = later_of now (moment_in c) in
+      kept_by_call m (MaintenanceRun m.says) (λ x. IsKeyHidden m.eq m.says x key u) (λ x. IsKeyHidden m.eq m.says x key u) (λ s terms course notices t h run. run_hides m.eq m.says key s t terms course notices u h run)
+      s t c r e (hidden_kept s c u (λ at moment. ap (later_of now) moment) numbered h low apart) step
 
   steps_hide : (s : State K V X P W) (steps : List (Step K V X P W)) (now : ℕ) → IsValid m.eq s → AreSteps m (MaintenanceRun m.says) s steps → NeverGoesBack now s steps → InsertsNever m.eq key steps → IsKeyHidden m.eq m.says s key now → IsKeyHidden m.eq m.says (last_state s steps) key (last_moment now steps)
   steps_hide s [] now valid done forward never h = h

@@ -1,6 +1,5 @@
 -- One relation per call: what it may answer, tell and ask for, and the state that it leaves.
 use Rattle.std.specs.Prelude.{◌≡◌, ℕ, Bool, true, false, ◌==◌, ◌||◌, ◌+◌, ◌<◌, ◌≤◌, ◌^◌, nat_lt, nat_le, List, [], ◌∷◌, ◌++◌, length, map, Option, Some, None, Result, Ok, Err, ◌⊎◌, MatchBool, IsPermutation, slice_get, if◌then◌else◌}
-use Rattle.std.specs.List.{AllByRecursion}
 use Rattle.std.specs.FinMap as finite
 use Rattle.uuid.specs.declared.Uuid.{Uuid}
 use Rattle.moka_parts.specs.declared.policy.Instant.{Instant}
@@ -26,7 +25,7 @@ use Rattle.moka_parts.specs.Records.{Notice, when_listening, record_of_key, with
 use Rattle.moka_parts.specs.State.{State, Settings, Events, is_disabled}
 use Rattle.moka_parts.specs.Housekeeping.{is_due, after_run_due, limit_of_run}
 use Rattle.moka_parts.specs.Visibility.{IsVisible, IsHidden, IsShown}
-use Rattle.moka_parts.specs.Registry.{most_ids, IsTaken, FirstFree}
+use Rattle.moka_parts.specs.Registry.{most_ids, FirstFree, RegistrationRefusal}
 use Rattle.moka_parts.specs.Expiry.{is_renewal, renewed, expires_at_first, expires_updated, moment_of_hit, answer_to_hit}
 use Rattle.moka_parts.specs.Causes.{cause_of_replacement, cause_of_removal}
 use Rattle.moka_parts.specs.Maintenance.{Terms, Course}
@@ -202,9 +201,7 @@ module _ {K V X P W : Type 0} where
   -- why a predicate is refused, and the identifiers that were asked for
   abbrev pub PredicateRefusal : State K V X P W → PredicateError → List Uuid → Type 0
   PredicateRefusal s predicate_error.InvalidationClosuresDisabled ids = (s.settings.invalidator ≡ false) × (ids ≡ [])
-  PredicateRefusal s predicate_error.OutOfMemory ids = (s.settings.invalidator ≡ true) × (ids ≡ [])
-  PredicateRefusal s predicate_error.NoFreeId ids = (s.settings.invalidator ≡ true) × (length ids ≡ most_ids)
-      × AllByRecursion (IsTaken s.predicates) ids
+  PredicateRefusal s error ids = (s.settings.invalidator ≡ true) × RegistrationRefusal s.predicates error ids
 
   -- the predicate is registered under the first free identifier
   abbrev pub InvalidateStep : State K V X P W → P → Instant → Result Uuid (PredicateRefused P) → List Uuid →

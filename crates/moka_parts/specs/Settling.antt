@@ -110,6 +110,11 @@ pub record IsValid {K V X P W : Type 0} (eq : K → K → Bool) (s : State K V X
 
 -- ---- what a run leaves
 
+-- a hit never changes an expiry, also where none is set
+abbrev pub NeverRenews : {K V X : Type 0} → (X → K → V → ℕ → Option ℕ → ℕ → Option ℕ) → Option X → Type 0
+NeverRenews {K} {V} {X} read expiry = (x : X) (k : K) (v : V) (now : ℕ) (told : Option ℕ) (written : ℕ)
+    → expiry ≡ Some x → read x k v now told written ≡ told
+
 module _ {K V X P W : Type 0} where
   -- a run that was not cut and may remove something
   abbrev pub IsWhole : State K V X P W → Terms → Course → Type 0
@@ -119,10 +124,9 @@ module _ {K V X P W : Type 0} where
   abbrev pub IsAllSent : State K V X P W → Type 0
   IsAllSent s = s.outstanding ≡ empty
 
-  -- a hit never changes an expiry, also where none is set
+  -- the same of a state
   abbrev pub NeverRenewsOnRead : (X → K → V → ℕ → Option ℕ → ℕ → Option ℕ) → State K V X P W → Type 0
-  NeverRenewsOnRead read s = (x : X) (k : K) (v : V) (now : ℕ) (told : Option ℕ) (written : ℕ)
-      → s.settings.expiry ≡ Some x → read x k v now told written ≡ told
+  NeverRenewsOnRead read s = NeverRenews read s.settings.expiry
 
   -- a member is not settled
   abbrev pub has_unsettled_member : State K V X P W → Bool

@@ -169,21 +169,26 @@ pub enum Reply<K, V, P> {
     Key(Result<Option<K>, OutOfMemory>),
     /// A clone of the value, if one was found.
     Scan(Result<Option<V>, OutOfMemory>),
+    /// What was taken out, if anything was, and how notifying the listener of it went.
     Remove {
         /// What was taken out, with the ticket of the removal's operation.
         removed: Option<(KvEntry<K, V>, Ticket)>,
         /// How notifying the listener went, where that was asked for and something was taken out.
         told: Option<Result<(), OutOfMemory>>,
     },
+    /// What was written or read before the moment is hidden.
     InvalidateAll,
     /// The identifier of the predicate.
     InvalidateIf(Result<PredicateId, PredicateRefused<P>>),
     /// Whether more is left.
     Run(bool),
+    /// The run was made if it was due, and does not say what it left.
     RunIfDue,
+    /// Runs start by themselves only where more is left.
     DisableAutoRun,
     /// Clones of all keys, hidden or not; `None` unless the segment is 0.
     Keys(Result<Option<Vec<K>>, OutOfMemory>),
+    /// The report of the last run.
     Report {
         /// How many entries the last run counted.
         count: u64,
@@ -192,6 +197,7 @@ pub enum Reply<K, V, P> {
         /// How many predicates are registered now.
         predicates: u64,
     },
+    /// What waits to be sent or applied.
     Pending {
         /// How many operations wait to be sent.
         handed: u64,

@@ -43,7 +43,7 @@ pub trait Listener<K, V> {
 }
 
 /// Ignores all notifications.
-#[derive(Clone, Copy)]
+#[derive(Clone, Copy, Debug)]
 pub struct NoListener;
 
 impl<K: Drop, V: Drop> Listener<K, V> for NoListener {

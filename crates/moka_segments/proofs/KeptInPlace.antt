@@ -12,14 +12,14 @@ use Rattle.moka_parts.specs.declared.error.PredicateRefused.{PredicateRefused}
 use Rattle.moka_parts.specs.declared.notification.RemovalCause.{RemovalCause}
 use Rattle.moka_parts.specs.State.{Meaning}
 use Rattle.moka_parts.specs.Runs.{Engine}
-use Rattle.moka_drive.specs.Synchronous.{Synchronous, Makes, Posts, InsertsEntry, GetsValue, RemovesEntry, InsertsMade, GetsOrInserts, hears_clones, removed, invalidated}
+use Rattle.moka_drive.specs.Synchronous.{Synchronous, Makes, Posts, InsertsEntry, GetsValue, RemovesEntry, InsertsMade, GetsOrInserts, GetsOrInsertsIfMade, GetsOrInsertsIfNoError, hears_clones, removed, invalidated}
 use Rattle.moka_drive.specs.declared.error.GetWithRefused.{GetWithRefused}
 use Rattle.moka_segments.specs.Keys.{Belongs, EachKey, InsertsOnly, KeysBelong, KeepsKeys}
-use Rattle.moka_segments.specs.Laws.{CallsByKeyKeepKeys, CallsOfAllKeepKeys, GetWithKeepsKeys}
+use Rattle.moka_segments.specs.Laws.{CallsByKeyKeepKeys, CallsOfAllKeepKeys, GetWithKeepsKeys, GetWithIfMadeKeepsKeys, GetWithIfNoErrorKeepsKeys}
 use Rattle.moka_segments.specs.Registering.{AllRegister, Registers, HasNoRoom}
 use Rattle.moka_segments.specs.Routing.{Routing, segment_of}
 use Rattle.moka_segments.specs.Segmented.{Segmented, IsAt, Steps}
-use Rattle.moka_segments.specs.Steps.{Inserts, Gets, Removes, GetsWith}
+use Rattle.moka_segments.specs.Steps.{Inserts, Gets, Removes, GetsWith, GetsWithIfMade, GetsWithIfNoError}
 use Rattle.moka_segments.specs.Whole.{AllRan, Hides, Ran}
 use Rattle.moka_segments.proofs.Belonging.{belongs_after}
 use Rattle.moka_segments.proofs.Keys.{keys_made}
@@ -56,6 +56,28 @@ module _ {K V P : Type 0} (Is : K → Type 0) where
   gets_or_inserts_only key hash now (Some made) (Err None) calls replies here gets = absurd gets
   gets_or_inserts_only key hash now (Some made) (Ok value) calls replies here (later, answers, makes, is, told) = these calls _ is (makes_only key hash now made (Ok value) later answers here makes)
   gets_or_inserts_only key hash now (Some made) (Err (Some refused)) calls replies here (later, answers, makes, is, told) = these calls _ is (makes_only key hash now made (Err refused) later answers here makes)
+
+  if_made_only : (key : K) (hash : ℕ) (now : Instant) (made : Option (Option V)) (own : Result (Option V) (Option (InsertRefused K V))) (calls : List (Call K V P)) (replies : List (Reply K V P)) → Is key → GetsOrInsertsIfMade key hash now made own calls replies → InsertsOnly Is calls
+  if_made_only key hash now None (Ok (Some value)) calls replies here gets = gets_or_inserts_only key hash now None (Ok value) calls replies here gets
+  if_made_only key hash now None (Ok None) calls replies here gets = absurd gets
+  if_made_only key hash now None (Err refused) calls replies here gets = gets_or_inserts_only key hash now None (Err refused) calls replies here gets
+  if_made_only key hash now (Some None) (Ok None) calls replies here gets = gets_only key hash now (Ok None) calls replies gets
+  if_made_only key hash now (Some None) (Ok (Some value)) calls replies here gets = absurd gets
+  if_made_only key hash now (Some None) (Err refused) calls replies here gets = absurd gets
+  if_made_only key hash now (Some (Some made)) (Ok (Some value)) calls replies here gets = gets_or_inserts_only key hash now (Some made) (Ok value) calls replies here gets
+  if_made_only key hash now (Some (Some made)) (Ok None) calls replies here gets = absurd gets
+  if_made_only key hash now (Some (Some made)) (Err refused) calls replies here gets = gets_or_inserts_only key hash now (Some made) (Err refused) calls replies here gets
+
+  if_no_error_only : {E : Type 0} (key : K) (hash : ℕ) (now : Instant) (made : Option (Result V E)) (own : Result (Result V E) (Option (InsertRefused K V))) (calls : List (Call K V P)) (replies : List (Reply K V P)) → Is key → GetsOrInsertsIfNoError key hash now made own calls replies → InsertsOnly Is calls
+  if_no_error_only key hash now None (Ok (Ok value)) calls replies here gets = gets_or_inserts_only key hash now None (Ok value) calls replies here gets
+  if_no_error_only key hash now None (Ok (Err error)) calls replies here gets = absurd gets
+  if_no_error_only key hash now None (Err refused) calls replies here gets = gets_or_inserts_only key hash now None (Err refused) calls replies here gets
+  if_no_error_only key hash now (Some (Err failed)) (Ok (Err error)) calls replies here (same, gets) = gets_only key hash now (Ok None) calls replies gets
+  if_no_error_only key hash now (Some (Err failed)) (Ok (Ok value)) calls replies here gets = absurd gets
+  if_no_error_only key hash now (Some (Err failed)) (Err refused) calls replies here gets = absurd gets
+  if_no_error_only key hash now (Some (Ok made)) (Ok (Ok value)) calls replies here gets = gets_or_inserts_only key hash now (Some made) (Ok value) calls replies here gets
+  if_no_error_only key hash now (Some (Ok made)) (Ok (Err error)) calls replies here gets = absurd gets
+  if_no_error_only key hash now (Some (Ok made)) (Err refused) calls replies here gets = gets_or_inserts_only key hash now (Some made) (Err refused) calls replies here gets
 
 module _ {K V S X L P W : Type 0} (hash_of : S → K → ℕ) where
   -- each segment leaves only keys that belong to it
@@ -146,6 +168,14 @@ module _ {K V S X L P W C : Type 0} (hash_of : S → K → ℕ) (m : Meaning K V
     get_with_keeps is_clone Made result = keeps_at (GetsWith m hash_of key now clock clock_after is_clone Made result)
         (λ Is x y here (made, own, (is, hands, makes, counted, given, back)) held. kept _ Is x.engine y.engine clock clock_after (λ calls replies fits. gets_or_inserts_only Is key _ now made own calls replies here fits) makes held)
 
+    pub get_with_if_made_keeps : (is_clone : V → V → Type 0) (Made : Option V → Type 0) (result : Result (Option V) (GetWithRefused K V)) → KeepsKeys hash_of (λ (old new : Segmented K V S X L P W). Steps (segment_of old.routing.count (hash_of old.routing.hasher key)) (GetsWithIfMade m hash_of key now clock clock_after is_clone Made result) old new)
+    get_with_if_made_keeps is_clone Made result = keeps_at (GetsWithIfMade m hash_of key now clock clock_after is_clone Made result)
+        (λ Is x y here (made, own, (is, hands, makes, counted, given, back)) held. kept _ Is x.engine y.engine clock clock_after (λ calls replies fits. if_made_only Is key _ now made own calls replies here fits) makes held)
+
+    pub get_with_if_no_error_keeps : {E : Type 0} (is_clone : V → V → Type 0) (Made : Result V E → Type 0) (result : Result (Result V E) (GetWithRefused K V)) → KeepsKeys hash_of (λ (old new : Segmented K V S X L P W). Steps (segment_of old.routing.count (hash_of old.routing.hasher key)) (GetsWithIfNoError m hash_of key now clock clock_after is_clone Made result) old new)
+    get_with_if_no_error_keeps is_clone Made result = keeps_at (GetsWithIfNoError m hash_of key now clock clock_after is_clone Made result)
+        (λ Is x y here (made, own, (is, hands, makes, counted, given, back)) held. kept _ Is x.engine y.engine clock clock_after (λ calls replies fits. if_no_error_only Is key _ now made own calls replies here fits) makes held)
+
 module _ {K V S X L P W C : Type 0} (hash_of : S → K → ℕ) (m : Meaning K V X L P W C (Unit {0})) (key : K) (now : Instant) (clock clock_after : C) where
   pub remove_keeps : (is_key_clone : K → K → Type 0) (is_clone : V → V → Type 0) (Answers : Option (V × Result (Unit {0}) OutOfMemory) → Type 0)
       → KeepsKeys hash_of (λ (old new : Segmented K V S X L P W). Steps (segment_of old.routing.count (hash_of old.routing.hasher key)) (Removes m hash_of key now clock clock_after is_key_clone is_clone Answers) old new)
@@ -165,6 +195,12 @@ module _ {K V S X L P W C : Type 0} (hash_of : S → K → ℕ) (m : Meaning K V
 
   pub get_with_too : {M : Type 0} (is_clone : V → V → Type 0) (makes : M → V → Type 0) → GetWithKeepsKeys {S = S} hash_of m is_clone makes
   get_with_too is_clone makes key now clock clock_after init result = get_with_keeps hash_of m key now clock clock_after is_clone (makes init) result
+
+  pub get_with_if_made_too : {M : Type 0} (is_clone : V → V → Type 0) (makes : M → Option V → Type 0) → GetWithIfMadeKeepsKeys {S = S} hash_of m is_clone makes
+  get_with_if_made_too is_clone makes key now clock clock_after init result = get_with_if_made_keeps hash_of m key now clock clock_after is_clone (makes init) result
+
+  pub get_with_if_no_error_too : {M E : Type 0} (is_clone : V → V → Type 0) (makes : M → Result V E → Type 0) → GetWithIfNoErrorKeepsKeys {S = S} hash_of m is_clone makes
+  get_with_if_no_error_too is_clone makes key now clock clock_after init result = get_with_if_no_error_keeps hash_of m key now clock clock_after is_clone (makes init) result
 
   pub calls_of_all : CallsOfAllKeepKeys {S = S} hash_of m
   calls_of_all = record {

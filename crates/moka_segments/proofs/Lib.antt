@@ -1,4 +1,4 @@
-pub mod Anytime
+pub mod ForAllCalls
 pub mod Apart
 pub mod Moving
 pub mod Each

@@ -17,16 +17,17 @@ use Rattle.moka_parts.specs.Runs.{Engine, Befalls, Step, PromisedRun}
 use Rattle.moka_parts.specs.State.{Meaning, Events}
 use Rattle.moka_parts.proofs.OrderedDrive.{listed_call_promised}
 use Rattle.moka_parts.proofs.RunsGoOn.{MakesCalls_push}
-use Rattle.moka_drive.specs.Synchronous.{Synchronous, Made, Makes, Just, InsertsEntry, GetsValue, RemovesEntry, GetsOrInserts, HandsOutMade, hears_clones, own_run, removed, invalidated}
+use Rattle.moka_drive.specs.Synchronous.{Synchronous, Made, Makes, Just, InsertsEntry, GetsValue, RemovesEntry, GetsOrInserts, GetsOrInsertsIfMade, GetsOrInsertsIfNoError, HandsOutMade, HandsOutIfMade, HandsOutIfNoError, hears_clones, own_run, removed, invalidated}
+use Rattle.moka_drive.proofs.Anytime.{tells_any}
 use Rattle.moka_drive.proofs.Made.{nothing_heard, made_nothing, made_one, befalls_more}
 use Rattle.moka_segments.specs.Laws.{Move, MoveAfterMove}
-use Rattle.moka_segments.specs.Moves.{for_all_calls, IsOneMove, AreOneEach, MayRegister, MovesBy, MovesGoOn, IsMoveBy, CallsByKeyAreMoves, GetWithIsMove, CallsOfAllAreMoves, RegisteringIsMoves}
+use Rattle.moka_segments.specs.Moves.{for_all_calls, IsOneMove, AreOneEach, MayRegister, MovesBy, MovesGoOn, IsMoveBy, CallsByKeyAreMoves, GetWithIsMove, GetWithIfMadeIsMove, GetWithIfNoErrorIsMove, CallsOfAllAreMoves, RegisteringIsMoves}
 use Rattle.moka_segments.specs.Registering.{AllRegister, Registers, HasNoRoom}
 use Rattle.moka_segments.specs.Routing.{Routing, segment_of}
 use Rattle.moka_segments.specs.Segmented.{Segmented, Steps}
-use Rattle.moka_segments.specs.Steps.{Inserts, Gets, Removes, GetsWith}
+use Rattle.moka_segments.specs.Steps.{Inserts, Gets, Removes, GetsWith, GetsWithIfMade, GetsWithIfNoError}
 use Rattle.moka_segments.specs.Whole.{AllRan, Hides}
-use Rattle.moka_segments.proofs.Anytime.{tells_any, made_with_ids, made_for_all}
+use Rattle.moka_segments.proofs.ForAllCalls.{made_with_ids, made_for_all}
 
 -- the same moves of a cache with one more segment before the others
 abbrev up : {K V P : Type 0} → List (Move K V P) → List (Move K V P)
@@ -225,5 +226,25 @@ module _ {K V S X L P W C : Type 0} (hash_of : S → K → ℕ) (m : Meaning K V
       (λ x y step. (
       let (made, own, (is, hands, calls, counted, given, back)) = step in
       makes_wide m is_key_clone is_clone (GetsOrInserts key (hash_of x.engine.hasher key) now made own) _ (λ calls replies fit. (made, own, is, hands, fit)) x.engine y.engine clock clock_after calls
+      ))
+      steps
+
+  pub get_with_if_made : {M : Type 0} (makes : M → Option V → Type 0) → GetWithIfMadeIsMove hash_of m is_key_clone is_clone makes
+  get_with_if_made makes key now clock clock_after init result old new steps =
+      moves_one among (segment_of old.routing.count (hash_of old.routing.hasher key)) (GetsWithIfMade m hash_of key now clock clock_after is_clone (makes init) result)
+      (λ hasher calls replies. (made : Option (Option V)) × (own : Result (Option V) (Option (InsertRefused K V))) × ((answer : Option V) → made ≡ Some answer → makes init answer) × HandsOutIfMade is_clone key own result × GetsOrInsertsIfMade key (hash_of hasher key) now made own calls replies) clock clock_after old new
+      (λ x y step. (
+      let (made, own, (is, hands, calls, counted, given, back)) = step in
+      makes_wide m is_key_clone is_clone (GetsOrInsertsIfMade key (hash_of x.engine.hasher key) now made own) _ (λ calls replies fit. (made, own, is, hands, fit)) x.engine y.engine clock clock_after calls
+      ))
+      steps
+
+  pub get_with_if_no_error : {M E : Type 0} (makes : M → Result V E → Type 0) → GetWithIfNoErrorIsMove hash_of m is_key_clone is_clone makes
+  get_with_if_no_error {E = E} makes key now clock clock_after init result old new steps =
+      moves_one among (segment_of old.routing.count (hash_of old.routing.hasher key)) (GetsWithIfNoError m hash_of key now clock clock_after is_clone (makes init) result)
+      (λ hasher calls replies. (made : Option (Result V E)) × (own : Result (Result V E) (Option (InsertRefused K V))) × ((answer : Result V E) → made ≡ Some answer → makes init answer) × HandsOutIfNoError is_clone key own result × GetsOrInsertsIfNoError key (hash_of hasher key) now made own calls replies) clock clock_after old new
+      (λ x y step. (
+      let (made, own, (is, hands, calls, counted, given, back)) = step in
+      makes_wide m is_key_clone is_clone (GetsOrInsertsIfNoError key (hash_of x.engine.hasher key) now made own) _ (λ calls replies fit. (made, own, is, hands, fit)) x.engine y.engine clock clock_after calls
       ))
       steps

@@ -16,6 +16,13 @@ abbrev pub SumsTo : {K V S X L P W : Type 0} → Option ℕ → List (Synchronou
 SumsTo None segments = ⊤
 SumsTo (Some capacity) segments = whole_capacity segments ≡ Some capacity
 
+-- segments that have the parts of a capacity have that capacity in all, to the unit
+abbrev pub SharesSum : (K V S X L P W : Type 0) → Type 0
+SharesSum K V S X L P W = (count whole : ℕ) (segments : List (Synchronous K V S X L P W)) → 0 < count
+    → length segments ≡ count → ((index : ℕ) (d : Synchronous K V S X L P W) → index < length segments
+    → (slice_index_or segments index d).engine.state.capacity ≡ Some (share count whole index))
+    → SumsTo (Some whole) segments
+
 -- a new segment with this configuration, room for its initial capacity, and a clone of the hasher
 pub record IsSegment {K V S X L P W : Type 0} (routing : Routing S) (is_clone : S → S → Type 0) (now : ℕ)
     (config : Config X L W) (s : Synchronous K V S X L P W) : Type 0 where

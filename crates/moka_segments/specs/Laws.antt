@@ -13,12 +13,13 @@ use Rattle.moka_parts.specs.State.{Meaning}
 use Rattle.moka_parts.specs.Surroundings.{Leads}
 use Rattle.moka_drive.specs.declared.error.GetWithRefused.{GetWithRefused}
 use Rattle.moka_drive.specs.declared.error.NotTold.{NotTold}
+use Rattle.moka_drive.specs.Laws.{anytime}
 use Rattle.moka_drive.specs.Synchronous.{Synchronous, Made, removed, invalidated}
 use Rattle.moka_segments.specs.Keys.{AreInOneSegment, Belongs, InsertsOnly, KeepsKeys, KeysBelong}
 use Rattle.moka_segments.specs.Registering.{AllRegister}
 use Rattle.moka_segments.specs.Routing.{Routing, segment_of}
 use Rattle.moka_segments.specs.Segmented.{Segmented, IsAt, Steps}
-use Rattle.moka_segments.specs.Steps.{Inserts, Gets, Removes, GetsWith}
+use Rattle.moka_segments.specs.Steps.{Inserts, Gets, Removes, GetsWith, GetsWithIfMade, GetsWithIfNoError}
 use Rattle.moka_segments.specs.Whole.{AllRan, Hides}
 
 -- the calls that one segment made, with their replies
@@ -37,21 +38,6 @@ module _ {K V P : Type 0} where
   abbrev pub replies_in : ℕ → List (Move K V P) → List (Reply K V P)
   replies_in index [] = []
   replies_in index (v ∷ vs) = cond (v.index == index) (v.replies ++ replies_in index vs) (replies_in index vs)
-
--- the same but for the clock, which may tell any moment: between two calls of a segment it tells others theirs
-abbrev pub anytime : {K V X L P W C : Type 0} → Meaning K V X L P W C (Unit {0}) →
-    Meaning K V X L P W (Unit {0}) (Unit {0})
-anytime m = record {
-  eq = m.eq;
-  tells = m.tells;
-  says = m.says;
-  weighs = m.weighs;
-  observes = λ _ _ _. Unit {0};
-  gives = m.gives;
-  created = m.created;
-  read = m.read;
-  updated = m.updated;
-}
 
 module _ {K V S X L P W C : Type 0} (m : Meaning K V X L P W C (Unit {0})) where
   -- the segment made the calls, and every other is as it was
@@ -133,6 +119,18 @@ module _ {K V S X L P W C : Type 0} (hash_of : S → K → ℕ) (m : Meaning K V
   GetWithKeepsKeys {M} is_clone makes = (key : K) (now : Instant) (clock clock_after : C) (init : M)
       (result : Result V (GetWithRefused K V))
       → KeepsKeysBy key (GetsWith m hash_of key now clock clock_after is_clone (makes init) result)
+
+  -- or with one that may decline
+  abbrev pub GetWithIfMadeKeepsKeys : {M : Type 0} → (V → V → Type 0) → (M → Option V → Type 0) → Type 0
+  GetWithIfMadeKeepsKeys {M} is_clone makes = (key : K) (now : Instant) (clock clock_after : C) (init : M)
+      (result : Result (Option V) (GetWithRefused K V))
+      → KeepsKeysBy key (GetsWithIfMade m hash_of key now clock clock_after is_clone (makes init) result)
+
+  -- or fail
+  abbrev pub GetWithIfNoErrorKeepsKeys : {M E : Type 0} → (V → V → Type 0) → (M → Result V E → Type 0) → Type 0
+  GetWithIfNoErrorKeepsKeys {M} {E} is_clone makes = (key : K) (now : Instant) (clock clock_after : C) (init : M)
+      (result : Result (Result V E) (GetWithRefused K V))
+      → KeepsKeysBy key (GetsWithIfNoError m hash_of key now clock clock_after is_clone (makes init) result)
 
   -- and each call that concerns all segments
   pub record CallsOfAllKeepKeys : Type 0 where

@@ -14,12 +14,13 @@ use Rattle.moka_parts.specs.Copies.{IsCopiedAnswer}
 use Rattle.moka_parts.specs.State.{Meaning}
 use Rattle.moka_drive.specs.declared.error.GetWithRefused.{GetWithRefused}
 use Rattle.moka_drive.specs.declared.error.NotTold.{NotTold}
-use Rattle.moka_drive.specs.Synchronous.{Synchronous, Made, Just, InsertsEntry, GetsValue, RemovesEntry, GetsOrInserts, HandsOutMade, hears_clones, own_run, removed, invalidated}
-use Rattle.moka_segments.specs.Laws.{Move, MoveAfterMove, anytime, calls_in, replies_in}
+use Rattle.moka_drive.specs.Laws.{anytime}
+use Rattle.moka_drive.specs.Synchronous.{Synchronous, Made, Just, InsertsEntry, GetsValue, RemovesEntry, GetsOrInserts, GetsOrInsertsIfMade, GetsOrInsertsIfNoError, HandsOutMade, HandsOutIfMade, HandsOutIfNoError, hears_clones, own_run, removed, invalidated}
+use Rattle.moka_segments.specs.Laws.{Move, MoveAfterMove, calls_in, replies_in}
 use Rattle.moka_segments.specs.Registering.{AllRegister}
 use Rattle.moka_segments.specs.Routing.{segment_of}
 use Rattle.moka_segments.specs.Segmented.{Segmented, IsAt, Steps}
-use Rattle.moka_segments.specs.Steps.{Inserts, Gets, Removes, GetsWith}
+use Rattle.moka_segments.specs.Steps.{Inserts, Gets, Removes, GetsWith, GetsWithIfMade, GetsWithIfNoError}
 use Rattle.moka_segments.specs.Whole.{AllRan, Hides}
 
 -- what calls of every kind mean side by side: a listener may hear of clones, and any identifier may be given
@@ -112,6 +113,25 @@ module _ {K V S X L P W C : Type 0} (hash_of : S → K → ℕ) (m : Meaning K V
       (λ hash calls replies. (made : Option V) × (own : Result V (Option (InsertRefused K V)))
       × ((value : V) → made ≡ Some value → makes init value) × HandsOutMade is_clone key own result
       × GetsOrInserts key hash now made own calls replies)
+
+  -- or with one that may decline
+  abbrev pub GetWithIfMadeIsMove : {M : Type 0} → (M → Option V → Type 0) → Type 0
+  GetWithIfMadeIsMove {M} makes = (key : K) (now : Instant) (clock clock_after : C) (init : M)
+      (result : Result (Option V) (GetWithRefused K V))
+      → IsMoveBy key clock clock_after (GetsWithIfMade m hash_of key now clock clock_after is_clone (makes init) result)
+      (λ hash calls replies. (made : Option (Option V)) × (own : Result (Option V) (Option (InsertRefused K V)))
+      × ((answer : Option V) → made ≡ Some answer → makes init answer) × HandsOutIfMade is_clone key own result
+      × GetsOrInsertsIfMade key hash now made own calls replies)
+
+  -- or fail
+  abbrev pub GetWithIfNoErrorIsMove : {M E : Type 0} → (M → Result V E → Type 0) → Type 0
+  GetWithIfNoErrorIsMove {M} {E} makes = (key : K) (now : Instant) (clock clock_after : C) (init : M)
+      (result : Result (Result V E) (GetWithRefused K V))
+      → IsMoveBy key clock clock_after
+      (GetsWithIfNoError m hash_of key now clock clock_after is_clone (makes init) result)
+      (λ hash calls replies. (made : Option (Result V E)) × (own : Result (Result V E) (Option (InsertRefused K V)))
+      × ((answer : Result V E) → made ≡ Some answer → makes init answer) × HandsOutIfNoError is_clone key own result
+      × GetsOrInsertsIfNoError key hash now made own calls replies)
 
   -- an insert, and then a get
   abbrev pub InsertsThenGets : K → V → K → Instant → Result (Unit {0}) (InsertRefused K V) →

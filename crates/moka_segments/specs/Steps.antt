@@ -55,3 +55,15 @@ module _ {K V S X L P W C : Type 0} (m : Meaning K V X L P W C (Unit {0})) (hash
       Synchronous K V S X L P W → Type 0
   GetsWith is_clone Made result old new =
       own.GetsWith m is_clone key (hash_of old.engine.hasher key) now old clock new clock_after Made result
+
+  -- the same where the maker may decline
+  abbrev pub GetsWithIfMade : (V → V → Type 0) → (Option V → Type 0) → Result (Option V) (GetWithRefused K V) →
+      Synchronous K V S X L P W → Synchronous K V S X L P W → Type 0
+  GetsWithIfMade is_clone Made result old new =
+      own.GetsWithIfMade m is_clone key (hash_of old.engine.hasher key) now old clock new clock_after Made result
+
+  -- or fail
+  abbrev pub GetsWithIfNoError : {E : Type 0} → (V → V → Type 0) → (Result V E → Type 0) →
+      Result (Result V E) (GetWithRefused K V) → Synchronous K V S X L P W → Synchronous K V S X L P W → Type 0
+  GetsWithIfNoError is_clone Made result old new =
+      own.GetsWithIfNoError m is_clone key (hash_of old.engine.hasher key) now old clock new clock_after Made result

@@ -28,7 +28,7 @@ impl<
     /// configurations' own, so it should be no less than their number: a segment whose share is 0 keeps nothing.
     ///
     /// # Errors
-    /// As `CacheConfig::build_with_hasher`, and where memory for the segments or for a clone of the hasher is refused.
+    /// As `CacheConfig::build_with_hasher`, and if memory for the segments or for a clone of the hasher is refused.
     pub fn build_with_router<F: Fn(u32) -> CacheConfig<X, L, P, W>>(
         router: Router<S>,
         max_capacity: Option<u64>,
@@ -77,7 +77,8 @@ impl<
     P: PredicateFn<K, V> + Drop,
     W: Weigher<K, V> + Drop,
 > SegmentedCache<K, V, X, L, P, W> {
-    /// As `build_with_router`, with the default hasher, and `count` segments; one where that is 0.
+    /// As `build_with_router`, with the default hasher, and `count` segments, or one if `count` is 0. Calls of all
+    /// segments, except the sums, recurse once for each, so keep to some thousands.
     ///
     /// # Errors
     /// As `build_with_router`.

@@ -1,9 +1,10 @@
 //! Laws of a cache in segments. The contract of each function is a law, and its body does nothing.
 ghost use Rattle.moka_parts.specs.Hashing.{key_hash};
 ghost use Rattle.moka_drive.specs.Synchronous.{meaning_of};
+ghost use Rattle.moka_segments.specs.Built.{SharesSum};
 ghost use Rattle.moka_segments.specs.Keys.{HoldNone, KeysBelong};
-ghost use Rattle.moka_segments.specs.Laws.{CallsByKeyKeepKeys, CallsOfAllKeepKeys, EachMovesAlone, EachRuns, GetWithKeepsKeys, KeysStay, OneSegmentEach, RegisteringKeepsKeys};
-ghost use Rattle.moka_segments.specs.Moves.{CallsByKeyAreMoves, CallsOfAllAreMoves, GetWithIsMove, MovesGoOn, RegisteringIsMoves, for_all_calls};
+ghost use Rattle.moka_segments.specs.Laws.{CallsByKeyKeepKeys, CallsOfAllKeepKeys, EachMovesAlone, EachRuns, GetWithIfMadeKeepsKeys, GetWithIfNoErrorKeepsKeys, GetWithKeepsKeys, KeysStay, OneSegmentEach, RegisteringKeepsKeys};
+ghost use Rattle.moka_segments.specs.Moves.{CallsByKeyAreMoves, CallsOfAllAreMoves, GetWithIfMadeIsMove, GetWithIfNoErrorIsMove, GetWithIsMove, MovesGoOn, RegisteringIsMoves, for_all_calls};
 ghost use Rattle.moka_segments.specs.Segmented.{Segmented};
 
 use moka_parts::closures::{PredicateFn, Weigher};
@@ -60,8 +61,8 @@ pub fn one_segment_each<
         (λ h k. key_hash S.BuildHasher S.Hasher.Hasher h (K.hash_input k)) K.eq }
 {}
 
-/// Each call by key leaves keys in the segments that they belong to; `get_with_keeps_keys` speaks of those with a
-/// maker.
+/// Each call by key leaves keys in the segments that they belong to; `get_with_keeps_keys` and `other_makers_keep_keys`
+/// speak of those with a maker.
 pub fn calls_by_key_keep_keys<
     K: Eq + Hash + Clone,
     V: Clone,
@@ -92,6 +93,28 @@ pub fn get_with_keeps_keys<
     ensures { GetWithKeepsKeys (λ h k. key_hash S.BuildHasher S.Hasher.Hasher h (K.hash_input k))
         (meaning_of K.eq L.tells P.says W.weighs C.reads X.created X.read X.updated)
         V.is_clone F.post }
+{}
+
+/// So do `optionally_get_with`, for a maker of type `O`, and `try_get_with`, for one of type `F`.
+pub fn other_makers_keep_keys<
+    K: Eq + Hash,
+    V: Clone,
+    S: BuildHasher,
+    X: Expiry<K, V>,
+    L: Listener<K, V>,
+    P: PredicateFn<K, V>,
+    W: Weigher<K, V>,
+    C: Clock,
+    E,
+    O: FnOnce() -> Option<V>,
+    F: FnOnce() -> Result<V, E>,
+>()
+    ensures optionally_get_with { GetWithIfMadeKeepsKeys
+        (λ h k. key_hash S.BuildHasher S.Hasher.Hasher h (K.hash_input k))
+        (meaning_of K.eq L.tells P.says W.weighs C.reads X.created X.read X.updated) V.is_clone O.post }
+    ensures try_get_with { GetWithIfNoErrorKeepsKeys
+        (λ h k. key_hash S.BuildHasher S.Hasher.Hasher h (K.hash_input k))
+        (meaning_of K.eq L.tells P.says W.weighs C.reads X.created X.read X.updated) V.is_clone F.post }
 {}
 
 /// Each call that concerns all segments leaves keys in the segments that they belong to; `registering_keeps_keys`
@@ -161,7 +184,7 @@ pub fn own_calls_run<
 {}
 
 /// What each call by key ensures is a move of the key's own segment, of the calls that it stands for;
-/// `get_with_is_move` speaks of those with a maker.
+/// `get_with_is_move` and `other_makers_are_moves` speak of those with a maker.
 pub fn calls_by_key_are_moves<
     K: Eq + Hash + Clone,
     V: Clone,
@@ -189,6 +212,28 @@ pub fn get_with_is_move<
     F: FnOnce() -> V,
 >()
     ensures { GetWithIsMove (λ h k. key_hash S.BuildHasher S.Hasher.Hasher h (K.hash_input k))
+        (meaning_of K.eq L.tells P.says W.weighs C.reads X.created X.read X.updated) K.is_clone V.is_clone F.post }
+{}
+
+/// And what `optionally_get_with` ensures, by a maker of type `O`, and `try_get_with`, by one of type `F`.
+pub fn other_makers_are_moves<
+    K: Eq + Hash + Clone,
+    V: Clone,
+    S: BuildHasher,
+    X: Expiry<K, V>,
+    L: Listener<K, V>,
+    P: PredicateFn<K, V>,
+    W: Weigher<K, V>,
+    C: Clock,
+    E,
+    O: FnOnce() -> Option<V>,
+    F: FnOnce() -> Result<V, E>,
+>()
+    ensures optionally_get_with { GetWithIfMadeIsMove
+        (λ h k. key_hash S.BuildHasher S.Hasher.Hasher h (K.hash_input k))
+        (meaning_of K.eq L.tells P.says W.weighs C.reads X.created X.read X.updated) K.is_clone V.is_clone O.post }
+    ensures try_get_with { GetWithIfNoErrorIsMove
+        (λ h k. key_hash S.BuildHasher S.Hasher.Hasher h (K.hash_input k))
         (meaning_of K.eq L.tells P.says W.weighs C.reads X.created X.read X.updated) K.is_clone V.is_clone F.post }
 {}
 
@@ -223,4 +268,10 @@ pub fn registering_is_moves<
 >()
     ensures { RegisteringIsMoves S (meaning_of K.eq L.tells P.says W.weighs C.reads X.created X.read X.updated)
         K.is_clone V.is_clone I.gives F.post }
+{}
+
+/// Segments whose capacities are the parts of one (`Router::share`), each that of its index, have it in all, to the
+/// unit.
+pub fn shares_sum<K, V, S, X, L, P, W>()
+    ensures { SharesSum K V S X L P W }
 {}

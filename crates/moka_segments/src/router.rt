@@ -34,7 +34,7 @@ impl<S: Drop> Drop for Router<S> {
 }
 
 impl<S> Router<S> {
-    /// A router for `count` segments, and for one where that is 0.
+    /// A router for `count` segments, or for one if `count` is 0.
     pub fn new(hasher: S, count: u32) -> Self
         ensures { result ≡ record { hasher = hasher; count = max count 1 } }
     {
@@ -57,7 +57,8 @@ impl<S> Router<S> {
         &self.hasher
     }
 
-    /// The part of `capacity` that is the segment's at `index`. The parts of all segments sum to it.
+    /// The part of `capacity` that is the segment's at `index`. The parts of all segments sum to it
+    /// (`laws::shares_sum`).
     #[tactic(auto, unfolding(crate::specs::Routing::share))]
     pub fn share(&self, capacity: u64, index: u32) -> u64
         ensures { result ≡ share self.now.count capacity index }

@@ -5,7 +5,7 @@ ghost use Rattle.moka_parts.specs.Hashing.{key_hash};
 ghost use Rattle.moka_drive.specs.Synchronous.{meaning_of, removed, invalidated};
 ghost use Rattle.moka_segments.specs.Routing.{segment_of};
 ghost use Rattle.moka_segments.specs.Segmented.{Holds, IsAt, Steps as StepsIn};
-ghost use Rattle.moka_segments.specs.Steps.{Inserts, Gets, Removes, GetsWith};
+ghost use Rattle.moka_segments.specs.Steps.{Inserts, Gets, Removes, GetsWith, GetsWithIfMade, GetsWithIfNoError};
 
 use crate::router::Router;
 use moka_drive::{Cache, GetWithRefused, NotTold};
@@ -166,7 +166,7 @@ impl<
     /// A clone of a key's value, if the key is there and visible at the moment `now`. The read is queued.
     ///
     /// # Errors
-    /// `OutOfMemory` where memory for the clone is refused. Nothing has changed.
+    /// `OutOfMemory` if memory for the clone is refused. Nothing has changed.
     pub fn get<C: Clock>(
         &mut self,
         key: &K,
@@ -272,5 +272,67 @@ impl<
         let index = self.router.segment_of(&key);
         let segment = &mut self.segments[index];
         segment.get_with(key, init, now, clock)
+    }
+
+    /// As `get_with`, for a maker that may decline: then nothing is inserted, and `None` is answered.
+    ///
+    /// # Errors
+    /// As `get_with`.
+    pub fn optionally_get_with<F: FnOnce() -> Option<V>, C: Clock>(
+        &mut self,
+        key: K,
+        init: F,
+        now: Instant,
+        clock: &mut C,
+    ) -> Result<Option<V>, GetWithRefused<K, V>>
+    where
+        K: Clone + Drop,
+        V: Clone + Drop,
+        P: Drop,
+        requires callable { (s : _)
+            → IsAt self.old.segments (segment_of self.old.routing.count
+            (key_hash S.BuildHasher S.Hasher.Hasher self.old.routing.hasher (K.hash_input key))) s
+            → ContainsStep P.says K.eq s.engine.state key now.0 false → F.pre init }
+        ensures { StepsIn (segment_of self.old.routing.count
+            (key_hash S.BuildHasher S.Hasher.Hasher self.old.routing.hasher (K.hash_input key)))
+            (GetsWithIfMade (meaning_of K.eq L.tells P.says W.weighs C.reads X.created X.read X.updated)
+            (λ h k. key_hash S.BuildHasher S.Hasher.Hasher h (K.hash_input k)) key now clock.old clock.new
+            V.is_clone (F.post init) result)
+            self.old self.new }
+    {
+        let index = self.router.segment_of(&key);
+        let segment = &mut self.segments[index];
+        segment.optionally_get_with(key, init, now, clock)
+    }
+
+    /// As `get_with`, for a maker that may fail: then nothing is inserted, and its error is answered.
+    ///
+    /// # Errors
+    /// The outer error as `get_with`; the inner one is the maker's.
+    pub fn try_get_with<E, F: FnOnce() -> Result<V, E>, C: Clock>(
+        &mut self,
+        key: K,
+        init: F,
+        now: Instant,
+        clock: &mut C,
+    ) -> Result<Result<V, E>, GetWithRefused<K, V>>
+    where
+        K: Clone + Drop,
+        V: Clone + Drop,
+        P: Drop,
+        requires callable { (s : _)
+            → IsAt self.old.segments (segment_of self.old.routing.count
+            (key_hash S.BuildHasher S.Hasher.Hasher self.old.routing.hasher (K.hash_input key))) s
+            → ContainsStep P.says K.eq s.engine.state key now.0 false → F.pre init }
+        ensures { StepsIn (segment_of self.old.routing.count
+            (key_hash S.BuildHasher S.Hasher.Hasher self.old.routing.hasher (K.hash_input key)))
+            (GetsWithIfNoError (meaning_of K.eq L.tells P.says W.weighs C.reads X.created X.read X.updated)
+            (λ h k. key_hash S.BuildHasher S.Hasher.Hasher h (K.hash_input k)) key now clock.old clock.new
+            V.is_clone (F.post init) result)
+            self.old self.new }
+    {
+        let index = self.router.segment_of(&key);
+        let segment = &mut self.segments[index];
+        segment.try_get_with(key, init, now, clock)
     }
 }

@@ -79,40 +79,44 @@ impl<
     fn entries_of(segments: &[Cache<K, V, X, L, P, W, S>]) -> u64
         ensures { result ≡ total (λ s. s.engine.state.count) segments.now }
     {
-        match segments.split_first() {
-            None => 0,
-            Some((first, rest)) => first.entry_count().saturating_add(Self::entries_of(rest)),
+        let mut sum: u64 = 0;
+        for segment in segments {
+            sum = sum.saturating_add(segment.entry_count());
         }
+        sum
     }
 
     // The weight that the last runs counted, saturating.
     fn weight_of(segments: &[Cache<K, V, X, L, P, W, S>]) -> u64
         ensures { result ≡ total (λ s. s.engine.state.weight) segments.now }
     {
-        match segments.split_first() {
-            None => 0,
-            Some((first, rest)) => first.weighted_size().saturating_add(Self::weight_of(rest)),
+        let mut sum: u64 = 0;
+        for segment in segments {
+            sum = sum.saturating_add(segment.weighted_size());
         }
+        sum
     }
 
     // Hits, misses and loads, each saturating.
     fn stats_of(segments: &[Cache<K, V, X, L, P, W, S>]) -> Stats
         ensures { result ≡ total_stats segments.now }
     {
-        match segments.split_first() {
-            None => Stats::new(),
-            Some((first, rest)) => both_stats(first.stats(), Self::stats_of(rest)),
+        let mut sum = Stats::new();
+        for segment in segments {
+            sum = both_stats(sum, segment.stats());
         }
+        sum
     }
 
     // The sum of the capacities, saturating, if each has one.
     fn capacity_of(segments: &[Cache<K, V, X, L, P, W, S>]) -> Option<u64>
         ensures { result ≡ saturated (whole_capacity segments.now) }
     {
-        match segments.split_first() {
-            None => Some(0),
-            Some((first, rest)) => both(first.policy().max_capacity(), Self::capacity_of(rest)),
+        let mut sum = Some(0);
+        for segment in segments {
+            sum = both(sum, segment.policy().max_capacity());
         }
+        sum
     }
 
     // Hides what was written or read before the moment, in each.

@@ -7,7 +7,7 @@ use Rattle.std.specs.Map.{keys_of}
 use Rattle.std.specs.Option.{option_map, option_and_then}
 use Rattle.moka_store.proofs.TableCalls.{get-places, placed_row}
 use Rattle.moka_index.proofs.Maps.{option-cases}
-use Rattle.moka_store.proofs.TableMaps.{remove-none}
+use Rattle.moka_store.proofs.TableMaps.{altered-same}
 use Rattle.moka_store.specs.declared.table.membership.Membership.{Membership}
 use Rattle.moka_store.specs.RecordTable.{Row}
 use Rattle.moka_store.specs.RecordTable.{row_at, number_at, places_of}
@@ -110,7 +110,7 @@ pub off-written : {K V S : Type 0} (s : Kept K V S) (n : ℕ) → IsOff s n → 
 off-written s n off = unlisted_taken_out n s.written off.unlisted
 
 pub off-timers : {K V S : Type 0} (s : Kept K V S) (n : ℕ) → IsOff s n → remove s.timers n ≡ s.timers
-off-timers s n off = remove-none s.timers n off.untimed
+off-timers s n off = altered-same s.timers n None off.untimed
 
 pub off-cursor : {K V S : Type 0} (s : Kept K V S) (n : ℕ) → IsOff s n → cursor_past n s.written s.cursor ≡ s.cursor
 off-cursor s n off = go s.cursor off.passed

@@ -7,7 +7,7 @@ use Rattle.std.specs.Option.{option_map, option_and_then, option_map_or}
 use Rattle.std.specs.Ordering.{nat_cmp}
 use Rattle.std.specs.Prelude.{IfSome, IfNone}
 use Rattle.moka_index.proofs.Maps.{option-cases}
-use Rattle.moka_store.proofs.TableMaps.{remove-none}
+use Rattle.moka_store.proofs.TableMaps.{altered-same}
 use Rattle.moka_store.proofs.TableCalls.{get-places}
 use Rattle.moka_store.specs.declared.table.membership.Membership.{Membership}
 use Rattle.moka_store.specs.RecordTable.{Row}
@@ -18,15 +18,16 @@ use Rattle.moka_store.proofs.Slots.{slot-row, number-of, node-of, listed-kept, l
 use Rattle.moka_store.proofs.Timed.{timed-kept, timers-kept, timed-set, timers-set, timers-gone, timed-below, moment-row}
 use Rattle.moka_store.proofs.Ties.{read-other, read-same, counted-row}
 use Rattle.moka_store.proofs.Written.{listed-row, written-same, cursor-same, written-pushed, written-moved, written-removed, cursor-past}
+use Rattle.moka_store.specs.declared.store.Handle.{Handle}
 use Rattle.moka_store.specs.Listing.{Listing, IsCursor, node_past}
-use Rattle.moka_store.specs.Store.{cursor_past, with_timer}
+use Rattle.moka_store.specs.Store.{IsOrdered, cursor_past, with_timer}
 use Rattle.moka_store.specs.StoreRows.{written_in, written_at, timer_at, member_at, written_of, cursor_of, timers_of}
-use Rattle.moka_store.specs.StoreTies.{KeyIndex, IsListed, IsTied, IsWritten, IsTimed}
-use Rattle.moka_store.specs.Timing.{timer_after}
+use Rattle.moka_store.specs.StoreTies.{KeyIndex, IsListed, IsTied, IsWritten, IsTimed, kept_of}
+use Rattle.moka_store.specs.Timing.{Timing, timer_after}
 use Rattle.moka_parts.specs.declared.policy.Instant.{Instant}
 use Rattle.moka_parts.specs.declared.records.Record.{Record}
 use Rattle.moka_parts.specs.Time.{moment_of}
-use Rattle.moka_parts.specs.Records.{counted_of, is_listed, without_number, number_to_back, entered_by}
+use Rattle.moka_parts.specs.Records.{counted_of, without_number, number_to_back, entered_by}
 
 -- a row with a slot in the write list is a member's
 written-member : {K V : Type 0} (o : Option (Row (Record K V))) → IsSome (option_and_then written_in o) → IsSome (option_and_then (λ (row : Row (Record K V)). row.membership) o)
@@ -37,19 +38,19 @@ written-member (Some row) h = go row.membership h
     go None h = h
     go (Some m) h = refl
 
--- the write list is that of the new rows, and shows what it showed
-pub record StaysWritten {K V : Type 0} (rows new : List (Option (Row (Record K V)))) (list : Listing) : Type 0 where
-  pub written : IsWritten new list
-  pub written_is : written_of new list.nodes ≡ written_of rows list.nodes
-  pub cursor_is : cursor_of new list.cursor ≡ cursor_of rows list.cursor
+-- the write list is that of these rows, and shows this
+pub record WrittenAfter {K V : Type 0} (rows : List (Option (Row (Record K V)))) (list : Listing) (order : List ℕ) (at : Option ℕ) : Type 0 where
+  pub written : IsWritten rows list
+  pub written_is : written_of rows list.nodes ≡ order
+  pub cursor_is : cursor_of rows list.cursor ≡ at
 
 -- and so are the timers
-pub record Stays {K V : Type 0} (rows new : List (Option (Row (Record K V)))) (list : Listing) (timers : FinMap nat_cmp Timer) : Type 0 where
-  pub written : IsWritten new list
-  pub timed : IsTimed new timers
-  pub written_is : written_of new list.nodes ≡ written_of rows list.nodes
-  pub cursor_is : cursor_of new list.cursor ≡ cursor_of rows list.cursor
-  pub timers_is : timers_of timers new ≡ timers_of timers rows
+pub record OrdersAfter {K V : Type 0} (rows : List (Option (Row (Record K V)))) (list : Listing) (timers : FinMap nat_cmp Timer) (order : List ℕ) (at : Option ℕ) (moments : FinMap nat_cmp ℕ) : Type 0 where
+  pub written : IsWritten rows list
+  pub timed : IsTimed rows timers
+  pub written_is : written_of rows list.nodes ≡ order
+  pub cursor_is : cursor_of rows list.cursor ≡ at
+  pub timers_is : timers_of timers rows ≡ moments
 
 -- a row changes, and is a member's with the same number if it was
 module _ {K V : Type 0} (rows new : List (Option (Row (Record K V)))) (place : ℕ) (o : Option (Row (Record K V))) (c : ChangesAt (row_at rows) (row_at new) place o)
@@ -71,7 +72,7 @@ module _ {K V : Type 0} (rows new : List (Option (Row (Record K V)))) (place : �
   numbers p some = kept p (written-member (row_at rows p) some)
 
   module _ (list : Listing) (w : IsWritten rows list) (slot : option_and_then written_in o ≡ written_at rows place) where
-    pub stays-written : StaysWritten rows new list
+    pub stays-written : WrittenAfter new list (written_of rows list.nodes) (cursor_of rows list.cursor)
     stays-written = record {
       written = record {
         listed = listed-kept written_in rows list.nodes w.listed new (read-same written_in (row_at rows) (row_at new) place o c slot);
@@ -83,7 +84,7 @@ module _ {K V : Type 0} (rows new : List (Option (Row (Record K V)))) (place : �
     }
 
     module _ (timers : FinMap nat_cmp Timer) (t : IsTimed rows timers) (d : IsNumbered (row_at rows)) (e : IsNumbered (row_at new)) (timer : option_and_then (λ (row : Row (Record K V)). row.timer) o ≡ timer_at rows place) where
-      pub stays : Stays rows new list timers
+      pub stays : OrdersAfter new list timers (written_of rows list.nodes) (cursor_of rows list.cursor) (timers_of timers rows)
       stays =
           let s = stays-written in
           record {
@@ -95,20 +96,20 @@ module _ {K V : Type 0} (rows new : List (Option (Row (Record K V)))) (place : �
           }
 
 -- a row gets another timer
-pub stays-timed : {K V : Type 0} (rows new : List (Option (Row (Record K V)))) (place : ℕ) (was : Row (Record K V)) → row_at rows place ≡ Some was → (timer : Option ℕ) → ChangesAt (row_at rows) (row_at new) place (Some (record was { timer = timer })) → (list : Listing) → IsWritten rows list → StaysWritten rows new list
+pub stays-timed : {K V : Type 0} (rows new : List (Option (Row (Record K V)))) (place : ℕ) (was : Row (Record K V)) → row_at rows place ≡ Some was → (timer : Option ℕ) → ChangesAt (row_at rows) (row_at new) place (Some (record was { timer = timer })) → (list : Listing) → IsWritten rows list → WrittenAfter new list (written_of rows list.nodes) (cursor_of rows list.cursor)
 stays-timed {K} {V} rows new place was at_is timer c list w =
     stays-written rows new place (Some (record was { timer = timer })) c (sym (ap (λ o. is_some (option_and_then (λ (row : Row (Record K V)). row.membership) o)) at_is)) (λ _. sym (number-of rows place was at_is)) list w (sym (ap (option_and_then written_in) at_is))
 
 module _ {K V : Type 0} (rows new : List (Option (Row (Record K V)))) (list : Listing) (timers : FinMap nat_cmp Timer) (w : IsWritten rows list) (t : IsTimed rows timers) (d : IsNumbered (row_at rows)) (e : IsNumbered (row_at new)) (place : ℕ) where
   -- a row of the same number, slots and timer
-  pub stays-row : (was row : Row (Record K V)) → row_at rows place ≡ Some was → ChangesAt (row_at rows) (row_at new) place (Some row) → row.number ≡ was.number → row.timer ≡ was.timer → written_in row ≡ written_in was → is_some row.membership ≡ is_some was.membership → Stays rows new list timers
+  pub stays-row : (was row : Row (Record K V)) → row_at rows place ≡ Some was → ChangesAt (row_at rows) (row_at new) place (Some row) → row.number ≡ was.number → row.timer ≡ was.timer → written_in row ≡ written_in was → is_some row.membership ≡ is_some was.membership → OrdersAfter new list timers (written_of rows list.nodes) (cursor_of rows list.cursor) (timers_of timers rows)
   stays-row was row at_is c number timer slot member = stays rows new place (Some row) c
       (member ∙ sym (ap (λ o. is_some (option_and_then (λ (row : Row (Record K V)). row.membership) o)) at_is)) (λ _. number ∙ sym (number-of rows place was at_is))
       list w (slot ∙ sym (ap (option_and_then written_in) at_is)) timers t d e (timer ∙ sym (ap (option_and_then (λ (row : Row (Record K V)). row.timer)) at_is))
 
   -- a row comes or goes that is no member
   pub stays-bare : (o : Option (Row (Record K V))) → ChangesAt (row_at rows) (row_at new) place o → membership_at rows place ≡ None → timer_at rows place ≡ None
-      → option_and_then (λ (row : Row (Record K V)). row.membership) o ≡ None → option_and_then (λ (row : Row (Record K V)). row.timer) o ≡ None → Stays rows new list timers
+      → option_and_then (λ (row : Row (Record K V)). row.membership) o ≡ None → option_and_then (λ (row : Row (Record K V)). row.timer) o ≡ None → OrdersAfter new list timers (written_of rows list.nodes) (cursor_of rows list.cursor) (timers_of timers rows)
   stays-bare o c alone still now_alone now_still = stays rows new place o c
       (ap is_some now_alone ∙ sym (ap is_some alone)) (λ some. absurd (false≢true (sym (ap is_some alone) ∙ some)))
       list w (no-slot o now_alone ∙ sym (no-slot (row_at rows place) alone)) timers t d e (now_still ∙ sym still)
@@ -129,11 +130,6 @@ nodes-kept : (list after : Listing) (slot : Option ℕ) → IfNone slot (after �
 nodes-kept list after None h = ap (λ (l : Listing). l.nodes) h
 nodes-kept list after (Some s) h = h
 
-pub record Moves {K V : Type 0} (rows : List (Option (Row (Record K V)))) (list after : Listing) (number : ℕ) : Type 0 where
-  pub written : IsWritten rows after
-  pub written_is : written_of rows after.nodes ≡ number_to_back number (written_of rows list.nodes)
-  pub cursor_is : cursor_of rows after.cursor ≡ cursor_past number (written_of rows list.nodes) (cursor_of rows list.cursor)
-
 module _ {K V : Type 0} (rows : List (Option (Row (Record K V)))) (list after : Listing) (w : IsWritten rows list) (d : IsNumbered (row_at rows)) (place : ℕ) (row : Row (Record K V)) (at_is : row_at rows place ≡ Some row) where
   moved-listed : (slot : Option ℕ) → written_in row ≡ slot → IfSome slot (λ s. (p : ℕ) → lookup (nat_eq s) list.nodes ≡ Some p → after.nodes ≡ remove_entry (nat_eq s) list.nodes ++ (s, p) ∷ []) → ((s : ℕ) → lookup (nat_eq s) after.nodes ≡ lookup (nat_eq s) list.nodes)
       → IfNone slot (after ≡ list) → IsListed written_in rows after.nodes
@@ -144,7 +140,8 @@ module _ {K V : Type 0} (rows : List (Option (Row (Record K V)))) (list after : 
       → IfSome slot (λ s. (p : ℕ) → lookup (nat_eq s) list.nodes ≡ Some p → after.nodes ≡ remove_entry (nat_eq s) list.nodes ++ (s, p) ∷ [])
       → ((s : ℕ) → lookup (nat_eq s) after.nodes ≡ lookup (nat_eq s) list.nodes)
       → after ≡ record list { nodes = after.nodes; cursor = node_past slot list.nodes list.cursor }
-      → IfNone slot (after ≡ list) → IsCursor after.nodes after.cursor → Moves rows list after row.number
+      → IfNone slot (after ≡ list) → IsCursor after.nodes after.cursor
+      → WrittenAfter rows after (number_to_back row.number (written_of rows list.nodes)) (cursor_past row.number (written_of rows list.nodes) (cursor_of rows list.cursor))
   moves slot is some u rest none cursor = record {
     written = record {
       listed = moved-listed slot is some u none;
@@ -171,13 +168,6 @@ module _ {K V : Type 0} (rows new : List (Option (Row (Record K V)))) (list afte
   other-member row c p ne = read-other (λ (row : Row (Record K V)). row.membership) (row_at rows) (row_at new) place (Some row) c p ne
 
   -- the row becomes a member
-  pub record Enters : Type 0 where
-    pub written : IsWritten new after
-    pub timed : IsTimed new timers
-    pub written_is : written_of new after.nodes ≡ entered_by list.ordered was.number (written_of rows list.nodes)
-    pub cursor_is : cursor_of new after.cursor ≡ cursor_of rows list.cursor
-    pub timers_is : timers_of timers new ≡ timers_of timers rows
-
   module _ (m : Membership) (alone : was.membership ≡ None) (c : ChangesAt (row_at rows) (row_at new) place (Some (record was { membership = Some m })))
       (kept : is_some m.written ≡ list.ordered)
       (fresh : IfSome m.written (λ slot. lookup (nat_eq slot) list.nodes ≡ None))
@@ -196,7 +186,7 @@ module _ {K V : Type 0} (rows new : List (Option (Row (Record K V)))) (list afte
         listed-added written_in rows list.nodes w.listed s place after.nodes new (read-other written_in (row_at rows) (row_at new) place (Some row) c)
         (ap (option_and_then written_in) at_is ∙ ap (option_and_then (λ (m : Membership). m.written)) alone) (ap (option_and_then written_in) c.changed ∙ is) fresh nodes lookups
 
-    pub enters : Enters
+    pub enters : OrdersAfter new after timers (entered_by list.ordered was.number (written_of rows list.nodes)) (cursor_of rows list.cursor) (timers_of timers rows)
     unfolding row
     enters = record {
       written = record {
@@ -221,13 +211,6 @@ module _ {K V : Type 0} (rows new : List (Option (Row (Record K V)))) (list afte
     }
 
   -- the row is a member no longer
-  pub record Leaves : Type 0 where
-    pub written : IsWritten new after
-    pub timed : IsTimed new timers
-    pub written_is : written_of new after.nodes ≡ without_number was.number (written_of rows list.nodes)
-    pub cursor_is : cursor_of new after.cursor ≡ cursor_past was.number (written_of rows list.nodes) (cursor_of rows list.cursor)
-    pub timers_is : timers_of timers new ≡ timers_of timers rows
-
   module _ (m : Membership) (there : was.membership ≡ Some m) (still : was.timer ≡ None) (c : ChangesAt (row_at rows) (row_at new) place (Some (record was { membership = None })))
       (nodes : IfSome m.written (λ s. after.nodes ≡ remove_entry (nat_eq s) list.nodes))
       (lookups : IfSome m.written (λ s. (other : ℕ) → lookup (nat_eq other) after.nodes ≡ cond (nat_eq s other) None (lookup (nat_eq other) list.nodes)))
@@ -256,7 +239,7 @@ module _ {K V : Type 0} (rows new : List (Option (Row (Record K V)))) (list afte
     unfolding cursor_of bare
     left-cursor = elim after.cursor as (λ o. option_map (λ (m : ℕ × ℕ). number_at new m.1) o ≡ option_map (λ (m : ℕ × ℕ). number_at rows m.1) o) [ None ↦ refl | Some m ↦ ap Some (numbers-kept bare c refl m.1) ]
 
-    pub leaves : Leaves
+    pub leaves : OrdersAfter new after timers (without_number was.number (written_of rows list.nodes)) (cursor_past was.number (written_of rows list.nodes) (cursor_of rows list.cursor)) (timers_of timers rows)
     unfolding bare
     leaves = record {
       written = record {
@@ -284,16 +267,9 @@ module _ {K V : Type 0} (rows new : List (Option (Row (Record K V)))) (list afte
 
 -- ---- a timer is taken out
 
-pub record Untimes {K V : Type 0} (rows new : List (Option (Row (Record K V)))) (list : Listing) (timers after : FinMap nat_cmp Timer) (number : ℕ) : Type 0 where
-  pub written : IsWritten new list
-  pub timed : IsTimed new after
-  pub written_is : written_of new list.nodes ≡ written_of rows list.nodes
-  pub cursor_is : cursor_of new list.cursor ≡ cursor_of rows list.cursor
-  pub timers_is : timers_of after new ≡ remove (timers_of timers rows) number
-
-module _ {K V : Type 0} (rows new : List (Option (Row (Record K V)))) (list : Listing) (timers after : FinMap nat_cmp Timer) (w : IsWritten rows list) (t : IsTimed rows timers) (d : IsNumbered (row_at rows)) (e : IsNumbered (row_at new)) (place : ℕ) (was : Row (Record K V)) (at_is : row_at rows place ≡ Some was)
+module _ {K V : Type 0} (rows new : List (Option (Row (Record K V)))) (list : Listing) (timers after : FinMap nat_cmp Timer) (w : IsWritten rows list) (t : IsTimed rows timers) (d : IsNumbered (row_at rows)) (place : ℕ) (was : Row (Record K V)) (at_is : row_at rows place ≡ Some was)
     (c : ChangesAt (row_at rows) (row_at new) place (Some (record was { timer = None }))) (before : Option ℕ) (was_is : before ≡ was.timer) where
-  pub untimes : (slot : Option ℕ) (timed : Bool) → is_some slot ≡ (timed && false) → ((other : ℕ) → get after other ≡ timer_after timers before slot place None other) → Untimes rows new list timers after was.number
+  pub untimes : (slot : Option ℕ) (timed : Bool) → is_some slot ≡ (timed && false) → ((other : ℕ) → get after other ≡ timer_after timers before slot place None other) → OrdersAfter new list after (written_of rows list.nodes) (cursor_of rows list.cursor) (remove (timers_of timers rows) was.number)
   untimes slot timed kept lookups =
       let none : slot ≡ None = no-slot slot timed kept in
       let u : (other : ℕ) → get after other ≡ timer_after timers was.timer None place None other = λ other. lookups other ∙ ap (λ o. timer_after timers o slot place None other) was_is ∙ ap (λ o. timer_after timers was.timer o place None other) none in
@@ -303,7 +279,7 @@ module _ {K V : Type 0} (rows new : List (Option (Row (Record K V)))) (list : Li
         timed = timed-set rows new timers after t place was at_is None None c tt u (λ h. h) (λ h. absurd (false≢true h));
         written_is = s.written_is;
         cursor_is = s.cursor_is;
-        timers_is = timers-gone rows new timers after t place was at_is None None c tt u (λ h. h) d e refl;
+        timers_is = timers-gone rows new timers after t place was at_is None None c tt u (λ h. h) d refl;
       }
     where
       no-slot : (slot : Option ℕ) (timed : Bool) → is_some slot ≡ (timed && false) → slot ≡ None
@@ -313,17 +289,10 @@ module _ {K V : Type 0} (rows new : List (Option (Row (Record K V)))) (list : Li
 
 -- ---- a timer is set
 
-pub record Times {K V : Type 0} (rows new : List (Option (Row (Record K V)))) (list : Listing) (timers after : FinMap nat_cmp Timer) (timed : Bool) (number : ℕ) (at : Option ℕ) : Type 0 where
-  pub written : IsWritten new list
-  pub timed_is : IsTimed new after
-  pub written_is : written_of new list.nodes ≡ written_of rows list.nodes
-  pub cursor_is : cursor_of new list.cursor ≡ cursor_of rows list.cursor
-  pub timers_is : timers_of after new ≡ cond timed (with_timer (timers_of timers rows) number at) (timers_of timers rows)
-
-module _ {K V : Type 0} (rows new : List (Option (Row (Record K V)))) (list : Listing) (timers after : FinMap nat_cmp Timer) (w : IsWritten rows list) (t : IsTimed rows timers) (d : IsNumbered (row_at rows)) (e : IsNumbered (row_at new)) (place : ℕ) (was : Row (Record K V)) (at_is : row_at rows place ≡ Some was) where
+module _ {K V : Type 0} (rows new : List (Option (Row (Record K V)))) (list : Listing) (timers after : FinMap nat_cmp Timer) (w : IsWritten rows list) (t : IsTimed rows timers) (d : IsNumbered (row_at rows)) (place : ℕ) (was : Row (Record K V)) (at_is : row_at rows place ≡ Some was) where
   pub times : (slot : Option ℕ) → ChangesAt (row_at rows) (row_at new) place (Some (record was { timer = slot })) → (before : Option ℕ) → before ≡ was.timer → (timed : Bool) (at : Option ℕ) → is_some slot ≡ (timed && is_some at)
       → IfSome slot (λ s. (before ≡ Some s) ⊎ (get timers s ≡ None)) → ((other : ℕ) → get after other ≡ timer_after timers before slot place at other)
-      → (timed ≡ false → (s : ℕ) → get timers s ≡ None) → IsSome was.membership → Times rows new list timers after timed was.number at
+      → (timed ≡ false → (s : ℕ) → get timers s ≡ None) → IsSome was.membership → OrdersAfter new list after (written_of rows list.nodes) (cursor_of rows list.cursor) (cond timed (with_timer (timers_of timers rows) was.number at) (timers_of timers rows))
   times slot c before was_is timed at kept fresh lookups none member =
       let s = stays-timed rows new place was at_is slot c list w in
       let own : IfSome slot (λ s. (was.timer ≡ Some s) ⊎ (get timers s ≡ None)) = subst (λ o. IfSome slot (λ s. (o ≡ Some s) ⊎ (get timers s ≡ None))) was_is fresh in
@@ -331,10 +300,10 @@ module _ {K V : Type 0} (rows new : List (Option (Row (Record K V)))) (list : Li
       let some : IsSome slot → IsSome at = λ h. (and_parts timed (is_some at) (sym kept ∙ h)).1 in
       record {
         written = s.written;
-        timed_is = timed-set rows new timers after t place was at_is slot at c own u some (λ _. member);
+        timed = timed-set rows new timers after t place was at_is slot at c own u some (λ _. member);
         written_is = s.written_is;
         cursor_is = s.cursor_is;
-        timers_is = timers-set rows new timers after t place was at_is slot at c own u some d e ∙ shown timed at (is_some slot) kept none;
+        timers_is = timers-set rows new timers after t place was at_is slot at c own u some d ∙ shown timed at (is_some slot) kept none;
       }
     where
       present : (o : Option ℕ) → cond (is_some o) o None ≡ o
@@ -350,7 +319,7 @@ module _ {K V : Type 0} (rows new : List (Option (Row (Record K V)))) (list : Li
       shown : (timed : Bool) (at : Option ℕ) (given : Bool) → given ≡ (timed && is_some at) → (timed ≡ false → (s : ℕ) → get timers s ≡ None)
           → with_timer (timers_of timers rows) was.number (cond given at None) ≡ cond timed (with_timer (timers_of timers rows) was.number at) (timers_of timers rows)
       shown true at given kept none = ap (λ b. with_timer (timers_of timers rows) was.number (cond b at None)) kept ∙ ap (with_timer (timers_of timers rows) was.number) (present at)
-      shown false at given kept none = ap (λ b. with_timer (timers_of timers rows) was.number (cond b at None)) kept ∙ remove-none (timers_of timers rows) was.number (unmoved (none refl))
+      shown false at given kept none = ap (λ b. with_timer (timers_of timers rows) was.number (cond b at None)) kept ∙ altered-same (timers_of timers rows) was.number None (unmoved (none refl))
 
 pub some-moment : (o : Option Instant) → is_some (moment_of o) ≡ is_some o
 some-moment None = refl
@@ -370,6 +339,7 @@ pub record MemberPlace {K V : Type 0} (rows : List (Option (Row (Record K V)))) 
   pub at_is : row_at rows place ≡ Some row
   pub number_is : number_at rows place ≡ row.number
   pub place_is : get (places_of rows) row.number ≡ Some place
+  pub slot_is : IsSome (written_in row)
   pub counted_is : IsSome (counted_of row.number (map (member_at rows) nodes))
 
 module _ {K V : Type 0} (eq : K → K → Bool) (rows : List (Option (Row (Record K V)))) (index : KeyIndex K) (nodes : List (ℕ × ℕ)) (t : IsTied eq rows index nodes) where
@@ -398,14 +368,17 @@ module _ {K V : Type 0} (eq : K → K → Bool) (rows : List (Option (Row (Recor
         at_is = r.at_is;
         number_is = r.number_is;
         place_is = get-places rows t.numbered place r.row r.at_is;
+        slot_is = ap is_some r.slot_is;
         counted_is = counted-member place r.row r.at_is (written-member (Some r.row) (ap is_some r.slot_is));
       }
 
-  pub written-listed : (list : Listing) → IsWritten rows list → (slot place : ℕ) → lookup (nat_eq slot) list.nodes ≡ Some place → (row : Row (Record K V)) → row_at rows place ≡ Some row → is_listed row.number (written_of rows list.nodes) ≡ true
-  written-listed list w slot place h row at_is =
-      let r = slot-row written_in rows list.nodes w.listed (slot, place) (node-in list.nodes slot place h) in
-      let same : r.row ≡ row = (let both = sym r.at_is ∙ at_is in cc) in
-      listed-row rows list.nodes w.listed t.numbered place row at_is ∙ ap is_some (ap written_in (sym same) ∙ r.slot_is)
+  -- a handle to it
+  pub written-handle : {S : Type 0} (hasher : S) (timing : Timing) (spare room most : ℕ) (list : Listing) → IsWritten rows list → (slot place : ℕ) → lookup (nat_eq slot) list.nodes ≡ Some place → (handle : Handle) → handle.place ≡ place → ((row : Row (Record K V)) → row_at rows place ≡ Some row → handle.number ≡ row.number)
+      → IsOrdered (kept_of hasher rows nodes list timing spare room most) handle
+  written-handle hasher timing spare room most list w slot place h handle place_is number_is =
+      let n = written-place list w slot place h in
+      let number = number_is n.row n.at_is in
+      record { placed = rw (number, place_is) n.place_is; member = rw number n.counted_is; listed = rw number (listed-row rows list.nodes w.listed t.numbered place n.row n.at_is ∙ n.slot_is) }
 
 -- room for more changes no order
 pub written-grown : {K V : Type 0} (rows : List (Option (Row (Record K V)))) (list after : Listing) → IsWritten rows list → after ≡ record list { most = after.most } → IsWritten rows after

@@ -65,10 +65,10 @@ pub record Rewritten {R : Type 0} (es : List (Entry (Row R))) (len next place : 
   pub changes : ChangesAt (row_at (map value_of es)) (row_at (map value_of (set es place new))) place (Some row)
   pub count : count_by is_some (map value_of (set es place new)) ≡ count_by is_some (map value_of es)
 
-pub rewritten : {R : Type 0} (es : List (Entry (Row R))) (len next place : ℕ) (new : Entry (Row R)) (was row : Row R) → IsSound es len next → row_at (map value_of es) place ≡ Some was → new ≡ Occupied row → Rewritten es len next place new row
-rewritten es len next place new was row sound at same =
+pub rewritten : {R : Type 0} (es : List (Entry (Row R))) (len next place : ℕ) (e new : Entry (Row R)) (was row : Row R) → IsSound es len next → row_at (map value_of es) place ≡ Some was → e ≡ get_or es place e → (e ≡ Occupied was → new ≡ Occupied row) → Rewritten es len next place new row
+rewritten es len next place e new was row sound at read write =
     let found = row_there es place was at in
-    rw same (record {
+    rw (write (read_there es place was e at read)) (record {
       sound = IsSound-rewrite es len next place was row sound found;
       length = length-rows es place (Occupied row);
       rows = map-set value_of es place (Occupied row);

@@ -7,15 +7,16 @@ use Rattle.std.specs.FinMap.{FinMap, get, insert, remove, len, empty, get-empty}
 use Rattle.std.specs.Map.{lookup, remove_entry}
 use Rattle.std.specs.Option.{option_map, option_and_then, option_map_or}
 use Rattle.std.specs.Ordering.{nat_cmp}
-use Rattle.std.specs.Prelude.{option_to_list}
-use Rattle.moka_store.proofs.TableCalls.{get-records, get-places, record_row, placed_row, shows-inserted, shows-stored, shows-taken, shows-timed, shows-counted, shows-uncounted, shows-forgotten, with_stored-changes, count-with_stored}
+use Rattle.std.specs.Prelude.{IfSome, option_to_list}
+use Rattle.moka_store.proofs.TableCalls.{get-records, get-places, record_row, placed_row, shows-inserted, shows-stored, shows-forgotten, with_stored-changes, count-with_stored}
+use Rattle.moka_store.proofs.TableMaps.{alters-set, numbered-after}
 use Rattle.moka_store.proofs.Gets.{option-cases, some_is, get-inserted, len-kept}
 use Rattle.moka_store.specs.declared.table.membership.Membership.{Membership}
 use Rattle.moka_store.specs.RecordTable.{Row}
 use Rattle.moka_store.specs.RecordTable.{Table, row_at, number_at, stored_at, membership_at, with_stored, ChangesAt, records_of, places_of}
 use Rattle.moka_store.proofs.Keys.{index-same, index-added, index-removed}
 use Rattle.moka_store.proofs.Nodes.{in-nodes, node-in, lookup-remove, distinct-remove}
-use Rattle.moka_store.proofs.Orders.{stays-row}
+use Rattle.moka_store.proofs.Orders.{slot-there, stays-row}
 use Rattle.moka_store.proofs.Slots.{off-nodes, listed-kept, listed-added, listed-removed, listed-moved, listed-empty}
 use Rattle.moka_store.proofs.Timed.{untimed}
 use Rattle.moka_store.proofs.Ties.{read-other, read-same, named-changed, named-gone, access-kept, access-off, node_row, access-of, counted-row, without-row, unlisted-from}
@@ -26,7 +27,7 @@ use Rattle.moka_store.specs.Timing.{Timing}
 use Rattle.moka_store.specs.declared.store.Handle.{Handle}
 use Rattle.moka_store.specs.Store.{IsOneEach, IsHandle, ChangesRecord}
 use Rattle.moka_store.specs.StoreRows.{key_in, key_at, has_key_at, access_in, access_at, member_in, member_at, written_of, cursor_of, timers_of}
-use Rattle.moka_store.specs.StoreTies.{AreNarrow, KeyIndex, IsListed, IsIndex, IsNamed, IsTied, IsWritten, IsTimed, IsStore, kept_of}
+use Rattle.moka_store.specs.StoreTies.{AreNarrow, KeyIndex, IsListed, IsIndex, IsTied, IsWritten, IsTimed, IsStore, kept_of}
 use Rattle.moka_store.specs.Weights.{IsWeighed}
 use Rattle.moka_parts.specs.declared.records.Member.{Member}
 use Rattle.moka_parts.specs.declared.records.Record.{Record}
@@ -208,6 +209,13 @@ module _ {K V : Type 0} (eq : K → K → Bool) (rows : List (Option (Row (Recor
           counted_is = sym counted-placed ∙ ap (option_map (λ (m : Membership). m.counted)) e;
         }
 
+    -- its nodes in both lists
+    pub member-node : (m : Membership) → membership_at rows place ≡ Some m → IsSome (lookup (nat_eq m.access) nodes)
+    member-node m e = ap is_some (member-row m e).node_is
+
+    pub member-slot : (list : Listing) → IsWritten rows list → (m : Membership) → membership_at rows place ≡ Some m → IfSome m.written (λ slot. IsSome (lookup (nat_eq slot) list.nodes))
+    member-slot list written m e = let w = member-row m e in slot-there rows list written place w.row w.at_is m.written (ap (option_and_then (λ (m : Membership). m.written)) w.membership_is)
+
     -- a number that is not counted is of a row that is no member
     pub unlisted : (w : Placed rows place number) → counted_of number (map (member_at rows) nodes) ≡ None → w.row.membership ≡ None
     unlisted w none = unlisted-from eq rows index nodes t place w.row w.at_is (ap (λ n. counted_of n (map (member_at rows) nodes)) w.number_is ∙ none)
@@ -259,8 +267,14 @@ module _ {K V : Type 0} (eq : K → K → Bool) (laws : IsEquivalence eq) (rows 
         (ap (λ n. member n (option_map_or (λ (m : Membership). m.counted) row.membership 0)) n ∙ ap (λ m. member was.number (option_map_or (λ (m : Membership). m.counted) m 0)) e
         ∙ sym (ap (λ o. option_map_or member_in o (record { number = 0; counted = 0 })) at_is))
 
-    same-named : (row : Row (Record K V)) → ChangesAt (row_at rows) (row_at new) place (Some row) → row.number ≡ was.number → row.stored ≡ was.stored → IsNamed (row_at new)
-    same-named row c n s = named-changed (row_at rows) (row_at new) place t.named row c (λ r e. t.named.same place was r at_is (sym s ∙ e) ∙ sym n)
+    -- a row of the same number and record
+    same-record : (row : Row (Record K V)) → ChangesAt (row_at rows) (row_at new) place (Some row) → row.number ≡ was.number → row.stored ≡ was.stored → {after : List (ℕ × ℕ)} → IsListed access_in new after → IsTied eq new index after
+    same-record row c number stored listed = record {
+      numbered = numbered-after (alters-set t.numbered was row at_is number c);
+      named = named-changed (row_at rows) (row_at new) place t.named row c (λ r e. t.named.same place was r at_is (sym stored ∙ e) ∙ sym number);
+      indexed = same-keys row c (ap (option_map (λ (r : Record K V). r.key)) stored);
+      listed = listed;
+    }
 
     -- another record of the same number and key
     pub stored : (old r : Record K V) → was.stored ≡ Some old → r.number ≡ old.number → r.key ≡ old.key → ChangesAt (row_at rows) (row_at new) place (Some (record was { stored = Some r })) → Sees eq new index nodes (map (member_at rows) nodes)
@@ -268,7 +282,7 @@ module _ {K V : Type 0} (eq : K → K → Bool) (laws : IsEquivalence eq) (rows 
         let row : Row (Record K V) = record was { stored = Some r } in
         record {
           tied = record {
-            numbered = (shows-stored rows new place t.numbered was at_is r c).numbered;
+            numbered = numbered-after (alters-set t.numbered was row at_is refl c);
             named = named-changed (row_at rows) (row_at new) place t.named row c (λ s e. let same : r ≡ s = cc in ap (λ (r : Record K V). r.number) (sym same) ∙ number ∙ t.named.same place was old at_is is);
             indexed = same-keys row c (ap Some key ∙ sym (ap (option_map (λ (r : Record K V). r.key)) is));
             listed = same-members row c refl;
@@ -282,7 +296,7 @@ module _ {K V : Type 0} (eq : K → K → Bool) (laws : IsEquivalence eq) (rows 
         let row : Row (Record K V) = record was { stored = None } in
         record {
           tied = record {
-            numbered = (shows-taken rows new place t.numbered was at_is c).numbered;
+            numbered = numbered-after (alters-set t.numbered was row at_is refl c);
             named = named-changed (row_at rows) (row_at new) place t.named row c (λ s e. cc);
             indexed = index-removed eq (key_at rows) (key_at new) index t.indexed place (read-other key_in (row_at rows) (row_at new) place (Some row) c) (ap (option_and_then key_in) c.changed);
             listed = same-members row c refl;
@@ -295,12 +309,7 @@ module _ {K V : Type 0} (eq : K → K → Bool) (laws : IsEquivalence eq) (rows 
     retimed timer c =
         let row : Row (Record K V) = record was { timer = timer } in
         record {
-          tied = record {
-            numbered = (shows-timed rows new place t.numbered was at_is timer c).numbered;
-            named = same-named row c refl refl;
-            indexed = same-keys row c refl;
-            listed = same-members row c refl;
-          };
+          tied = same-record row c refl refl (same-members row c refl);
           access = same-access row c refl refl;
         }
 
@@ -311,13 +320,8 @@ module _ {K V : Type 0} (eq : K → K → Bool) (laws : IsEquivalence eq) (rows 
     admitted m after none free is u c =
         let row : Row (Record K V) = record was { membership = Some m } in
         record {
-          tied = record {
-            numbered = (shows-counted rows new place t.numbered was at_is m c).numbered;
-            named = same-named row c refl refl;
-            indexed = same-keys row c refl;
-            listed = listed-added access_in rows nodes t.listed m.access place after new (read-other access_in (row_at rows) (row_at new) place (Some row) c)
-                (ap (option_and_then access_in) at_is ∙ ap (option_map (λ (m : Membership). m.access)) none) (ap (option_and_then access_in) c.changed) free is u;
-          };
+          tied = same-record row c refl refl (listed-added access_in rows nodes t.listed m.access place after new (read-other access_in (row_at rows) (row_at new) place (Some row) c)
+              (ap (option_and_then access_in) at_is ∙ ap (option_map (λ (m : Membership). m.access)) none) (ap (option_and_then access_in) c.changed) free is u);
           access =
               ap (map (member_at new)) is ∙ map-append (member_at new) nodes ((m.access, place) ∷ [])
               ∙ ap (λ l. l ++ member_at new (m.access, place) ∷ []) (access-off rows new place (Some row) c nodes (off-nodes access_in rows nodes t.listed place was at_is (ap (option_map (λ (m : Membership). m.access)) none)))
@@ -333,12 +337,7 @@ module _ {K V : Type 0} (eq : K → K → Bool) (laws : IsEquivalence eq) (rows 
         let l = listed-removed access_in rows nodes t.listed m.access place after new (read-other access_in (row_at rows) (row_at new) place (Some row) c)
         (ap (option_and_then access_in) at_is ∙ ap (option_map (λ (m : Membership). m.access)) member_is) (ap (option_and_then access_in) c.changed) is u in
         record {
-          tied = record {
-            numbered = (shows-uncounted rows new place t.numbered was at_is c).numbered;
-            named = same-named row c refl refl;
-            indexed = same-keys row c refl;
-            listed = l;
-          };
+          tied = same-record row c refl refl l;
           access =
               access-off rows new place (Some row) c after (λ k h e.
               let there = l.linked.to_slot k.0 k.1 (in-nodes after k l.distinct h) in
@@ -356,12 +355,7 @@ module _ {K V : Type 0} (eq : K → K → Bool) (laws : IsEquivalence eq) (rows 
         let row : Row (Record K V) = record was { membership = Some (record m { counted = weight }) } in
         let there : access_at rows place ≡ Some m.access = ap (option_and_then access_in) at_is ∙ ap (option_map (λ (m : Membership). m.access)) member_is in
         record {
-          tied = record {
-            numbered = (shows-counted rows new place t.numbered was at_is (record m { counted = weight }) c).numbered;
-            named = same-named row c refl refl;
-            indexed = same-keys row c refl;
-            listed = listed-kept access_in rows after (listed-moved access_in rows nodes t.listed m.access place after is u) new (read-same access_in (row_at rows) (row_at new) place (Some row) c (sym there));
-          };
+          tied = same-record row c refl refl (listed-kept access_in rows after (listed-moved access_in rows nodes t.listed m.access place after is u) new (read-same access_in (row_at rows) (row_at new) place (Some row) c (sym there)));
           access =
               ap (map (member_at new)) is ∙ map-append (member_at new) (remove_entry (nat_eq m.access) nodes) ((m.access, place) ∷ [])
               ∙ ap (λ l. l ++ member_at new (m.access, place) ∷ []) (access-off rows new place (Some row) c (remove_entry (nat_eq m.access) nodes) (λ k h e.
@@ -424,9 +418,9 @@ module _ {K V S : Type 0} {hasher : S} (eq : K → K → Bool) (laws : IsEquival
   pub handled_at : Handled old.rows handle.place handle.number
   handled_at = handled eq old.rows index nodes s.tied handle.place handle.number h.placed h.stored
 
-  pub changed : (at : Handled old.rows handle.place handle.number) (f : Record K V → Record K V) → (f at.stored).number ≡ at.stored.number → (f at.stored).key ≡ at.stored.key → new ≡ record old { rows = with_stored old.rows handle.place (f at.stored) }
+  changed-at : (at : Handled old.rows handle.place handle.number) (f : Record K V → Record K V) → (f at.stored).number ≡ at.stored.number → (f at.stored).key ≡ at.stored.key → new ≡ record old { rows = with_stored old.rows handle.place (f at.stored) }
       → Changed hasher eq old new index nodes list timing keys spare most weight handle.number f
-  changed at f n k e =
+  changed-at at f n k e =
       let r = f at.stored in
       let rows = with_stored old.rows handle.place r in
       let c = with_stored-changes old.rows handle.place r at.row at.at_is in
@@ -460,6 +454,10 @@ module _ {K V S : Type 0} {hasher : S} (eq : K → K → Bool) (laws : IsEquival
         places = places;
         access = access;
       }
+
+  pub changed : (f : Record K V → Record K V) → ((r : Record K V) → (f r).number ≡ r.number) → ((r : Record K V) → (f r).key ≡ r.key) → ((r : Record K V) → stored_at old.rows handle.place ≡ Some r → new ≡ record old { rows = with_stored old.rows handle.place (f r) })
+      → Changed hasher eq old new index nodes list timing keys spare most weight handle.number f
+  changed f n k step = changed-at handled_at f (n handled_at.stored) (k handled_at.stored) (step handled_at.stored handled_at.stored_at_is)
 
 -- the empty store
 pub tied-empty : {K V : Type 0} (eq : K → K → Bool) (rows : List (Option (Row (Record K V)))) (index : KeyIndex K) (nodes : List (ℕ × ℕ)) → rows ≡ [] → index.entries ≡ empty → nodes ≡ [] → IsTied eq rows index nodes

@@ -9,9 +9,9 @@ use Rattle.std.specs.Option.{option_map, option_and_then}
 use Rattle.std.specs.Ordering.{nat_cmp}
 use Rattle.moka_store.specs.declared.table.membership.Membership.{Membership}
 use Rattle.moka_store.specs.RecordTable.{Row}
-use Rattle.moka_store.specs.RecordTable.{row_at, stored_at, membership_at, stored_if, find_at, with_stored, counted_in, records_of, counted_of, places_of, IsNumbered, ChangesAt}
+use Rattle.moka_store.specs.RecordTable.{altered, row_at, stored_at, membership_at, stored_if, find_at, with_stored, counted_in, records_of, counted_of, places_of, IsNumbered, ChangesAt}
 use Rattle.moka_index.proofs.Maps.{option-cases}
-use Rattle.moka_store.proofs.TableMaps.{row_at-within, some_is, get-map, map-found, numbered-set, map-set, map-unset, map-kept, numbered-added, map-added, map-not_added, numbered-gone, map-gone, map-not_gone}
+use Rattle.moka_store.proofs.TableMaps.{row_at-within, some_is, altered-same, get-map, map-found, alters-row, alters-set, alters-added, numbered-after, map-after, map-same}
 
 -- no number stands in two rows, and these are the maps
 pub record Shows {R : Type 0} (rows : List (Option (Row R))) (records : FinMap nat_cmp R) (counted places : FinMap nat_cmp ℕ) : Type 0 where
@@ -38,90 +38,73 @@ module _ {R : Type 0} (rows new : List (Option (Row R))) (place : ℕ) (d : IsNu
       → Shows new (insert (records_of rows) number stored) (counted_of rows) (insert (places_of rows) number place)
   unfolding records_of counted_of places_of
   shows-inserted number stored vacant fresh c =
-      let row : Row R = record { number = number; stored = Some stored; membership = None; timer = None } in
+      let a = alters-added d (record { number = number; stored = Some stored; membership = None; timer = None }) vacant fresh c in
       record {
-        numbered = numbered-added rows new place row d vacant fresh c;
-        records_is = map-added rows new place row d vacant fresh c (λ _ row. row.stored) stored refl;
-        counted_is = map-not_added rows new place row d vacant fresh c (λ _ row. counted_in row) refl;
-        places_is = map-added rows new place row d vacant fresh c (λ p _. Some p) place refl;
+        numbered = numbered-after a;
+        records_is = map-after a (λ _ row. row.stored);
+        counted_is = map-same a (λ _ row. counted_in row) (ap (option_and_then counted_in) vacant);
+        places_is = map-after a (λ p _. Some p);
       }
 
   module _ (was : Row R) (at_is : row_at rows place ≡ Some was) where
+    -- another row of the same number
+    shows-changed : (row : Row R) → row.number ≡ was.number → ChangesAt (row_at rows) (row_at new) place (Some row) → (records : FinMap nat_cmp R) (counted : FinMap nat_cmp ℕ)
+        → altered (records_of rows) was.number row.stored ≡ records → altered (counted_of rows) was.number (counted_in row) ≡ counted → Shows new records counted (places_of rows)
+    unfolding records_of counted_of places_of
+    shows-changed row number c records counted records_is counted_is =
+        let a = alters-set d was row at_is number c in
+        record {
+          numbered = numbered-after a;
+          records_is = map-after a (λ _ row. row.stored) ∙ records_is;
+          counted_is = map-after a (λ _ row. counted_in row) ∙ counted_is;
+          places_is = map-same a (λ p _. Some p) (ap (option_and_then (λ _. Some place)) at_is);
+        }
+
+    records-stay : altered (records_of rows) was.number was.stored ≡ records_of rows
+    unfolding records_of
+    records-stay = altered-same (records_of rows) was.number was.stored (get-map (λ _ row. row.stored) rows d place was at_is)
+
+    counted-stay : altered (counted_of rows) was.number (counted_in was) ≡ counted_of rows
+    unfolding counted_of
+    counted-stay = altered-same (counted_of rows) was.number (counted_in was) (get-map (λ _ row. counted_in row) rows d place was at_is)
+
     -- another record in a row
     pub shows-stored : (stored : R) → ChangesAt (row_at rows) (row_at new) place (Some (record was { stored = Some stored }))
         → Shows new (insert (records_of rows) was.number stored) (counted_of rows) (places_of rows)
-    unfolding records_of counted_of places_of
-    shows-stored stored c =
-        let row : Row R = record was { stored = Some stored } in
-        record {
-          numbered = numbered-set rows new place was row d at_is refl c;
-          records_is = map-set rows new place was row d at_is refl c (λ _ row. row.stored) stored refl;
-          counted_is = map-kept rows new place was row d at_is refl c (λ _ row. counted_in row) refl;
-          places_is = map-kept rows new place was row d at_is refl c (λ p _. Some p) refl;
-        }
+    shows-stored stored c = shows-changed (record was { stored = Some stored }) refl c _ _ refl counted-stay
 
     -- the record leaves
     pub shows-taken : ChangesAt (row_at rows) (row_at new) place (Some (record was { stored = None }))
         → Shows new (remove (records_of rows) was.number) (counted_of rows) (places_of rows)
-    unfolding records_of counted_of places_of
-    shows-taken c =
-        let row : Row R = record was { stored = None } in
-        record {
-          numbered = numbered-set rows new place was row d at_is refl c;
-          records_is = map-unset rows new place was row d at_is refl c (λ _ row. row.stored) refl;
-          counted_is = map-kept rows new place was row d at_is refl c (λ _ row. counted_in row) refl;
-          places_is = map-kept rows new place was row d at_is refl c (λ p _. Some p) refl;
-        }
+    shows-taken c = shows-changed (record was { stored = None }) refl c _ _ refl counted-stay
 
     -- a membership with this weight
     pub shows-counted : (m : Membership) → ChangesAt (row_at rows) (row_at new) place (Some (record was { membership = Some m }))
         → Shows new (records_of rows) (insert (counted_of rows) was.number m.counted) (places_of rows)
-    unfolding records_of counted_of places_of
-    shows-counted m c =
-        let row : Row R = record was { membership = Some m } in
-        record {
-          numbered = numbered-set rows new place was row d at_is refl c;
-          records_is = map-kept rows new place was row d at_is refl c (λ _ row. row.stored) refl;
-          counted_is = map-set rows new place was row d at_is refl c (λ _ row. counted_in row) m.counted refl;
-          places_is = map-kept rows new place was row d at_is refl c (λ p _. Some p) refl;
-        }
+    shows-counted m c = shows-changed (record was { membership = Some m }) refl c _ _ records-stay refl
 
     -- no membership
     pub shows-uncounted : ChangesAt (row_at rows) (row_at new) place (Some (record was { membership = None }))
         → Shows new (records_of rows) (remove (counted_of rows) was.number) (places_of rows)
-    unfolding records_of counted_of places_of
-    shows-uncounted c =
-        let row : Row R = record was { membership = None } in
-        record {
-          numbered = numbered-set rows new place was row d at_is refl c;
-          records_is = map-kept rows new place was row d at_is refl c (λ _ row. row.stored) refl;
-          counted_is = map-unset rows new place was row d at_is refl c (λ _ row. counted_in row) refl;
-          places_is = map-kept rows new place was row d at_is refl c (λ p _. Some p) refl;
-        }
+    shows-uncounted c = shows-changed (record was { membership = None }) refl c _ _ records-stay refl
 
     -- another timer
     pub shows-timed : (timer : Option ℕ) → ChangesAt (row_at rows) (row_at new) place (Some (record was { timer = timer }))
         → Shows new (records_of rows) (counted_of rows) (places_of rows)
-    unfolding records_of counted_of places_of
-    shows-timed timer c =
-        let row : Row R = record was { timer = timer } in
-        record {
-          numbered = numbered-set rows new place was row d at_is refl c;
-          records_is = map-kept rows new place was row d at_is refl c (λ _ row. row.stored) refl;
-          counted_is = map-kept rows new place was row d at_is refl c (λ _ row. counted_in row) refl;
-          places_is = map-kept rows new place was row d at_is refl c (λ p _. Some p) refl;
-        }
+    shows-timed timer c = shows-changed (record was { timer = timer }) refl c _ _ records-stay counted-stay
 
     -- a row with no record and no membership goes
     pub shows-forgotten : was.stored ≡ None → was.membership ≡ None → ChangesAt (row_at rows) (row_at new) place None
         → Shows new (records_of rows) (counted_of rows) (remove (places_of rows) was.number)
     unfolding records_of counted_of places_of
-    shows-forgotten bare alone c = record {
-      numbered = numbered-gone rows new place was d at_is c;
-      records_is = map-not_gone rows new place was d at_is c (λ _ row. row.stored) bare;
-      counted_is = map-not_gone rows new place was d at_is c (λ _ row. counted_in row) (ap (λ m. option_map (λ (m : Membership). m.counted) m) alone);
-      places_is = map-gone rows new place was d at_is c (λ p _. Some p);
-    }
+    shows-forgotten bare alone c =
+        let a = alters-row d was None at_is (λ row e. cc) c in
+        record {
+          numbered = numbered-after a;
+          records_is = map-same a (λ _ row. row.stored) (ap (option_and_then (λ (row : Row R). row.stored)) at_is ∙ bare);
+          counted_is = map-same a (λ _ row. counted_in row) (ap (option_and_then counted_in) at_is ∙ ap (λ m. option_map (λ (m : Membership). m.counted) m) alone);
+          places_is = map-after a (λ p _. Some p);
+        }
 
 module _ {R : Type 0} (rows : List (Option (Row R))) (place : ℕ) where
   -- the row that has a record
@@ -152,13 +135,13 @@ module _ {R : Type 0} (rows : List (Option (Row R))) (d : IsNumbered (row_at row
   -- the row of a record
   pub record_row : (n : ℕ) (r : R) → get (records_of rows) n ≡ Some r → (p : ℕ) × (row : Row R) × (row_at rows p ≡ Some row) × (row.number ≡ n) × (row.stored ≡ Some r)
   unfolding records_of
-  record_row n r h = let w = map-found (λ _ row. row.stored) rows d n r h in (w.place, w.row, w.at_is, w.number_is, w.value_is)
+  record_row n r h = let w = map-found (λ _ row. row.stored) rows n r h in (w.place, w.row, w.at_is, w.number_is, w.value_is)
 
   -- the row at a number's place
   pub placed_row : (place number : ℕ) → get (places_of rows) number ≡ Some place → (row : Row R) × (row_at rows place ≡ Some row) × (row.number ≡ number)
   unfolding places_of
   placed_row place number h =
-      let w = map-found (λ p _. Some p) rows d number place h in
+      let w = map-found (λ p _. Some p) rows number place h in
       let e : w.place ≡ place = (let x = w.value_is in cc) in
       (w.row, ap (row_at rows) (sym e) ∙ w.at_is, w.number_is)
 
@@ -223,5 +206,5 @@ module _ {R : Type 0} (rows : List (Option (Row R))) (place : ℕ) (stored : R) 
   pub numbered-with_stored : IsNumbered (row_at rows) → IsNumbered (row_at (with_stored rows place stored))
   numbered-with_stored d = elim (option-cases (row_at rows place)) as (λ _. IsNumbered (row_at (with_stored rows place stored))) [
     | inl none ↦ record { same = λ p q a b pe qe s. d.same p q a b (sym (with_stored-none none p) ∙ pe) (sym (with_stored-none none q) ∙ qe) s }
-    | inr w ↦ numbered-set rows (with_stored rows place stored) place w.0 (record w.0 { stored = Some stored }) d w.1 refl (with_stored-changes w.0 w.1)
+    | inr w ↦ numbered-after (alters-set d w.0 (record w.0 { stored = Some stored }) w.1 refl (with_stored-changes w.0 w.1))
   ]

@@ -9,8 +9,8 @@ use Rattle.std.specs.Option.{option_map, option_and_then}
 use Rattle.std.specs.Ordering.{nat_cmp}
 use Rattle.std.specs.Prelude.{IfSome, slice_index_or, slice_set}
 use Rattle.moka_structures.proofs.Linked.{linked-same}
-use Rattle.moka_index.proofs.Maps.{option-cases, option-same, get-inserted, get-past_insert, get-removed, get-past_remove}
-use Rattle.moka_store.proofs.TableMaps.{get-map, map-found}
+use Rattle.moka_index.proofs.Maps.{option-cases, option-same}
+use Rattle.moka_store.proofs.TableMaps.{get-map, map-found, alters-set, map-anew}
 use Rattle.moka_store.specs.RecordTable.{Row}
 use Rattle.moka_store.specs.RecordTable.{row_at, number_at, membership_at, map_of, IsNumbered, ChangesAt}
 use Rattle.moka_wheel.specs.Wheel.{Timer}
@@ -35,65 +35,20 @@ timer-there (Some t) place h = (t, refl)
 pub none-after : (before : Option ℕ) (place : ℕ) (at : Option ℕ) (other : ℕ) → get (empty {X = Timer} {R = nat_cmp}) other ≡ timer_after empty before None place at other
 none-after before place at other = elim (is_slot before other) as (λ b. get (empty {X = Timer} {R = nat_cmp}) other ≡ cond b None (get (empty {X = Timer} {R = nat_cmp}) other)) [ true ↦ get-empty nat_cmp other | false ↦ refl ]
 
--- ---- maps by number, of rows at which another function answers
-
-module _ {R X : Type 0} (f g : ℕ → Row R → Option X) (rows new : List (Option (Row R))) (d : IsNumbered (row_at rows)) (e : IsNumbered (row_at new)) where
-  -- what each row answers, a row of the same number answers as well
-  pub map-agrees : ((p : ℕ) (row : Row R) (x : X) → row_at rows p ≡ Some row → f p row ≡ Some x → (q : ℕ) × (other : Row R) × (row_at new q ≡ Some other) × (other.number ≡ row.number) × (g q other ≡ Some x))
-      → ((q : ℕ) (row : Row R) (x : X) → row_at new q ≡ Some row → g q row ≡ Some x → (p : ℕ) × (other : Row R) × (row_at rows p ≡ Some other) × (other.number ≡ row.number) × (f p other ≡ Some x))
-      → map_of g new ≡ map_of f rows
-  map-agrees forth back = same_map nat_cmp_total nat_cmp-IsAntisymmetric (map_of g new) (map_of f rows) (λ n. option-same (get (map_of g new) n) (get (map_of f rows) n)
-      (λ x h.
-      let w = map-found g new e n x h in
-      let o = back w.place w.row x w.at_is w.value_is in
-      ap (get (map_of f rows)) (sym w.number_is ∙ sym o.3) ∙ get-map f rows d o.0 o.1 o.2 ∙ o.4)
-      (λ x h.
-      let w = map-found f rows d n x h in
-      let o = forth w.place w.row x w.at_is w.value_is in
-      ap (get (map_of g new)) (sym w.number_is ∙ sym o.3) ∙ get-map g new e o.0 o.1 o.2 ∙ o.4))
-
-get-with_timer : (m : FinMap nat_cmp ℕ) (n : ℕ) (at : Option ℕ) → get (with_timer m n at) n ≡ at
-get-with_timer m n None = get-removed m n
-get-with_timer m n (Some t) = get-inserted m n t
-
-get-past_timer : (m : FinMap nat_cmp ℕ) (n : ℕ) (at : Option ℕ) (q : ℕ) → q ≢ n → get (with_timer m n at) q ≡ get m q
-get-past_timer m n None q ne = get-past_remove m n q ne
-get-past_timer m n (Some t) q ne = get-past_insert m n t q ne
-
-module _ {R : Type 0} (f g : ℕ → Row R → Option ℕ) (rows new : List (Option (Row R))) (d : IsNumbered (row_at rows)) (e : IsNumbered (row_at new)) (place : ℕ) (was row : Row R) where
-  -- one row answers anew, and all others as before
-  pub map-put : row_at rows place ≡ Some was → row_at new place ≡ Some row → row.number ≡ was.number → ((p : ℕ) → p ≢ place → row_at new p ≡ row_at rows p)
-      → ((p : ℕ) (other : Row R) → p ≢ place → row_at rows p ≡ Some other → g p other ≡ f p other)
-      → map_of g new ≡ with_timer (map_of f rows) was.number (g place row)
-  map-put was_is row_is number others same = same_map nat_cmp_total nat_cmp-IsAntisymmetric (map_of g new) (with_timer (map_of f rows) was.number (g place row)) (λ q.
-      elim (cases_eq q was.number) as (λ _. get (map_of g new) q ≡ get (with_timer (map_of f rows) was.number (g place row)) q) [
-        | inl here ↦
-            ap (get (map_of g new)) (here ∙ sym number) ∙ get-map g new e place row row_is
-            ∙ sym (get-with_timer (map_of f rows) was.number (g place row)) ∙ ap (get (with_timer (map_of f rows) was.number (g place row))) (sym here)
-        | inr away ↦
-            elsewhere q away ∙ sym (get-past_timer (map_of f rows) was.number (g place row) q away)
-      ])
-    where
-      elsewhere : (q : ℕ) → q ≢ was.number → get (map_of g new) q ≡ get (map_of f rows) q
-      elsewhere q away = option-same (get (map_of g new) q) (get (map_of f rows) q)
-          (λ x h.
-          let w = map-found g new e q x h in
-          let off : w.place ≢ place = (λ s.
-          let both : Some w.row ≡ Some row = sym w.at_is ∙ ap (row_at new) s ∙ row_is in
-          let one : w.row ≡ row = cc in
-          away (sym w.number_is ∙ ap (λ r. r.number) one ∙ number)) in
-          let old : row_at rows w.place ≡ Some w.row = sym (others w.place off) ∙ w.at_is in
-          ap (get (map_of f rows)) (sym w.number_is) ∙ get-map f rows d w.place w.row old ∙ sym (same w.place w.row off old) ∙ w.value_is)
-          (λ x h.
-          let w = map-found f rows d q x h in
-          let off : w.place ≢ place = (λ s.
-          let both : Some w.row ≡ Some was = sym w.at_is ∙ ap (row_at rows) s ∙ was_is in
-          let one : w.row ≡ was = cc in
-          away (sym w.number_is ∙ ap (λ r. r.number) one)) in
-          let now : row_at new w.place ≡ Some w.row = others w.place off ∙ w.at_is in
-          ap (get (map_of g new)) (sym w.number_is) ∙ get-map g new e w.place w.row now ∙ same w.place w.row off w.at_is ∙ w.value_is)
-
 -- ---- rows change, and no timer does
+
+-- a moment stays under its number, where the timers stay at their places, and the rows that have one keep their numbers
+moments-kept : {K V : Type 0} (rows new : List (Option (Row (Record K V)))) (timers : FinMap nat_cmp Timer) → IsNumbered (row_at new) → ((p : ℕ) → timer_at new p ≡ timer_at rows p) → ((p : ℕ) → IsSome (timer_at rows p) → number_at new p ≡ number_at rows p)
+    → (n at : ℕ) → get (timers_of timers rows) n ≡ Some at → get (timers_of timers new) n ≡ Some at
+unfolding timers_of
+moments-kept {K} {V} rows new timers d same keeps n at h =
+    let v = map-found (λ _ row. moment_in timers row) rows n at h in
+    let slot = read-of (λ slot. option_map (λ (t : Timer). t.at) (get timers slot)) v.row.timer at v.value_is in
+    let there : timer_at rows v.place ≡ Some slot.0 = ap (option_and_then (λ (row : Row (Record K V)). row.timer)) v.at_is ∙ slot.1 in
+    let w = read-of (λ (row : Row (Record K V)). row.timer) (row_at new v.place) slot.0 (same v.place ∙ there) in
+    let number : w.0.number ≡ n = sym (number-of new v.place w.0 w.1) ∙ keeps v.place (ap is_some there) ∙ number-of rows v.place v.row v.at_is ∙ v.number_is in
+    ap (get (map_of (λ _ row. moment_in timers row) new)) (sym number) ∙ get-map (λ _ row. moment_in timers row) new d v.place w.0 w.1
+    ∙ ap (option_and_then (λ slot. option_map (λ (t : Timer). t.at) (get timers slot))) (w.2 ∙ sym slot.1) ∙ v.value_is
 
 module _ {K V : Type 0} (rows new : List (Option (Row (Record K V)))) (timers : FinMap nat_cmp Timer) (t : IsTimed rows timers) (same : (p : ℕ) → timer_at new p ≡ timer_at rows p) where
   -- each row with a timer is still a member
@@ -105,20 +60,9 @@ module _ {K V : Type 0} (rows new : List (Option (Row (Record K V)))) (timers : 
 
   -- and has its number
   pub timers-kept : IsNumbered (row_at rows) → IsNumbered (row_at new) → ((p : ℕ) → IsSome (timer_at rows p) → number_at new p ≡ number_at rows p) → timers_of timers new ≡ timers_of timers rows
-  unfolding timers_of
-  timers-kept d e keeps = map-agrees (λ _ row. moment_in timers row) (λ _ row. moment_in timers row) rows new d e
-      (λ p row x at_is value.
-      let slot = read-of (λ slot. option_map (λ (t : Timer). t.at) (get timers slot)) row.timer x value in
-      let old : timer_at rows p ≡ Some slot.0 = ap (option_and_then (λ (row : Row (Record K V)). row.timer)) at_is ∙ slot.1 in
-      let w = read-of (λ (row : Row (Record K V)). row.timer) (row_at new p) slot.0 (same p ∙ old) in
-      let number = keeps p (ap is_some old) in
-      (p, w.0, w.1, sym (number-of new p w.0 w.1) ∙ number ∙ number-of rows p row at_is, ap (option_and_then (λ slot. option_map (λ (t : Timer). t.at) (get timers slot))) (w.2 ∙ sym slot.1) ∙ value))
-      (λ p row x at_is value.
-      let slot = read-of (λ slot. option_map (λ (t : Timer). t.at) (get timers slot)) row.timer x value in
-      let now : timer_at new p ≡ Some slot.0 = ap (option_and_then (λ (row : Row (Record K V)). row.timer)) at_is ∙ slot.1 in
-      let w = read-of (λ (row : Row (Record K V)). row.timer) (row_at rows p) slot.0 (sym (same p) ∙ now) in
-      let number = keeps p (ap is_some (sym (same p) ∙ now)) in
-      (p, w.0, w.1, sym (number-of rows p w.0 w.1) ∙ sym number ∙ number-of new p row at_is, ap (option_and_then (λ slot. option_map (λ (t : Timer). t.at) (get timers slot))) (w.2 ∙ sym slot.1) ∙ value))
+  timers-kept d e keeps = same_map nat_cmp_total nat_cmp-IsAntisymmetric (timers_of timers new) (timers_of timers rows) (λ n. option-same (get (timers_of timers new) n) (get (timers_of timers rows) n)
+      (moments-kept new rows timers d (λ p. sym (same p)) (λ p some. sym (keeps p (ap is_some (sym (same p)) ∙ some))) n)
+      (moments-kept rows new timers e same keeps n))
 
 -- ---- there are fewer timers than rows, where one has none
 
@@ -303,10 +247,10 @@ module _ {K V : Type 0} (rows new : List (Option (Row (Record K V)))) (timers af
       same None = refl
       same (Some x) = refl
 
-  pub timers-set : IsNumbered (row_at rows) → IsNumbered (row_at new) → timers_of after new ≡ with_timer (timers_of timers rows) was.number (cond (is_some slot) at None)
+  pub timers-set : IsNumbered (row_at rows) → timers_of after new ≡ with_timer (timers_of timers rows) was.number (cond (is_some slot) at None)
   unfolding timers_of
-  timers-set d e =
-      map-put (λ _ row. moment_in timers row) (λ _ row. moment_in after row) rows new d e place was (record was { timer = slot }) at_is c.changed refl c.others
+  timers-set d =
+      map-anew (alters-set d was (record was { timer = slot }) at_is refl c) (λ _ row. moment_in timers row) (λ _ row. moment_in after row)
       (λ p other ne there. elim (option-cases other.timer) as (λ _. moment_in after other ≡ moment_in timers other) [
         | inl none ↦ ap (option_and_then (λ s. option_map (λ (t : Timer). t.at) (get after s))) none ∙ sym (ap (option_and_then (λ s. option_map (λ (t : Timer). t.at) (get timers s))) none)
         | inr s ↦
@@ -317,8 +261,8 @@ module _ {K V : Type 0} (rows new : List (Option (Row (Record K V)))) (timers af
       ∙ ap (with_timer (map_of (λ _ row. moment_in timers row) rows) was.number) (moment-now slot refl)
 
   -- a timer taken out
-  pub timers-gone : IsNumbered (row_at rows) → IsNumbered (row_at new) → slot ≡ None → timers_of after new ≡ remove (timers_of timers rows) was.number
-  timers-gone d e none = timers-set d e ∙ ap (λ o. with_timer (timers_of timers rows) was.number (cond (is_some o) at None)) none
+  pub timers-gone : IsNumbered (row_at rows) → slot ≡ None → timers_of after new ≡ remove (timers_of timers rows) was.number
+  timers-gone d none = timers-set d ∙ ap (λ o. with_timer (timers_of timers rows) was.number (cond (is_some o) at None)) none
 
 module _ {K V : Type 0} (rows : List (Option (Row (Record K V)))) (timers : FinMap nat_cmp Timer) (t : IsTimed rows timers) (d : IsNumbered (row_at rows)) where
   -- the row of a timer in a slot
@@ -345,7 +289,7 @@ module _ {K V : Type 0} (rows : List (Option (Row (Record K V)))) (timers : FinM
   pub all-ahead : (now : ℕ) → ((slot : ℕ) (timer : Timer) → get timers slot ≡ Some timer → now < timer.at) → (n at : ℕ) → get (timers_of timers rows) n ≡ Some at → now < at
   unfolding timers_of
   all-ahead now ahead n at h =
-      let w = map-found (λ _ row. moment_in timers row) rows d n at h in
+      let w = map-found (λ _ row. moment_in timers row) rows n at h in
       let slot = read-of (λ slot. option_map (λ (t : Timer). t.at) (get timers slot)) w.row.timer at w.value_is in
       let timer = at-moment (get timers slot.0) at slot.2 in
       subst (λ x. now < x) timer.2 (ahead slot.0 timer.0 timer.1)

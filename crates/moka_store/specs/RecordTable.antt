@@ -1,7 +1,7 @@
 -- What a contract sees of a `RecordTable`: its rows by place, and the finite maps by number that they make.
 use Rattle.std.specs.Prelude.{◌≡◌, ◌≢◌, ℕ, zero, suc, Option, Some, None, List, length, slice_index_or, slice_set, cond, ◌==◌, refl}
 use Rattle.std.specs.Coded.{Coded, code_by, coded×, coded_ℕ, coded_list, coded_option}
-use Rattle.std.specs.FinMap.{FinMap, empty, insert}
+use Rattle.std.specs.FinMap.{FinMap, empty, insert, remove}
 use Rattle.std.specs.Option.{option_map, option_map_or, option_and_then}
 use Rattle.std.specs.Ordering.{nat_cmp}
 use Rattle.moka_store.specs.declared.table.membership.Membership.{Membership}
@@ -104,6 +104,11 @@ pub record IsNumbered {R : Type 0} (at : ℕ → Option (Row R)) : Type 0 where
   pub same : (p q : ℕ) (a b : Row R) → at p ≡ Some a → at q ≡ Some b → a.number ≡ b.number → p ≡ q
 
 -- ---- the maps, by number
+
+-- the map with this value under the number, or with none
+abbrev pub altered : {X : Type 0} → FinMap nat_cmp X → ℕ → Option X → FinMap nat_cmp X
+altered m number None = remove m number
+altered m number (Some x) = insert m number x
 
 -- the map with this value under the number, if there is one
 abbrev pub put_some : {X : Type 0} → ℕ → Option X → FinMap nat_cmp X → FinMap nat_cmp X

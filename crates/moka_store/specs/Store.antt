@@ -6,6 +6,7 @@ use Rattle.std.specs.List.{AllZip}
 use Rattle.std.specs.FinMap.{FinMap}
 use Rattle.std.specs.Ordering.{nat_cmp}
 use Rattle.moka_store.specs.declared.store.Handle.{Handle}
+use Rattle.moka_store.specs.RecordTable.{altered}
 use Rattle.moka_parts.specs.declared.policy.Instant.{Instant}
 use Rattle.moka_parts.specs.declared.records.Record.{Record}
 use Rattle.moka_parts.specs.declared.records.Member.{Member}
@@ -83,8 +84,7 @@ cursor_past n ns (Some m) = if m == n then number_after n ns else Some m
 
 -- the timers with this moment for the number, or with none
 abbrev pub with_timer : FinMap nat_cmp ℕ → ℕ → Option ℕ → FinMap nat_cmp ℕ
-with_timer timers n None = finite.remove timers n
-with_timer timers n (Some at) = finite.insert timers n at
+with_timer = altered
 
 module _ {K V : Type 0} where
   -- the number has a row at the place

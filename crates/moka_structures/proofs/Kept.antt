@@ -5,10 +5,11 @@ use Rattle.std.specs.Cmp.{nat_cmp_total}
 use Rattle.std.specs.FinMap.{FinMap, empty, insert, remove, len, get-empty, same_map, nat_cmp-IsAntisymmetric}
 use Rattle.std.specs.FinMap as map
 use Rattle.std.specs.Ordering.{nat_cmp}
+use Rattle.moka_links.proofs.FinMaps.{get-inserted, len-inserted}
 use Rattle.moka_structures.specs.Kept.{with_kept, AreApart, lesser}
 use Rattle.moka_structures.specs.declared.older.Kept.{Kept}
-use Rattle.moka_structures.proofs.Newest.{get-put, get-taken, get-put_same, get-put_other, taken-put, taken-under}
-use Rattle.moka_structures.proofs.Tickets.{len-put, some-empty}
+use Rattle.moka_structures.proofs.Newest.{get-put, get-taken, get-put_other, taken-put, taken-under}
+use Rattle.moka_structures.proofs.Tickets.{some-empty}
 
 module _ {X : Type 0} where
   -- no item, taken or not, is none
@@ -21,7 +22,7 @@ module _ {X : Type 0} where
     swapped : (k : ℕ) (y : X) (t : ℕ) (x : X) → k ≢ t → insert (insert m t x) k y ≡ insert (insert m k y) t x
     swapped k y t x ne = same_map nat_cmp_total nat_cmp-IsAntisymmetric (insert (insert m t x) k y) (insert (insert m k y) t x) (λ q.
         elim (cases_eq k q) as (λ _. map.get (insert (insert m t x) k y) q ≡ map.get (insert (insert m k y) t x) q) [
-          | inl e ↦ ap (map.get (insert (insert m t x) k y)) (sym e) ∙ get-put_same (insert m t x) k y ∙ sym (get-put_same m k y)
+          | inl e ↦ ap (map.get (insert (insert m t x) k y)) (sym e) ∙ get-inserted (insert m t x) k y ∙ sym (get-inserted m k y)
               ∙ ap (map.get (insert m k y)) e ∙ sym (get-put_other (insert m k y) t x q (λ s. ne (e ∙ sym s)))
           | inr n ↦ get-put_other (insert m t x) k y q n ∙ get-put m t x q
               ∙ sym (get-put (insert m k y) t x q ∙ ap (cond (nat_eq t q) (Some x)) (get-put_other m k y q n))
@@ -54,7 +55,7 @@ module _ {T : Type 0} where
 
   -- an item that was put is under its ticket
   put-at : (m : FinMap nat_cmp T) (k : Kept T) (t : ℕ) → k.ticket ≡ t → map.get (insert m k.ticket k.item) t ≡ Some k.item
-  put-at m k t e = ap (map.get (insert m k.ticket k.item)) (sym e) ∙ get-put_same m k.ticket k.item
+  put-at m k t e = ap (map.get (insert m k.ticket k.item)) (sym e) ∙ get-inserted m k.ticket k.item
 
   -- an item of the table has another ticket than the first of those kept
   not-first : (k : Kept T) (m : FinMap nat_cmp T) (t : ℕ) (x : T) → map.get m k.ticket ≡ None → map.get m t ≡ Some x → k.ticket ≢ t
@@ -164,7 +165,7 @@ module _ {T : Type 0} where
   pub len-kept : (ks : List (Kept T)) (m : FinMap nat_cmp T) → AreApart ks m → len m + length ks ≡ len (with_kept ks m)
   len-kept [] m h = omega arith
   len-kept (k ∷ ks) m h =
-      let one = len-put m k.ticket k.item (λ some. false≢true (subst (λ o. IsSome o) h.0 some)) in
+      let one = len-inserted m k.ticket k.item h.0 in
       let rest = len-kept ks (insert m k.ticket k.item) h.1 in
       omega arith
 
@@ -178,7 +179,7 @@ module _ {T : Type 0} where
   least-put None m k h =
       let gone : m ≡ empty = h.none.0 refl in
       let put = insert m k.ticket k.item in
-      let here : IsSome (map.get put k.ticket) = subst (λ o. IsSome o) (sym (get-put_same m k.ticket k.item)) refl in
+      let here : IsSome (map.get put k.ticket) = subst (λ o. IsSome o) (sym (get-inserted m k.ticket k.item)) refl in
       record {
         least = (
           here,
@@ -191,7 +192,7 @@ module _ {T : Type 0} where
       }
   least-put (Some a) m k h =
       let put = insert m k.ticket k.item in
-      let here : IsSome (map.get put k.ticket) = subst (λ o. IsSome o) (sym (get-put_same m k.ticket k.item)) refl in
+      let here : IsSome (map.get put k.ticket) = subst (λ o. IsSome o) (sym (get-inserted m k.ticket k.item)) refl in
       let below : (q : ℕ) → IsSome (map.get put q) → min a k.ticket ≤ q = λ q some. elim (cases_eq k.ticket q) as (λ _. min a k.ticket ≤ q) [
         | inl e ↦ omega arith
         | inr ne ↦ let l = h.least.1 q (subst (λ o. IsSome o) (get-put_other m k.ticket k.item q ne) some) in omega arith

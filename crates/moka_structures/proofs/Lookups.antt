@@ -1,9 +1,10 @@
-use Rattle.std.proofs.Common.{◌≡◌, ℕ, cond, List, [], ◌∷◌, ◌++◌, ◌⊎◌, Option, Some, None, nat_eq, inl, inr, refl, sym, ap, ◌∙◌}
+use Rattle.std.proofs.Common.{◌≡◌, ℕ, cond, List, [], ◌∷◌, ◌++◌, Some, None, nat_eq, inl, inr, refl, sym, ap, ◌∙◌}
 use Rattle.std.proofs.lemmas.Bool.{cases_eq, cases_Bool, eq-eqb, ne_eqb, eqb-true, cond-true, cond-false}
 use Rattle.std.proofs.lemmas.Map.{lookup-remove_entry}
 use Rattle.std.specs.Cmp.{nat_eq_equiv}
 use Rattle.std.specs.List.{IsDistinct}
 use Rattle.std.specs.Map.{lookup, remove_entry, keys_of}
+use Rattle.moka_links.proofs.FinMaps.{option-cases}
 
 module _ {T : Type 0} where
   -- a look-up after a slot was taken out
@@ -26,11 +27,6 @@ module _ {T : Type 0} where
     | inl y ↦ let no = sym (cond-true (nat_eq k m.0) (Some m.1) (lookup (nat_eq k) ms) y) ∙ h in cc
     | inr y ↦ cond-false (nat_eq k m.0) (Some m.1) (lookup (nat_eq k) (ms ++ (s, t) ∷ [])) y ∙ lookup-past ms k s t (sym (cond-false (nat_eq k m.0) (Some m.1) (lookup (nat_eq k) ms) y) ∙ h)
   ]
-
-  -- found or not
-  pub option-cases : (o : Option T) → (o ≡ None) ⊎ ((n : T) × (o ≡ Some n))
-  option-cases None = inl refl
-  option-cases (Some n) = inr (n, refl)
 
   -- every look-up after a push of a slot that was not there
   pub lookup-pushed : (ms : List (ℕ × T)) (s : ℕ) (t : T) (k : ℕ) → lookup (nat_eq s) ms ≡ None → lookup (nat_eq k) (ms ++ (s, t) ∷ []) ≡ cond (nat_eq k s) (Some t) (lookup (nat_eq k) ms)

@@ -6,9 +6,10 @@ use Rattle.std.specs.Cmp.{nat_cmp_total}
 use Rattle.std.specs.FinMap.{FinMap, empty, insert, remove, len, get-empty, get-insert, get-remove, len-remove, same_map, nat_cmp-IsAntisymmetric}
 use Rattle.std.specs.FinMap as map
 use Rattle.std.specs.Ordering.{nat_cmp, eq_by_cmp}
+use Rattle.moka_links.proofs.FinMaps.{get-inserted, get-past_insert, get-removed, get-past_remove, len-inserted, len-removed, len-some}
 use Rattle.moka_structures.specs.Newest.{with_newest, AreOlder}
 use Rattle.moka_structures.specs.declared.outstanding.Newest.{Newest}
-use Rattle.moka_structures.proofs.Tickets.{eq-tests, len-put, len-taken, not-some}
+use Rattle.moka_structures.proofs.Tickets.{eq-tests, not-some}
 
 module _ {X : Type 0} (m : FinMap nat_cmp X) (k : ℕ) where
   -- every look-up after one more
@@ -19,34 +20,26 @@ module _ {X : Type 0} (m : FinMap nat_cmp X) (k : ℕ) where
   pub get-taken : (q : ℕ) → map.get (remove m k) q ≡ cond (nat_eq k q) None (map.get m q)
   get-taken q = get-remove nat_cmp_total m k q ∙ ap (λ b. cond b None (map.get m q)) (eq-tests q k)
 
-  -- what was put is there
-  pub get-put_same : (x : X) → map.get (insert m k x) k ≡ Some x
-  get-put_same x = get-put x k ∙ cond-true (nat_eq k k) (Some x) (map.get m k) (eq-eqb k k refl)
-
-  -- and nothing else changed
+  -- nothing else changed
   pub get-put_other : (x : X) (q : ℕ) → k ≢ q → map.get (insert m k x) q ≡ map.get m q
-  get-put_other x q ne = get-put x q ∙ cond-false (nat_eq k q) (Some x) (map.get m q) (ne_eqb k q ne)
+  get-put_other x q ne = get-past_insert m k x q (λ e. ne (sym e))
 
   -- what was put is taken again
   pub taken-put : (x : X) → map.get m k ≡ None → remove (insert m k x) k ≡ m
   taken-put x none = same_map nat_cmp_total nat_cmp-IsAntisymmetric (remove (insert m k x) k) m (λ q.
-      get-remove nat_cmp_total (insert m k x) k q ∙ elim (cases_eq k q) as (λ _. cond (eq_by_cmp nat_cmp q k) None (map.get (insert m k x) q) ≡ map.get m q) [
-        | inl e ↦ cond-true (eq_by_cmp nat_cmp q k) None (map.get (insert m k x) q) (eq-tests q k ∙ eq-eqb k q e) ∙ sym none ∙ ap (map.get m) e
-        | inr ne ↦ cond-false (eq_by_cmp nat_cmp q k) None (map.get (insert m k x) q) (eq-tests q k ∙ ne_eqb k q ne) ∙ get-put_other x q ne
+      elim (cases_eq q k) as (λ _. map.get (remove (insert m k x) k) q ≡ map.get m q) [
+        | inl e ↦ ap (map.get (remove (insert m k x) k)) e ∙ get-removed (insert m k x) k ∙ sym none ∙ ap (map.get m) (sym e)
+        | inr ne ↦ get-past_remove (insert m k x) k q ne ∙ get-past_insert m k x q ne
       ])
 
   -- another is taken from under it
   pub taken-under : (x : X) (j : ℕ) → k ≢ j → insert (remove m j) k x ≡ remove (insert m k x) j
   taken-under x j ne = same_map nat_cmp_total nat_cmp-IsAntisymmetric (insert (remove m j) k x) (remove (insert m k x) j) (λ q.
-      get-insert nat_cmp_total (remove m j) k x q
-      ∙ elim (cases_eq k q) as (λ _. cond (eq_by_cmp nat_cmp q k) (Some x) (map.get (remove m j) q) ≡ map.get (remove (insert m k x) j) q) [
-        | inl e ↦ cond-true (eq_by_cmp nat_cmp q k) (Some x) (map.get (remove m j) q) (eq-tests q k ∙ eq-eqb k q e)
-            ∙ sym (get-remove nat_cmp_total (insert m k x) j q
-            ∙ cond-false (eq_by_cmp nat_cmp q j) None (map.get (insert m k x) q) (eq-tests q j ∙ ne_eqb j q (λ s. ne (e ∙ sym s)))
-            ∙ ap (map.get (insert m k x)) (sym e) ∙ get-put_same x)
-        | inr other ↦ cond-false (eq_by_cmp nat_cmp q k) (Some x) (map.get (remove m j) q) (eq-tests q k ∙ ne_eqb k q other)
-            ∙ get-remove nat_cmp_total m j q ∙ ap (cond (eq_by_cmp nat_cmp q j) None) (sym (get-put_other x q other))
-            ∙ sym (get-remove nat_cmp_total (insert m k x) j q)
+      elim (cases_eq q k) as (λ _. map.get (insert (remove m j) k x) q ≡ map.get (remove (insert m k x) j) q) [
+        | inl e ↦ ap (map.get (insert (remove m j) k x)) e ∙ get-inserted (remove m j) k x
+            ∙ sym (ap (map.get (remove (insert m k x) j)) e ∙ get-past_remove (insert m k x) j k ne ∙ get-inserted m k x)
+        | inr other ↦ get-past_insert (remove m j) k x q other ∙ get-remove nat_cmp_total m j q
+            ∙ sym (get-remove nat_cmp_total (insert m k x) j q ∙ ap (cond (eq_by_cmp nat_cmp q j) None) (get-past_insert m k x q other))
       ])
 
   -- as many as before, or one less where something was there
@@ -55,7 +48,9 @@ module _ {X : Type 0} (m : FinMap nat_cmp X) (k : ℕ) where
       let same : len (remove m k) ≡ len m = len-remove nat_cmp_total m k ∙ cond-false (map.contains_key m k) (len m - 1) (len m) (ap is_some (sym e)) in
       let sum : len (remove m k) + 0 ≡ len m = omega arith in
       sum
-  len-without (Some x) e = len-taken m k (ap is_some (sym e))
+  len-without (Some x) e =
+      let sum : len (remove m k) + 1 ≡ len m = omega (arith, len-removed m k x (sym e), len-some m k x (sym e)) in
+      sum
 
 module _ {T : Type 0} where
   -- the newest has another ticket, or there is none
@@ -97,7 +92,7 @@ module _ {T : Type 0} where
     with-some = ap (λ o. with_newest o m) is
 
     pub get-newest : (t : ℕ) → x.ticket ≡ t → map.get (with_newest o m) t ≡ Some x.item
-    get-newest t e = ap (map.get (with_newest o m)) (sym e) ∙ ap (λ i. map.get i x.ticket) with-some ∙ get-put_same m x.ticket x.item
+    get-newest t e = ap (map.get (with_newest o m)) (sym e) ∙ ap (λ i. map.get i x.ticket) with-some ∙ get-inserted m x.ticket x.item
 
     -- where it joins the older ones, all are as they were
     pub joined : (n : FinMap nat_cmp T) → n ≡ insert m x.ticket x.item → n ≡ with_newest o m
@@ -113,7 +108,7 @@ module _ {T : Type 0} where
       remove-newest t e = sym (ap (remove (with_newest o m)) (sym e) ∙ ap (λ i. remove i x.ticket) with-some ∙ taken-put m x.ticket x.item not-older)
 
       pub len-with : len (with_newest o m) ≡ len m + 1
-      len-with = ap len with-some ∙ len-put m x.ticket x.item (λ some. false≢true (subst (λ o. IsSome o) not-older some))
+      len-with = ap len with-some ∙ len-inserted m x.ticket x.item not-older
 
   -- where there is none, all are older
   pub joined-none : (o : Option (Newest T)) (m : FinMap nat_cmp T) → o ≡ None → m ≡ with_newest o m

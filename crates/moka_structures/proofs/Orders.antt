@@ -11,7 +11,7 @@ use Rattle.std.proofs.lemmas.Map.Entries.{lookup_from_place}
 use Rattle.std.specs.Cmp.{nat_eq_equiv}
 use Rattle.moka_links.specs.Chains.{free_of}
 use Rattle.moka_links.proofs.Chains.{Frees-same, no-frees}
-use Rattle.moka_links.proofs.Nodes.{set-keeps, set-other, set-same, Detached-detached, Attached-attached}
+use Rattle.moka_links.proofs.Nodes.{set-keeps, set-other, set-same, values-kept, Detached-detached, Attached-attached}
 use Rattle.moka_structures.specs.Order.{next_after}
 use Rattle.moka_structures.specs.Rings.{Ring}
 use Rattle.moka_links.specs.declared.Node.{Node}
@@ -111,7 +111,7 @@ module _ {T : Type 0} (past : T) where
       let order = order-of past ms (len - 1) s (remove o.slots h) (s ∷ o.frees)
       (parts-released past ds (remove o.slots h) o.frees free (parts-detached past ns o.slots o.frees free p s h l e) s (outside-detached past ns o.slots o.frees free p s h l e))
       (omega (arith, o.counted)) (omega (arith, o.total)) (rw size o.bounded) in
-      let nums : (i : ℕ) → values past ms i ≡ values past ns i = λ i. set-keeps past (λ n. n.value) ds s v i (omega (arith, near.within, d.size)) refl ∙ d.value i in
+      let nums : (i : ℕ) → values past ms i ≡ values past ns i = λ i. set-keeps past (λ n. n.value) ds s v i (omega (arith, near.within, d.size)) refl ∙ values-kept past ns ds s d.value d.value_at i in
       record { order = order; members_are = members-from ms (len - 1) s order ns nums; size_is = size }
 
   -- what `move_to_back` leaves
@@ -132,7 +132,7 @@ module _ {T : Type 0} (past : T) where
       let order = order-of past ms len free (xs ++ s ∷ []) o.frees (parts-attached past ds xs o.frees free p s u) (omega (arith, o.counted)) (omega (arith, o.total)) (rw size o.bounded) in
       record {
         order = order;
-        members_are = members-from ms len free order ns (λ i. a.value i ∙ d.value i) ∙ map_push (member past ns) xs s;
+        members_are = members-from ms len free order ns (λ i. values-kept past ds ms s a.value a.value_at i ∙ values-kept past ns ds s d.value d.value_at i) ∙ map_push (member past ns) xs s;
         size_is = size;
       }
 
@@ -161,8 +161,8 @@ module _ {T : Type 0} (past : T) where
       record {
         order = order;
         members_are = members-are ms (len + 1) next order ∙ map_push (member past ms) xs s
-            ∙ ap (λ l. l ++ member past ms s ∷ []) (members-same-on ns ms xs (λ k l. a.value (get_or xs k 0) ∙ kept k l))
-            ∙ ap (λ i. map (member past ns) xs ++ (s, i) ∷ []) (a.value s ∙ here);
+            ∙ ap (λ l. l ++ member past ms s ∷ []) (members-same-on ns ms xs (λ k l. values-kept past ns1 ms s a.value a.value_at (get_or xs k 0) ∙ kept k l))
+            ∙ ap (λ i. map (member past ns) xs ++ (s, i) ∷ []) (a.value_at ∙ here);
         size_is = a.size;
       }
 

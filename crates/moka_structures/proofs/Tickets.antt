@@ -1,7 +1,7 @@
 -- What each call leaves of the tickets and of their items.
-use Rattle.std.proofs.Common.{◌≡◌, ◌≢◌, ℕ, suc, ◌-◌, ◌+◌, ◌<◌, ◌≤◌, Bool, true, false, cond, ◌&&◌, T, List, [], ◌∷◌, ◌++◌, map, length, Option, Some, None, IsSome, IfSome, is_some, nat_eq, All, inl, inr, refl, sym, ap, subst, ◌∙◌, arith, rules, slice_get}
+use Rattle.std.proofs.Common.{◌≡◌, ◌≢◌, ℕ, suc, ◌+◌, ◌<◌, ◌≤◌, Bool, true, false, cond, ◌&&◌, T, List, [], ◌∷◌, ◌++◌, map, length, Option, Some, None, IsSome, IfSome, is_some, nat_eq, All, inl, inr, refl, sym, ap, subst, ◌∙◌, arith, rules, slice_get}
 use Rattle.std.proofs.lemmas.Bool.{cases_eq, cases_lt, cases_Bool, eq-eqb, ne_eqb, cond-true, cond-false, false≢true}
-use Rattle.std.specs.FinMap.{FinMap, empty, entries, entries_sorted, get-entries, from_entries, insert, remove, len, len-insert, len-remove, len-empty, empty_of_len, get-empty, get-insert, get-remove, same_map, nat_cmp-IsAntisymmetric}
+use Rattle.std.specs.FinMap.{FinMap, empty, entries, entries_sorted, get-entries, from_entries, insert, remove, len, len-insert, len-empty, get-empty, get-insert, get-remove, same_map, nat_cmp-IsAntisymmetric}
 use Rattle.std.specs.FinMap.Entries.{find, below_all, is_sorted}
 use Rattle.std.specs.FinMap as map
 use Rattle.std.specs.Cmp.{nat_cmp_total, nat_eq_equiv, unsigned_tied}
@@ -242,23 +242,6 @@ module _ {X : Type 0} where
             let above : e.0 < t = found-above t e.0 es parts.0 (subst (λ b. IsSome (cond b (Some e.1) (find nat_cmp t es))) (unsigned_tied t e.0 ∙ ne_eqb t e.0 ne) f) in
             absurd (omega arith)
       ]
-
-  -- a key counts
-  some-len : (m : FinMap nat_cmp X) (k : ℕ) → IsSome (map.get m k) → 0 < len m
-  some-len m k h = elim (cases_lt 0 (len m)) as (λ _. 0 < len m) [
-    | inl l ↦ l
-    | inr g ↦
-        let none : map.get m k ≡ None = ap (λ n. map.get n k) (empty_of_len m (omega arith)) ∙ get-empty nat_cmp k in
-        absurd (false≢true (subst (λ o. IsSome o) none h))
-  ]
-
-  -- one more key
-  pub len-put : (m : FinMap nat_cmp X) (k : ℕ) (x : X) → (IsSome (map.get m k) → ⊥) → len (insert m k x) ≡ len m + 1
-  len-put m k x h = len-insert nat_cmp_total m k x ∙ cond-false (map.contains_key m k) (len m) (len m + 1) (ap is_some (not-some (map.get m k) h))
-
-  -- one key less
-  pub len-taken : (m : FinMap nat_cmp X) (k : ℕ) → IsSome (map.get m k) → len (remove m k) + 1 ≡ len m
-  len-taken m k h = let s = some-len m k h in let e = len-remove nat_cmp_total m k ∙ cond-true (map.contains_key m k) (len m - 1) (len m) h in omega arith
 
   -- the least key stands first
   pub first-key : (m : FinMap nat_cmp X) (t : ℕ) → IsSome (map.get m t) → ((q : ℕ) → IsSome (map.get m q) → t ≤ q) → slice_get (map.keys m) 0 ≡ Some t

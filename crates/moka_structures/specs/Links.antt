@@ -3,6 +3,7 @@ use Rattle.std.specs.Prelude.{◌≡◌, ◌≢◌, ℕ, zero, suc, ◌+◌, ◌
 use Rattle.moka_links.specs.declared.Node.{Node}
 use Rattle.moka_links.specs.Chains.{Frees, free_of}
 use Rattle.moka_links.specs.Links as links
+pub use Rattle.moka_links.specs.Links.{blank, at, befores, behinds, values, with_behind, with_value, detached}
 use Rattle.moka_structures.specs.Rings.{Ring}
 
 -- the slot at each place of the ring: the sentinel's, then the members', then the sentinel's again
@@ -11,41 +12,9 @@ ring_of xs i = slice_index_or (0 ∷ xs) i 0
 
 -- past the last node a node with this value is read, which no link leads to
 module _ {T : Type 0} (past : T) where
-  -- what is read past the end
-  abbrev pub blank : Node T
-  blank = links.blank past
-
-  -- the node at a slot
-  abbrev pub at : List (Node T) → ℕ → Node T
-  at = links.at past
-
-  -- the slot behind a node is written
-  abbrev pub with_behind : List (Node T) → ℕ → ℕ → List (Node T)
-  with_behind = links.with_behind past
-
-  -- the value of a node is written
-  abbrev pub with_value : List (Node T) → ℕ → T → List (Node T)
-  with_value = links.with_value past
-
-  -- the node at the slot is taken out of the ring
-  abbrev pub detached : List (Node T) → ℕ → List (Node T)
-  detached = links.detached past
-
   -- the node at the slot is put before the sentinel
   abbrev pub attached : List (Node T) → ℕ → List (Node T)
   attached ns s = links.attached past ns s 0
-
-  -- the values as a plain function of the slot
-  abbrev pub values : List (Node T) → ℕ → T
-  values = links.values past
-
-  -- the links as plain functions of the slot
-  abbrev pub behinds : List (Node T) → ℕ → ℕ
-  behinds = links.behinds past
-
-  -- the links back
-  abbrev pub befores : List (Node T) → ℕ → ℕ
-  befores = links.befores past
 
   -- the members' slots form one ring with the sentinel, and all other slots a chain that begins at `free`
   pub record IsOrder (ns : List (Node T)) (len free : ℕ) : Type 0 where
@@ -54,19 +23,19 @@ module _ {T : Type 0} (past : T) where
     pub counted : len ≡ length slots
     pub total : length slots + length frees + 1 ≡ length ns
     pub bounded : length ns ≤ 2 ^ 32
-    pub ring : Ring (behinds ns) (befores ns) (ring_of slots) (length slots) (length ns)
-    pub chain : Frees (behinds ns) (free_of frees) (length frees) free (length ns)
+    pub ring : Ring (behinds past ns) (befores past ns) (ring_of slots) (length slots) (length ns)
+    pub chain : Frees (behinds past ns) (free_of frees) (length frees) free (length ns)
     pub apart : (i j : ℕ) → i ≤ length slots → j < length frees → ring_of slots i ≢ free_of frees j
 
   -- so many slots, each behind the one before it
   abbrev pub walk : List (Node T) → ℕ → ℕ → List ℕ
   walk ns zero s = []
-  walk ns (suc n) s = s ∷ walk ns n (at ns s).behind
+  walk ns (suc n) s = s ∷ walk ns n (at past ns s).behind
 
   -- what a contract sees of the node in a slot
   abbrev pub member : List (Node T) → ℕ → ℕ × T
-  member ns s = (s, values ns s)
+  member ns s = (s, values past ns s)
 
   -- the members from the front to the back
   abbrev pub members_of : List (Node T) → ℕ → List (ℕ × T)
-  members_of ns len = map (member ns) (walk ns len (at ns 0).behind)
+  members_of ns len = map (member ns) (walk ns len (at past ns 0).behind)

@@ -1,4 +1,4 @@
-//! What is printed of replies that no worked script calls forth.
+//! What is printed of replies, also of those that no worked script calls forth.
 use crate::printed::check;
 use moka_parts::calls::{DriveRefused, KvEntry, Reply, Ticket};
 use moka_parts::error::{CapacityError, InsertError, OutOfMemory, SendError};
@@ -24,7 +24,7 @@ fn check_reply<R: Abort + AllocGlobal>(
     Ok(())
 }
 
-/// The replies that no script calls forth yet.
+/// Replies, two of them refusals of memory, which no script calls forth.
 #[test]
 fn prints_replies(rt: HostRuntime) -> Result<(), Fail> {
     let entry = KvEntry {

@@ -3,7 +3,6 @@ use crate::report::Texts;
 use moka_engine::{
     FixedClock, IdSource, Instant, NoPredicate, NoTest, OutOfMemory, PredicateError, PredicateId,
 };
-use uuid::Uuid;
 
 /// The hash that the engine is handed with each key: it finds keys by hashes of its own.
 pub const HASH: u64 = 7;
@@ -81,7 +80,7 @@ impl IdSource for Ids {
 
     fn next_id(&mut self) -> PredicateId {
         self.0 = self.0.wrapping_add(1);
-        Uuid::from_u128(self.0)
+        PredicateId::from_u128(self.0)
     }
 }
 

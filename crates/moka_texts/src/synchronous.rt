@@ -58,14 +58,18 @@ impl Maker {
 #[derive(Clone, Copy)]
 pub enum Removal {
     Remove,
+    RemoveBy,
     Invalidate,
+    InvalidateBy,
 }
 
 impl Removal {
     fn name(self) -> &'static str {
         match self {
             Removal::Remove => "Cache::remove",
+            Removal::RemoveBy => "Cache::remove_by",
             Removal::Invalidate => "Cache::invalidate",
+            Removal::InvalidateBy => "Cache::invalidate_by",
         }
     }
 }
@@ -177,19 +181,20 @@ fn is_nothing_made(alloc: Global, cache: &mut Cached, number: u64) -> Result<boo
     Ok(declined.is_none() && failed == Err(7) && !cache.contains_key(&asked, now))
 }
 
-fn remove_by(
+fn remove(
     cache: &mut Cached,
     removal: Removal,
     key: &String,
     now: Instant,
 ) -> Result<(), NotTold<String>> {
     let clock = &mut FixedClock(now);
+    let form = key.as_str();
+    let hash = cache.hash_of(&form);
     match removal {
-        Removal::Remove => {
-            cache.remove(key, now, clock)?;
-            Ok(())
-        }
+        Removal::Remove => cache.remove(key, now, clock).map(|_| ()),
+        Removal::RemoveBy => cache.remove_by(&form, hash, now, clock).map(|_| ()),
         Removal::Invalidate => cache.invalidate(key, now, clock),
+        Removal::InvalidateBy => cache.invalidate_by(&form, hash, now, clock),
     }
 }
 
@@ -202,7 +207,7 @@ pub fn take_out<W: Write>(
     now: Instant,
 ) -> Result<()> {
     let before = told_by(cache);
-    if let Err(refused) = remove_by(cache, removal, key, now) {
+    if let Err(refused) = remove(cache, removal, key, now) {
         tell_refused(
             out,
             removal.name(),
@@ -210,7 +215,7 @@ pub fn take_out<W: Write>(
             &told_by(cache),
         )?;
         cache.insert(key.clone()?, refused.value, now, &mut FixedClock(now))?;
-        remove_by(cache, removal, key, now)?;
+        remove(cache, removal, key, now)?;
     }
     Ok(())
 }
@@ -283,9 +288,11 @@ fn take_some_out<W: Write>(
     cache: &mut Cached,
     number: u64,
 ) -> Result<()> {
-    let removal = match number % 3 {
+    let removal = match number % 6 {
         1 => Removal::Remove,
         2 => Removal::Invalidate,
+        4 => Removal::RemoveBy,
+        5 => Removal::InvalidateBy,
         _ => return Ok(()),
     };
     let key = text(alloc, "key", number)?;

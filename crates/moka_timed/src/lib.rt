@@ -6,6 +6,7 @@ pub mod cache;
 pub mod clock;
 pub mod entry_selector;
 mod iter;
+mod many;
 mod removals;
 mod saves;
 

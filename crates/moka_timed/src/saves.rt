@@ -1,18 +1,19 @@
 //! The visible entries in the order of access, and a cache made again from them.
-ghost use Rattle.std.specs.Prelude.{◌≡◌, ◌∷◌, ◌++◌, Bool, List, IfOk, IfErr};
+ghost use Rattle.std.specs.Prelude.{◌≡◌, ◌∷◌, ◌++◌, [], Bool, false, List, IfOk, IfErr, OnErr};
 ghost use Rattle.std.specs.Vec.Iter.{into_iter_items};
+ghost use Rattle.moka_parts.specs.State.{is_disabled};
 ghost use Rattle.moka_parts.specs.declared.calls.Reply.TheVariants as reply;
 ghost use Rattle.moka_parts.specs.declared.policy.Instant.{Instant};
 ghost use Rattle.moka_engine.specs.Snapshots.{scene_of};
 ghost use Rattle.moka_engine.specs.declared.base_cache.restores.Restored.{Restored};
 ghost use Rattle.moka_parts.specs.Hashing.{key_hash};
-ghost use Rattle.moka_drive.specs.Saved.{AddsOnly, AreAllMembers, AreSaved, AreThere, PutsManyBack, TakesOnlyExpired};
+ghost use Rattle.moka_drive.specs.Saved.{AddsOnly, AreAllMembers, AreSaved, AreThere, IsRestored, PutsBack, PutsManyBack, TakesOnlyExpired};
 ghost use Rattle.moka_drive.specs.Synchronous.{Just, Makes, meaning_of, own_run};
 ghost use Rattle.moka_drive.specs.Unsent.{HidesNoMore};
 
 use crate::cache::TimedCache;
 use moka_drive::cache::RestoreManyRefused;
-use moka_engine::base_cache::Restored;
+use moka_engine::base_cache::{RestoreRefused, Restored};
 use moka_parts::closures::{PredicateFn, Weigher};
 use moka_parts::error::OutOfMemory;
 use moka_parts::housekeeper::Clock;
@@ -50,6 +51,33 @@ impl<
     {
         let now = self.clock.now();
         self.cache.save(alloc, now, &mut self.clock)
+    }
+
+    /// Puts an entry back whose key has none, with the moments and the expiry that it had, and posts its operation as
+    /// an insert does at the clock's moment. A cache of capacity 0 drops it.
+    ///
+    /// # Errors
+    /// As `Cache::restore_entry`.
+    pub fn restore_entry(&mut self, item: Restored<K, V>) -> Result<(), RestoreRefused<K, V>>
+    where
+        K: Drop,
+        V: Drop,
+        P: Drop,
+        ensures made { (now : Instant) × (read : C) × C.reads self.old.clock now read
+            × PutsBack (meaning_of K.eq L.tells P.says W.weighs C.reads X.created X.read X.updated)
+            (λ h k. key_hash S.BuildHasher S.Hasher.Hasher h (K.hash_input k)) now item result
+            self.old.cache.engine read self.new.cache.engine self.new.clock
+            × TakesOnlyExpired W.weighs (item ∷ []) now.0 self.old.cache.engine.state self.new.cache.engine.state }
+        ensures kept { IfOk result (λ _. is_disabled self.old.cache.engine.state.capacity ≡ false
+            → IsRestored K.eq self.new.cache.engine.state item) }
+        ensures adds { AddsOnly (item ∷ []) self.old.cache.engine.state self.new.cache.engine.state }
+        ensures hides { HidesNoMore self.old.cache.engine.state self.new.cache.engine.state }
+        ensures back { IfErr result (λ refused. refused.item ≡ item) }
+        ensures unchanged { OnErr result (self.new.cache.engine.state ≡ self.old.cache.engine.state) }
+        ensures counted { self.new.cache.stats ≡ self.old.cache.stats }
+    {
+        let now = self.clock.now();
+        self.cache.restore_entry(item, now, &mut self.clock)
     }
 
     /// Puts each entry back, in order, with the moments and the expiry that it had. Runs of maintenance that this

@@ -1,5 +1,5 @@
 //! A cache of which nothing is left past its time: its operations wait and are sent in the order of their writing.
-ghost use Rattle.std.specs.Prelude.{◌≡◌, ◌==◌, ◌≤◌, ℕ, true, false, None, Some, IfErr, OnErr};
+ghost use Rattle.std.specs.Prelude.{◌≡◌, ◌==◌, ℕ, true, false, None, Some, IfErr, OnErr};
 ghost use Rattle.std.specs.FinMap.{empty, get};
 ghost use Rattle.moka_engine.specs.Order.{IsInOrder};
 ghost use Rattle.moka_engine.specs.State.{is_disabled, keeps_write_list};

@@ -28,6 +28,11 @@ fn remove_tea(prices: &mut Prices<ManualClock>) -> Result<Option<u64>> {
     Ok(prices.remove_by(&"tea", hash)?)
 }
 
+fn invalidate_tea(prices: &mut Prices<ManualClock>) -> Result<()> {
+    let hash = prices.hash_of(&"tea");
+    Ok(prices.invalidate_by(&"tea", hash)?)
+}
+
 #[test]
 fn removes_a_price_by_a_text(rt: HostRuntime) -> Result<()> {
     let alloc = rt.alloc();
@@ -36,6 +41,10 @@ fn removes_a_price_by_a_text(rt: HostRuntime) -> Result<()> {
     let name = format!(in alloc; "tea")?;
     set(&mut prices, name, 3)?;
     assert_equal(&rt, remove_tea(&mut prices)?, Some(3));
+    assert_equal(&rt, price(&mut prices, "tea")?, None);
+    let name = format!(in alloc; "tea")?;
+    set(&mut prices, name, 4)?;
+    invalidate_tea(&mut prices)?;
     assert_equal(&rt, price(&mut prices, "tea")?, None);
     Ok(())
 }

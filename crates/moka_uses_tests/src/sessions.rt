@@ -1,6 +1,6 @@
 //! Tests of `moka_uses::sessions`.
 use crate::equal::assert_equal;
-use anyhow::Result;
+use anyhow::{Result, bail};
 use moka_engine::Instant;
 use moka_timed::ManualClock;
 use moka_uses::sessions::{log_in, log_out, start, touch};
@@ -11,7 +11,7 @@ fn lasts_while_it_is_used(rt: HostRuntime) -> Result<()> {
     let clock = ManualClock { now: Instant(0) };
     let mut sessions = start(rt.alloc(), Duration::from_nanos(100), clock)?;
     if sessions.cache.engine().is_map_disabled() {
-        return Ok(());
+        bail!("a cache of sessions keeps nothing");
     }
     log_in(&mut sessions, 1, 10)?;
     for (later, token) in [(99, Some(10)), (99, Some(10)), (100, None)] {
@@ -19,7 +19,7 @@ fn lasts_while_it_is_used(rt: HostRuntime) -> Result<()> {
         assert_equal(&rt, touch(&mut sessions, 1)?, token);
     }
     if sessions.cache.engine().is_map_disabled() {
-        return Ok(());
+        bail!("a cache of sessions keeps nothing");
     }
     log_in(&mut sessions, 2, 20)?;
     assert_equal(&rt, log_out(&mut sessions, 2), Some(20));

@@ -18,7 +18,7 @@ fn keeps_what_fits(rt: HostRuntime) -> Result<()> {
     }
     let kept = keep_bound(&mut cache, now);
     assert_equal(&rt, kept.most, Some(42));
-    assert!(rt; kept.weight > 0);
+    assert!(rt; kept.weight > 0 && kept.weight <= 42);
     Ok(())
 }
 

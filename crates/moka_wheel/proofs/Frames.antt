@@ -1,24 +1,17 @@
 -- Which timers there are after each step, and how many stand in a bucket.
-use Rattle.std.proofs.Common.{◌≡◌, ◌≢◌, ℕ, ◌+◌, ◌<◌, ◌≤◌, cond, nat_eq, nat_lt, List, Option, Some, None, length, set, length-set, inl, inr, refl, sym, ap, ◌∙◌, subst, arith}
+use Rattle.std.proofs.Common.{◌≡◌, ◌≢◌, ℕ, ◌+◌, ◌<◌, ◌≤◌, cond, nat_eq, nat_lt, List, Some, None, length, set, length-set, inl, inr, refl, sym, ap, ◌∙◌, subst, arith}
 use Rattle.std.proofs.lemmas.Bool.{cases_eq, cases_lt, cond-true, cond-false, eq-eqb, ne_eqb, lt-ltb, le-ltb}
 use Rattle.std.proofs.lemmas.List.Sums.{sum_by-set}
 use Rattle.std.specs.List.{sum_by}
 use Rattle.moka_links.proofs.Nodes as linked
 use Rattle.moka_wheel.specs.declared.nodes.Entry.{Entry}
-use Rattle.moka_wheel.specs.Wheel.{Timer}
 use Rattle.moka_wheel.specs.Nodes.{Node, nothing, blank, at, befores, behinds, buckets, moments, numbers, detached, attached, held, timer_at}
 use Rattle.moka_wheel.specs.Buckets.{IsTimer, IsPlaced, Keeps}
 use Rattle.moka_wheel.proofs.Sound.{detached-fields, attached-fields}
 
--- what decides a node's timer
-timer : ℕ → ℕ → ℕ → Option Timer
-timer k n a = cond (nat_lt k 2049) (Some (record { number = n; at = a })) None
-
-pub held-is : (ns ms : List Node) (i : ℕ) → nat_lt (buckets ms i) 2049 ≡ nat_lt (buckets ns i) 2049 → numbers ms i ≡ numbers ns i → moments ms i ≡ moments ns i → timer_at ms i ≡ timer_at ns i
-held-is ns ms i b n a =
-    ap (λ t. cond (nat_lt i 2049) None (cond t (Some (record { number = numbers ms i; at = moments ms i })) None)) b
-    ∙ ap (λ x. cond (nat_lt i 2049) None (cond (nat_lt (buckets ns i) 2049) (Some (record { number = x; at = moments ms i })) None)) n
-    ∙ ap (λ x. cond (nat_lt i 2049) None (cond (nat_lt (buckets ns i) 2049) (Some (record { number = numbers ns i; at = x })) None)) a
+-- what a node holds decides its timer
+pub held-is : (ns ms : List Node) (i : ℕ) → (at ms i).value ≡ (at ns i).value → timer_at ms i ≡ timer_at ns i
+held-is ns ms i e = ap (λ (e : Entry). cond (nat_lt i 2049) None (cond (nat_lt e.bucket 2049) (Some (record { number = e.number; at = e.at })) None)) e
 
 pub past-head : (ns : List Node) (i : ℕ) → 2049 ≤ i → timer_at ns i ≡ held (at ns i)
 past-head ns i l = cond-false (nat_lt i 2049) None (held (at ns i)) (le-ltb i 2049 l)
@@ -57,14 +50,15 @@ detach-removes ns ws w r s placed t =
     let d = detached-fields ns ws w r s placed t in
     let p = placed.links.back s t.within t.held in
     let b = placed.links.on s t.within t.held in
+    let free : buckets ms s ≡ 2049 = ap (λ (e : Entry). e.bucket) d.value_at in
     record {
       size = d.size;
-      gone = held-none ms s (omega (arith, d.bucket_at));
-      others = λ i ne. held-is ns ms i (ap (λ k. nat_lt k 2049) (d.bucket i ne)) (d.number i) (d.moment i);
+      gone = held-none ms s (omega (arith, free));
+      others = λ i ne. held-is ns ms i (d.value i ne);
       free = λ i l. d.whole i (not-free ns s s refl t.held i l) (not-free ns s (befores ns s) p.same t.held i l) (not-free ns s (behinds ns s) b.same t.held i l);
-      bucket = d.bucket_at;
-      number = d.number s;
-      moment = d.moment s;
+      bucket = free;
+      number = ap (λ (e : Entry). e.number) d.value_at;
+      moment = ap (λ (e : Entry). e.at) d.value_at;
     }
 
 -- a timer comes into slot s
@@ -82,12 +76,11 @@ attach-adds ns ws w r s h placed past inside low =
     let h_in : h < length ns = omega (arith, placed.links.sized) in
     let held_h : buckets ns h < 2049 = omega (arith, kh) in
     let p = placed.links.back h h_in held_h in
+    let bucket_at : buckets ms s ≡ h = ap (λ (e : Entry). e.bucket) a.value_at in
     record {
       size = a.size;
-      here = held-some ms s past (omega (arith, a.bucket_at))
-          ∙ ap (λ n. Some (record { number = n; at = moments ms s })) (a.number s)
-          ∙ ap (λ x. Some (record { number = numbers ns s; at = x })) (a.moment s);
-      others = λ i ne. held-is ns ms i (ap (λ k. nat_lt k 2049) (a.bucket i ne)) (a.number i) (a.moment i);
+      here = held-some ms s past (omega (arith, bucket_at)) ∙ ap (λ (e : Entry). Some (record { number = e.number; at = e.at })) a.value_at;
+      others = λ i ne. held-is ns ms i (a.value i ne);
       free = λ i ne l. a.whole i ne (not-free ns h (befores ns h) p.same held_h i l) (not-free ns h h refl held_h i l);
     }
 
@@ -140,7 +133,7 @@ count-detached k ns s low ls lp lb e =
     let d = linked.Detached-detached nothing ns s lp lb in
     let x : Node = record (at os s) { value = record (at os s).value { bucket = 2049 } } in
     let same : count k os ≡ count k ns = count-kept k ms b w (omega (arith, length-set ns p v)) refl ∙ count-kept k ns p v lp refl in
-    let was : names k (at os s) ≡ 1 = cond-true (nat_eq (buckets os s) k) 1 0 (eq-eqb _ _ (ap (λ (i : Entry). i.bucket) (d.value s) ∙ e)) in
+    let was : names k (at os s) ≡ 1 = cond-true (nat_eq (buckets os s) k) 1 0 (eq-eqb _ _ (ap (λ (i : Entry). i.bucket) d.value_at ∙ e)) in
     let now : names k x ≡ 0 = cond-false (nat_eq 2049 k) 1 0 (ne_eqb 2049 k (λ z. omega arith)) in
     omega (arith, sum_by-set (names k) os s x blank (omega (arith, d.size)), was, now, same)
 
@@ -161,6 +154,6 @@ count-attached k ns s h ls lh ll ne nh =
     let a = linked.Attached-attached nothing ns s h ls lh ll in
     let x : Node = record (at os s) { value = record (at os s).value { bucket = h } } in
     let same : count k os ≡ count k ns = count-kept k ms3 h v4 (omega arith) refl ∙ count-kept k ms2 last v3 (omega arith) refl ∙ count-kept k ms1 s v2 (omega arith) refl ∙ count-kept k ns s v1 ls refl in
-    let was : names k (at os s) ≡ 0 = cond-false (nat_eq (buckets os s) k) 1 0 (ne_eqb _ _ (λ z. ne (sym (ap (λ (i : Entry). i.bucket) (a.value s)) ∙ z))) in
+    let was : names k (at os s) ≡ 0 = cond-false (nat_eq (buckets os s) k) 1 0 (ne_eqb _ _ (λ z. ne (sym (ap (λ (i : Entry). i.bucket) a.value_at) ∙ z))) in
     let now : names k x ≡ 0 = cond-false (nat_eq h k) 1 0 (ne_eqb h k nh) in
     omega (arith, sum_by-set (names k) os s x blank (omega (arith, a.size)), was, now, same)

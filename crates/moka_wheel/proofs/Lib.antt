@@ -1,7 +1,6 @@
 pub mod Parts
 pub mod Bits
 pub mod Rings
-pub mod Fields
 pub mod Moves
 pub mod Sound
 pub mod Frames

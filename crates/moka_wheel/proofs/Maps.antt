@@ -1,15 +1,16 @@
 -- The timers of the nodes as a map.
 use Rattle.std.proofs.Common.{◌≡◌, ℕ, cond, nat_eq, List, Some, None, length, inl, inr, sym, ap, ◌∙◌, arith}
-use Rattle.std.proofs.lemmas.Bool.{cases_eq, cases_lt, cond-true, cond-false, eq-eqb, ne_eqb}
+use Rattle.std.proofs.lemmas.Bool.{cases_eq, cases_lt}
 use Rattle.std.proofs.lemmas.Cmp.{nat_cmp_total}
 use Rattle.std.proofs.lemmas.List.{get_or_past}
 use Rattle.std.specs.Ordering.{nat_cmp}
 use Rattle.std.specs.FinMap.{FinMap, get, insert, remove, same_map, nat_cmp-IsAntisymmetric}
+use Rattle.moka_links.proofs.FinMaps.{get-put, get-inserted, get-past_insert, get-taken, get-removed, get-past_remove}
 use Rattle.moka_wheel.specs.Wheel.{Timer}
 use Rattle.moka_wheel.specs.Nodes.{Node, blank, timer_at, timers_of}
 use Rattle.moka_wheel.specs.Buckets.{Keeps, Puts, Takes}
 use Rattle.moka_wheel.proofs.Frames.{held-none}
-use Rattle.moka_wheel.proofs.SlotMaps.{get-within, get-past, get-put, get-taken}
+use Rattle.moka_wheel.proofs.SlotMaps.{get-within, get-past}
 
 -- the map has in each slot the timer of its node
 pub get-timers : (ns : List Node) (q : ℕ) → get (timers_of ns) q ≡ timer_at ns q
@@ -26,14 +27,14 @@ keeps-timers ns ms k = same-timers ms (timers_of ns) (λ q. k.timers q ∙ sym (
 
 pub puts-timers : (ns ms : List Node) (s : ℕ) (t : Timer) → Puts ns ms s t → timers_of ms ≡ insert (timers_of ns) s t
 puts-timers ns ms s t p = same-timers ms (insert (timers_of ns) s t) (λ q. elim (cases_eq q s) as (λ _. timer_at ms q ≡ get (insert (timers_of ns) s t) q) [
-  | inl e ↦ ap (timer_at ms) e ∙ p.here ∙ sym (cond-true (nat_eq q s) (Some t) (get (timers_of ns) q) (eq-eqb q s e)) ∙ sym (get-put (timers_of ns) s t q)
-  | inr ne ↦ p.others q ne ∙ sym (get-timers ns q) ∙ sym (cond-false (nat_eq q s) (Some t) (get (timers_of ns) q) (ne_eqb q s ne)) ∙ sym (get-put (timers_of ns) s t q)
+  | inl e ↦ ap (timer_at ms) e ∙ p.here ∙ sym (get-inserted (timers_of ns) s t) ∙ ap (get (insert (timers_of ns) s t)) (sym e)
+  | inr ne ↦ p.others q ne ∙ sym (get-timers ns q) ∙ sym (get-past_insert (timers_of ns) s t q ne)
 ])
 
 pub takes-timers : (ns ms : List Node) (s next : ℕ) → Takes ns ms s next → timers_of ms ≡ remove (timers_of ns) s
 takes-timers ns ms s next p = same-timers ms (remove (timers_of ns) s) (λ q. elim (cases_eq q s) as (λ _. timer_at ms q ≡ get (remove (timers_of ns) s) q) [
-  | inl e ↦ ap (timer_at ms) e ∙ p.here ∙ sym (cond-true (nat_eq q s) None (get (timers_of ns) q) (eq-eqb q s e)) ∙ sym (get-taken (timers_of ns) s q)
-  | inr ne ↦ p.others q ne ∙ sym (get-timers ns q) ∙ sym (cond-false (nat_eq q s) None (get (timers_of ns) q) (ne_eqb q s ne)) ∙ sym (get-taken (timers_of ns) s q)
+  | inl e ↦ ap (timer_at ms) e ∙ p.here ∙ sym (get-removed (timers_of ns) s) ∙ ap (get (remove (timers_of ns) s)) (sym e)
+  | inr ne ↦ p.others q ne ∙ sym (get-timers ns q) ∙ sym (get-past_remove (timers_of ns) s q ne)
 ])
 
 -- ---- a look-up after each change

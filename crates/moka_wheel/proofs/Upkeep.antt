@@ -9,10 +9,10 @@ use Rattle.moka_wheel.specs.Wheel.{Timer}
 use Rattle.moka_wheel.specs.Nodes.{Node, blank, at, behinds, buckets, moments, numbers, timer_at, timers_of}
 use Rattle.moka_wheel.specs.Buckets.{AreBuckets, IsTimer, Keeps, Puts, Takes}
 use Rattle.moka_wheel.specs.Invariant.{IsWheel}
+use Rattle.moka_links.proofs.FinMaps.{len-inserted, len-kept, len-removed, len-some}
 use Rattle.moka_links.proofs.Chains.{Frees-same, more-frees, fewer-frees, free_of-rest, length-rest}
 use Rattle.moka_wheel.proofs.Frames.{head-none, held-none, held-some}
 use Rattle.moka_wheel.proofs.Maps.{get-timers, keeps-timers, puts-timers, takes-timers}
-use Rattle.moka_wheel.proofs.SlotMaps.{len-put-new, len-put-old, len-taken}
 
 -- a slot that has a timer
 pub is-timer : (ns : List Node) (s : ℕ) → IsSome (get (timers_of ns) s) → IsTimer ns s
@@ -70,7 +70,7 @@ reuse-wheel b b' count free next t o more placed puts size leads =
       wheel = record {
         placed = placed;
         small = omega (arith, size, o.small);
-        counted = omega (arith, o.counted, ap len (puts-timers ns ms free t puts), len-put-new (timers_of ns) free t none);
+        counted = omega (arith, o.counted, ap len (puts-timers ns ms free t puts), len-inserted (timers_of ns) free t none);
         frees = drop 1 o.frees;
         chain = subst (λ n. Frees (behinds ms) (free_of (drop 1 o.frees)) (length (drop 1 o.frees)) next n) (sym size)
             (fewer-frees (behinds ns) (behinds ms) o.frees free next (length ns) o.chain some (λ i p l. ap (λ (n : Node). n.behind) (same i p l)) leads);
@@ -100,7 +100,7 @@ append-wheel b b' count free slot t o full fits placed puts size is =
       wheel = record {
         placed = placed;
         small = omega (arith, size);
-        counted = omega (arith, o.counted, ap len (puts-timers ns ms slot t puts), len-put-new (timers_of ns) slot t none);
+        counted = omega (arith, o.counted, ap len (puts-timers ns ms slot t puts), len-inserted (timers_of ns) slot t none);
         frees = o.frees;
         chain = Frees-same (behinds ns) (behinds ms) (free_of o.frees) (length o.frees) free (length ns) (length ms) o.chain (omega (arith, size)) (λ i l. absurd (omega arith));
         past = λ j l. o.past j l;
@@ -121,7 +121,7 @@ reset-wheel b b' count free slot t o timer placed puts size =
     record {
       placed = placed;
       small = omega (arith, size, o.small);
-      counted = omega (arith, o.counted, ap len (puts-timers ns ms slot t puts), len-put-old (timers_of ns) slot t _ (timer-is ns slot timer));
+      counted = omega (arith, o.counted, ap len (puts-timers ns ms slot t puts), len-kept (timers_of ns) slot t _ (timer-is ns slot timer));
       frees = o.frees;
       chain = Frees-same (behinds ns) (behinds ms) (free_of o.frees) (length o.frees) free (length ns) (length ms) o.chain (omega (arith, size)) (λ i l. ap (λ (n : Node). n.behind) (same i l));
       past = o.past;
@@ -142,7 +142,7 @@ release-wheel b b' count free slot o timer placed takes size =
     let ms = b'.nodes.items in
     let other : (i : ℕ) → i < length o.frees → free_of o.frees i ≢ slot = λ i l. free-other b count free slot i o timer l in
     let same : (i : ℕ) → i < length o.frees → at ms (free_of o.frees i) ≡ at ns (free_of o.frees i) = λ i l. takes.free (free_of o.frees i) (o.unused i l) (other i l) in
-    let one : len (timers_of ms) + 1 ≡ count = omega (arith, o.counted, ap len (takes-timers ns ms slot free takes), len-taken (timers_of ns) slot _ (timer-is ns slot timer)) in
+    let one : len (timers_of ms) + 1 ≡ count = omega (arith, o.counted, ap len (takes-timers ns ms slot free takes), len-removed (timers_of ns) slot _ (timer-is ns slot timer), len-some (timers_of ns) slot _ (timer-is ns slot timer)) in
     record {
       wheel = record {
         placed = placed;

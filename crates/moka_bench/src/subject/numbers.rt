@@ -19,7 +19,7 @@ impl<
         let hash = self.engine.hash(&key);
         let found = self
             .engine
-            .get_with_hash(&key, hash, false, now, &mut CLOCK)?;
+            .get_with_own_hash(&key, hash, false, now, &mut CLOCK)?;
         match found {
             Some(entry) => Ok(Some(*entry.value())),
             None => Ok(None),

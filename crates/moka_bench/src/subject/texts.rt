@@ -55,7 +55,7 @@ impl<S: BuildHasher> Subject for Texts<S> {
         let found = self
             .driven
             .engine
-            .get_with_hash(key, hash, false, now, &mut CLOCK)?;
+            .get_with_own_hash(key, hash, false, now, &mut CLOCK)?;
         let Some(entry) = found else {
             return Ok(None);
         };

@@ -5,7 +5,7 @@ ghost use Rattle.std.specs.Prelude.{◌≡◌};
 ghost use Rattle.moka_parts.specs.Causes.{cause_of_removal, cause_of_replacement};
 ghost use Rattle.moka_engine.specs.BaseCache.{expiring_by};
 
-use moka_parts::expiry::{is_expired_by_tti, is_expired_by_ttl, is_invalid_entry};
+use moka_parts::expiry::is_invalid_entry;
 use moka_parts::notification::RemovalCause;
 use moka_parts::policy::{ExpirationPolicy, Instant};
 use moka_parts::record_ref::RecordRef;
@@ -19,11 +19,11 @@ pub(super) fn cause_of_replacement<K, V, X>(
 ) -> RemovalCause
     ensures { result ≡ cause_of_replacement (expiring_by policy.now) valid_after found.now now.0 }
 {
-    if is_expired_by_ttl(policy.time_to_live(), found.written(), now) {
+    if policy.is_past_time_to_live(found.written(), now) {
         RemovalCause::Expired
     } else if is_invalid_entry(valid_after, found.written()) {
         RemovalCause::Explicit
-    } else if is_expired_by_tti(policy.time_to_idle(), found.read(), now) {
+    } else if policy.is_past_time_to_idle(found.read(), now) {
         RemovalCause::Expired
     } else {
         RemovalCause::Replaced
@@ -39,9 +39,7 @@ pub(super) fn cause_of_removal<X>(
 ) -> RemovalCause
     ensures { result ≡ cause_of_removal (expiring_by policy.now) written.0 read.0 now.0 }
 {
-    if is_expired_by_ttl(policy.time_to_live(), written, now)
-        || is_expired_by_tti(policy.time_to_idle(), read, now)
-    {
+    if policy.is_past_time_to_live(written, now) || policy.is_past_time_to_idle(read, now) {
         RemovalCause::Expired
     } else {
         RemovalCause::Explicit

@@ -44,13 +44,12 @@ pub enum RestoreError {
     NoExpiry,
     /// There are not enough tickets left.
     NumbersUsedUp,
-    /// Memory was refused.
+    /// Memory was refused, or a record would need a place of more than 32 bits.
     OutOfMemory,
 }
 
 impl fmt::Display for RestoreError {
     ghost use Rattle.std.specs.Prelude.{Some};
-    ghost use Rattle.moka_store.specs.Hashing.{IsIndexHash};
     ghost use Rattle.moka_engine.specs.Restores.{restore_text};
 
     ghost output = { λ error. Some (restore_text error) };
@@ -92,7 +91,6 @@ pub struct RestoreRefused<K, V> {
 
 impl<K, V> fmt::Display for RestoreRefused<K, V> {
     ghost use Rattle.std.specs.Prelude.{Some};
-    ghost use Rattle.moka_store.specs.Hashing.{IsIndexHash};
     ghost use Rattle.moka_engine.specs.Restores.{restore_text};
 
     ghost output = { λ refused. Some (restore_text refused.error) };
@@ -118,8 +116,9 @@ impl<
     /// and the weigher is. Moments may lie in any order, and before those of other entries.
     ///
     /// # Errors
-    /// `KeyPresent` where the key has an entry, `NoExpiry` where the entry has an expiry of its own and the cache has
-    /// none set, and `NumbersUsedUp` and `OutOfMemory` as an insert. The entry comes back, and nothing has changed.
+    /// `KeyPresent` where the key has an entry, else `NoExpiry` where the entry has an expiry of its own and the cache
+    /// has none set, and else `NumbersUsedUp` and `OutOfMemory` as an insert. The entry comes back, and nothing has
+    /// changed.
     pub fn restore(&mut self, item: Restored<K, V>) -> Result<Ticket, RestoreRefused<K, V>>
         requires enabled { is_disabled self.old.state.capacity ≡ false }
         ensures step { RestoreStep W.weighs K.eq self.old.state item

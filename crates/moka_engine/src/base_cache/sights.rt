@@ -6,9 +6,7 @@ ghost use Rattle.moka_engine.specs.Sights.{lapse_of, IsSight};
 
 use super::BaseCache;
 use moka_parts::closures::{PredicateFn, Weigher};
-use moka_parts::expiry::{
-    is_expired_by_per_entry_ttl, is_expired_by_tti, is_expired_by_ttl, is_invalid_entry,
-};
+use moka_parts::expiry::{is_expired_by_per_entry_ttl, is_invalid_entry};
 use moka_parts::invalidator::PredicateId;
 use moka_parts::notification::Listener;
 use moka_parts::policy::{ExpirationPolicy, Expiry, Instant};
@@ -91,9 +89,9 @@ fn lapse_of<K, V, X>(
 {
     if is_expired_by_per_entry_ttl(found.expires(), now) {
         Some(Sight::Expired)
-    } else if is_expired_by_ttl(policy.time_to_live(), found.written(), now) {
+    } else if policy.is_past_time_to_live(found.written(), now) {
         Some(Sight::PastTimeToLive)
-    } else if is_expired_by_tti(policy.time_to_idle(), found.read(), now) {
+    } else if policy.is_past_time_to_idle(found.read(), now) {
         Some(Sight::PastTimeToIdle)
     } else if is_invalid_entry(valid_after, found.written())
         || is_invalid_entry(valid_after, found.read())

@@ -1,11 +1,11 @@
 //! The members in the order of access, and records that are put back.
-ghost use Rattle.std.specs.Prelude.{◌==◌, ◌≡◌, ◌+◌, ◌^◌, ◌<◌, IsSome, IfSome, None, option_map, slice_get};
+ghost use Rattle.std.specs.Prelude.{◌==◌, ◌≡◌, ◌+◌, ◌^◌, ◌<◌, ◌≤◌, IsSome, IfSome, None, option_map, slice_get};
 ghost use Rattle.std.specs.FinMap as finite;
 ghost use Rattle.std.specs.List.{IsDistinct};
 ghost use Rattle.moka_parts.specs.Records.{counted_of, member, numbers_of, record_of_key, with_record};
 ghost use Rattle.moka_parts.specs.declared.records.Operation.TheVariants.{Upsert};
 ghost use Rattle.moka_store.specs.Hashing.{IsIndexHash};
-ghost use Rattle.moka_store.specs.Store.{IsHandle, IsPlaced, member_after};
+ghost use Rattle.moka_store.specs.Store.{IsPlaced, member_after};
 ghost use Rattle.moka_inner.specs.Interior.{first_record, handing_out_inside};
 
 use super::{Hashes, Inner, first_record};
@@ -70,6 +70,7 @@ impl<K: Eq + Hash, V, S: BuildHasher> Inner<K, V, S> {
             (Upsert self.old.next_number 1 update.weight hashes.hash) self.new) {
               next_number = self.old.next_number + 1;
             } }
+        ensures room { self.old.kept.room ≤ self.new.kept.room + 1 }
     {
         let Hashes { hash, own } = hashes;
         let number = self.next_number;

@@ -103,7 +103,7 @@ impl<X> ExpirationPolicy<X> {
 
     /// Whether the time to live of an entry written then is over.
     #[inline(always)]
-    pub(crate) fn is_past_time_to_live(&self, written: Instant, now: Instant) -> bool
+    pub fn is_past_time_to_live(&self, written: Instant, now: Instant) -> bool
         ensures { result ≡ has_passed (deadline self.now.time_to_live written.0) now.0 }
     {
         self.time_to_live
@@ -113,7 +113,7 @@ impl<X> ExpirationPolicy<X> {
 
     /// Whether the time to idle of an entry read then is over.
     #[inline(always)]
-    pub(crate) fn is_past_time_to_idle(&self, read: Instant, now: Instant) -> bool
+    pub fn is_past_time_to_idle(&self, read: Instant, now: Instant) -> bool
         ensures { result ≡ has_passed (deadline self.now.time_to_idle read.0) now.0 }
     {
         self.time_to_idle

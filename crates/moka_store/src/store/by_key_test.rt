@@ -1,9 +1,8 @@
 //! Records by tests of their keys, and hashes of what is not a key.
-ghost use Rattle.std.specs.Prelude.{◌≡◌, IfSome, Some, false, true, option_map};
+ghost use Rattle.std.specs.Prelude.{◌≡◌, IfSome, Some, true, option_map};
 ghost use Rattle.std.specs.FinMap as finite;
 ghost use Rattle.moka_parts.specs.Hashing.{key_hash};
 ghost use Rattle.moka_parts.specs.KeyTests.{record_by};
-ghost use Rattle.moka_parts.specs.declared.records.Record.{Record};
 ghost use Rattle.moka_store.specs.Hashing.{IsIndexHash};
 ghost use Rattle.moka_store.specs.Store.{IsHandle};
 ghost use Rattle.moka_store.specs.StoreRows.{passes_at};

@@ -1,10 +1,10 @@
 //! Changes and reads at one place of the table.
-ghost use Rattle.std.specs.Prelude.{◌≡◌, ◌+◌, ◌^◌, ◌<◌, ◌≤◌, IsOk, IsSome, OnOk, Some, false, option_map};
+ghost use Rattle.std.specs.Prelude.{◌≡◌, ◌^◌, ◌<◌, ◌≤◌, IsOk, IsSome, OnOk, Some, option_map};
 ghost use Rattle.moka_store.specs.StoreRows.{has_key_at, member_in, row_room, timer_at, written_at};
 ghost use Rattle.moka_parts.specs.declared.records.Record.{Record};
 ghost use Rattle.moka_parts.specs.Records.{member};
 ghost use Rattle.moka_store.specs.RecordTable.{Row};
-ghost use Rattle.moka_store.specs.RecordTable.{row_at, stored_at, with_stored};
+ghost use Rattle.moka_store.specs.RecordTable.{row_at, stored_at};
 ghost use Rattle.moka_store.specs.Slots.{IsSlot};
 
 use super::Handle;

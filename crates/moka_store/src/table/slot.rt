@@ -3,7 +3,7 @@ ghost use Rattle.std.specs.Prelude.{◌≡◌, false, IfSome, IsSome, None, Some
 ghost use Rattle.std.specs.Option.{option_and_then, option_map};
 ghost use Rattle.slab.specs.declared.Entry.TheVariants.{Vacant, Occupied};
 ghost use Rattle.slab.specs.Entry.{value_of};
-ghost use Rattle.moka_store.specs.RecordTable.{Row, stored_if};
+ghost use Rattle.moka_store.specs.RecordTable.{Row};
 ghost use Rattle.moka_store.specs.Slots.{membership_of, slot_of, counted_as, IsSlot, HasSlots};
 ghost use Rattle.moka_store.specs.States.{front_of, touched, rewritten};
 

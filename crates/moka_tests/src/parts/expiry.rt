@@ -69,7 +69,8 @@ fn hides_what_has_lapsed(rt: HostRuntime) {
     }
 }
 
-/// An entry is created with 8 seconds, and reads at 5 and 11 seconds answer 9 and 10 seconds.
+/// An entry is created with 8 seconds. A read at 5 seconds answers 9; at 11 seconds one answers the second that is
+/// left, which changes nothing, and one answers none.
 #[test]
 fn renews(rt: HostRuntime) {
     let mut expires = deadline_of(seconds(8), at(0));

@@ -479,7 +479,8 @@ fn value_of<K, V>(
     }
 }
 
-// What a removal answers: the value that was taken out, or, where the listener could not be notified, the error with it.
+// What a removal answers: the value that was taken out, or, where the listener could not be notified, the error with
+// it.
 fn removed<V>(taken: Option<(V, Result<(), OutOfMemory>)>) -> Result<Option<V>, NotTold<V>>
 {
     let Some((value, told)) = taken else {
@@ -494,11 +495,8 @@ fn removed<V>(taken: Option<(V, Result<(), OutOfMemory>)>) -> Result<Option<V>, 
 // What an invalidation answers: the same, but for a value that the listener was notified of.
 fn invalidated<V>(taken: Option<(V, Result<(), OutOfMemory>)>) -> Result<(), NotTold<V>>
 {
-    let Some((value, told)) = taken else {
-        return Ok(());
-    };
-    match told {
-        Ok(()) => Ok(()),
-        Err(error) => Err(NotTold { error, value }),
+    match removed(taken) {
+        Ok(_) => Ok(()),
+        Err(refused) => Err(refused),
     }
 }

@@ -33,6 +33,7 @@ impl<
         self.engine().invariant_holds();
         match self.engine().keys(0)? {
             Some(keys) => Ok(Self::look_up_all(self.engine(), keys, now)?.into_iter()),
+            // Segment 0 is always there.
             None => Err(OutOfMemory),
         }
     }

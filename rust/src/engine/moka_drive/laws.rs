@@ -10,8 +10,9 @@ use crate::engine::moka_parts::notification::Listener;
 use crate::engine::moka_parts::policy::Expiry;
 
 /// Calls that are chains of steps (`Made`), one after the other, are one run of the reference cache, however many there
-/// are. `restore` and `restore_entry` are none, since the reference cache has no such call; nor is
-/// `invalidate_entries_if`, which asks for identifiers (`joins_registrations`).
+/// are, where each goes on with the clock that the one before it left (else `made_anytime`). `restore` and
+/// `restore_entry` are none, since the reference cache has no such call; nor is `invalidate_entries_if`, which asks for
+/// identifiers (`joins_registrations`).
 pub fn goes_on<
     K: Eq,
     V,
@@ -38,9 +39,25 @@ pub fn makes_one_step<
 >()
 {}
 
+/// Calls between which the clock moves are one run too: what was made by a clock was made by one that may tell any
+/// moment (`anytime`), such calls join, and their run keeps all that is promised of a list of calls; whether the
+/// listener hears of keys and values or of clones. So the calls of a cache that owns its clock join, each of which
+/// reads it first, and those of a cache that is handed a fresh clock at each.
+pub fn made_anytime<
+    K: Eq + Clone,
+    V: Clone,
+    S,
+    X: Expiry<K, V>,
+    L: Listener<K, V>,
+    P: PredicateFn<K, V>,
+    W: Weigher<K, V>,
+    C: Clock,
+>()
+{}
+
 /// Chains of steps (`Made`) and calls of `invalidate_entries_if` are one run, in which identifiers are asked for
 /// (`MadeAsking`), and which keeps all that is promised of a list of calls; whether the listener hears of keys and
-/// values or of clones.
+/// values or of clones, and also where the clock moves between them (`made_anytime`).
 pub fn joins_registrations<
     K: Eq + Clone,
     V: Clone,
@@ -114,8 +131,10 @@ pub fn hears_themselves<
 pub fn counts_look_ups<K, V: Clone, P, E>()
 {}
 
-/// Over any list of calls of a cache with a `CountingListener`, each counter rises by the removals of its cause in the
-/// run of the reference cache, saturating; and the listener within hears of each.
+/// Over calls that are chains of steps (`Made`) of a cache with a `CountingListener`, each counter rises by the
+/// removals of its cause in the run of the reference cache, saturating; and the listener within hears of each. The same
+/// holds of whatever such a listener heard (`heard`, `clones_heard`), so of each list of calls whose run says what was
+/// heard (`is_run`), as `joins_registrations` and `made_anytime` give it.
 pub fn counts_removals<
     K: Eq + Clone,
     V: Clone,
@@ -146,8 +165,9 @@ pub fn made_again_answers_alike<
 >()
 {}
 
-/// Times, policy and the like stay as they were built, and so does the capacity unless a call sets it; and none of the
-/// calls that `insert`, `get`, `remove`, `get_with` and the entry calls stand for does.
+/// Over calls that are chains of steps (`Made`), times, policy and the like stay as they were built, and so does the
+/// capacity unless a call sets it; and none of the calls that `insert`, `get`, `remove`, `get_with` and the entry calls
+/// stand for does.
 pub fn keeps_limits<
     K: Eq,
     V,

@@ -29,7 +29,7 @@ impl Stats {
 
     /// Counts a look-up.
     #[inline(always)]
-    pub fn count_look_up<V>(&mut self, found: &Result<Option<V>, OutOfMemory>)
+    pub(crate) fn count_look_up<V>(&mut self, found: &Result<Option<V>, OutOfMemory>)
     {
         match found {
             Ok(Some(_)) => self.hits = self.hits.saturating_add(1),
@@ -39,7 +39,7 @@ impl Stats {
     }
 
     /// Counts a call of a maker.
-    pub fn count_load(&mut self)
+    pub(crate) fn count_load(&mut self)
     {
         self.loads = self.loads.saturating_add(1);
     }

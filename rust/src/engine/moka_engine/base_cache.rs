@@ -110,8 +110,8 @@ impl<
     P: PredicateFn<K, V>,
     W: Weigher<K, V>,
 > BaseCache<K, V, S, X, L, P, W> {
-    /// An empty cache. Gets start runs of maintenance until `disable_auto_run` is called. `CacheConfig` has a default
-    /// for most of the arguments.
+    /// An empty cache. Gets start runs of maintenance; after `disable_auto_run` only if the housekeeper's last run left
+    /// more. `CacheConfig` has a default for most of the arguments.
     ///
     /// - `alloc`: gives the memory that the cache takes.
     /// - `name`: for the caller alone.

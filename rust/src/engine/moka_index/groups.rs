@@ -56,7 +56,7 @@ fn find_in_group<F: Fn(usize) -> bool>(
 ) -> Option<(usize, usize)>
 {
     let mut matches = group.matches(hash);
-    'matches: while matches != 0 {
+    while matches != 0 {
         let lane = lowest_set_bit(matches);
         if lane < group.count as usize {
             let place = group.places[lane] as usize;

@@ -120,9 +120,7 @@ where
         };
         next = store.next_written(handle);
         passed += 1;
-        if look_at(store, notifier, invalidator, handle) {
-            looked += 1;
-        }
+        looked += u32::from(look_at(store, notifier, invalidator, handle));
     }
     store.set_cursor(next);
     let is_end = next.is_none();

@@ -35,7 +35,7 @@ pub trait Listener<K, V> {
 }
 
 /// Ignores all notifications.
-#[derive(Clone, Copy)]
+#[derive(Clone, Copy, Debug)]
 pub struct NoListener;
 
 impl<K, V> Listener<K, V> for NoListener {

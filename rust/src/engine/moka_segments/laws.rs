@@ -50,8 +50,8 @@ pub fn one_segment_each<
 >()
 {}
 
-/// Each call by key leaves keys in the segments that they belong to; `get_with_keeps_keys` speaks of those with a
-/// maker.
+/// Each call by key leaves keys in the segments that they belong to; `get_with_keeps_keys` and `other_makers_keep_keys`
+/// speak of those with a maker.
 pub fn calls_by_key_keep_keys<
     K: Eq + Hash + Clone,
     V: Clone,
@@ -75,6 +75,22 @@ pub fn get_with_keeps_keys<
     W: Weigher<K, V>,
     C: Clock,
     F: FnOnce() -> V,
+>()
+{}
+
+/// So do `optionally_get_with`, for a maker of type `O`, and `try_get_with`, for one of type `F`.
+pub fn other_makers_keep_keys<
+    K: Eq + Hash,
+    V: Clone,
+    S: BuildHasher,
+    X: Expiry<K, V>,
+    L: Listener<K, V>,
+    P: PredicateFn<K, V>,
+    W: Weigher<K, V>,
+    C: Clock,
+    E,
+    O: FnOnce() -> Option<V>,
+    F: FnOnce() -> Result<V, E>,
 >()
 {}
 
@@ -133,7 +149,7 @@ pub fn own_calls_run<
 {}
 
 /// What each call by key ensures is a move of the key's own segment, of the calls that it stands for;
-/// `get_with_is_move` speaks of those with a maker.
+/// `get_with_is_move` and `other_makers_are_moves` speak of those with a maker.
 pub fn calls_by_key_are_moves<
     K: Eq + Hash + Clone,
     V: Clone,
@@ -157,6 +173,22 @@ pub fn get_with_is_move<
     W: Weigher<K, V>,
     C: Clock,
     F: FnOnce() -> V,
+>()
+{}
+
+/// And what `optionally_get_with` ensures, by a maker of type `O`, and `try_get_with`, by one of type `F`.
+pub fn other_makers_are_moves<
+    K: Eq + Hash + Clone,
+    V: Clone,
+    S: BuildHasher,
+    X: Expiry<K, V>,
+    L: Listener<K, V>,
+    P: PredicateFn<K, V>,
+    W: Weigher<K, V>,
+    C: Clock,
+    E,
+    O: FnOnce() -> Option<V>,
+    F: FnOnce() -> Result<V, E>,
 >()
 {}
 
@@ -187,4 +219,9 @@ pub fn registering_is_moves<
     I: IdSource,
     F: Fn() -> P,
 >()
+{}
+
+/// Segments whose capacities are the parts of one (`Router::share`), each that of its index, have it in all, to the
+/// unit.
+pub fn shares_sum<K, V, S, X, L, P, W>()
 {}

@@ -12,7 +12,7 @@ pub struct Router<S> {
 }
 
 impl<S> Router<S> {
-    /// A router for `count` segments, and for one where that is 0.
+    /// A router for `count` segments, or for one if `count` is 0.
     pub fn new(hasher: S, count: u32) -> Self
     {
         let count = count.max(1);
@@ -31,7 +31,8 @@ impl<S> Router<S> {
         &self.hasher
     }
 
-    /// The part of `capacity` that is the segment's at `index`. The parts of all segments sum to it.
+    /// The part of `capacity` that is the segment's at `index`. The parts of all segments sum to it
+    /// (`laws::shares_sum`).
     pub fn share(&self, capacity: u64, index: u32) -> u64
     {
         let count = u64::from(self.count);

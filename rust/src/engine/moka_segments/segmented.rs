@@ -97,7 +97,7 @@ impl<
     /// A clone of a key's value, if the key is there and visible at the moment `now`. The read is queued.
     ///
     /// # Errors
-    /// `OutOfMemory` where memory for the clone is refused. Nothing has changed.
+    /// `OutOfMemory` if memory for the clone is refused. Nothing has changed.
     pub fn get<C: Clock>(
         &mut self,
         key: &K,
@@ -171,5 +171,45 @@ impl<
         let index = self.router.segment_of(&key);
         let segment = &mut self.segments[index];
         segment.get_with(key, init, now, clock)
+    }
+
+    /// As `get_with`, for a maker that may decline: then nothing is inserted, and `None` is answered.
+    ///
+    /// # Errors
+    /// As `get_with`.
+    pub fn optionally_get_with<F: FnOnce() -> Option<V>, C: Clock>(
+        &mut self,
+        key: K,
+        init: F,
+        now: Instant,
+        clock: &mut C,
+    ) -> Result<Option<V>, GetWithRefused<K, V>>
+    where
+        K: Clone,
+        V: Clone,
+    {
+        let index = self.router.segment_of(&key);
+        let segment = &mut self.segments[index];
+        segment.optionally_get_with(key, init, now, clock)
+    }
+
+    /// As `get_with`, for a maker that may fail: then nothing is inserted, and its error is answered.
+    ///
+    /// # Errors
+    /// The outer error as `get_with`; the inner one is the maker's.
+    pub fn try_get_with<E, F: FnOnce() -> Result<V, E>, C: Clock>(
+        &mut self,
+        key: K,
+        init: F,
+        now: Instant,
+        clock: &mut C,
+    ) -> Result<Result<V, E>, GetWithRefused<K, V>>
+    where
+        K: Clone,
+        V: Clone,
+    {
+        let index = self.router.segment_of(&key);
+        let segment = &mut self.segments[index];
+        segment.try_get_with(key, init, now, clock)
     }
 }

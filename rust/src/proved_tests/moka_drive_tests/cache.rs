@@ -174,6 +174,28 @@ fn ages_by_its_own_clock() -> Result<(), Fail> {
 }
 
 #[test]
+fn invalidates_by_its_own_clock() -> Result<(), Fail> {
+    let rt = HostRuntime;
+    let clock = ManualClock { now: NOW };
+    let Ok(mut cache) = TimedCache::build(CacheConfig::default(), rt.alloc(), clock) else {
+        return Err("memory".into());
+    };
+    for key in 1..4 {
+        assert!( cache.insert(key, key).is_ok());
+    }
+    cache.run_pending_tasks();
+    assert_equal(&rt, cache.weighted_size(), 3);
+    assert!( cache.invalidate(&1).is_ok());
+    assert!( !cache.contains_key(&1));
+    assert!( cache.contains_key(&2));
+    cache.clock.advance(Duration::from_secs(1));
+    cache.invalidate_all();
+    assert!( !cache.contains_key(&2));
+    assert_equal(&rt, cache.get(&3).ok(), Some(None));
+    Ok(())
+}
+
+#[test]
 fn reads_the_system_clock() -> Result<(), Fail> {
     let rt = HostRuntime;
     let config = CacheConfig::default().time_to_live(Duration::from_secs(1_000));

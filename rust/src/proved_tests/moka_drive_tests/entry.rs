@@ -157,3 +157,19 @@ fn takes_many_at_once() -> Result<(), Fail> {
     assert!( !cache.contains_key(&1, NOW));
     Ok(())
 }
+
+#[test]
+fn takes_many_at_once_by_its_own_clock() -> Result<(), Fail> {
+    let rt = HostRuntime;
+    let alloc = rt.alloc();
+    let mut cache = timed(alloc)?;
+    let items = crate::support::vec::Vec::from_array(alloc, [(1, 10), (2, 20)])?;
+    assert!( cache.insert_many(items).is_ok());
+    let Ok(found) = cache.get_many(alloc, &[2, 3, 1]) else {
+        return Err("memory".into());
+    };
+    assert!( matches!(found.as_slice(), [Some(20), None, Some(10)]));
+    assert!( cache.invalidate_many(&[1, 2]).is_ok());
+    assert!( !cache.contains_key(&1));
+    Ok(())
+}

@@ -8,6 +8,7 @@ use crate::engine::moka_drive::Cache;
 use crate::engine::moka_engine::{
     CacheConfig, ExpireAfter, FixedClock, Instant, NoExpiry, RestoreError, Restored,
 };
+use crate::proved_tests::moka_timed::{ManualClock, TimedCache};
 use crate::support::alloc::Global;
 use crate::support::test::test::Fail;
 use crate::support::time::Duration;
@@ -187,5 +188,17 @@ fn asks_no_expiry() -> Result<(), Fail> {
         ),
         (true, false),
     );
+    Ok(())
+}
+
+#[test]
+fn puts_an_entry_back_by_its_own_clock() -> Result<(), Fail> {
+    let rt = HostRuntime;
+    let clock = ManualClock { now: START };
+    let Ok(mut cache) = TimedCache::build(CacheConfig::default(), rt.alloc(), clock) else {
+        return Err("memory".into());
+    };
+    assert!( cache.restore_entry(entry_of(1, None)).is_ok());
+    assert!( cache.contains_key(&1));
     Ok(())
 }

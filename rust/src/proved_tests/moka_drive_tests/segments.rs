@@ -63,6 +63,24 @@ fn finds_what_was_put() -> Result<(), Fail> {
 }
 
 #[test]
+fn asks_makers_that_give_nothing() -> Result<(), Fail> {
+    let rt = HostRuntime;
+    let mut cache = four_of(rt.alloc(), 1_001)?;
+    let clock = &mut FixedClock(NOW);
+    let declined = cache.optionally_get_with(1, || None, NOW, clock);
+    let failed = cache.try_get_with(1, || Err(7), NOW, clock);
+    let made = cache.try_get_with(1, || Ok::<u64, u64>(10), NOW, clock);
+    let found = cache.optionally_get_with(1, || Some(20), NOW, clock);
+    assert_equal(
+        &rt,
+        (declined.ok(), found.ok()),
+        (Some(None), Some(Some(10))),
+    );
+    assert_equal(&rt, (failed.ok(), made.ok()), (Some(Err(7)), Some(Ok(10))));
+    Ok(())
+}
+
+#[test]
 fn shares_the_capacity() -> Result<(), Fail> {
     let rt = HostRuntime;
     let mut cache = four_of(rt.alloc(), 42)?;

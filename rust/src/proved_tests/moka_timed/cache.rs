@@ -238,7 +238,8 @@ impl<
 
     /// Runs maintenance without a time limit. The answer tells whether more is left.
     ///
-    /// It leaves count and weight exactly the entries', and the weight within the capacity.
+    /// It leaves count and weight exactly the entries', and the weight within the capacity, and each entry is in the
+    /// order of access.
     pub fn run_pending_tasks(&mut self) -> bool
     {
         let now = self.clock.now();

@@ -4,7 +4,7 @@ use crate::support::prelude::*;
 
 use crate::proved_tests::moka_timed::cache::TimedCache;
 use crate::engine::moka_drive::cache::RestoreManyRefused;
-use crate::engine::moka_engine::base_cache::Restored;
+use crate::engine::moka_engine::base_cache::{RestoreRefused, Restored};
 use crate::engine::moka_parts::closures::{PredicateFn, Weigher};
 use crate::engine::moka_parts::error::OutOfMemory;
 use crate::engine::moka_parts::housekeeper::Clock;
@@ -34,6 +34,17 @@ impl<
     {
         let now = self.clock.now();
         self.cache.save(alloc, now, &mut self.clock)
+    }
+
+    /// Puts an entry back whose key has none, with the moments and the expiry that it had, and posts its operation as
+    /// an insert does at the clock's moment. A cache of capacity 0 drops it.
+    ///
+    /// # Errors
+    /// As `Cache::restore_entry`.
+    pub fn restore_entry(&mut self, item: Restored<K, V>) -> Result<(), RestoreRefused<K, V>>
+    {
+        let now = self.clock.now();
+        self.cache.restore_entry(item, now, &mut self.clock)
     }
 
     /// Puts each entry back, in order, with the moments and the expiry that it had. Runs of maintenance that this

@@ -26,7 +26,8 @@ pub fn save<C: Clock>(
 /// is not used for the time `idle`, counted from its last use before the restart.
 ///
 /// # Errors
-/// `OutOfMemory`, and then the sessions are let go.
+/// `OutOfMemory`, also where a user was saved twice or a session has an expiry of its own. Then the sessions are let
+/// go.
 pub fn start_again<C: Clock>(
     alloc: Global,
     idle: Duration,
@@ -45,7 +46,8 @@ pub fn start_again<C: Clock>(
 /// As `start_again`, with at most so many sessions. If no more were saved, none is left out that has not ended.
 ///
 /// # Errors
-/// `OutOfMemory`, and then the sessions are let go.
+/// `OutOfMemory`, also where a user was saved twice or a session has an expiry of its own. Then the sessions are let
+/// go.
 pub fn start_again_within<C: Clock>(
     alloc: Global,
     idle: Duration,

@@ -23,7 +23,7 @@ fn keeps_what_fits() -> Result<()> {
     }
     let kept = keep_bound(&mut cache, now);
     assert_equal(&rt, kept.most, Some(42));
-    assert!( kept.weight > 0);
+    assert!( kept.weight > 0 && kept.weight <= 42);
     Ok(())
 }
 

@@ -25,7 +25,9 @@ pub enum Failure {
     Usage,
     /// The number of the first line that is faulty, from 1.
     BadLine(u64),
+    /// The script could not be read.
     CannotRead,
+    /// Memory was refused.
     OutOfMemory,
 }
 

@@ -5,7 +5,7 @@ use Rattle.moka_parts.specs.Records.{counted_of, is_member}
 use Rattle.moka_store.specs.Store.{Kept}
 use Rattle.moka_maintenance.proofs.Fates.{rejected-gone}
 use Rattle.moka_maintenance.proofs.Placed.{rows-changed}
-use Rattle.moka_maintenance.specs.Steps.{Stock, contents_in, contents_of}
+use Rattle.moka_maintenance.specs.Steps.{Stock, contents_in}
 use Rattle.moka_maintenance.proofs.Timing.{keeps-outside}
 use Rattle.moka_parts.proofs.WriteList.{unlisted_taken_out}
 use Rattle.moka_store.proofs.Gets.{get-past_insert}
@@ -17,7 +17,7 @@ returns-then-generation-clause-step g c = λ r found.
     let kept = c.generation.ensures in
     let equal = c.if-generation.true in
     let same : r.generation ≡ c.args.generation = cc in
-    rejected-gone (contents_in c.args.store.now) (contents_in c.expel.new.store) c.args.handle.number c.args.generation r same c.requires.apart (ap (λ (s : Stock g.row.K.Denot g.row.V.Denot). contents_of s) c.expel.ensures.step)
+    rejected-gone (contents_in c.args.store.now) (contents_in c.expel.new.store) c.args.handle.number c.args.generation r same c.requires.apart (ap (λ (s : Stock g.row.K.Denot g.row.V.Denot). s.contents) c.expel.ensures.step)
 
 pub returns-then-generation-clause-written : goal.returns-then-generation-clause-written
 returns-then-generation-clause-written g c = λ kept.

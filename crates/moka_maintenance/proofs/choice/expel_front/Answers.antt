@@ -6,7 +6,7 @@ use Rattle.moka_parts.specs.Records.{member, numbers_of, without_numbers}
 use Rattle.moka_parts.proofs.AccessList.{distinct_taken_out}
 use Rattle.moka_store.specs.Store.{Kept}
 use Rattle.moka_store.proofs.Gets.{get-past_remove}
-use Rattle.moka_maintenance.specs.Steps.{Stock, contents_in, contents_of}
+use Rattle.moka_maintenance.specs.Steps.{Stock, contents_in}
 use Rattle.moka_maintenance.proofs.Expelling.{not_front, outside_stays, victims_settled, victims_step, victims_told, victims_written, none_taken}
 use Rattle.moka_maintenance.proofs.Popped.{none_first}
 use Rattle.moka_maintenance.proofs.Upkeep.{untimed-on}
@@ -20,7 +20,7 @@ loop-left-preserved g c =
     let a = member c.in-Some.handle.number c.in-Some.field-0-1 in
     let front = c.in-Some.ensures.front in
     let taken = c.expel.ensures.step in
-    let step = ap (λ (d : Stock g.row.K.Denot g.row.V.Denot). contents_of d) taken in
+    let step = ap (λ (d : Stock g.row.K.Denot g.row.V.Denot). d.contents) taken in
     record {
       settled = victims_settled (contents_in old) (contents_in new) a c.loop-left.left inv.once front c.loop-left-test.true step inv.settled;
       once = subst (λ (d : Contents g.row.K.Denot g.row.V.Denot). IsDistinct (◌==◌) (numbers_of d.access)) (sym step) (distinct_taken_out a.number old.access inv.once);

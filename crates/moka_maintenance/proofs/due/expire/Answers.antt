@@ -39,7 +39,7 @@ pub returns-then-is_expired_by_per_entry_ttl-clause-reset : goal.returns-then-is
 returns-then-is_expired_by_per_entry_ttl-clause-reset g c =
     let n = c.args.handle.number in
     reset-gone c.args.tests.now.0 n c.args.store.now c.expel.new.store c.requires.untimed
-    (ap (λ (s : Stock g.row.K.Denot g.row.V.Denot). finite.get s.records n) c.expel.ensures.step ∙ get-removed c.args.store.now.records n)
+    (ap (λ (s : Stock g.row.K.Denot g.row.V.Denot). finite.get s.contents.records n) c.expel.ensures.step ∙ get-removed c.args.store.now.records n)
     c.expel.ensures.upkeep.keeps (ap (λ (k : Kept g.row.K.Denot g.row.V.Denot g.row.S.Denot). k.timers) c.expel.ensures.whole)
 
 pub returns-clause-expired : goal.returns-clause-expired

@@ -1,9 +1,9 @@
-use Rattle.std.proofs.Common.{◌≡◌, ◌≢◌, ◌+◌, true, false, Some, option_map, sym, ap, subst, ◌∙◌, arith}
+use Rattle.std.proofs.Common.{option_map, sym, ap, subst, arith}
 use Rattle.moka_store.specs.declared.store.Handle.{Handle}
 use Rattle.moka_store.specs.Store.{Kept}
 use Rattle.moka_maintenance.specs.Scanning.{IsWalked}
-use Rattle.moka_maintenance.proofs.Turning.{if_some, still-ordered, next_other, turn_keeps}
-use Rattle.moka_maintenance.proofs.Walked.{walked-none, walked-settled, walked-unsettled, walked-cursor}
+use Rattle.moka_maintenance.proofs.Turning.{next-ordered, turn_keeps}
+use Rattle.moka_maintenance.proofs.Walked.{at_most_one, walked-none, walked-on, walked-cursor}
 use Rattle.moka_maintenance.proofs.Upkeep.{untimed-none, untimed-on}
 use Rattle.moka_maintenance.proofs.scan.scan_along.Goals as goal
 
@@ -18,60 +18,26 @@ loop-passed-init g c = record {
   upkeep = untimed-none c.args.store.now;
 }
 
-pub loop-passed-preserved-then-look_at : goal.loop-passed-preserved-then-look_at
-loop-passed-preserved-then-look_at g c =
-    let tells = g.L.Listener.tells in
-    let says = g.P.PredicateFn.says in
-    let ps = c.args.invalidator.now in
-    let old = c.args.store.now in
+pub loop-passed-preserved : goal.loop-passed-preserved
+loop-passed-preserved g c =
+    let inv = c.loop-passed.invariant in
     let mid = c.loop-passed.store in
     let new = c.look_at.new.store in
-    let inv = c.loop-passed.invariant in
     let n = c.in-Some.handle.number in
     let next = c.next_written-next in
-    let turn = c.if-look_at.ensures in
-    let keeps = turn_keeps tells says ps mid new c.loop-passed.notifier c.look_at.new.notifier n true turn in
-    let numbers = ap (option_map (λ (h : Handle). h.number)) c.in-Some.is in
-    let other : (h : Handle) → next.result ≡ Some h → h.number ≢ n = λ h is. next_other mid.written n h.number inv.once (sym next.ensures.next ∙ ap (option_map (λ (h : Handle). h.number)) is) in
+    let turn = c.look_at.ensures in
+    let keeps = turn_keeps g.L.Listener.tells g.P.PredicateFn.says c.args.invalidator.now mid new c.loop-passed.notifier c.look_at.new.notifier n c.look_at.result turn in
+    let few = at_most_one c.look_at.result c.from-looked.result c.from-looked.ensures in
     record {
       walked = λ before rest list at.
-          subst (λ to. IsWalked tells says ps old new c.args.notifier.now c.look_at.new.notifier before rest to (c.loop-passed.looked + 1) (c.loop-passed.passed + 1)) (sym next.ensures.next)
-          (walked-settled tells says ps old c.args.notifier.now before rest mid c.loop-passed.notifier n c.loop-passed.looked c.loop-passed.passed
-          (subst (λ to. IsWalked tells says ps old mid c.args.notifier.now c.loop-passed.notifier before rest to c.loop-passed.looked c.loop-passed.passed) numbers (inv.walked before rest list at)) inv.once new c.look_at.new.notifier turn);
-      ordered = if_some next.result (λ h is at. still-ordered mid new n keeps h (other h is) at) next.ensures.ordered;
+          walked-on g.L.Listener.tells g.P.PredicateFn.says c.args.invalidator.now c.args.store.now c.args.notifier.now before rest mid c.loop-passed.notifier _ _ n c.loop-passed.looked c.loop-passed.passed
+          (inv.walked before rest list at) (ap (option_map (λ (h : Handle). h.number)) c.in-Some.is) next.ensures.next inv.once c.look_at.result new c.look_at.new.notifier c.from-looked.result c.from-looked.ensures turn;
+      ordered = next-ordered mid new n keeps inv.once next.result next.ensures.next next.ensures.ordered;
       once = keeps.once inv.once;
       most = (let some = c.loop-passed-test.true in omega arith);
       few = (let f = inv.few in omega arith);
       batch = (let some = c.if-looked-reach.true in omega arith);
-      upkeep = untimed-on old mid new inv.upkeep keeps.upkeep;
-    }
-
-pub loop-passed-preserved : goal.loop-passed-preserved
-loop-passed-preserved g c =
-    let tells = g.L.Listener.tells in
-    let says = g.P.PredicateFn.says in
-    let ps = c.args.invalidator.now in
-    let old = c.args.store.now in
-    let mid = c.loop-passed.store in
-    let new = c.look_at.new.store in
-    let inv = c.loop-passed.invariant in
-    let n = c.in-Some.handle.number in
-    let next = c.next_written-next in
-    let turn = c.if-look_at.ensures in
-    let keeps = turn_keeps tells says ps mid new c.loop-passed.notifier c.look_at.new.notifier n false turn in
-    let numbers = ap (option_map (λ (h : Handle). h.number)) c.in-Some.is in
-    let other : (h : Handle) → next.result ≡ Some h → h.number ≢ n = λ h is. next_other mid.written n h.number inv.once (sym next.ensures.next ∙ ap (option_map (λ (h : Handle). h.number)) is) in
-    record {
-      walked = λ before rest list at.
-          subst (λ to. IsWalked tells says ps old new c.args.notifier.now c.look_at.new.notifier before rest to c.loop-passed.looked (c.loop-passed.passed + 1)) (sym next.ensures.next)
-          (walked-unsettled tells says ps old c.args.notifier.now before rest mid c.loop-passed.notifier n c.loop-passed.looked c.loop-passed.passed
-          (subst (λ to. IsWalked tells says ps old mid c.args.notifier.now c.loop-passed.notifier before rest to c.loop-passed.looked c.loop-passed.passed) numbers (inv.walked before rest list at)) inv.once new c.look_at.new.notifier turn);
-      ordered = if_some next.result (λ h is at. still-ordered mid new n keeps h (other h is) at) next.ensures.ordered;
-      once = keeps.once inv.once;
-      most = (let some = c.loop-passed-test.true in omega arith);
-      few = (let f = inv.few in omega arith);
-      batch = inv.batch;
-      upkeep = untimed-on old mid new inv.upkeep keeps.upkeep;
+      upkeep = untimed-on c.args.store.now mid new inv.upkeep keeps.upkeep;
     }
 
 pub returns-clause-walked : goal.returns-clause-walked

@@ -4,7 +4,7 @@
 //! moka: `sync::base_cache::Inner::notify_upsert`, `Inner::notify_invalidate`.
 use crate::support::prelude::*;
 
-use crate::engine::moka_parts::expiry::{is_expired_by_tti, is_expired_by_ttl, is_invalid_entry};
+use crate::engine::moka_parts::expiry::is_invalid_entry;
 use crate::engine::moka_parts::notification::RemovalCause;
 use crate::engine::moka_parts::policy::{ExpirationPolicy, Instant};
 use crate::engine::moka_parts::record_ref::RecordRef;
@@ -17,11 +17,11 @@ pub(super) fn cause_of_replacement<K, V, X>(
     now: Instant,
 ) -> RemovalCause
 {
-    if is_expired_by_ttl(policy.time_to_live(), found.written(), now) {
+    if policy.is_past_time_to_live(found.written(), now) {
         RemovalCause::Expired
     } else if is_invalid_entry(valid_after, found.written()) {
         RemovalCause::Explicit
-    } else if is_expired_by_tti(policy.time_to_idle(), found.read(), now) {
+    } else if policy.is_past_time_to_idle(found.read(), now) {
         RemovalCause::Expired
     } else {
         RemovalCause::Replaced
@@ -36,9 +36,7 @@ pub(super) fn cause_of_removal<X>(
     now: Instant,
 ) -> RemovalCause
 {
-    if is_expired_by_ttl(policy.time_to_live(), written, now)
-        || is_expired_by_tti(policy.time_to_idle(), read, now)
-    {
+    if policy.is_past_time_to_live(written, now) || policy.is_past_time_to_idle(read, now) {
         RemovalCause::Expired
     } else {
         RemovalCause::Explicit

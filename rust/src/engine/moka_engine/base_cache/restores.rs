@@ -38,7 +38,7 @@ pub enum RestoreError {
     NoExpiry,
     /// There are not enough tickets left.
     NumbersUsedUp,
-    /// Memory was refused.
+    /// Memory was refused, or a record would need a place of more than 32 bits.
     OutOfMemory,
 }
 
@@ -98,8 +98,9 @@ impl<
     /// and the weigher is. Moments may lie in any order, and before those of other entries.
     ///
     /// # Errors
-    /// `KeyPresent` where the key has an entry, `NoExpiry` where the entry has an expiry of its own and the cache has
-    /// none set, and `NumbersUsedUp` and `OutOfMemory` as an insert. The entry comes back, and nothing has changed.
+    /// `KeyPresent` where the key has an entry, else `NoExpiry` where the entry has an expiry of its own and the cache
+    /// has none set, and else `NumbersUsedUp` and `OutOfMemory` as an insert. The entry comes back, and nothing has
+    /// changed.
     pub fn restore(&mut self, item: Restored<K, V>) -> Result<Ticket, RestoreRefused<K, V>>
     {
         let hash = self.inner.hash(&item.key);

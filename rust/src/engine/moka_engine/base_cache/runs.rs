@@ -33,8 +33,8 @@ impl<
     /// - `limit`: after this time no further pass is made, and more is left.
     /// - `repeats`: how often a run may go back to its queues. With one owner nothing is queued meanwhile, so it has no
     ///   effect.
-    /// - `batch`: how many records each step of a pass looks at, but for the first. With 0 only what is past its own
-    ///   expiry is removed, and more is left where there is anything to test records by.
+    /// - `batch`: how many records each step of a pass looks at, but for the first. With 0 the passes remove only what
+    ///   is past its own expiry, and more is left where there is anything to test records by.
     ///
     /// Once every operation was sent, a run leaves count and weight exactly the records', and one that was not cut
     /// short, with a `batch` of at least 1, also the weight within the capacity.

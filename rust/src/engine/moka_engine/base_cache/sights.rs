@@ -4,9 +4,7 @@ use crate::support::prelude::*;
 
 use super::BaseCache;
 use crate::engine::moka_parts::closures::{PredicateFn, Weigher};
-use crate::engine::moka_parts::expiry::{
-    is_expired_by_per_entry_ttl, is_expired_by_tti, is_expired_by_ttl, is_invalid_entry,
-};
+use crate::engine::moka_parts::expiry::{is_expired_by_per_entry_ttl, is_invalid_entry};
 use crate::engine::moka_parts::invalidator::PredicateId;
 use crate::engine::moka_parts::notification::Listener;
 use crate::engine::moka_parts::policy::{ExpirationPolicy, Expiry, Instant};
@@ -85,9 +83,9 @@ fn lapse_of<K, V, X>(
 {
     if is_expired_by_per_entry_ttl(found.expires(), now) {
         Some(Sight::Expired)
-    } else if is_expired_by_ttl(policy.time_to_live(), found.written(), now) {
+    } else if policy.is_past_time_to_live(found.written(), now) {
         Some(Sight::PastTimeToLive)
-    } else if is_expired_by_tti(policy.time_to_idle(), found.read(), now) {
+    } else if policy.is_past_time_to_idle(found.read(), now) {
         Some(Sight::PastTimeToIdle)
     } else if is_invalid_entry(valid_after, found.written())
         || is_invalid_entry(valid_after, found.read())

@@ -67,7 +67,7 @@ impl<X> ExpirationPolicy<X> {
 
     /// Whether the time to live of an entry written then is over.
     #[inline(always)]
-    pub(crate) fn is_past_time_to_live(&self, written: Instant, now: Instant) -> bool
+    pub fn is_past_time_to_live(&self, written: Instant, now: Instant) -> bool
     {
         self.time_to_live
             .as_ref()
@@ -76,7 +76,7 @@ impl<X> ExpirationPolicy<X> {
 
     /// Whether the time to idle of an entry read then is over.
     #[inline(always)]
-    pub(crate) fn is_past_time_to_idle(&self, read: Instant, now: Instant) -> bool
+    pub fn is_past_time_to_idle(&self, read: Instant, now: Instant) -> bool
     {
         self.time_to_idle
             .as_ref()

@@ -83,7 +83,7 @@ impl<K, V, C: ExpireAfterCreate<K, V>, R: ExpireAfterRead<K, V>, U: ExpireAfterU
 }
 
 /// Sets no expiry and leaves one that is set.
-#[derive(Clone, Copy)]
+#[derive(Clone, Copy, Debug)]
 pub struct NoExpiry;
 
 impl<K, V> ExpireAfterCreate<K, V> for NoExpiry {

@@ -1,7 +1,7 @@
 use Rattle.std.proofs.Common.{ap, arith}
 use Rattle.std.specs.FinMap as finite
 use Rattle.moka_index.specs.Groups.{entries_of}
-use Rattle.moka_index.proofs.Maps.{len-removed, len-positive}
+use Rattle.moka_index.proofs.Maps.{len-removed, len-some}
 use Rattle.moka_index.proofs.place_index.PlaceIndex.remove.Goals as goal
 
 pub remove_entry-requires-clause-groups : goal.remove_entry-requires-clause-groups
@@ -13,7 +13,7 @@ remove_entry-requires-clause-there c = rw (← c.self.view_is) at c.requires
 pub overflow_sub-self : goal.overflow_sub-self
 overflow_sub-self c =
     let there = rw (← c.self.view_is) at c.requires in
-    omega (arith, len-positive (entries_of c.self.inside.groups.items) c.args.place c.args.hash there, c.self.invariant.counted)
+    omega (arith, len-some (entries_of c.self.inside.groups.items) c.args.place c.args.hash there, c.self.invariant.counted)
 
 pub invariant_of-self : goal.invariant_of-self
 invariant_of-self c =
@@ -29,5 +29,5 @@ invariant_of-self c =
 pub returns-clause-room : goal.returns-clause-room
 returns-clause-room c =
     let there = rw (← c.self.view_is) at c.requires in
-    let positive = len-positive (entries_of c.self.inside.groups.items) c.args.place c.args.hash there in
+    let positive = len-some (entries_of c.self.inside.groups.items) c.args.place c.args.hash there in
     rw (← c.self.view_is) (omega (arith, positive, c.remove_entry.ensures.len, c.self.invariant.counted, c.self.invariant.fits))

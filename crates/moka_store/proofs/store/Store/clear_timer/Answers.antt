@@ -28,7 +28,7 @@ invariant_of-self g c =
     let changes = c.set_timer-timer.ensures.changes _ w.at_is in
     let s = retimed _ g.met.K.Eq.laws _ _ _ _ _ c.self.invariant.tied w.row w.at_is None changes in
     let was = c.set_timer-timer.ensures.old ∙ ap (option_and_then (λ (row : Row (Record _ _)). row.timer)) w.at_is in
-    let order = untimes c.self.inside.table.rows c.set_timer-timer.new.self.rows c.self.inside.written c.self.inside.timers.timers c.set-none.new.self.timers c.self.invariant.written c.self.invariant.timed c.self.invariant.tied.numbered s.tied.numbered _ w.row w.at_is changes _ was _ c.self.inside.timers.timed c.set-none.ensures.kept c.set-none.ensures.lookups in
+    let order = untimes c.self.inside.table.rows c.set_timer-timer.new.self.rows c.self.inside.written c.self.inside.timers.timers c.set-none.new.self.timers c.self.invariant.written c.self.invariant.timed c.self.invariant.tied.numbered _ w.row w.at_is changes _ was _ c.self.inside.timers.timed c.set-none.ensures.kept c.set-none.ensures.lookups in
     let most = ap (λ (t : Timing). t.most) c.set-none.ensures.rest in
     let rows = c.set_timer-timer.ensures.len in
     let fits = c.self.invariant.fits in
@@ -40,7 +40,7 @@ returns g c =
     let changes = c.set_timer-timer.ensures.changes _ w.at_is in
     let s = retimed _ g.met.K.Eq.laws _ _ _ _ _ c.self.invariant.tied w.row w.at_is None changes in
     let was = c.set_timer-timer.ensures.old ∙ ap (option_and_then (λ (row : Row (Record _ _)). row.timer)) w.at_is in
-    let order = untimes c.self.inside.table.rows c.set_timer-timer.new.self.rows c.self.inside.written c.self.inside.timers.timers c.set-none.new.self.timers c.self.invariant.written c.self.invariant.timed c.self.invariant.tied.numbered s.tied.numbered _ w.row w.at_is changes _ was _ c.self.inside.timers.timed c.set-none.ensures.kept c.set-none.ensures.lookups in
+    let order = untimes c.self.inside.table.rows c.set_timer-timer.new.self.rows c.self.inside.written c.self.inside.timers.timers c.set-none.new.self.timers c.self.invariant.written c.self.invariant.timed c.self.invariant.tied.numbered _ w.row w.at_is changes _ was _ c.self.inside.timers.timed c.set-none.ensures.kept c.set-none.ensures.lookups in
     let most = ap (λ (t : Timing). t.most) c.set-none.ensures.rest in
     let timed = ap (λ (t : Timing). t.timed) c.set-none.ensures.rest in
     rw (s.access, order.written_is, order.cursor_is, order.timers_is, most, timed, c.set_timer-timer.ensures.records, c.set_timer-timer.ensures.places, c.set_timer-timer.ensures.len, c.set_timer-timer.ensures.room, w.number_is, ← c.self.view_is) refl

@@ -28,7 +28,7 @@ invariant_of-self-2 g c =
     let r = timer-row c.self.inside.table.rows c.self.inside.timers.timers c.self.invariant.timed c.self.invariant.tied.numbered _ _ _ c.in_ok-due.ensures.due in
     let changes = c.set_timer-slot.ensures.changes _ r.at_is in
     let s = retimed _ g.met.K.Eq.laws _ _ _ _ _ c.self.invariant.tied r.row r.at_is None changes in
-    let order = untimes c.self.inside.table.rows c.set_timer-slot.new.self.rows c.self.inside.written c.self.inside.timers.timers c.due.new.self.timers c.self.invariant.written c.self.invariant.timed c.self.invariant.tied.numbered s.tied.numbered _ r.row r.at_is changes (Some c.in_ok-due.due.slot) (sym r.timer_is) None true refl c.in_ok-due.ensures.lookups in
+    let order = untimes c.self.inside.table.rows c.set_timer-slot.new.self.rows c.self.inside.written c.self.inside.timers.timers c.due.new.self.timers c.self.invariant.written c.self.invariant.timed c.self.invariant.tied.numbered _ r.row r.at_is changes (Some c.in_ok-due.due.slot) (sym r.timer_is) None true refl c.in_ok-due.ensures.lookups in
     let most = ap (λ (t : Timing). t.most) c.in_ok-due.ensures.rest in
     let rows = c.set_timer-slot.ensures.len in
     let fits = c.self.invariant.fits in
@@ -59,7 +59,7 @@ returns-clause-step g c =
     let r = timer-row c.self.inside.table.rows c.self.inside.timers.timers c.self.invariant.timed c.self.invariant.tied.numbered _ _ _ c.in_ok-due.ensures.due in
     let changes = c.set_timer-slot.ensures.changes _ r.at_is in
     let s = retimed _ g.met.K.Eq.laws _ _ _ _ _ c.self.invariant.tied r.row r.at_is None changes in
-    let order = untimes c.self.inside.table.rows c.set_timer-slot.new.self.rows c.self.inside.written c.self.inside.timers.timers c.due.new.self.timers c.self.invariant.written c.self.invariant.timed c.self.invariant.tied.numbered s.tied.numbered _ r.row r.at_is changes (Some c.in_ok-due.due.slot) (sym r.timer_is) None true refl c.in_ok-due.ensures.lookups in
+    let order = untimes c.self.inside.table.rows c.set_timer-slot.new.self.rows c.self.inside.written c.self.inside.timers.timers c.due.new.self.timers c.self.invariant.written c.self.invariant.timed c.self.invariant.tied.numbered _ r.row r.at_is changes (Some c.in_ok-due.due.slot) (sym r.timer_is) None true refl c.in_ok-due.ensures.lookups in
     let most = ap (λ (t : Timing). t.most) c.in_ok-due.ensures.rest in
     let timed = ap (λ (t : Timing). t.timed) c.in_ok-due.ensures.rest in
     rw (c.handle_at.ensures.number _ changes.changed, s.access, order.written_is, order.cursor_is, order.timers_is, most, timed, c.set_timer-slot.ensures.records, c.set_timer-slot.ensures.places, c.set_timer-slot.ensures.len, c.set_timer-slot.ensures.room, ← c.self.view_is) refl

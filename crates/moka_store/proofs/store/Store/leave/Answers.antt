@@ -1,11 +1,9 @@
 use Rattle.std.specs.FinMap as finite
-use Rattle.std.specs.Option.{option_and_then}
 use Rattle.std.proofs.Common.{◌-◌, ◌==◌, cond, None, ◌≡◌, ◌+◌, IsSome, map, length, refl, sym, ◌∙◌, arith, ap, subst}
-use Rattle.moka_store.specs.declared.table.membership.Membership.{Membership}
 use Rattle.moka_index.proofs.Maps.{get-removed}
 use Rattle.moka_store.proofs.Members.{counted-without}
-use Rattle.moka_store.proofs.Orders.{slot-there, leaves}
-use Rattle.moka_store.proofs.Steps.{placed, member-there, member-row, left}
+use Rattle.moka_store.proofs.Orders.{leaves}
+use Rattle.moka_store.proofs.Steps.{placed, member-there, member-row, member-node, member-slot, left}
 use Rattle.moka_store.proofs.Timed.{timer-free}
 use Rattle.moka_store.specs.Listing.{Listing}
 use Rattle.moka_store.specs.Store.{Kept, cursor_past}
@@ -30,16 +28,10 @@ unreachable-requires g c =
     member-there _ _ _ _ c.self.invariant.tied _ _ there member (sym c.clear_membership.ensures.old ∙ c.in_default.is)
 
 pub unlink-place-requires : goal.unlink-place-requires
-unlink-place-requires g c =
-    let same = c.self.view_is ∙ c.clear_timer.ensures in
-    let w = member-row _ _ _ _ c.self.invariant.tied _ _ (ap (λ (k : Kept _ _ _). finite.get k.places c.args.handle.number) same ∙ c.requires.placed) _ (sym c.clear_membership.ensures.old ∙ c.in-Some.is) in
-    rw w.node_is refl
+unlink-place-requires g c = member-node _ _ _ _ c.self.invariant.tied _ _ (ap (λ (k : Kept _ _ _). finite.get k.places c.args.handle.number) (c.self.view_is ∙ c.clear_timer.ensures) ∙ c.requires.placed) _ (sym c.clear_membership.ensures.old ∙ c.in-Some.is)
 
 pub unlink-requires : goal.unlink-requires
-unlink-requires g c =
-    let same = c.self.view_is ∙ c.clear_timer.ensures in
-    let w = member-row _ _ _ _ c.self.invariant.tied _ _ (ap (λ (k : Kept _ _ _). finite.get k.places c.args.handle.number) same ∙ c.requires.placed) _ (sym c.clear_membership.ensures.old ∙ c.in-Some.is) in
-    slot-there c.self.inside.table.rows c.self.inside.written c.self.invariant.written _ w.row w.at_is _ (ap (option_and_then (λ (m : Membership). m.written)) w.membership_is)
+unlink-requires g c = member-slot _ _ _ _ c.self.invariant.tied _ _ (ap (λ (k : Kept _ _ _). finite.get k.places c.args.handle.number) (c.self.view_is ∙ c.clear_timer.ensures) ∙ c.requires.placed) c.self.inside.written c.self.invariant.written _ (sym c.clear_membership.ensures.old ∙ c.in-Some.is)
 
 pub invariant_of-self : goal.invariant_of-self
 invariant_of-self g c =

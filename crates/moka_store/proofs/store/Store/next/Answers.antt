@@ -1,7 +1,7 @@
 use Rattle.std.proofs.Common.{◌≡◌, Some, refl, sym, ap, ◌∙◌}
 use Rattle.std.specs.Option.{option_map}
 use Rattle.moka_store.proofs.Ties.{after-row}
-use Rattle.moka_store.proofs.Steps.{node-member, member-there, member-row}
+use Rattle.moka_store.proofs.Steps.{node-member, member-there, member-row, member-node}
 use Rattle.moka_store.specs.StoreRows.{member_at}
 use Rattle.moka_parts.specs.declared.records.Member.{Member}
 use Rattle.moka_store.proofs.store.Store.next.Goals as goal
@@ -11,9 +11,7 @@ unreachable-requires g c =
     member-there _ _ _ _ c.self.invariant.tied _ _ (rw (← c.self.view_is) at c.requires.placed) (rw (← c.self.view_is) at c.requires.member) (sym c.membership.ensures.membership ∙ c.in_default.is)
 
 pub next-requires : goal.next-requires
-next-requires g c =
-    let w = member-row _ _ _ _ c.self.invariant.tied _ _ (rw (← c.self.view_is) at c.requires.placed) _ (sym c.membership.ensures.membership ∙ c.in-Some.is) in
-    rw w.node_is refl
+next-requires g c = member-node _ _ _ _ c.self.invariant.tied _ _ (rw (← c.self.view_is) at c.requires.placed) _ (sym c.membership.ensures.membership ∙ c.in-Some.is)
 
 pub returns-in_err-place-clause-next : goal.returns-in_err-place-clause-next
 returns-in_err-place-clause-next g c =
@@ -22,9 +20,7 @@ returns-in_err-place-clause-next g c =
     rw (c.from_residual.ensures, ← c.self.view_is, ← w.number_is, after) (ap (option_map (member_at c.self.inside.table.rows)) c.in_err-place.ensures.next)
 
 pub member_at-requires : goal.member_at-requires
-member_at-requires g c =
-    let n = node-member _ _ _ _ c.self.invariant.tied _ _ c.in_ok-place.ensures.found in
-    rw n.at_is refl
+member_at-requires g c = rw ((node-member _ _ _ _ c.self.invariant.tied _ _ c.in_ok-place.ensures.found).at_is) refl
 
 pub returns-clause-placed : goal.returns-clause-placed
 returns-clause-placed g c =

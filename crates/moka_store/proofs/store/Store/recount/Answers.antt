@@ -3,9 +3,9 @@ use Rattle.std.proofs.Common.{◌<◌, ◌^◌, ◌-◌, ◌+◌, map, refl, sym
 use Rattle.std.specs.Option.{option_and_then}
 use Rattle.moka_store.specs.declared.table.membership.Membership.{Membership}
 use Rattle.moka_store.specs.Listing.{Listing}
-use Rattle.moka_store.proofs.Orders.{slot-there, stays-row, moves}
+use Rattle.moka_store.proofs.Orders.{stays-row, moves}
 use Rattle.moka_store.proofs.Members.{counted-recounted}
-use Rattle.moka_store.proofs.Steps.{member-there, member-row, recounted}
+use Rattle.moka_store.proofs.Steps.{member-there, member-row, member-node, member-slot, recounted}
 use Rattle.moka_store.specs.StoreRows.{member_at}
 use Rattle.moka_store.specs.Weights.{IsWeighed}
 use Rattle.moka_store.proofs.Weights.{weighed-recounted, weighed-least, weighed-fits}
@@ -19,14 +19,10 @@ unreachable-requires g c =
     member-there _ _ _ _ c.self.invariant.tied _ _ (rw (← c.self.view_is) at c.requires.placed) (rw (← c.self.view_is) at c.requires.member) (sym c.membership.ensures.membership ∙ c.in_default.is)
 
 pub move_to_back-requires : goal.move_to_back-requires
-move_to_back-requires g c =
-    let w = member-row _ _ _ _ c.self.invariant.tied _ _ (rw (← c.self.view_is) at c.requires.placed) _ (sym c.membership.ensures.membership ∙ c.in-Some.is) in
-    rw w.node_is refl
+move_to_back-requires g c = member-node _ _ _ _ c.self.invariant.tied _ _ (rw (← c.self.view_is) at c.requires.placed) _ (sym c.membership.ensures.membership ∙ c.in-Some.is)
 
 pub move_to_back-requires-2 : goal.move_to_back-requires-2
-move_to_back-requires-2 g c =
-    let w = member-row _ _ _ _ c.self.invariant.tied _ _ (rw (← c.self.view_is) at c.requires.placed) _ (sym c.membership.ensures.membership ∙ c.in-Some.is) in
-    slot-there c.self.inside.table.rows c.self.inside.written c.self.invariant.written _ w.row w.at_is _ (ap (option_and_then (λ (m : Membership). m.written)) w.membership_is)
+move_to_back-requires-2 g c = member-slot _ _ _ _ c.self.invariant.tied _ _ (rw (← c.self.view_is) at c.requires.placed) c.self.inside.written c.self.invariant.written _ (sym c.membership.ensures.membership ∙ c.in-Some.is)
 
 pub invariant_of-self : goal.invariant_of-self
 invariant_of-self g c =

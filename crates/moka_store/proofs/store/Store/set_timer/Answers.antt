@@ -40,11 +40,11 @@ invariant_of-self g c =
     let changes = c.set_timer-before.ensures.changes _ h.at_is in
     let s = retimed _ g.met.K.Eq.laws _ _ _ _ _ c.self.invariant.tied h.row h.at_is _ changes in
     let kept = c.set-timer.ensures.kept ∙ ap (λ b. c.self.inside.timers.timed && b) (sym (some-moment c.timing_at-before.result.1)) in
-    let order = times c.self.inside.table.rows c.set_timer-before.new.self.rows c.self.inside.written c.self.inside.timers.timers c.set-timer.new.self.timers c.self.invariant.written c.self.invariant.timed c.self.invariant.tied.numbered s.tied.numbered _ h.row h.at_is c.set-timer.result changes c.timing_at-before.result.0 was c.self.inside.timers.timed (moment_of c.timing_at-before.result.1) kept c.set-timer.ensures.fresh c.set-timer.ensures.lookups c.set-timer.ensures.untimed member in
+    let order = times c.self.inside.table.rows c.set_timer-before.new.self.rows c.self.inside.written c.self.inside.timers.timers c.set-timer.new.self.timers c.self.invariant.written c.self.invariant.timed c.self.invariant.tied.numbered _ h.row h.at_is c.set-timer.result changes c.timing_at-before.result.0 was c.self.inside.timers.timed (moment_of c.timing_at-before.result.1) kept c.set-timer.ensures.fresh c.set-timer.ensures.lookups c.set-timer.ensures.untimed member in
     let most = ap (λ (t : Timing). t.most) c.set-timer.ensures.rest in
     let rows = c.set_timer-before.ensures.len in
     let fits = c.self.invariant.fits in
-    record { tied = s.tied; written = order.written; timed = order.timed_is; keyed = c.self.invariant.keyed ∙ sym (ap finite.len c.set_timer-before.ensures.records); fits = omega arith; few = c.self.invariant.few; narrow = subst AreNarrow (sym c.set_timer-before.ensures.places) c.self.invariant.narrow; weighed = subst (λ members. IsWeighed members c.self.inside.weight) (sym s.access) c.self.invariant.weighed }
+    record { tied = s.tied; written = order.written; timed = order.timed; keyed = c.self.invariant.keyed ∙ sym (ap finite.len c.set_timer-before.ensures.records); fits = omega arith; few = c.self.invariant.few; narrow = subst AreNarrow (sym c.set_timer-before.ensures.places) c.self.invariant.narrow; weighed = subst (λ members. IsWeighed members c.self.inside.weight) (sym s.access) c.self.invariant.weighed }
 
 pub returns-clause-step : goal.returns-clause-step
 returns-clause-step g c r there =
@@ -54,7 +54,7 @@ returns-clause-step g c r there =
     let changes = c.set_timer-before.ensures.changes _ h.at_is in
     let s = retimed _ g.met.K.Eq.laws _ _ _ _ _ c.self.invariant.tied h.row h.at_is _ changes in
     let kept = c.set-timer.ensures.kept ∙ ap (λ b. c.self.inside.timers.timed && b) (sym (some-moment c.timing_at-before.result.1)) in
-    let order = times c.self.inside.table.rows c.set_timer-before.new.self.rows c.self.inside.written c.self.inside.timers.timers c.set-timer.new.self.timers c.self.invariant.written c.self.invariant.timed c.self.invariant.tied.numbered s.tied.numbered _ h.row h.at_is c.set-timer.result changes c.timing_at-before.result.0 was c.self.inside.timers.timed (moment_of c.timing_at-before.result.1) kept c.set-timer.ensures.fresh c.set-timer.ensures.lookups c.set-timer.ensures.untimed member in
+    let order = times c.self.inside.table.rows c.set_timer-before.new.self.rows c.self.inside.written c.self.inside.timers.timers c.set-timer.new.self.timers c.self.invariant.written c.self.invariant.timed c.self.invariant.tied.numbered _ h.row h.at_is c.set-timer.result changes c.timing_at-before.result.0 was c.self.inside.timers.timed (moment_of c.timing_at-before.result.1) kept c.set-timer.ensures.fresh c.set-timer.ensures.lookups c.set-timer.ensures.untimed member in
     let most = ap (λ (t : Timing). t.most) c.set-timer.ensures.rest in
     let timed = ap (λ (t : Timing). t.timed) c.set-timer.ensures.rest in
     let same = sym h.record_is ∙ (rw (← c.self.view_is) at there) in
@@ -69,7 +69,7 @@ returns-clause-rest g c =
     let changes = c.set_timer-before.ensures.changes _ h.at_is in
     let s = retimed _ g.met.K.Eq.laws _ _ _ _ _ c.self.invariant.tied h.row h.at_is _ changes in
     let kept = c.set-timer.ensures.kept ∙ ap (λ b. c.self.inside.timers.timed && b) (sym (some-moment c.timing_at-before.result.1)) in
-    let order = times c.self.inside.table.rows c.set_timer-before.new.self.rows c.self.inside.written c.self.inside.timers.timers c.set-timer.new.self.timers c.self.invariant.written c.self.invariant.timed c.self.invariant.tied.numbered s.tied.numbered _ h.row h.at_is c.set-timer.result changes c.timing_at-before.result.0 was c.self.inside.timers.timed (moment_of c.timing_at-before.result.1) kept c.set-timer.ensures.fresh c.set-timer.ensures.lookups c.set-timer.ensures.untimed member in
+    let order = times c.self.inside.table.rows c.set_timer-before.new.self.rows c.self.inside.written c.self.inside.timers.timers c.set-timer.new.self.timers c.self.invariant.written c.self.invariant.timed c.self.invariant.tied.numbered _ h.row h.at_is c.set-timer.result changes c.timing_at-before.result.0 was c.self.inside.timers.timed (moment_of c.timing_at-before.result.1) kept c.set-timer.ensures.fresh c.set-timer.ensures.lookups c.set-timer.ensures.untimed member in
     let most = ap (λ (t : Timing). t.most) c.set-timer.ensures.rest in
     let timed = ap (λ (t : Timing). t.timed) c.set-timer.ensures.rest in
     rw (s.access, order.written_is, order.cursor_is, most, timed, c.set_timer-before.ensures.records, c.set_timer-before.ensures.places, c.set_timer-before.ensures.len, c.set_timer-before.ensures.room, ← c.self.view_is) refl

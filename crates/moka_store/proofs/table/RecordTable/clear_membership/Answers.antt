@@ -30,19 +30,13 @@ returns-clause-changes g c = λ row at.
     rw (← c.self.view_is) (whole-step c.self.inside.rows.rows c.self.inside.cold.items c.args.place c.replace_membership-old.new.self.rows (λ row. record row { membership = None }) (λ row. record row { membership = None }) (λ cold row. refl) c.replace_membership-old.ensures.changes row there)
 
 pub returns-clause-records : goal.returns-clause-records
-returns-clause-records g c =
-    let s = whole-uncounted _ _ _ _ c.self.invariant.numbered (rw (← c.self.view_is) at c.requires) c.replace_membership-old.ensures.changes in
-    rw (← c.self.view_is) s.records_is
+returns-clause-records g c = rw (← c.self.view_is) (whole-uncounted _ _ _ _ c.self.invariant.numbered (rw (← c.self.view_is) at c.requires) c.replace_membership-old.ensures.changes).records_is
 
 pub returns-clause-counted : goal.returns-clause-counted
-returns-clause-counted g c =
-    let s = whole-uncounted _ _ _ _ c.self.invariant.numbered (rw (← c.self.view_is) at c.requires) c.replace_membership-old.ensures.changes in
-    rw (← c.self.view_is) s.counted_is
+returns-clause-counted g c = rw (← c.self.view_is) (whole-uncounted _ _ _ _ c.self.invariant.numbered (rw (← c.self.view_is) at c.requires) c.replace_membership-old.ensures.changes).counted_is
 
 pub returns-clause-places : goal.returns-clause-places
-returns-clause-places g c =
-    let s = whole-uncounted _ _ _ _ c.self.invariant.numbered (rw (← c.self.view_is) at c.requires) c.replace_membership-old.ensures.changes in
-    rw (← c.self.view_is) s.places_is
+returns-clause-places g c = rw (← c.self.view_is) (whole-uncounted _ _ _ _ c.self.invariant.numbered (rw (← c.self.view_is) at c.requires) c.replace_membership-old.ensures.changes).places_is
 
 pub returns-clause-len : goal.returns-clause-len
 returns-clause-len g c = rw (← c.self.view_is) (count-whole _ _ ∙ c.replace_membership-old.ensures.len ∙ sym (count-whole c.self.inside.rows.rows c.self.inside.cold.items))

@@ -16,22 +16,13 @@ pub returns-clause-changes : goal.returns-clause-changes
 returns-clause-changes g c = rw (← c.self.view_is) (front-changes c.self.inside.rows.rows c.self.inside.cold.items c.args.place c.remove.new.self.rows None c.remove.ensures.changes)
 
 pub returns-clause-records : goal.returns-clause-records
-returns-clause-records g c =
-    let w = rw (← c.self.view_is) at c.requires in
-    let s = shows-forgotten _ _ _ c.self.invariant.numbered _ w refl refl (front-changes c.self.inside.rows.rows c.self.inside.cold.items c.args.place c.remove.new.self.rows None c.remove.ensures.changes) in
-    rw (← c.self.view_is) s.records_is
+returns-clause-records g c = rw (← c.self.view_is) (shows-forgotten _ _ _ c.self.invariant.numbered _ (rw (← c.self.view_is) at c.requires) refl refl (front-changes c.self.inside.rows.rows c.self.inside.cold.items c.args.place c.remove.new.self.rows None c.remove.ensures.changes)).records_is
 
 pub returns-clause-counted : goal.returns-clause-counted
-returns-clause-counted g c =
-    let w = rw (← c.self.view_is) at c.requires in
-    let s = shows-forgotten _ _ _ c.self.invariant.numbered _ w refl refl (front-changes c.self.inside.rows.rows c.self.inside.cold.items c.args.place c.remove.new.self.rows None c.remove.ensures.changes) in
-    rw (← c.self.view_is) s.counted_is
+returns-clause-counted g c = rw (← c.self.view_is) (shows-forgotten _ _ _ c.self.invariant.numbered _ (rw (← c.self.view_is) at c.requires) refl refl (front-changes c.self.inside.rows.rows c.self.inside.cold.items c.args.place c.remove.new.self.rows None c.remove.ensures.changes)).counted_is
 
 pub returns-clause-places : goal.returns-clause-places
-returns-clause-places g c =
-    let w = rw (← c.self.view_is) at c.requires in
-    let s = shows-forgotten _ _ _ c.self.invariant.numbered _ w refl refl (front-changes c.self.inside.rows.rows c.self.inside.cold.items c.args.place c.remove.new.self.rows None c.remove.ensures.changes) in
-    rw (← c.self.view_is) s.places_is
+returns-clause-places g c = rw (← c.self.view_is) (shows-forgotten _ _ _ c.self.invariant.numbered _ (rw (← c.self.view_is) at c.requires) refl refl (front-changes c.self.inside.rows.rows c.self.inside.cold.items c.args.place c.remove.new.self.rows None c.remove.ensures.changes)).places_is
 
 pub returns-clause-len : goal.returns-clause-len
 returns-clause-len g c =

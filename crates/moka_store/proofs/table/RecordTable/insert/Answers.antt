@@ -1,15 +1,12 @@
-use Rattle.std.proofs.Common.{◌≡◌, ◌+◌, ◌<◌, length, sym, ap, ◌∙◌, arith}
+use Rattle.std.proofs.Common.{◌+◌, ◌<◌, length, sym, ap, ◌∙◌, arith}
 use Rattle.std.proofs.lemmas.List.{length_push, length-set}
 use Rattle.moka_store.proofs.ColdRows.{count-whole, none_whole, inserted-last, inserted-within}
-use Rattle.moka_store.proofs.TableCalls.{shows-inserted}
+use Rattle.moka_store.proofs.WholeMaps.{whole-inserted_last, whole-inserted_within}
 use Rattle.moka_store.proofs.table.RecordTable.insert.Goals as goal
 
 pub invariant_of-self : goal.invariant_of-self
 invariant_of-self g c =
-    let last : c.insert-place.result ≡ length c.self.inside.cold.items = omega arith in
-    let step = inserted-last c.self.inside.rows.rows c.insert-place.new.self.rows c.self.inside.cold.items c.insert-place.result c.args.stored c.split-front.result.0 c.split-front.result.1 c.split-front.ensures c.insert-place.ensures.changes last in
-    let fresh = rw (← c.self.view_is) at c.requires.fresh in
-    let s = shows-inserted _ _ _ c.self.invariant.numbered _ _ (none_whole _ _ _ c.insert-place.ensures.vacant) fresh step in
+    let s = whole-inserted_last c.self.inside.rows c.self.inside.cold.items _ _ c.self.invariant c.insert-place.new.self.rows c.insert-place.result c.args.stored c.split-front.result.0 c.split-front.result.1 c.split-front.ensures c.insert-place.ensures.changes c.insert-place.ensures.vacant (rw (← c.self.view_is) at c.requires.fresh) (omega arith) in
     let grown = c.insert-place.ensures.pushed (omega (arith, c.self.invariant.beside)) in
     let room = rw (← c.self.view_is) at c.requires.room in
     let longer = length_push c.self.inside.cold.items c.split-front.result.1 in
@@ -23,10 +20,7 @@ invariant_of-self g c =
 
 pub invariant_of-self-else-place-len : goal.invariant_of-self-else-place-len
 invariant_of-self-else-place-len g c =
-    let within : c.insert-place.result < length c.self.inside.cold.items = (let f = c.insert-place.ensures.filled (λ e. omega (arith, c.self.invariant.beside)) in omega (arith, f.1, c.self.invariant.beside)) in
-    let step = inserted-within c.self.inside.rows.rows c.insert-place.new.self.rows c.self.inside.cold.items c.insert-place.result c.args.stored c.split-front.result.0 c.split-front.result.1 c.split-front.ensures c.insert-place.ensures.changes within in
-    let fresh = rw (← c.self.view_is) at c.requires.fresh in
-    let s = shows-inserted _ _ _ c.self.invariant.numbered _ _ (none_whole _ _ _ c.insert-place.ensures.vacant) fresh step in
+    let s = whole-inserted_within c.self.inside.rows c.self.inside.cold.items _ _ c.self.invariant c.insert-place.new.self.rows c.insert-place.result c.args.stored c.split-front.result.0 c.split-front.result.1 c.split-front.ensures c.insert-place.ensures.changes c.insert-place.ensures.vacant (rw (← c.self.view_is) at c.requires.fresh) (omega (arith, (c.insert-place.ensures.filled (λ e. omega (arith, c.self.invariant.beside))).1, c.self.invariant.beside)) in
     let same = c.insert-place.ensures.filled (λ e. omega (arith, c.self.invariant.beside)) in
     let many = length-set c.self.inside.cold.items c.insert-place.result c.split-front.result.1 in
     record {
@@ -41,34 +35,16 @@ pub returns-then-place-len-clause-vacant : goal.returns-then-place-len-clause-va
 returns-then-place-len-clause-vacant g c = rw (← c.self.view_is) (none_whole _ _ _ c.insert-place.ensures.vacant)
 
 pub returns-then-place-len-clause-changes : goal.returns-then-place-len-clause-changes
-returns-then-place-len-clause-changes g c =
-    let last : c.insert-place.result ≡ length c.self.inside.cold.items = omega arith in
-    let step = inserted-last c.self.inside.rows.rows c.insert-place.new.self.rows c.self.inside.cold.items c.insert-place.result c.args.stored c.split-front.result.0 c.split-front.result.1 c.split-front.ensures c.insert-place.ensures.changes last in
-    rw (c.push_reserved.ensures.items, ← c.self.view_is) step
+returns-then-place-len-clause-changes g c = rw (c.push_reserved.ensures.items, ← c.self.view_is) (inserted-last c.self.inside.rows.rows c.insert-place.new.self.rows c.self.inside.cold.items c.insert-place.result c.args.stored c.split-front.result.0 c.split-front.result.1 c.split-front.ensures c.insert-place.ensures.changes (omega arith))
 
 pub returns-then-place-len-clause-records : goal.returns-then-place-len-clause-records
-returns-then-place-len-clause-records g c =
-    let last : c.insert-place.result ≡ length c.self.inside.cold.items = omega arith in
-    let step = inserted-last c.self.inside.rows.rows c.insert-place.new.self.rows c.self.inside.cold.items c.insert-place.result c.args.stored c.split-front.result.0 c.split-front.result.1 c.split-front.ensures c.insert-place.ensures.changes last in
-    let fresh = rw (← c.self.view_is) at c.requires.fresh in
-    let s = shows-inserted _ _ _ c.self.invariant.numbered _ _ (none_whole _ _ _ c.insert-place.ensures.vacant) fresh step in
-    rw (c.push_reserved.ensures.items, ← c.self.view_is) s.records_is
+returns-then-place-len-clause-records g c = rw (c.push_reserved.ensures.items, ← c.self.view_is) (whole-inserted_last c.self.inside.rows c.self.inside.cold.items _ _ c.self.invariant c.insert-place.new.self.rows c.insert-place.result c.args.stored c.split-front.result.0 c.split-front.result.1 c.split-front.ensures c.insert-place.ensures.changes c.insert-place.ensures.vacant (rw (← c.self.view_is) at c.requires.fresh) (omega arith)).records_is
 
 pub returns-then-place-len-clause-counted : goal.returns-then-place-len-clause-counted
-returns-then-place-len-clause-counted g c =
-    let last : c.insert-place.result ≡ length c.self.inside.cold.items = omega arith in
-    let step = inserted-last c.self.inside.rows.rows c.insert-place.new.self.rows c.self.inside.cold.items c.insert-place.result c.args.stored c.split-front.result.0 c.split-front.result.1 c.split-front.ensures c.insert-place.ensures.changes last in
-    let fresh = rw (← c.self.view_is) at c.requires.fresh in
-    let s = shows-inserted _ _ _ c.self.invariant.numbered _ _ (none_whole _ _ _ c.insert-place.ensures.vacant) fresh step in
-    rw (c.push_reserved.ensures.items, ← c.self.view_is) s.counted_is
+returns-then-place-len-clause-counted g c = rw (c.push_reserved.ensures.items, ← c.self.view_is) (whole-inserted_last c.self.inside.rows c.self.inside.cold.items _ _ c.self.invariant c.insert-place.new.self.rows c.insert-place.result c.args.stored c.split-front.result.0 c.split-front.result.1 c.split-front.ensures c.insert-place.ensures.changes c.insert-place.ensures.vacant (rw (← c.self.view_is) at c.requires.fresh) (omega arith)).counted_is
 
 pub returns-then-place-len-clause-places : goal.returns-then-place-len-clause-places
-returns-then-place-len-clause-places g c =
-    let last : c.insert-place.result ≡ length c.self.inside.cold.items = omega arith in
-    let step = inserted-last c.self.inside.rows.rows c.insert-place.new.self.rows c.self.inside.cold.items c.insert-place.result c.args.stored c.split-front.result.0 c.split-front.result.1 c.split-front.ensures c.insert-place.ensures.changes last in
-    let fresh = rw (← c.self.view_is) at c.requires.fresh in
-    let s = shows-inserted _ _ _ c.self.invariant.numbered _ _ (none_whole _ _ _ c.insert-place.ensures.vacant) fresh step in
-    rw (c.push_reserved.ensures.items, ← c.self.view_is) s.places_is
+returns-then-place-len-clause-places g c = rw (c.push_reserved.ensures.items, ← c.self.view_is) (whole-inserted_last c.self.inside.rows c.self.inside.cold.items _ _ c.self.invariant c.insert-place.new.self.rows c.insert-place.result c.args.stored c.split-front.result.0 c.split-front.result.1 c.split-front.ensures c.insert-place.ensures.changes c.insert-place.ensures.vacant (rw (← c.self.view_is) at c.requires.fresh) (omega arith)).places_is
 
 pub returns-then-place-len-clause-len : goal.returns-then-place-len-clause-len
 returns-then-place-len-clause-len g c = rw (← c.self.view_is) (count-whole _ _ ∙ c.insert-place.ensures.len ∙ ap (λ n. n + 1) (sym (count-whole c.self.inside.rows.rows c.self.inside.cold.items)))
@@ -83,28 +59,13 @@ returns-else-place-len-clause-changes g c =
     rw (← c.self.view_is) step
 
 pub returns-else-place-len-clause-records : goal.returns-else-place-len-clause-records
-returns-else-place-len-clause-records g c =
-    let within : c.insert-place.result < length c.self.inside.cold.items = (let f = c.insert-place.ensures.filled (λ e. omega (arith, c.self.invariant.beside)) in omega (arith, f.1, c.self.invariant.beside)) in
-    let step = inserted-within c.self.inside.rows.rows c.insert-place.new.self.rows c.self.inside.cold.items c.insert-place.result c.args.stored c.split-front.result.0 c.split-front.result.1 c.split-front.ensures c.insert-place.ensures.changes within in
-    let fresh = rw (← c.self.view_is) at c.requires.fresh in
-    let s = shows-inserted _ _ _ c.self.invariant.numbered _ _ (none_whole _ _ _ c.insert-place.ensures.vacant) fresh step in
-    rw (← c.self.view_is) s.records_is
+returns-else-place-len-clause-records g c = rw (← c.self.view_is) (whole-inserted_within c.self.inside.rows c.self.inside.cold.items _ _ c.self.invariant c.insert-place.new.self.rows c.insert-place.result c.args.stored c.split-front.result.0 c.split-front.result.1 c.split-front.ensures c.insert-place.ensures.changes c.insert-place.ensures.vacant (rw (← c.self.view_is) at c.requires.fresh) (omega (arith, (c.insert-place.ensures.filled (λ e. omega (arith, c.self.invariant.beside))).1, c.self.invariant.beside))).records_is
 
 pub returns-else-place-len-clause-counted : goal.returns-else-place-len-clause-counted
-returns-else-place-len-clause-counted g c =
-    let within : c.insert-place.result < length c.self.inside.cold.items = (let f = c.insert-place.ensures.filled (λ e. omega (arith, c.self.invariant.beside)) in omega (arith, f.1, c.self.invariant.beside)) in
-    let step = inserted-within c.self.inside.rows.rows c.insert-place.new.self.rows c.self.inside.cold.items c.insert-place.result c.args.stored c.split-front.result.0 c.split-front.result.1 c.split-front.ensures c.insert-place.ensures.changes within in
-    let fresh = rw (← c.self.view_is) at c.requires.fresh in
-    let s = shows-inserted _ _ _ c.self.invariant.numbered _ _ (none_whole _ _ _ c.insert-place.ensures.vacant) fresh step in
-    rw (← c.self.view_is) s.counted_is
+returns-else-place-len-clause-counted g c = rw (← c.self.view_is) (whole-inserted_within c.self.inside.rows c.self.inside.cold.items _ _ c.self.invariant c.insert-place.new.self.rows c.insert-place.result c.args.stored c.split-front.result.0 c.split-front.result.1 c.split-front.ensures c.insert-place.ensures.changes c.insert-place.ensures.vacant (rw (← c.self.view_is) at c.requires.fresh) (omega (arith, (c.insert-place.ensures.filled (λ e. omega (arith, c.self.invariant.beside))).1, c.self.invariant.beside))).counted_is
 
 pub returns-else-place-len-clause-places : goal.returns-else-place-len-clause-places
-returns-else-place-len-clause-places g c =
-    let within : c.insert-place.result < length c.self.inside.cold.items = (let f = c.insert-place.ensures.filled (λ e. omega (arith, c.self.invariant.beside)) in omega (arith, f.1, c.self.invariant.beside)) in
-    let step = inserted-within c.self.inside.rows.rows c.insert-place.new.self.rows c.self.inside.cold.items c.insert-place.result c.args.stored c.split-front.result.0 c.split-front.result.1 c.split-front.ensures c.insert-place.ensures.changes within in
-    let fresh = rw (← c.self.view_is) at c.requires.fresh in
-    let s = shows-inserted _ _ _ c.self.invariant.numbered _ _ (none_whole _ _ _ c.insert-place.ensures.vacant) fresh step in
-    rw (← c.self.view_is) s.places_is
+returns-else-place-len-clause-places g c = rw (← c.self.view_is) (whole-inserted_within c.self.inside.rows c.self.inside.cold.items _ _ c.self.invariant c.insert-place.new.self.rows c.insert-place.result c.args.stored c.split-front.result.0 c.split-front.result.1 c.split-front.ensures c.insert-place.ensures.changes c.insert-place.ensures.vacant (rw (← c.self.view_is) at c.requires.fresh) (omega (arith, (c.insert-place.ensures.filled (λ e. omega (arith, c.self.invariant.beside))).1, c.self.invariant.beside))).places_is
 
 pub returns-else-place-len-clause-len : goal.returns-else-place-len-clause-len
 returns-else-place-len-clause-len g c = rw (← c.self.view_is) (count-whole _ _ ∙ c.insert-place.ensures.len ∙ ap (λ n. n + 1) (sym (count-whole c.self.inside.rows.rows c.self.inside.cold.items)))

@@ -15,9 +15,7 @@ replace_membership-old-requires-clause-row g c = keeps-row _ _ _ (rw (← c.self
 
 pub invariant_of-self : goal.invariant_of-self
 invariant_of-self g c =
-    let within = row_within c.self.inside.rows c.self.inside.cold.items _ _ c.self.invariant c.args.place (rw (← c.self.view_is) at c.requires.row) in
-    let own = cold-read c.self.inside.cold.items c.args.place c.index_mut-cold.result.now within c.index_mut-cold.ensures.value in
-    let s = whole-counted c.self.inside.rows.rows c.self.inside.cold.items c.args.place c.self.invariant.numbered c.index_mut-cold.result.now own within c.replace_membership-old.new.self.rows c.args.membership (rw (← c.self.view_is) at c.requires.row) c.replace_membership-old.ensures.changes in
+    let s = whole-counted c.self.inside.rows c.self.inside.cold.items _ _ c.args.place c.self.invariant c.index_mut-cold.result.now c.index_mut-cold.ensures.value c.replace_membership-old.new.self.rows c.args.membership (rw (← c.self.view_is) at c.requires.row) c.replace_membership-old.ensures.changes in
     beside_after _ _ _ _ _ _ c.self.invariant c.replace_membership-old.ensures.length (length-set _ _ _) (omega (arith, c.replace_membership-old.ensures.len, c.replace_membership-old.ensures.room)) s.numbered
 
 pub returns-clause-old : goal.returns-clause-old
@@ -35,25 +33,13 @@ returns-clause-changes g c = λ row at.
     rw (← c.self.view_is) (whole-member c.self.inside.rows.rows c.self.inside.cold.items c.args.place c.index_mut-cold.result.now own within c.replace_membership-old.new.self.rows c.args.membership c.replace_membership-old.ensures.changes row there)
 
 pub returns-clause-records : goal.returns-clause-records
-returns-clause-records g c =
-    let within = row_within c.self.inside.rows c.self.inside.cold.items _ _ c.self.invariant c.args.place (rw (← c.self.view_is) at c.requires.row) in
-    let own = cold-read c.self.inside.cold.items c.args.place c.index_mut-cold.result.now within c.index_mut-cold.ensures.value in
-    let s = whole-counted c.self.inside.rows.rows c.self.inside.cold.items c.args.place c.self.invariant.numbered c.index_mut-cold.result.now own within c.replace_membership-old.new.self.rows c.args.membership (rw (← c.self.view_is) at c.requires.row) c.replace_membership-old.ensures.changes in
-    rw (← c.self.view_is) s.records_is
+returns-clause-records g c = rw (← c.self.view_is) (whole-counted c.self.inside.rows c.self.inside.cold.items _ _ c.args.place c.self.invariant c.index_mut-cold.result.now c.index_mut-cold.ensures.value c.replace_membership-old.new.self.rows c.args.membership (rw (← c.self.view_is) at c.requires.row) c.replace_membership-old.ensures.changes).records_is
 
 pub returns-clause-counted : goal.returns-clause-counted
-returns-clause-counted g c =
-    let within = row_within c.self.inside.rows c.self.inside.cold.items _ _ c.self.invariant c.args.place (rw (← c.self.view_is) at c.requires.row) in
-    let own = cold-read c.self.inside.cold.items c.args.place c.index_mut-cold.result.now within c.index_mut-cold.ensures.value in
-    let s = whole-counted c.self.inside.rows.rows c.self.inside.cold.items c.args.place c.self.invariant.numbered c.index_mut-cold.result.now own within c.replace_membership-old.new.self.rows c.args.membership (rw (← c.self.view_is) at c.requires.row) c.replace_membership-old.ensures.changes in
-    rw (← c.self.view_is) s.counted_is
+returns-clause-counted g c = rw (← c.self.view_is) (whole-counted c.self.inside.rows c.self.inside.cold.items _ _ c.args.place c.self.invariant c.index_mut-cold.result.now c.index_mut-cold.ensures.value c.replace_membership-old.new.self.rows c.args.membership (rw (← c.self.view_is) at c.requires.row) c.replace_membership-old.ensures.changes).counted_is
 
 pub returns-clause-places : goal.returns-clause-places
-returns-clause-places g c =
-    let within = row_within c.self.inside.rows c.self.inside.cold.items _ _ c.self.invariant c.args.place (rw (← c.self.view_is) at c.requires.row) in
-    let own = cold-read c.self.inside.cold.items c.args.place c.index_mut-cold.result.now within c.index_mut-cold.ensures.value in
-    let s = whole-counted c.self.inside.rows.rows c.self.inside.cold.items c.args.place c.self.invariant.numbered c.index_mut-cold.result.now own within c.replace_membership-old.new.self.rows c.args.membership (rw (← c.self.view_is) at c.requires.row) c.replace_membership-old.ensures.changes in
-    rw (← c.self.view_is) s.places_is
+returns-clause-places g c = rw (← c.self.view_is) (whole-counted c.self.inside.rows c.self.inside.cold.items _ _ c.args.place c.self.invariant c.index_mut-cold.result.now c.index_mut-cold.ensures.value c.replace_membership-old.new.self.rows c.args.membership (rw (← c.self.view_is) at c.requires.row) c.replace_membership-old.ensures.changes).places_is
 
 pub returns-clause-len : goal.returns-clause-len
 returns-clause-len g c = rw (← c.self.view_is) (count-whole _ _ ∙ c.replace_membership-old.ensures.len ∙ sym (count-whole c.self.inside.rows.rows c.self.inside.cold.items))

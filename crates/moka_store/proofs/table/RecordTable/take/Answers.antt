@@ -18,19 +18,13 @@ returns-clause-changes g c = λ row at.
     rw (← c.self.view_is) (whole-step c.self.inside.rows.rows c.self.inside.cold.items c.args.place c.take_stored-number.new.self.rows (λ row. record row { stored = None }) (λ row. record row { stored = None }) (λ cold row. refl) c.take_stored-number.ensures.changes row there)
 
 pub returns-clause-records : goal.returns-clause-records
-returns-clause-records g c =
-    let s = whole-taken _ _ _ _ c.self.invariant.numbered (rw (← c.self.view_is) at c.requires) c.take_stored-number.ensures.changes in
-    rw (← c.self.view_is) s.records_is
+returns-clause-records g c = rw (← c.self.view_is) (whole-taken _ _ _ _ c.self.invariant.numbered (rw (← c.self.view_is) at c.requires) c.take_stored-number.ensures.changes).records_is
 
 pub returns-clause-counted : goal.returns-clause-counted
-returns-clause-counted g c =
-    let s = whole-taken _ _ _ _ c.self.invariant.numbered (rw (← c.self.view_is) at c.requires) c.take_stored-number.ensures.changes in
-    rw (← c.self.view_is) s.counted_is
+returns-clause-counted g c = rw (← c.self.view_is) (whole-taken _ _ _ _ c.self.invariant.numbered (rw (← c.self.view_is) at c.requires) c.take_stored-number.ensures.changes).counted_is
 
 pub returns-clause-places : goal.returns-clause-places
-returns-clause-places g c =
-    let s = whole-taken _ _ _ _ c.self.invariant.numbered (rw (← c.self.view_is) at c.requires) c.take_stored-number.ensures.changes in
-    rw (← c.self.view_is) s.places_is
+returns-clause-places g c = rw (← c.self.view_is) (whole-taken _ _ _ _ c.self.invariant.numbered (rw (← c.self.view_is) at c.requires) c.take_stored-number.ensures.changes).places_is
 
 pub returns-clause-len : goal.returns-clause-len
 returns-clause-len g c = rw (← c.self.view_is) (count-whole _ _ ∙ c.take_stored-number.ensures.len ∙ sym (count-whole c.self.inside.rows.rows c.self.inside.cold.items))

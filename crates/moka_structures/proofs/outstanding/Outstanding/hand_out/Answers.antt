@@ -2,7 +2,8 @@ use Rattle.std.proofs.Common.{ℕ, ◌<◌, IsSome, sym, ap, subst, ◌∙◌, a
 use Rattle.std.specs.FinMap as map
 use Rattle.moka_structures.specs.Newest.{with_newest}
 use Rattle.moka_structures.proofs.Newest.{joined, joined-none, get-put, put-newest, older-put}
-use Rattle.moka_structures.proofs.Tickets.{len-put, newest-of}
+use Rattle.moka_links.proofs.FinMaps.{len-inserted}
+use Rattle.moka_structures.proofs.Tickets.{newest-of, not-some}
 use Rattle.moka_structures.proofs.outstanding.Outstanding.hand_out.Goals as goal
 
 pub invariant_of-self : goal.invariant_of-self
@@ -34,7 +35,7 @@ returns-in_default-clause-len g c =
     let m = c.self.inside.older.items in
     let all = joined-none o m (sym c.replace.ensures.value ∙ c.in_default.is) in
     let newest : (q : ℕ) → IsSome (map.get (with_newest c.self.inside.newest c.self.inside.older.items) q) → q < c.args.ticket = rw (← c.self.view_is) at c.requires.newest in
-    rw (← c.self.view_is) (ap map.len (put-newest c.replace.new.self m (with_newest o m) _ c.replace.ensures.after all) ∙ len-put (with_newest o m) c.args.ticket c.args.item (λ some. omega (arith, newest c.args.ticket some)))
+    rw (← c.self.view_is) (ap map.len (put-newest c.replace.new.self m (with_newest o m) _ c.replace.ensures.after all) ∙ len-inserted (with_newest o m) c.args.ticket c.args.item (not-some _ (λ some. omega (arith, newest c.args.ticket some))))
 
 pub invariant_of-self-2 : goal.invariant_of-self-2
 invariant_of-self-2 g c =
@@ -65,4 +66,4 @@ returns-clause-len g c =
     let m = c.self.inside.older.items in
     let all = joined o m c.in-Some.before (sym c.replace.ensures.value ∙ c.in-Some.is) c.hand_out.new.self.items c.hand_out.ensures.items in
     let newest : (q : ℕ) → IsSome (map.get (with_newest c.self.inside.newest c.self.inside.older.items) q) → q < c.args.ticket = rw (← c.self.view_is) at c.requires.newest in
-    rw (← c.self.view_is) (ap map.len (put-newest c.replace.new.self c.hand_out.new.self.items (with_newest o m) _ c.replace.ensures.after all) ∙ len-put (with_newest o m) c.args.ticket c.args.item (λ some. omega (arith, newest c.args.ticket some)))
+    rw (← c.self.view_is) (ap map.len (put-newest c.replace.new.self c.hand_out.new.self.items (with_newest o m) _ c.replace.ensures.after all) ∙ len-inserted (with_newest o m) c.args.ticket c.args.item (not-some _ (λ some. omega (arith, newest c.args.ticket some))))

@@ -14,20 +14,17 @@ index_mut-slot-requires g c =
 pub invariant_of-self : goal.invariant_of-self
 invariant_of-self g c =
     let row = some_is _ (rw (← c.self.view_is) at c.requires.row) in
-    let after = c.set_timer.ensures row.0 (read_there c.self.inside.slots.items c.args.place _ _ row.1 c.index_mut-slot.ensures.value) in
-    (rewritten _ _ _ _ _ _ _ c.self.invariant row.1 after).sound
+    (rewritten _ _ _ _ _ _ _ _ c.self.invariant row.1 c.index_mut-slot.ensures.value (c.set_timer.ensures row.0)).sound
 
 pub returns-clause-changes : goal.returns-clause-changes
 returns-clause-changes g c = λ row at.
     let there = rw (← c.self.view_is) at at in
-    let after = c.set_timer.ensures row (read_there c.self.inside.slots.items c.args.place _ _ there c.index_mut-slot.ensures.value) in
-    rw (← c.self.view_is) (rewritten _ _ _ _ _ _ _ c.self.invariant there after).changes
+    rw (← c.self.view_is) (rewritten _ _ _ _ _ _ _ _ c.self.invariant there c.index_mut-slot.ensures.value (c.set_timer.ensures row)).changes
 
 pub returns-clause-len : goal.returns-clause-len
 returns-clause-len g c =
     let row = some_is _ (rw (← c.self.view_is) at c.requires.row) in
-    let after = c.set_timer.ensures row.0 (read_there c.self.inside.slots.items c.args.place _ _ row.1 c.index_mut-slot.ensures.value) in
-    rw (← c.self.view_is) (rewritten _ _ _ _ _ _ _ c.self.invariant row.1 after).count
+    rw (← c.self.view_is) (rewritten _ _ _ _ _ _ _ _ c.self.invariant row.1 c.index_mut-slot.ensures.value (c.set_timer.ensures row.0)).count
 
 pub returns-clause-old : goal.returns-clause-old
 returns-clause-old g c =

@@ -13,20 +13,17 @@ index_mut-requires g c =
 pub invariant_of-self : goal.invariant_of-self
 invariant_of-self g c =
     let row = stored_row _ c.args.place (rw (← c.self.view_is) at c.requires) in
-    let after = c.take.ensures.left row.0 (read_there c.self.inside.slots.items c.args.place _ _ row.2 c.index_mut.ensures.value) in
-    (rewritten _ _ _ _ _ _ _ c.self.invariant row.2 after).sound
+    (rewritten _ _ _ _ _ _ _ _ c.self.invariant row.2 c.index_mut.ensures.value (c.take.ensures.left row.0)).sound
 
 pub returns-clause-changes : goal.returns-clause-changes
 returns-clause-changes g c = λ row at.
     let there = rw (← c.self.view_is) at at in
-    let after = c.take.ensures.left row (read_there c.self.inside.slots.items c.args.place _ _ there c.index_mut.ensures.value) in
-    rw (← c.self.view_is) (rewritten _ _ _ _ _ _ _ c.self.invariant there after).changes
+    rw (← c.self.view_is) (rewritten _ _ _ _ _ _ _ _ c.self.invariant there c.index_mut.ensures.value (c.take.ensures.left row)).changes
 
 pub returns-clause-len : goal.returns-clause-len
 returns-clause-len g c =
     let row = stored_row _ c.args.place (rw (← c.self.view_is) at c.requires) in
-    let after = c.take.ensures.left row.0 (read_there c.self.inside.slots.items c.args.place _ _ row.2 c.index_mut.ensures.value) in
-    rw (← c.self.view_is) (rewritten _ _ _ _ _ _ _ c.self.invariant row.2 after).count
+    rw (← c.self.view_is) (rewritten _ _ _ _ _ _ _ _ c.self.invariant row.2 c.index_mut.ensures.value (c.take.ensures.left row.0)).count
 
 pub returns-clause-number : goal.returns-clause-number
 returns-clause-number g c =

@@ -19,15 +19,13 @@ touch-requires-clause-stored g c =
 pub invariant_of-self : goal.invariant_of-self
 invariant_of-self g c =
     let row = stored_row _ c.args.place (rw (← c.self.view_is) at c.requires.stored) in
-    let after = c.touch.ensures row.0 row.1 (read_there c.self.inside.slots.items c.args.place _ _ row.2 c.index_mut.ensures.value) row.3 in
-    (rewritten _ _ _ _ _ _ _ c.self.invariant row.2 after).sound
+    (rewritten _ _ _ _ _ _ _ _ c.self.invariant row.2 c.index_mut.ensures.value (λ read. c.touch.ensures row.0 row.1 read row.3)).sound
 
 pub returns-clause-rows : goal.returns-clause-rows
 returns-clause-rows g c = λ f is.
     let row = stored_row _ c.args.place (rw (← c.self.view_is) at c.requires.stored) in
     let own = rw (← c.self.view_is, row.2) at is in
-    let after = c.touch.ensures row.0 f (read_there c.self.inside.slots.items c.args.place _ _ row.2 c.index_mut.ensures.value) own in
-    rw (← c.self.view_is, row.2) (rewritten _ _ _ _ _ _ _ c.self.invariant row.2 after).rows
+    rw (← c.self.view_is, row.2) (rewritten _ _ _ _ _ _ _ _ c.self.invariant row.2 c.index_mut.ensures.value (λ read. c.touch.ensures row.0 f read own)).rows
 
 pub touch-requires-clause-kept : goal.touch-requires-clause-kept
 touch-requires-clause-kept g c = λ same row f is stored.

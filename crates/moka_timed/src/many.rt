@@ -1,0 +1,94 @@
+//! Calls for many keys at once, each at one moment of the clock.
+ghost use Rattle.std.specs.Prelude.{◌≡◌};
+ghost use Rattle.moka_parts.specs.Hashing.{key_hash};
+ghost use Rattle.moka_parts.specs.declared.policy.Instant.{Instant};
+ghost use Rattle.moka_drive.specs.Counters.{after_look_ups};
+ghost use Rattle.moka_drive.specs.Many.{GetsMany, InsertsMany, InvalidatesMany, found_by};
+ghost use Rattle.moka_drive.specs.Synchronous.{Makes, hears_clones, meaning_of};
+
+use crate::cache::TimedCache;
+use moka_drive::many::{GetManyRefused, InsertManyRefused, InvalidateManyRefused};
+use moka_parts::closures::{PredicateFn, Weigher};
+use moka_parts::housekeeper::Clock;
+use moka_parts::notification::Listener;
+use moka_parts::policy::Expiry;
+use std::alloc::Global;
+use std::hash::{BuildHasher, Hash};
+
+impl<
+    K: Eq + Hash,
+    V,
+    C: Clock,
+    X: Expiry<K, V>,
+    L: Listener<K, V>,
+    P: PredicateFn<K, V>,
+    W: Weigher<K, V>,
+    S: BuildHasher,
+> TimedCache<K, V, C, X, L, P, W, S> {
+    /// Looks up each key, in order, as `get`: what each finds, in the same order.
+    ///
+    /// # Errors
+    /// As `Cache::get_many`.
+    pub fn get_many(
+        &mut self,
+        alloc: Global,
+        keys: &[K],
+    ) -> Result<Vec<Option<V>>, GetManyRefused<V>>
+    where
+        K: Clone + Drop,
+        V: Clone + Drop,
+        P: Drop,
+        ensures made { (now : Instant) × (read : C) × C.reads self.old.clock now read
+            × Makes (meaning_of K.eq L.tells P.says W.weighs C.reads X.created X.read X.updated)
+            (GetsMany V.is_clone (λ key.
+            key_hash S.BuildHasher S.Hasher.Hasher self.old.cache.engine.hasher (K.hash_input key)) now keys.now result)
+            self.old.cache.engine read self.new.cache.engine self.new.clock }
+        ensures counted { self.new.cache.stats ≡ after_look_ups (found_by result) self.old.cache.stats }
+    {
+        let now = self.clock.now();
+        self.cache.get_many(alloc, keys, now, &mut self.clock)
+    }
+
+    /// Inserts each item, in order, as `insert`.
+    ///
+    /// # Errors
+    /// As `Cache::insert_many`.
+    pub fn insert_many(&mut self, items: Vec<(K, V)>) -> Result<(), InsertManyRefused<K, V>>
+    where
+        K: Drop,
+        V: Drop,
+        P: Drop,
+        ensures made { (now : Instant) × (read : C) × C.reads self.old.clock now read
+            × Makes (meaning_of K.eq L.tells P.says W.weighs C.reads X.created X.read X.updated)
+            (InsertsMany
+            (λ key. key_hash S.BuildHasher S.Hasher.Hasher self.old.cache.engine.hasher (K.hash_input key)) now
+            items.items result)
+            self.old.cache.engine read self.new.cache.engine self.new.clock }
+        ensures counted { self.new.cache.stats ≡ self.old.cache.stats }
+    {
+        let now = self.clock.now();
+        self.cache.insert_many(items, now, &mut self.clock)
+    }
+
+    /// Takes each key out, in order, as `invalidate`.
+    ///
+    /// # Errors
+    /// As `Cache::invalidate_many`.
+    pub fn invalidate_many(&mut self, keys: &[K]) -> Result<(), InvalidateManyRefused<V>>
+    where
+        K: Clone + Drop,
+        V: Clone + Drop,
+        P: Drop,
+        ensures made { (now : Instant) × (read : C) × C.reads self.old.clock now read
+            × Makes (meaning_of K.eq (hears_clones K.is_clone V.is_clone L.tells) P.says W.weighs C.reads
+            X.created X.read X.updated)
+            (InvalidatesMany
+            (λ key. key_hash S.BuildHasher S.Hasher.Hasher self.old.cache.engine.hasher (K.hash_input key)) now
+            keys.now result)
+            self.old.cache.engine read self.new.cache.engine self.new.clock }
+        ensures counted { self.new.cache.stats ≡ self.old.cache.stats }
+    {
+        let now = self.clock.now();
+        self.cache.invalidate_many(keys, now, &mut self.clock)
+    }
+}
