@@ -14,5 +14,6 @@ pub mod Handled
 pub mod Shared
 pub mod Resized
 pub mod Asked
+pub mod Joined
 pub mod Late
 pub mod Weighed

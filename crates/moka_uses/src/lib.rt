@@ -10,6 +10,7 @@ pub mod driven;
 pub mod expiring;
 pub mod handled;
 pub mod invalidated;
+pub mod joined;
 pub mod late;
 pub mod logins;
 pub mod notified;

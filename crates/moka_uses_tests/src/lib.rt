@@ -22,6 +22,8 @@ mod handled;
 #[cfg(test)]
 mod invalidated;
 #[cfg(test)]
+mod joined;
+#[cfg(test)]
 mod late;
 #[cfg(test)]
 mod logins;

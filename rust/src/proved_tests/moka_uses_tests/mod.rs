@@ -23,6 +23,8 @@ mod handled;
 #[cfg(test)]
 mod invalidated;
 #[cfg(test)]
+mod joined;
+#[cfg(test)]
 mod late;
 #[cfg(test)]
 mod logins;
